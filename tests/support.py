@@ -79,25 +79,26 @@ def read(path):
 
 
 class Checkout:
-    """A small repository with the scripts of this one and a stand-in for `rt`."""
+    """A small repository with the scripts of this one, crates each with the libraries that it uses, and a stand-in for `rt`."""
 
     CRATES = {"low": [], "middle": ["low"], "command_line": ["clap"], "sfq": ["middle", "command_line"]}
 
-    def __init__(self):
+    def __init__(self, crates=()):
+        crates = {**self.CRATES, **dict(crates)}
         self.room = tempfile.mkdtemp(prefix="sfq-test-")
         self.root = f"{self.room}/checkout"
-        for name in ("sfq", "build"):
+        for name in ("sfq", "sfq-tiles", "build"):
             os.makedirs(self.root, exist_ok=True)
             shutil.copy(f"{ROOT}/{name}", f"{self.root}/{name}")
         leave_out = shutil.ignore_patterns("__pycache__")
-        for name in ("tools", "man", "completions"):
+        for name in ("tools", "man", "completions", "scale", "python"):
             shutil.copytree(f"{ROOT}/{name}", f"{self.root}/{name}", ignore=leave_out)
         shutil.copy(f"{ROOT}/CHANGELOG.md", self.root)
-        lines = "".join(f"{it}: {' '.join(used)}\n" for it, used in self.CRATES.items())
+        lines = "".join(f"{it}: {' '.join(used)}\n" for it, used in crates.items())
         write(f"{self.root}/crates.txt", lines)
         write(f"{self.root}/HANDLES", "Handles allowed: none.\n")
-        for it in self.CRATES:
-            name = "main" if it == "sfq" else "lib"
+        for it in crates:
+            name = "main" if it.startswith("sfq") else "lib"
             write(f"{self.root}/crates/{it}/src/{name}.rt", f'//! {it}\nconst VERSION: &str = "0.1.0";\n')
         self.behave("finish('', '', 0)")
         write(f"{self.room}/bin/rt", STAND_IN.replace("{python}", sys.executable), stat.S_IRWXU)
@@ -127,8 +128,10 @@ class Checkout:
 
 
 class WithCheckout(unittest.TestCase):
-    """A test case that has a small repository of its own."""
+    """A test case that has a small repository of its own, perhaps with more crates."""
+
+    MORE_CRATES = {}
 
     def setUp(self):
-        self.checkout = Checkout()
+        self.checkout = Checkout(self.MORE_CRATES)
         self.addCleanup(self.checkout.remove)

@@ -12,7 +12,7 @@ from support import needs
 import bindings
 import engine_rows
 import library
-import packaging
+import packages
 
 
 class Installed(engine_rows.WithLibrary):
@@ -24,7 +24,7 @@ class Installed(engine_rows.WithLibrary):
         cls.room = tempfile.TemporaryDirectory(prefix="sfq-bindings-")
         cls.prefix, printed = f"{cls.room.name}/prefix", io.StringIO()
         with contextlib.redirect_stdout(printed):
-            packaging.copy(library.FILES + bindings.files(), cls.prefix)
+            packages.copy(library.FILES + bindings.files(), cls.prefix)
             cls.made = library.install_made(cls.prefix, "0") + bindings.install_made(cls.prefix)
         cls.printed = printed.getvalue()
 
@@ -58,11 +58,11 @@ class Installed(engine_rows.WithLibrary):
 
     def test_all_goes_again(self):
         with tempfile.TemporaryDirectory(prefix="sfq-bindings-") as room, contextlib.redirect_stdout(io.StringIO()):
-            packaging.copy(library.FILES + bindings.files(), f"{room}/prefix")
+            packages.copy(library.FILES + bindings.files(), f"{room}/prefix")
             library.install_made(f"{room}/prefix", "0")
             bindings.install_made(f"{room}/prefix")
             os.makedirs(f"{room}/prefix/{bindings.PACKAGES}/sfq/__pycache__")
-            packaging.uninstall(f"{room}/prefix")
+            packages.uninstall(f"{room}/prefix")
             self.assertEqual(os.listdir(f"{room}/prefix"), [])
 
 

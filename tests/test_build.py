@@ -5,21 +5,25 @@ import pty
 import shutil
 import signal
 import subprocess
+import sys
 import tarfile
 import time
 import unittest
 
 from support import WithCheckout, needs, read, write
 
+# The crate of sfq-tiles, for tests that make this program too.
+WITH_TILES = {"sfq_tiles": ["middle"]}
 # Proves each crate by `rt all`, and leaves a program. What was proved is kept in a file, by the texts, as the real `rt` keeps it.
 PROVES = """
 if words[0] == "version":
     finish("rattle-kit-99 logic 0123abcd\\n", "", 0)
 if words[0] == "run":
     os.makedirs("out", exist_ok=True)
-    with open("out/sfq", "w") as program:
-        program.write("#!/bin/sh\\necho proved\\n# GLIBC_2.17 GLIBC_2.34\\n")
-    os.chmod("out/sfq", 0o755)
+    name = os.path.basename(os.getcwd())
+    with open("out/" + name, "w") as program:
+        program.write("#!/bin/sh\\necho proved\\n# GLIBC_2.17 GLIBC_2." + ("34" if name == "sfq" else "4") + "\\n")
+    os.chmod("out/" + name, 0o755)
     finish("", "", 0)
 if words[0] != "all":
     finish("", "", 0)
@@ -34,7 +38,7 @@ for line in open(root + "/crates.txt"):
 def below(name):
     return set().union(*({it} | below(it) for it in crates[name] if it in crates))
 def text_of(name):
-    file = root + "/crates/" + name + "/src/" + ("main.rt" if name == "sfq" else "lib.rt")
+    file = root + "/crates/" + name + "/src/" + ("main.rt" if name.startswith("sfq") else "lib.rt")
     return open(file).read() + "".join(text_of(it) for it in sorted(below(name)))
 wanted = set(crates) if os.getcwd() == root else {os.path.basename(os.getcwd())} | below(os.path.basename(os.getcwd()))
 failed, summary = set(), []
@@ -69,7 +73,7 @@ finish("", "", 1 if failed else 0)
 """
 
 
-class Builds(WithCheckout):
+class WithBuild(WithCheckout):
     def setUp(self):
         super().setUp()
         self.checkout.behave(PROVES)
@@ -82,6 +86,12 @@ class Builds(WithCheckout):
             for name in environment:
                 del os.environ[name]
 
+    def installed(self, prefix):
+        """Returns the files below a prefix."""
+        return sorted(os.path.relpath(f"{at}/{it}", prefix) for at, _, names in os.walk(prefix) for it in names)
+
+
+class Builds(WithBuild):
     def checked(self, verb="check"):
         """Returns the crates that were checked, in order."""
         path = f"{self.checkout.room}/bin/checked"
@@ -134,7 +144,7 @@ class Builds(WithCheckout):
         self.assertIn("low.rt:1:1: error", text)
         self.assertIn("not reached: middle", text)
         self.assertIn("not reached: sfq", text)
-        self.assertIn("1 of 4 crates proved, 0 s: command_line", text)
+        self.assertRegex(text, r"1 of 4 crates proved, \d+ s: command_line")
         self.assertIn(b"sfq: 1 of 4 crates proved", ran.stderr)
         self.assertEqual(self.checked(), ["command_line"])
 
@@ -189,24 +199,99 @@ class Builds(WithCheckout):
             self.assertEqual((ran.returncode, ran.stdout), (2, b""))
             self.assertIn(b"usage: ./build", ran.stderr)
 
-    def test_install_and_uninstall(self):
+    def test_install_without_what_is_not_made(self):
         prefix = f"{self.checkout.room}/prefix"
-        os.makedirs(f"{prefix}/share/man/man1")
+        ran = self.build("--install", prefix)
+        self.assertEqual(ran.returncode, 0, ran.stderr)
+        self.assertEqual(sorted(os.listdir(f"{prefix}/bin")), ["sfq", "sfq-export", "sfq-import"])
+        for it in ("sfq-tiles and sfq-scale, which need ./build --tiles", "the C library and what is over it, which need ./build --library"):
+            self.assertIn(f"not installed: {it}\n", ran.stdout.decode())
+        self.assertEqual(self.build("--uninstall", prefix).returncode, 0)
+        self.assertEqual(os.listdir(prefix), [])
+
+    def test_tiles_that_are_not_there(self):
+        ran = self.build("--tiles")
+        self.assertEqual((ran.returncode, ran.stderr), (1, b"sfq: no sfq-tiles: crates.txt has no crate sfq_tiles\n"))
+        ran = self.checkout.run(["sfq-tiles", "--version"])
+        self.assertEqual((ran.returncode, ran.stdout, ran.stderr), (1, b"", b"sfq: ./build --tiles makes sfq-tiles\n"))
+        ran = self.checkout.run(["scale/sfq-scale", "run", "s", "d", "q", "--scheduler", "tcp://127.0.0.1:1", "--sfq", "/bin/true"])
+        self.assertEqual((ran.returncode, ran.stdout), (2, b""))
+        self.assertRegex(ran.stderr, rb"\Asfq-scale: there is no program sfq-tiles beside sfq-scale or on the path: ./build --tiles makes it .*\n\Z")
+
+
+class Commands(WithBuild):
+    """The commands beside sfq: sfq-tiles, which ./build --tiles makes, sfq-scale over it, sfq-import and sfq-export."""
+
+    MORE_CRATES = WITH_TILES
+    NAMES = ["sfq", "sfq-export", "sfq-import", "sfq-scale", "sfq-tiles"]
+
+    def test_tiles_are_made_of_what_is_proved(self):
+        ran = self.build("--tiles")
+        self.assertEqual(ran.returncode, 0, ran.stderr)
+        self.assertTrue(ran.stdout.decode().startswith("proving and linking sfq-tiles\n"))
+        self.assertRegex(ran.stdout.decode(), r"made: crates/sfq_tiles/out/sfq_tiles, SHA-256 [0-9a-f]{64}\n\Z")
+        self.assertEqual(self.checkout.run(["sfq-tiles"]).stdout, b"proved\n")
+        self.assertFalse(os.path.exists(f"{self.checkout.root}/crates/sfq/out/sfq"))
+        linked = lambda: [words[0] for _, words in self.checkout.calls()].count("run")
+        before = linked()
+        self.assertEqual(self.build("--tiles").returncode, 0)
+        self.assertEqual(linked(), before)
+        write(f"{self.checkout.root}/crates/middle/src/lib.rt", "//! edited\n")
+        self.assertEqual(self.build("--tiles").returncode, 0)
+        self.assertEqual(linked(), before + 1)
+
+    def test_verify_looks_at_both_programs(self):
+        self.build()
+        self.build("--tiles")
+        ran = self.build("--verify")
+        self.assertEqual(ran.returncode, 0, ran.stderr)
+        for name, makes in (("sfq", "./build"), ("sfq-tiles", "./build --tiles")):
+            path = f"{self.checkout.root}/crates/{name.replace('-', '_')}/out/{name.replace('-', '_')}"
+            self.assertIn(f"    {hashlib.sha256(read(path).encode()).hexdigest()}  the program {name}\n", ran.stdout.decode())
+            self.assertIn(f"the program of {makes} is the same\n", ran.stdout.decode())
+
+    def test_tiles_that_are_not_proved(self):
+        ran = self.build("--tiles", BREAKS="middle")
+        self.assertEqual((ran.returncode, ran.stderr.decode().splitlines()[-1]), (1, "sfq: no sfq-tiles: the crate sfq_tiles isn't proved"))
+        self.assertFalse(os.path.exists(f"{self.checkout.root}/crates/sfq_tiles/out/sfq_tiles"))
+
+    def test_all_are_installed_and_go_again(self):
+        prefix = f"{self.checkout.room}/prefix"
         write(f"{prefix}/share/man/man1/other.1", "")
+        self.assertEqual(self.build("--tiles").returncode, 0)
         self.assertEqual(self.build("--install", prefix).returncode, 0)
-        found = sorted(os.path.relpath(f"{at}/{it}", prefix) for at, _, names in os.walk(prefix) for it in names)
-        self.assertIn("bin/sfq", found)
-        self.assertEqual(len(found), 7)
-        self.assertEqual(subprocess.run([f"{prefix}/bin/sfq"], capture_output=True).stdout, b"proved\n")
+        found = self.installed(prefix)
+        self.assertEqual([it[4:] for it in found if it.startswith("bin/")], self.NAMES)
+        for it in self.NAMES:
+            for path in ("man/man1/{}.1", "bash-completion/completions/{}", "zsh/site-functions/_{}", "fish/vendor_completions.d/{}.fish"):
+                self.assertIn(f"share/{path.format(it)}", found)
+        for it in ("sfq", "sfq-tiles"):
+            self.assertEqual(subprocess.run([f"{prefix}/bin/{it}"], capture_output=True).stdout, b"proved\n")
+        for it in ("sfq-scale", "sfq-import", "sfq-export"):
+            ran = subprocess.run([sys.executable, f"{prefix}/bin/{it}", "--version"], capture_output=True, text=True, cwd="/")
+            self.assertEqual((ran.stdout, ran.stderr), (f"{it} 0.1.0\n", ""))
+        self.assertEqual(self.installed(prefix), found)
         self.assertEqual(self.build("--uninstall", prefix).returncode, 0)
         found = [os.path.relpath(f"{at}/{it}", prefix) for at, folders, names in os.walk(prefix) for it in [*folders, *names]]
         self.assertEqual(sorted(found), ["share", "share/man", "share/man/man1", "share/man/man1/other.1"])
 
+    def test_the_installed_sfq_scale_finds_the_programs_beside_it(self):
+        prefix = f"{self.checkout.room}/prefix"
+        self.build("--tiles")
+        self.build("--install", prefix)
+        words = [f"{prefix}/bin/sfq-scale", "run", "s", "d", "q", "--scheduler", "tcp://127.0.0.1:1"]
+        for it in ("sfq", "sfq-tiles"):
+            os.rename(f"{prefix}/bin/{it}", f"{prefix}/{it}")
+            ran = subprocess.run([sys.executable, *words], capture_output=True, text=True, env={**os.environ, "PATH": "/usr/bin:/bin"})
+            self.assertEqual(ran.returncode, 2)
+            self.assertIn(f"sfq-scale: there is no program {it} beside sfq-scale", ran.stderr)
+            os.rename(f"{prefix}/{it}", f"{prefix}/bin/{it}")
+        ran = subprocess.run([sys.executable, *words], capture_output=True, text=True, env={**os.environ, "PATH": "/usr/bin:/bin"})
+        self.assertNotIn("there is no program", ran.stderr)
 
-class Packages(WithCheckout):
-    def setUp(self):
-        super().setUp()
-        self.checkout.behave(PROVES)
+
+class Packages(WithBuild):
+    MORE_CRATES = WITH_TILES
 
     def make(self, root):
         """Makes the packages in a copy of the checkout, and returns their files."""
@@ -236,6 +321,7 @@ class Packages(WithCheckout):
                 self.assertEqual(a.read(), b.read())
             with tarfile.open(one[it]) as archive:
                 names = archive.getnames()
+                self.assertEqual([it.rpartition("/")[2] for it in names if "/bin/" in it], Commands.NAMES)
                 self.assertEqual(names, sorted(names))
                 self.assertTrue(all(entry.uid == 0 and entry.uname == "root" for entry in archive))
         self.assertEqual(len(one), 1)
@@ -248,8 +334,11 @@ class Packages(WithCheckout):
             with open(one[it], "rb") as a, open(other[it], "rb") as b:
                 self.assertEqual(a.read(), b.read())
             listed = subprocess.run(["dpkg-deb", "-c", one[it]], capture_output=True, text=True, check=True).stdout
-            self.assertIn("./usr/bin/sfq", listed)
-            self.assertIn("./usr/share/man/man1/sfq.1", listed)
+            for name in Commands.NAMES:
+                self.assertIn(f"./usr/bin/{name}\n", listed)
+                self.assertIn(f"./usr/share/man/man1/{name}.1\n", listed)
+                self.assertIn(f"./usr/share/zsh/vendor-completions/_{name}\n", listed)
+            self.assertNotIn("site-functions", listed)
             self.assertIn("root/root", listed)
             about = subprocess.run(["dpkg-deb", "-f", one[it]], capture_output=True, text=True, check=True).stdout
             self.assertIn("Depends: libc6 (>= 2.34)", about)

@@ -134,7 +134,8 @@ class Parts(unittest.TestCase):
             status = next((statuses[it] for it in statuses if f"The {it} " in head), 5 if head == "Geometries" else 6)
             for line, own in re.findall(r"(?m)^\| `(sfq: [^`]*)`[^|]*\| (\d?)", part):
                 with self.subTest(line=line):
-                    if "write failed" in line or "out of memory" in line:
+                    # The last of these is sfq-tiles's alone.
+                    if any(it in line for it in ("write failed", "out of memory", "out unwritable")):
                         self.assertIsNone(outcomes.fault_status(f"{line}\n".encode()))
                     else:
                         wanted = int(own) if own else 6 if "L11" in line else status
@@ -170,6 +171,18 @@ class Parts(unittest.TestCase):
             self.assertIsNone(outcomes.wrong_outcome(ran, words), ran)
         self.assertIsNone(outcomes.wrong_outcome(outcomes.Ran(b"", b"sfq: first L1\n", 4), [b"check", b"s", b"d"]))
         self.assertIsNotNone(outcomes.wrong_outcome(outcomes.Ran(b"", b"sfq: first W4\n", 5), [b"run", b"s", b"d", b"q"]))
+
+    def test_notes_are_written_of_tables_that_load(self):
+        check, why = [b"check", b"s", b"d"], [b"check", b"--why", b"s", b"d"]
+        notes = b"sfq: note: t record 2: field 4 holds a line end\nsfq: note: u header: field 1 holds a line end\n"
+        self.assertIsNone(outcomes.wrong_outcome(outcomes.Ran(b"t 2\nu 1\n", notes, 0), why))
+        self.assertIsNone(outcomes.wrong_outcome(outcomes.Ran(b"t 2\n", b"", 0), why))
+        for ran, words in (
+            (outcomes.Ran(b"t 2\nu 1\n", notes, 0), check),
+            (outcomes.Ran(b"", notes, 4), why),
+            (outcomes.Ran(b"t 2\n", notes + b"\n", 0), why),
+        ):
+            self.assertIsNotNone(outcomes.wrong_outcome(ran, words), ran)
 
     def test_labels_that_differ_are_found(self):
         texts, matrices = [SQUARE, LINE], {(0, 0): "2FFF1FFF2", (0, 1): "FF20F1102", (1, 0): "F01FF0212", (1, 1): "1FFF0FFF2"}

@@ -1,16 +1,25 @@
-"""The manual page and the completions: they are well formed and speak of every command, option, status and fault."""
+"""The manual pages and the completions: they are well formed and speak of every command, option, status and fault."""
 import os
 import re
 import shutil
 import subprocess
+import sys
 import tempfile
 import unittest
 
+import scale_programs
 from support import ROOT, asked, needs, read
 import repository
 
 PAGE = f"{ROOT}/man/sfq.1"
 COMPLETIONS = ("sfq.bash", "_sfq", "sfq.fish")
+# The other commands, and the words that print their options.
+OTHERS = {
+    "sfq-tiles": [scale_programs.TILES, "--help"],
+    "sfq-scale": [sys.executable, f"{ROOT}/scale/sfq-scale", "run", "--help"],
+    "sfq-import": [sys.executable, f"{ROOT}/python/bin/sfq-import", "--help"],
+    "sfq-export": [sys.executable, f"{ROOT}/python/bin/sfq-export", "--help"],
+}
 
 
 def commands_in(text):
@@ -27,12 +36,14 @@ def options_in(text):
 class ManualPage(unittest.TestCase):
     @needs("groff", "groff")
     def test_no_warning(self):
-        ran = subprocess.run(["groff", "-t", "-man", "-ww", "-Tutf8", PAGE], capture_output=True, text=True)
-        self.assertEqual((ran.stderr, ran.returncode), ("", 0))
-        self.assertIn("EXIT STATUS", re.sub(r".\x08|\x1b\[[\d;]*m", "", ran.stdout))
+        for name in ("sfq", *OTHERS):
+            ran = subprocess.run(["groff", "-t", "-man", "-ww", "-Tutf8", f"{ROOT}/man/{name}.1"], capture_output=True, text=True)
+            self.assertEqual((ran.stderr, ran.returncode), ("", 0))
+            self.assertIn("EXIT STATUS", re.sub(r".\x08|\x1b\[[\d;]*m", "", ran.stdout))
 
     def test_it_is_of_this_version(self):
-        self.assertIn(f'"sfq {repository.version()}"', read(PAGE))
+        for name in ("sfq", *OTHERS):
+            self.assertIn(f'"sfq {repository.version()}"', read(f"{ROOT}/man/{name}.1"))
         self.assertRegex(read(f"{ROOT}/CHANGELOG.md"), rf"(?m)^## {re.escape(repository.version())} \(")
 
     def test_each_fault_and_status_of_the_document_is_in_it(self):
@@ -111,12 +122,55 @@ class Help(unittest.TestCase):
         self.assertNotEqual(helps["relate", "POINT(1 1)"].err, b"")
 
 
+class OtherCommands(unittest.TestCase):
+    """The same of the commands beside sfq."""
+
+    ASKS_PROGRAM = True
+
+    def options(self, name):
+        """Returns the options of a command by its help, with the short ones; None where the command isn't made."""
+        if name == "sfq-tiles" and not scale_programs.has_tiles():
+            return None
+        ran = subprocess.run(OTHERS[name], capture_output=True, text=True)
+        self.assertEqual((ran.stderr, ran.returncode), ("", 0))
+        # clap writes a long option further in where it has no short one.
+        found = {it for pair in options_in(re.sub(r"(?m)^ {3,6}(?=--)", "  ", ran.stdout)) for it in pair if it}
+        self.assertIn("--help", found)
+        return found
+
+    def test_options(self):
+        for name in OTHERS:
+            options = self.options(name)
+            if options is None:
+                self.skipTest("needs ./build --tiles")
+            page, texts = read(f"{ROOT}/man/{name}.1").replace("\\-", "-"), {it: read(f"{ROOT}/completions/{it}") for it in completions(name)}
+            for option in options:
+                self.assertRegex(page, rf"(?<![\w-]){option}\b", f"{name}: {option}")
+                for file, text in texts.items():
+                    other = rf"-l {option[2:]}\b" if option.startswith("--") else rf"-s {option[1:]}\b"
+                    self.assertRegex(text, rf"(?<![\w-]){option}\b|{other}", f"{file}: {option}")
+            # Nothing that the command doesn't have.
+            offered = re.findall(r"compgen -W '([^']*--help[^']*)'", texts[f"{name}.bash"])[-1].split()
+            self.assertEqual(set(offered) - {"--version"}, options - {"--version"}, name)
+
+    def test_each_says_its_version(self):
+        for name, words in OTHERS.items():
+            if name != "sfq-tiles" or scale_programs.has_tiles():
+                ran = subprocess.run([*words[: 2 if words[0] == sys.executable else 1], "--version"], capture_output=True, text=True)
+                self.assertEqual((ran.stdout, ran.stderr), (f"{name} {repository.version()}\n", ""))
+
+
+def completions(name):
+    """Returns the files of a command's completions."""
+    return [f"{name}.bash", f"_{name}", f"{name}.fish"]
+
+
 class Completions(unittest.TestCase):
     def complete(self, *words, folder=ROOT):
         """Returns what bash offers for the last of these words."""
         script = (
-            f"compopt() {{ :; }}; source '{ROOT}/completions/sfq.bash'; COMP_WORDS=(\"$@\"); COMP_CWORD=$(($# - 1)); "
-            '_sfq; printf "%s\\n" "${COMPREPLY[@]}"'
+            f"compopt() {{ :; }}; source '{ROOT}/completions/{words[0]}.bash'; COMP_WORDS=(\"$@\"); COMP_CWORD=$(($# - 1)); "
+            f'_{words[0].replace("-", "_")}; printf "%s\\n" "${{COMPREPLY[@]}}"'
         )
         ran = subprocess.run(["bash", "-c", script, "bash", *words], cwd=folder, capture_output=True, text=True)
         self.assertEqual((ran.stderr, ran.returncode), ("", 0))
@@ -135,15 +189,31 @@ class Completions(unittest.TestCase):
                 open(f"{room}/{it}", "w", encoding="utf-8").close()
             self.assertEqual(sorted(self.complete("sfq", "run", "", folder=room)), ["schema.sql", "tables"])
             self.assertEqual(self.complete("sfq", "check", "schema.sql", "", folder=room), ["tables"])
+            self.assertEqual(sorted(self.complete("sfq-tiles", "--rows", "9", "", folder=room)), ["schema.sql", "tables"])
+            self.assertEqual(self.complete("sfq-tiles", "schema.sql", "--part", "a=t", "t", folder=room), ["tables"])
+            self.assertEqual(sorted(self.complete("sfq-scale", "run", "--send", "", folder=room)), ["schema.sql", "tables"])
+            self.assertEqual(self.complete("sfq-scale", "run", "--rows", "9", "schema.sql", "t", folder=room), ["tables"])
+            self.assertEqual(self.complete("sfq-import", "--out", "", folder=room), ["tables"])
+            self.assertEqual(self.complete("sfq-export", "t.", folder=room), ["t.csv"])
+        self.assertEqual(self.complete("sfq-scale", "r"), ["run"])
+        self.assertEqual(self.complete("sfq-scale", "run", "s", "d", "S"), ["SELECT"])
+        self.assertEqual(self.complete("sfq-import", "--invalid", "m"), ["mend"])
+        self.assertEqual(self.complete("sfq-tiles", "--part", ""), [])
 
     @needs("zsh", "zsh")
     def test_zsh(self):
-        ran = subprocess.run(["zsh", "-n", f"{ROOT}/completions/_sfq"], capture_output=True, text=True)
-        self.assertEqual((ran.stderr, ran.returncode), ("", 0))
+        for name in ("sfq", *OTHERS):
+            ran = subprocess.run(["zsh", "-n", f"{ROOT}/completions/_{name}"], capture_output=True, text=True)
+            self.assertEqual((ran.stderr, ran.returncode), ("", 0))
+            self.assertEqual(read(f"{ROOT}/completions/_{name}").splitlines()[0], f"#compdef {name}")
 
     @needs("fish", "fish")
     def test_fish(self):
-        script = f"source '{ROOT}/completions/sfq.fish'; complete -C 'sfq r'"
-        ran = subprocess.run([shutil.which("fish"), "--no-config", "-c", script], capture_output=True, text=True)
-        self.assertEqual(ran.returncode, 0, ran.stderr)
-        self.assertEqual(sorted(it.split("\t")[0] for it in ran.stdout.splitlines()), ["relate", "run"])
+        for line, wanted in (
+            ("sfq r", ["relate", "run"]), ("sfq-tiles --r", ["--rows"]), ("sfq-scale ru", ["run"]), ("sfq-scale run --se", ["--send"]),
+            ("sfq-import --invalid ", ["leave-out", "mend", "stop"]), ("sfq-export --w", ["--wgs84"]),
+        ):
+            script = f"source '{ROOT}/completions/{line.partition(' ')[0]}.fish'; complete -C '{line}'"
+            ran = subprocess.run([shutil.which("fish"), "--no-config", "-c", script], capture_output=True, text=True)
+            self.assertEqual(ran.returncode, 0, ran.stderr)
+            self.assertEqual(sorted(it.split("\t")[0] for it in ran.stdout.splitlines()), wanted)

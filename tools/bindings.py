@@ -15,6 +15,8 @@ import repository
 
 # The Python that installs is the one that gets the package.
 PACKAGES = f"lib/python{sys.version_info[0]}.{sys.version_info[1]}/site-packages"
+# The commands of the package, which are installed without it too.
+COMMANDS = ("sfq-import", "sfq-export")
 SQLITE = "lib/sfq0.so"
 
 

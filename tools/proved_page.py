@@ -1,6 +1,6 @@
 #!/usr/bin/env python3
-"""Prints what docs/PROVED.md, docs/LIBRARY.md and tests/ample_memory.txt say wrong of the sources, and ends with status 1 if
-something is.
+"""Prints what docs/PROVED.md, docs/SCALE.md, docs/LIBRARY.md and tests/ample_memory.txt say wrong of the sources, and ends with
+status 1 if something is.
 
 usage: python3 tools/proved_page.py
 
@@ -14,8 +14,9 @@ import sys
 
 import repository
 
-PAGES = [f"{repository.ROOT}/docs/{it}.md" for it in ("PROVED", "LIBRARY")]
-PROGRAMS = ["sfq", "scripts", "gauge"]
+PAGES = [f"{repository.ROOT}/docs/{it}.md" for it in ("PROVED", "SCALE", "LIBRARY")]
+# Programs, whose functions nobody else calls; the pages name clauses of the last ones.
+PROGRAMS, NAMED_PROGRAMS = ["sfq", "scripts", "gauge"], ["sfq_tiles"]
 LIST = f"{repository.ROOT}/tests/ample_memory.txt"
 # What the list says of the modules that call functions which it doesn't name.
 OTHERS = "all others"
@@ -96,17 +97,17 @@ def is_reached(function, lib):
 
 
 def all_functions():
-    """Returns the functions of the libraries, and of these the ones that can be called from outside."""
+    """Returns the functions of the libraries and of the programs that the page names, and those that can be called from outside."""
     found, public, tests = [], [], repository.crates_with_tests()
     for crate in repository.read_crates():
         if crate in tests + PROGRAMS:
             continue
-        lib = read(f"{repository.ROOT}/crates/{crate}/src/lib.rt")
+        lib = "" if crate in NAMED_PROGRAMS else read(f"{repository.ROOT}/crates/{crate}/src/lib.rt")
         for path in sorted(glob.glob(f"{repository.ROOT}/crates/{crate}/src/*.rt")):
             module = os.path.basename(path)[: -len(".rt")]
             here = functions_in(crate, module, read(path))
             found += here
-            public += [it for it in here if it.is_public and it.name != "from" and is_reached(it, lib)]
+            public += [it for it in here if lib and it.is_public and it.name != "from" and is_reached(it, lib)]
     return found, public
 
 
@@ -182,10 +183,14 @@ OF_STD = {"Rows::next": {"steps", "goes"}}
 
 def rows_of(page):
     """Returns the rows of the page's tables of calls as pairs: the names of calls, and those of their clauses."""
-    found, names = [], []
+    found, names, is_of_calls = [], [], False
     for line in page.split("\n"):
         cells = [it.strip() for it in re.split(r"(?<!\\)\|", line)]
-        if len(cells) == 5 and cells[1] != "call" and not cells[1].startswith("---"):
+        if len(cells) != 5:
+            is_of_calls = False
+        elif cells[1] == "call":
+            is_of_calls = True
+        elif is_of_calls and not cells[1].startswith("---"):
             names = re.findall(r"`([^`]*)`", cells[1]) or names
             found.append((names, re.findall(r"`(\w+)`", cells[2])))
     return found

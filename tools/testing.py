@@ -16,6 +16,7 @@ import calls
 import library
 import proving
 import repository
+import tiles
 import unproved
 
 ROOT = repository.ROOT
@@ -251,9 +252,12 @@ def gate(counts):
     if not is_well:
         counts.failed += [f"rt ci ({last})"] * max(1, failed)
     print(f"{'ok' if is_well else 'FAILED'}: rt ci ({proving.span(time.monotonic() - begun)})", flush=True)
-    if is_well and os.path.isfile(repository.PROGRAM) and repository.current("sum")[1] == before:
-        # What rt ci leaves is the proved program.
-        repository.current("stamp", before)
+    if is_well and repository.current("sum")[1] == before:
+        # What rt ci leaves are the proved programs.
+        if os.path.isfile(repository.PROGRAM):
+            repository.current("stamp", before)
+        if os.path.isfile(tiles.PROGRAM):
+            tiles.stamp()
     return is_well
 
 

@@ -9,6 +9,8 @@ CHAIN = re.compile(r"^#+ .*\bchain\b.*$", re.I | re.M)
 PATH = re.compile(r"(?:crates/)?\b(\w+/(?:specs|src)/[\w/]+\.(?:antt|rt))\b")
 # The crates of definitions, whose files are listed where docs/PROVED.md has no chain.
 MODELS = ("geometry_model", "table_model")
+# The crates of the programs that users run.
+PROGRAMS = ("sfq", "sfq_tiles")
 
 
 def copy_sources(root, room):
@@ -42,8 +44,9 @@ def chain(root=repository.ROOT):
 
 
 def kit_libraries(root=repository.ROOT):
-    """Returns the kit's libraries that the program is built from: their contracts are taken as the kit proved them."""
-    crates, used, left = repository.read_crates(root), {"std"}, ["sfq"]
+    """Returns the kit's libraries that the programs are built from: their contracts are taken as the kit proved them."""
+    crates, used = repository.read_crates(root), {"std"}
+    left = [it for it in PROGRAMS if it in crates]
     while left:
         for it in crates[left.pop()]:
             if it in crates:
@@ -53,8 +56,8 @@ def kit_libraries(root=repository.ROOT):
     return sorted(used)
 
 
-def show(kit, program, root=repository.ROOT):
-    """Prints the trusted base. `program` is the SHA-256 of the program that was built from nothing."""
+def show(kit, programs, root=repository.ROOT):
+    """Prints the trusted base. `programs` are the SHA-256 of the programs that were built from nothing, by their names."""
     print("\nWhat you trust:")
     print(f"  the kit that proved and compiled it: {kit}")
     print(f"  its logic: {repository.logic_of(kit)}")
@@ -63,4 +66,6 @@ def show(kit, program, root=repository.ROOT):
     for it in chain(root):
         print(f"    {repository.sum_of_file(f'{root}/{it}')}  {it}")
     print("What follows from it:")
-    print(f"    {program}  the program sfq\n")
+    for name, total in programs.items():
+        print(f"    {total}  the program {name}")
+    print()

@@ -1,9 +1,9 @@
 #!/usr/bin/env python3
-"""Draws the pictures of the documents: two geometries on the grid, and beside them their DE-9IM matrix; and the map of
-the land register of examples/parcels, from its CSV files.
+"""Draws the pictures of the documents: two geometries on the grid, and beside them their DE-9IM matrix; the map of
+the land register of examples/parcels, from its CSV files; and cells of a grid that is split.
 
-Run it in this folder without arguments. It writes one SVG for each entry of PICTURES, and parcels.svg, the same bytes
-each time. The matrices are those of the worked rows; the script computes none.
+Run it in this folder without arguments. It writes one SVG for each entry of PICTURES, parcels.svg and cells.svg, the same
+bytes each time. The matrices are those of the worked rows; the script computes none.
 """
 
 import csv
@@ -199,6 +199,36 @@ def draw_register():
         )
 
 
+# Cells of a split grid, and two rectangles in them, in the picture's own units: x and y of the upper left corner, width and height.
+CELLS = {"cell 1": (20, 20, 160, 180, 28, 192), "cell 2": (180, 100, 160, 100, 284, 192), "cell 3": (180, 20, 160, 80, 284, 36)}
+SHAPES = {"a": (110, 60, 130, 110, FIRST, 116, 76), "b": (200, 80, 70, 60, SECOND, 256, 96)}
+SAID = {
+    60: "a is in cells 1, 2 and 3,", 78: "b in cells 2 and 3.", 104: "The green corner is the pair's:", 122: "greater least x, greater least y.",
+    148: "So cell 2 finds the pair.", 166: "In cell 3 both have s = 1.",
+}
+
+
+def draw_cells():
+    lines = []
+    for name, (x, y, width, height, at, down) in CELLS.items():
+        lines.append(f'<rect x="{x}" y="{y}" width="{width}" height="{height}" fill="none" stroke="#888" stroke-dasharray="5 4"/>')
+        lines.append(f'<text x="{at}" y="{down}">{name}</text>')
+    for name, (x, y, width, height, colour, at, down) in SHAPES.items():
+        lines.append(f'<rect x="{x}" y="{y}" width="{width}" height="{height}" fill="{colour}22" stroke="{colour}" stroke-width="2"/>')
+        lines.append(f'<text x="{at}" y="{down}">{name}</text>')
+    lines.append('<circle cx="200" cy="140" r="5" fill="#2a8a4a"/>')
+    lines += [f'<text x="356" y="{down}">{text}</text>' for down, text in SAID.items()]
+    body = "\n".join(lines)
+    with open("cells.svg", "w", encoding="utf-8") as file:
+        file.write(
+            '<svg xmlns="http://www.w3.org/2000/svg" viewBox="0 0 560 220" width="560" height="220">\n'
+            "<title>Three cells, two rectangles, and the corner that says to which cell the pair belongs</title>\n"
+            "<style>text{font:12px sans-serif;fill:#333}</style>\n"
+            f'<rect width="100%" height="100%" fill="#fff"/>\n{body}\n</svg>\n'
+        )
+
+
 for picture, rows in PICTURES.items():
     draw(picture, *rows)
 draw_register()
+draw_cells()

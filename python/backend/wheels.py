@@ -17,7 +17,7 @@ FOLDER = os.path.dirname(os.path.dirname(os.path.realpath(__file__)))
 def project():
     """Returns what pyproject.toml says of the project: its entries that are texts."""
     with open(f"{FOLDER}/pyproject.toml", encoding="utf-8") as file:
-        part = file.read().split("[project]")[1]
+        part = file.read().split("[project]")[1].split("\n[")[0]
     return dict(re.findall(r'^([\w-]+) = "(.*)"$', part, re.M))
 
 
@@ -44,10 +44,18 @@ def sources(folder="sfq"):
     return dict(sorted(found.items()))
 
 
+def entry_points():
+    """Returns the text of entry_points.txt: the commands that pyproject.toml lists under [project.scripts]."""
+    with open(f"{FOLDER}/pyproject.toml", encoding="utf-8") as file:
+        part = file.read().split("[project.scripts]")[1]
+    lines = re.findall(r'^([\w-]+) = "(.*)"$', part, re.M)
+    return ("[console_scripts]\n" + "".join(f"{name} = {call}\n" for name, call in lines)).encode()
+
+
 def described():
     """Returns the name of the folder that describes what is installed, and its files but for RECORD."""
     folder = f"{project()['name']}-{project()['version']}.dist-info"
-    return folder, {f"{folder}/METADATA": metadata(), f"{folder}/WHEEL": WHEEL}
+    return folder, {f"{folder}/METADATA": metadata(), f"{folder}/WHEEL": WHEEL, f"{folder}/entry_points.txt": entry_points()}
 
 
 def record(files, folder):

@@ -73,6 +73,7 @@ def declare(found: ctypes.CDLL) -> ctypes.CDLL:
     """Declares the calls, as sfq.h does."""
     geometry, fault = ctypes.POINTER(CGeometry), ctypes.POINTER(CFault)
     found.sfq_read.argtypes = [ctypes.c_char_p, ctypes.c_size_t, geometry, fault]
+    found.sfq_check.argtypes = [ctypes.c_char_p, ctypes.c_size_t, fault]
     sizes, count = ctypes.POINTER(ctypes.c_size_t), ctypes.c_size_t
     found.sfq_read_positions.argtypes = [ctypes.c_uint32, ctypes.c_void_p, count, sizes, count, sizes, count, geometry, fault]
     found.sfq_relate_many.argtypes = [ctypes.c_void_p, ctypes.c_void_p, count, ctypes.c_char_p, sizes]
@@ -88,7 +89,7 @@ def declare(found: ctypes.CDLL) -> ctypes.CDLL:
     found.sfq_why.argtypes = [geometry, geometry, *room]
     found.sfq_reason.argtypes = [ctypes.c_char_p, ctypes.c_size_t, *room, fault]
     found.sfq_free.argtypes, found.sfq_free.restype = [geometry], None
-    for name in ("read", "read_positions", "relate", "relate_many", "relate_points", "holds", "text", "locate_many", "dimension",
+    for name in ("check", "read", "read_positions", "relate", "relate_many", "relate_points", "holds", "text", "locate_many", "dimension",
                  "is_empty", "envelope", "why", "reason"):
         getattr(found, f"sfq_{name}").restype = ctypes.c_int
     return found

@@ -20,11 +20,16 @@ REASONS = {
     "L1": rf"column {NAME} isn't in the header",
     "L2": rf"column {NAME} is in the header more than once",
     "L3": r"the record has \d+ fields, the header \d+",
-    "L5": rf"column {NAME}: \".*\" isn't a whole number of 64 bits",
+    "L4": rf"column {NAME} isn't UTF-8",
+    "L5": rf"column {NAME}: \"[ -~]+\" isn't a whole number of 64 bits",
     "L6": rf"column {NAME}: (?:V\d [ \d]+: .*|W[123] at \d+|W4)",
     "L7": rf"column {NAME} has a [A-Z]+, not a [A-Z]+",
+    "L8": rf"column {NAME} is empty",
+    "L9": r"record \d+ has the key -?\d+",
 }
 REASONS = {code: re.compile(f"sfq: (?:{text})\n".encode(), re.DOTALL) for code, text in REASONS.items()}
+# The lines that `check --why` may write of tables that load.
+NOTES = re.compile(rf"(?:sfq: note: {NAME} (?:header|record \d+): field \d+ holds a line end\n)+".encode())
 MISUSE, REFUSED = 2, 5
 # The statuses of faults of each command.
 STATUSES = {b"run": (3, 4, 5, 6), b"check": (3, 4, 6), b"relate": (5, 6), b"why": (5, 6), b"pairs": (4, 5, 6), b"fault": (2,)}
@@ -67,9 +72,11 @@ def fault_status(line):
 
 
 def without_reason(err, words):
-    """Returns standard error without the second line that `check --why` may add."""
+    """Returns standard error without what `check --why` may add: the second line of a fault, or notes of tables that load."""
     if words[:1] != [b"check"] or b"--why" not in words:
         return err
+    if NOTES.fullmatch(err):
+        return b""
     first, _, rest = err.partition(b"\n")
     code = re.match(rb"sfq: \w+ (L\d+)", first)
     reason = REASONS.get(code[1].decode()) if code else None

@@ -9,7 +9,7 @@ use Rattle.std.proofs.lemmas.List.{length-take-le, take_more}
 use Rattle.std.proofs.lemmas.List.Folds.{list_any-append}
 use Rattle.std.proofs.lemmas.List.Sums.{fold-append}
 use Rattle.integers.specs.Counts.{one_more}
-use Rattle.bounded_readers.specs.Bounds.{at_field, at_record, checked, ends_line, field_limit, fields_limit, in_field, is_in_record, is_outside, is_past, moved, new_record, place_after, place_outside, record_limit, tally_after}
+use Rattle.bounded_readers.specs.Bounds.{at_field, at_record, checked, ends_line, field_limit, fields_limit, in_field, is_in_record, is_outside, is_past, is_quote, moved, new_record, place_after, place_outside, record_limit, tally_after}
 use Rattle.bounded_readers.specs.RecordEnds.{IsRecordEnd, IsWithin}
 use Rattle.bounded_readers.specs.declared.tallies.Place.{Place}
 use Rattle.bounded_readers.specs.declared.tallies.Place.TheVariants as at
@@ -63,10 +63,10 @@ tally-place : (t : Tally) (b : ℕ) → is_outside t.place ≡ true → (b == 34
 tally-place t b o q = moved-place t (place_after t.place b) ∙ place-after-outside t.place b o q
 
 -- without a quote, a text stays outside quotes
-fold-outside : (t : Tally) (bytes : List ℕ) → is_outside t.place ≡ true → list_any (λ b. b == 34) bytes ≡ false → is_outside (fold tally_after t bytes).place ≡ true
+fold-outside : (t : Tally) (bytes : List ℕ) → is_outside t.place ≡ true → list_any is_quote bytes ≡ false → is_outside (fold tally_after t bytes).place ≡ true
 fold-outside t [] o q = o
 fold-outside t (b ∷ rest) o q =
-    let parts = or-parts (b == 34) (list_any (λ b. b == 34) rest) q in
+    let parts = or-parts (b == 34) (list_any is_quote rest) q in
     fold-outside (tally_after t b) rest (ap is_outside (tally-place t b o parts.0) ∙ choice-outside (b == 44) (ends_line b)) parts.1
 
 -- where a line ends
@@ -169,9 +169,9 @@ any-front : (test : ℕ → Bool) (n : ℕ) (bytes : List ℕ) → list_any test
 any-front test n bytes none =
     (or-parts (list_any test (take n bytes)) (list_any test (drop n bytes)) (sym (list_any-append test (take n bytes) (drop n bytes)) ∙ ap (list_any test) (take-append-drop n bytes) ∙ none)).0
 
-last-quote : (bytes : List ℕ) (b : ℕ) → list_any (λ x. x == 34) (bytes ++ b ∷ []) ≡ false → (b == 34) ≡ false
+last-quote : (bytes : List ℕ) (b : ℕ) → list_any is_quote (bytes ++ b ∷ []) ≡ false → (b == 34) ≡ false
 last-quote bytes b none =
-    let parts = or-parts (list_any (λ x. x == 34) bytes) (list_any (λ x. x == 34) (b ∷ [])) (sym (list_any-append (λ x. x == 34) bytes (b ∷ [])) ∙ none) in
+    let parts = or-parts (list_any is_quote bytes) (list_any is_quote (b ∷ [])) (sym (list_any-append is_quote bytes (b ∷ [])) ∙ none) in
     (or-parts (b == 34) false parts.1).0
 
 fold-last : (t : Tally) (bytes : List ℕ) (b : ℕ) → fold tally_after t (bytes ++ b ∷ []) ≡ tally_after (fold tally_after t bytes) b
@@ -181,7 +181,7 @@ new-record : (t : Tally) → is_in_record t.place ≡ true → is_past t ≡ fal
 new-record t within fresh = rw (within, fresh) refl
 
 -- a line's end after another byte
-ended-at : (t : Tally) (bytes : List ℕ) (k : ℕ) → is_outside t.place ≡ true → IsWithin t (length bytes) → list_any (λ b. b == 34) bytes ≡ false
+ended-at : (t : Tally) (bytes : List ℕ) (k : ℕ) → is_outside t.place ≡ true → IsWithin t (length bytes) → list_any is_quote bytes ≡ false
     → k + 1 < length bytes → ends_line (get_or bytes (k + 1) 0) ≡ true → ends_line (get_or bytes k 0) ≡ false
     → fold tally_after t (take (k + 1 + 1) bytes) ≡ new_record
 ended-at t bytes k outside within none lt last before =
@@ -189,12 +189,12 @@ ended-at t bytes k outside within none lt last before =
     let early : k < length bytes = omega arith in
     let front = take k bytes in
     let up_to : take (k + 1) bytes ≡ front ++ b ∷ [] = take_more bytes k 0 early in
-    let unquoted : list_any (λ x. x == 34) (front ++ b ∷ []) ≡ false = subst (λ l. list_any (λ x. x == 34) l ≡ false) up_to (any-front (λ x. x == 34) (k + 1) bytes none) in
+    let unquoted : list_any is_quote (front ++ b ∷ []) ≡ false = subst (λ l. list_any is_quote l ≡ false) up_to (any-front is_quote (k + 1) bytes none) in
     let m = fold tally_after t front in
     let m1 = fold tally_after t (take (k + 1) bytes) in
     let step : m1 ≡ tally_after m b = ap (fold tally_after t) up_to ∙ fold-last t front b in
-    let m_outside = fold-outside t front outside (any-front (λ x. x == 34) k bytes none) in
-    let m1_outside = fold-outside t (take (k + 1) bytes) outside (any-front (λ x. x == 34) (k + 1) bytes none) in
+    let m_outside = fold-outside t front outside (any-front is_quote k bytes none) in
+    let m1_outside = fold-outside t (take (k + 1) bytes) outside (any-front is_quote (k + 1) bytes none) in
     let place : m1.place ≡ place_outside b = ap (λ x. x.place) step ∙ tally-place m b m_outside (last-quote front b unquoted) in
     let in_record : is_in_record m1.place ≡ true = ap is_in_record place ∙ choice-in_record (b == 44) (ends_line b) before in
     let size : length (take (k + 1) bytes) ≡ k + 1 = length-take-le (k + 1) bytes (omega arith) in
@@ -203,7 +203,7 @@ ended-at t bytes k outside within none lt last before =
     ∙ ap (λ p. checked (moved m1 p)) (line-place m1.place (get_or bytes (k + 1) 0) m1_outside last) ∙ new-record m1 in_record fresh
 
 -- the tally where a record ends
-pub ended : (t : Tally) (bytes : List ℕ) (end : ℕ) → is_outside t.place ≡ true → IsWithin t (length bytes) → list_any (λ b. b == 34) bytes ≡ false
+pub ended : (t : Tally) (bytes : List ℕ) (end : ℕ) → is_outside t.place ≡ true → IsWithin t (length bytes) → list_any is_quote bytes ≡ false
     → IsRecordEnd bytes end → fold tally_after t (take end bytes) ≡ new_record
 ended t bytes end outside within none is =
     let two = is.two in

@@ -20,6 +20,10 @@ record_limit = 34603008
 
 -- ---- places
 
+-- whether a byte is a quote
+abbrev pub is_quote : ℕ → Bool
+is_quote byte = byte == 34
+
 -- whether a byte outside quotes ends a line
 abbrev pub ends_line : ℕ → Bool
 ends_line byte = (byte == 10) || (byte == 13)

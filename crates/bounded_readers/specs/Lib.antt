@@ -1,3 +1,4 @@
 pub mod Bounds
 pub mod Readers
 pub mod RecordEnds
+pub mod FieldRuns

@@ -1,10 +1,14 @@
 //! How long the current field and record of a CSV text are so far, and whether one was longer than its limit.
 
-ghost use Rattle.std.specs.Prelude.{◌≡◌, ◌≤◌, IfSome, drop, length, take};
+ghost use Rattle.std.specs.Prelude.{◌≡◌, ◌≤◌, ◌<◌, ℕ, IfSome, List, drop, length, take, true, false};
 ghost use Rattle.std.specs.Bool.{OnTrue};
-ghost use Rattle.std.specs.List.{fold};
+ghost use Rattle.std.specs.List.{fold, list_any, prefix_len};
 ghost use Rattle.bounded_readers.specs.Bounds as spec;
+ghost use Rattle.bounded_readers.specs.FieldRuns.{all_stay, is_plain, place_in_field, stays};
 ghost use Rattle.bounded_readers.specs.RecordEnds.{IsRecordEnd, IsWithin};
+ghost use Rattle.bounded_readers.specs.declared.tallies.Place.TheVariants as at;
+
+use memchr::memchr;
 
 /// The greatest length of a field, in bytes, its quotes counted.
 pub const FIELD_BYTES: u64 = 1 << 20;
@@ -19,6 +23,9 @@ pub const RECORD_BYTES: u64 = 33 << 20;
 const COMMA: u8 = b',';
 
 const QUOTE: u8 = b'"';
+
+/// A run of as many bytes is worth its own count.
+const LONG_RUN: usize = 32;
 
 /// Where a CSV text is after some of its bytes.
 #[derive(Clone, Copy, Debug, PartialEq, Eq)]
@@ -76,8 +83,56 @@ impl Tally {
         self.is_past
     }
 
-    /// The tally after more bytes. Only those after the last end of a record are looked at one by one, if it is clear where that is.
+    /// The tally after more bytes. Long runs without a quote are counted at once, as far as that is clear, and other bytes some at
+    /// a time.
     pub fn after(self, bytes: &[u8]) -> Tally
+        ensures { result ≡ fold spec.tally_after self bytes.now }
+    {
+        let mut tally = self;
+        let mut at = 0;
+        while at < bytes.len() {
+            let rest = from_place(bytes, at);
+            let run = tally.run_length(rest);
+            if run < LONG_RUN {
+                let count = some_length(rest);
+                tally = tally.after_each(before_place(rest, count));
+                at += count;
+            } else {
+                tally = tally.after_run(before_place(rest, run));
+                at += run;
+            }
+        }
+        tally
+    }
+
+    /// How many of the first bytes are a run: those before a quote. None where the next byte says what a quote meant, or that the
+    /// text begins with no byte order mark.
+    fn run_length(self, bytes: &[u8]) -> usize
+        ensures within { result ≤ length bytes.now }
+        ensures none { list_any spec.is_quote (take result bytes.now) ≡ false }
+    {
+        if is_outside(self.place) || matches!(self.place, Place::Quoted) {
+            return before_quote(bytes);
+        }
+        0
+    }
+
+    /// The tally after bytes without a quote.
+    fn after_run(self, bytes: &[u8]) -> Tally
+        requires some { 0 < length bytes.now }
+        requires unquoted { list_any spec.is_quote bytes.now ≡ false }
+        ensures { result ≡ fold spec.tally_after self bytes.now }
+    {
+        match self.place {
+            Place::Quoted => self.after_staying(bytes.len()),
+            _ => self.after_records(bytes),
+        }
+    }
+
+    /// The tally after bytes without a quote. Only those after the last end of a record are looked at one by one, if it is
+    /// clear where that is.
+    fn after_records(self, bytes: &[u8]) -> Tally
+        requires { list_any spec.is_quote bytes.now ≡ false }
         ensures { result ≡ fold spec.tally_after self bytes.now }
     {
         match self.clear_end(bytes) {
@@ -86,13 +141,14 @@ impl Tally {
         }
     }
 
-    /// The place in these bytes behind the last end of a record. None if they have a quote, or may pass a limit.
+    /// The place in these bytes behind the last end of a record. None if they begin in quotes, or may pass a limit.
     fn clear_end(self, bytes: &[u8]) -> Option<usize>
+        requires { list_any spec.is_quote bytes.now ≡ false }
         ensures within { IfSome result (λ end. end ≤ length bytes.now) }
         ensures tally { IfSome result
             (λ end. fold spec.tally_after self (take end bytes.now) ≡ spec.new_record) }
     {
-        if !is_outside(self.place) || !self.has_room(bytes.len()) || bytes.contains(&QUOTE) {
+        if !is_outside(self.place) || !self.has_room(bytes.len()) {
             return None;
         }
         let end = record_end(bytes)?;
@@ -120,15 +176,53 @@ impl Tally {
         }
     }
 
-    /// The tally after more bytes, which are looked at one by one.
+    /// The tally after more bytes. Those that stay in a field are counted together, the others looked at one by one.
     fn after_each(self, bytes: &[u8]) -> Tally
         ensures { result ≡ fold spec.tally_after self bytes.now }
     {
         let mut tally = self;
-        for byte in bytes {
-            tally = tally.after_byte(*byte);
+        let mut at = 0;
+        while at < bytes.len() {
+            let count = tally.staying(from_place(bytes, at));
+            if count == 0 {
+                tally = tally.after_byte(bytes[at]);
+                at += 1;
+            } else {
+                tally = tally.after_staying(count);
+                at += count;
+            }
         }
         tally
+    }
+
+    /// How many of the first bytes stay in the field.
+    fn staying(self, bytes: &[u8]) -> usize
+        ensures within { result ≤ length bytes.now }
+        ensures stay { all_stay self.place (take result bytes.now) ≡ true }
+    {
+        if is_outside(self.place) {
+            return plain(bytes);
+        }
+        match self.place {
+            Place::Quoted => quoted(bytes),
+            _ => 0,
+        }
+    }
+
+    /// The tally after so many bytes that stay in the field.
+    fn after_staying(self, count: usize) -> Tally
+        requires { 0 < count }
+        ensures { (bytes : List ℕ) → length bytes ≡ count → all_stay self.place bytes ≡ true
+            → result ≡ fold spec.tally_after self bytes }
+    {
+        let more = count as u64;
+        let tally = Tally {
+            place: place_in_field(self.place),
+            field_bytes: self.field_bytes.saturating_add(more),
+            record_bytes: self.record_bytes.saturating_add(more),
+            ..self
+        };
+        tally.checked()
     }
 
     /// The tally after a byte.
@@ -205,12 +299,73 @@ fn record_end(bytes: &[u8]) -> Option<usize>
     None
 }
 
+/// The place after bytes that stay in the field.
+fn place_in_field(place: Place) -> Place
+    ensures { result ≡ place_in_field place }
+{
+    match place {
+        Place::Quoted => place,
+        _ => Place::Unquoted,
+    }
+}
+
+/// How many bytes there are before the first quote. It finds a quote that is far off.
+fn before_quote(bytes: &[u8]) -> usize
+    ensures within { result ≤ length bytes.now }
+    ensures none { list_any spec.is_quote (take result bytes.now) ≡ false }
+{
+    match memchr(QUOTE, bytes) {
+        Some(place) => place,
+        None => bytes.len(),
+    }
+}
+
+/// The same, for a quote that is near.
+fn quoted(bytes: &[u8]) -> usize
+    ensures within { result ≤ length bytes.now }
+    ensures count { result ≡ prefix_len (stays at.Quoted) bytes.now }
+{
+    bytes.iter().take_while(|byte| **byte != QUOTE).count()
+}
+
+/// How many bytes there are before the first comma, quote or end of a line.
+fn plain(bytes: &[u8]) -> usize
+    ensures within { result ≤ length bytes.now }
+    ensures count { result ≡ prefix_len is_plain bytes.now }
+{
+    bytes.iter().take_while(|byte| is_plain(**byte)).count()
+}
+
+/// Whether a byte outside quotes stays in the field.
+fn is_plain(byte: u8) -> bool
+    ensures { result ≡ is_plain byte }
+{
+    !(byte == COMMA || byte == QUOTE || ends_line(byte))
+}
+
 /// Some bytes from a place on.
 fn from_place(bytes: &[u8], place: usize) -> &[u8]
     requires { place ≤ length bytes.now }
     ensures { result.now ≡ drop place bytes.now }
 {
     &bytes[place..]
+}
+
+/// How many of the first bytes are looked at before a next run is looked for.
+fn some_length(bytes: &[u8]) -> usize
+    requires { 0 < length bytes.now }
+    ensures within { result ≤ length bytes.now }
+    ensures some { 0 < result }
+{
+    bytes.len().min(LONG_RUN)
+}
+
+/// Some bytes up to a place.
+fn before_place(bytes: &[u8], place: usize) -> &[u8]
+    requires { place ≤ length bytes.now }
+    ensures { result.now ≡ take place bytes.now }
+{
+    &bytes[..place]
 }
 
 /// Whether a byte outside quotes ends a line.

@@ -1,5 +1,5 @@
 -- What each command means: the texts of the outcomes, the files that are opened, and the ends that there may be.
-use Rattle.std.specs.Prelude.{◌≡◌, ◌++◌, ◌<◌, ◌⊎◌, ⊤, ℕ, Bool, true, false, List, [], ◌∷◌, codes, decimal, length, map, take, slice_get, Option, Some, None, Result, Ok, Err}
+use Rattle.std.specs.Prelude.{◌≡◌, ◌++◌, ◌<◌, ◌⊎◌, ⊤, ℕ, Bool, true, false, List, [], ◌∷◌, codes, decimal, length, map, take, slice_get, IfErr, IfOk, Option, Some, None, Result, Ok, Err}
 use Rattle.std.specs.Fn.{CalledAt, Mut}
 use denote.Ref.{Bor}
 use Rattle.command_line.specs.declared.known_commands.Order.{Order}
@@ -9,9 +9,13 @@ use Rattle.failures.specs.declared.failure.Failure.TheVariants as f
 use Rattle.failures.specs.declared.run_fault.Fault.{Fault}
 use Rattle.failures.specs.declared.run_fault.Fault.TheVariants as faults
 use Rattle.feature_table.specs.Tables.{EachRecordsOf, EarlierLoad}
+use Rattle.loaded_tables.specs.Outcomes.{IsFailure}
 use Rattle.query_runs.specs.Runs.{Runs, RunsOver}
+use Rattle.record_reasons.specs.LineEnds.{FindsLineEnd}
+use Rattle.record_reasons.specs.NoteTexts.{note_line}
 use Rattle.record_reasons.specs.ReasonTexts.{reason_line}
 use Rattle.record_reasons.specs.Reasons.{IsReasonOf}
+use Rattle.record_reasons.specs.declared.line_ends.LineEnd.{LineEnd}
 use Rattle.record_reasons.specs.declared.reason.Reason.{Reason}
 use Rattle.std.specs.String.{string_bytes}
 use Rattle.table_model.specs.Databases.{load_tables}
@@ -213,17 +217,47 @@ MayExplain g remaining taken failures old new directory definitions failure =
     ⊎ ((name : Bor (List ℕ)) × (fault : LoadFault) × (failure ≡ f.Load name fault)
     × ExplainsLoad g remaining taken failures old new directory definitions name.now fault)
 
+-- what a table's file shows when it is opened again and read: its first field with a line end, or that it has none
+pub record LooksAgain {F R : Type 0} (g : Mut F (Bor (List ℕ) × Unit {0}) (Option R)) (remaining : R → Option (List ℕ)) (directory name : List ℕ)
+    (found : Option LineEnd) : Type 0 where
+  pub before : F
+  pub after : F
+  pub reader : R
+  pub opened : CalledAt g before (table_path directory name) (Some reader) after
+  pub finds : FindsLineEnd (remaining reader) found
+
+-- the line of such a field was written, or a beginning of it; without one nothing was, nor where the file can't be opened or read again
+abbrev pub Notes : {E : Type 0} → (E → Option (List ℕ)) → (E → ℕ) → List ℕ → Result (Option LineEnd) LoadFault → E → E → Type 0
+Notes taken failures name (Ok (Some at_field)) old new = Writes (taken old) (taken new) (failures old) (failures new) (note_line name at_field)
+Notes taken failures name (Ok None) old new = new ≡ old
+Notes taken failures name (Err fault) old new = new ≡ old
+
+-- the sink of standard error, and the folder of the tables' files
+module _ {F R E : Type 0} (g : Mut F (Bor (List ℕ) × Unit {0}) (Option R)) (remaining : R → Option (List ℕ)) (taken : E → Option (List ℕ)) (failures : E → ℕ) (directory : List ℕ) where
+  -- what is written of the table of this name, which has loaded
+  pub record NotesTable (name : List ℕ) (old new : E) : Type 0 where
+    pub looked : Result (Option LineEnd) LoadFault
+    pub looks : IfOk looked (LooksAgain g remaining directory name)
+    pub fails : IfErr looked IsFailure
+    pub notes : Notes taken failures name looked old new
+
+  -- and of the tables of these names, one after another
+  abbrev pub NotesTables : List (List ℕ) → E → E → Type 0
+  NotesTables [] old new = new ≡ old
+  NotesTables (name ∷ names) old new = (next : E) × NotesTable name old next × NotesTables names next new
+
 -- what is written after a check that ends so
 abbrev pub Explains : {F R E : Type 0} → Mut F (Bor (List ℕ) × Unit {0}) (Option R) → (R → Option (List ℕ)) → (E → Option (List ℕ)) → (E → ℕ) → E → E
     → List ℕ → SpatialSchema → End → Type 0
-Explains g remaining taken failures old new directory definitions (Ok done) = new ≡ old
+Explains g remaining taken failures old new directory definitions (Ok done) =
+    NotesTables g remaining taken failures directory (table_names definitions) old new
 Explains g remaining taken failures old new directory definitions (Err failure) = MayExplain g remaining taken failures old new directory definitions failure
 
 -- a command writes what any command does to standard error, and then more
 abbrev pub ServesReasons : {E : Type 0} → (E → Option (List ℕ)) → (E → ℕ) → (E → End → Type 0) → ℕ → E → Type 0
 ServesReasons {E} taken failures Ends status old = (shown : E) × Serves taken failures (Ends shown) status old shown
 
--- counting the rows of the tables of a schema's file ends so, after which standard error is this one, and with the reason that one
+-- counting the rows of the tables of a schema's file ends so, after which standard error is this one, and with the reason or the notes that one
 module _ {F R E : Type 0} (g : Mut F (Bor (List ℕ) × Unit {0}) (Option R)) (remaining : R → Option (List ℕ)) (etaken : E → Option (List ℕ)) (efailures : E → ℕ) (shown explained : E) where
   abbrev pub ExplainsFiles : {S : Type 0} → (S → Option (List ℕ)) → (S → ℕ) → S → S → F → List ℕ → List ℕ → End → Type 0
   ExplainsFiles taken failures old new opener schema directory end =

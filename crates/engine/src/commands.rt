@@ -3,8 +3,9 @@
 ghost use Rattle.std.specs.Prelude.{◌≡◌, ◌<◌, length, take, Err, IfErr, IfOk, IfSome, OnErr, OnOk};
 ghost use Rattle.std.specs.String.{string_bytes};
 ghost use Rattle.std.specs.Io.KnownBytes.{Appends};
-ghost use Rattle.engine.specs.Commands.{ChecksFiles, ChecksTables, ExplainsFiles, FindsReason, IsFaultOf, IsNamed, IsUnread, MayExplain, Opens, OpensTables, ReadsSchema, RunsFiles, RunsQuery, RunsTables, ServesOrder, ServesReasons, ServesTables, check_text, table_paths};
+ghost use Rattle.engine.specs.Commands.{ChecksFiles, ChecksTables, ExplainsFiles, FindsReason, IsFaultOf, IsNamed, IsUnread, LooksAgain, MayExplain, NotesTable, NotesTables, Opens, OpensTables, ReadsSchema, RunsFiles, RunsQuery, RunsTables, ServesOrder, ServesReasons, ServesTables, check_text, table_names, table_paths};
 ghost use Rattle.engine.specs.Commands as spec;
+ghost use Rattle.loaded_tables.specs.Outcomes.{IsFailure};
 ghost use Rattle.query_runs.specs.Runs.{IsOfTables};
 ghost use Rattle.sinks.specs.Sinks.{AppendsFront, CountsFailure};
 ghost use Rattle.text_commands.specs.Ends.{Serves};
@@ -15,7 +16,7 @@ use feature_table::{Database, Schema};
 use itoa::Buffer;
 use observers::{RowObserver, Unobserved};
 use query_runs::run_observed;
-use record_reasons::{Reason, put_record_reason, reason_of};
+use record_reasons::{LineEnd, Reason, first_line_end, put_line_end, put_record_reason, reason_of};
 use rtree::{CurveTree, EnvelopeIndex};
 use schema_reader::read_schema;
 use sinks::{Sink, SinkFault, put_parts};
@@ -35,9 +36,9 @@ type ColumnIndex = CurveTree;
 /// How many bytes of a schema's file are read: one more than a schema may have.
 const SCHEMA_BYTES: u64 = TEXT_LIMIT as u64 + 1;
 
-/// Does what the order says. It writes the answer to `out` and the line of a failure to `err`, and of a failed check with
-/// `why` also the line of its reason, if it finds one. It returns the status of the
-/// program: 0, or that of the failure. The opener returns the reader of the file at a path, or None if it can't be opened.
+/// Does what the order says. It writes the answer to `out` and the line of a failure to `err`. After a failed check with `why` it also
+/// writes the line of the reason, if it finds one, and after one that is done a line for each table that has a field with a line end.
+/// It returns the status of the program: 0, or that of the failure. The opener returns the reader of the file at a path, or None if it can't be opened.
 pub fn serve<R: Read + Drop, F: FnMut(&str) -> Option<R>, S: Sink, E: Sink>(
     alloc: Global,
     order: &Order,
@@ -188,7 +189,8 @@ fn run_over<'s, R: Read + Drop, F: FnMut(&str) -> Option<R>, S: Sink, O: RowObse
     }
 }
 
-/// Loads every table and lists how many rows each has, and says what is wrong where one has a fault, if that is asked for.
+/// Loads every table and lists how many rows each has. If that is asked for, it says what is wrong where one has a fault, and else which
+/// fields hold a line end.
 fn serve_tables<R: Read + Drop, F: FnMut(&str) -> Option<R>, S: Sink, E: Sink>(
     alloc: Global,
     paths: &Paths<'_>,
@@ -235,7 +237,8 @@ fn serve_check<R: Read + Drop, F: FnMut(&str) -> Option<R>, S: Sink, E: Sink>(
 }
 
 /// The same, and after the line of a table's fault it writes the line of its reason, if it finds one: the table's file is opened
-/// and read again for it. A file that has changed, or that can't be read again, has none.
+/// and read again for it. A file that has changed, or that can't be read again, has none. Where all tables load, it writes a line for
+/// each that has a field with a line end.
 #[inline(never)]
 fn serve_reasons<R: Read + Drop, F: FnMut(&str) -> Option<R>, S: Sink, E: Sink>(
     alloc: Global,
@@ -255,7 +258,10 @@ fn serve_reasons<R: Read + Drop, F: FnMut(&str) -> Option<R>, S: Sink, E: Sink>(
         Err(failure) => return failed(&failure, err),
     };
     match check_over(alloc, &schema, paths.directory, &mut opener, out) {
-        Ok(()) => 0,
+        Ok(()) => {
+            put_notes(alloc, &schema, paths.directory, opener, err);
+            0
+        }
         Err(failure) => {
             let status = failed(&failure, err);
             explain(alloc, &schema, paths.directory, &failure, opener, err);
@@ -322,6 +328,68 @@ fn table_named(schema: &Schema, name: &str) -> Option<usize>
         }
     }
     None
+}
+
+/// Writes a line for each table that has a field with a line end, in the schema's order: the first such field of its first such
+/// record. Each file is opened and read again; of one that can't be, nothing is said.
+fn put_notes<R: Read + Drop, F: FnMut(&str) -> Option<R>, E: Sink>(
+    alloc: Global,
+    schema: &Schema,
+    directory: &str,
+    mut opener: F,
+    err: &mut E,
+)
+    requires { F.IsAlwaysCallable opener }
+    ensures { NotesTables F.FnMut R.remaining E.taken E.failures directory.now
+        (table_names schema.now) err.old err.new }
+{
+    for table in schema.tables() {
+        put_note(alloc, directory, table.name.as_str(), &mut opener, err);
+    }
+}
+
+/// Writes the line of the first field with a line end in the file of the table of this name, if there is one.
+fn put_note<R: Read + Drop, F: FnMut(&str) -> Option<R>, E: Sink>(
+    alloc: Global,
+    directory: &str,
+    name: &str,
+    opener: &mut F,
+    err: &mut E,
+)
+    requires { F.IsAlwaysCallable opener.old }
+    ensures callable { F.IsAlwaysCallable opener.new }
+    ensures notes { NotesTable F.FnMut R.remaining E.taken E.failures directory.now name.now err.old
+        err.new }
+{
+    let Ok(found) = found_line_end(alloc, directory, name, opener) else {
+        return;
+    };
+    let Some(at) = found else {
+        return;
+    };
+    let _ = put_line_end(name, at, err);
+}
+
+/// The first field with a line end in the file of the table of this name, which is opened again. At Err it can't be opened or read, or
+/// memory ran out.
+fn found_line_end<R: Read + Drop, F: FnMut(&str) -> Option<R>>(
+    alloc: Global,
+    directory: &str,
+    name: &str,
+    opener: &mut F,
+) -> Result<Option<LineEnd>, LoadFault>
+    requires { F.IsAlwaysCallable opener.old }
+    ensures callable { F.IsAlwaysCallable opener.new }
+    ensures looks { IfOk result (LooksAgain F.FnMut R.remaining directory.now name.now) }
+    ensures fails { IfErr result IsFailure }
+{
+    let Ok(path) = table_path(alloc, directory, name) else {
+        return Err(LoadFault::OutOfMemory);
+    };
+    let Some(reader) = opener(path.as_str()) else {
+        return Err(LoadFault::ReadFailed);
+    };
+    first_line_end(alloc, reader)
 }
 
 /// Opens the files of all tables, loads the tables, and writes their lines.

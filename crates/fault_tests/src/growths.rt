@@ -1,4 +1,4 @@
-//! Steering of the library that is made from tests/faults/faults.c: where it is asked for sizes that no heap gives, it
+//! Controls the library that is made from tests/faults/faults.c: where it is asked for sizes that no heap gives, it
 //! refuses a growth of memory that is still to come, and says how many there were. Without it none is refused or counted.
 
 use std::alloc::Global;

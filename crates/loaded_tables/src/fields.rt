@@ -112,9 +112,9 @@ fn parsed_number(text: &[u8]) -> Option<i64>
     }
 }
 
-/// The whole number that a field writes, perhaps with blanks around it.
+/// The whole number of 64 bits that a field writes, perhaps with blanks around it; None if it writes none (SQL, INTEGER).
 #[tactic(auto, unfolding(table_model::specs::Loading::integer_of))]
-fn integer_of(field: &[u8]) -> Option<i64>
+pub fn integer_of(field: &[u8]) -> Option<i64>
     ensures { result ≡ spec.integer_of field.now }
 {
     number_in(trimmed(field))

@@ -16,15 +16,15 @@ use table_model::texts::same_name;
 
 /// Where a table finds its columns in a header.
 #[derive(Drop)]
-pub(crate) struct Layout {
+pub struct Layout {
     /// The place in the header of each column, in the order of the columns.
-    pub(crate) places: Vec<usize>,
+    pub places: Vec<usize>,
     /// How many fields the header has.
-    pub(crate) width: usize,
+    pub width: usize,
 }
 
 /// The field of a record at a place; empty if there is none.
-pub(crate) fn field_at(record: &ByteRecord, place: usize) -> &[u8]
+pub fn field_at(record: &ByteRecord, place: usize) -> &[u8]
     ensures { result.now ≡ slice_index_or (fields_of record.now) place [] }
 {
     record.get(place).unwrap_or(&[])
@@ -51,7 +51,7 @@ fn place_of(header: &ByteRecord, name: &[u8]) -> Result<usize, LoadFault>
 }
 
 /// Where each column is in a header, or the first fault of a column's name there.
-pub(crate) fn layout_of(
+pub fn layout_of(
     alloc: Global,
     columns: &[ColumnDef],
     header: &ByteRecord,

@@ -18,7 +18,7 @@ use table_model::faults::LoadFault;
 use table_model::values::Value;
 
 /// The number at the key's place of a row.
-fn key_of(row: &[Value<Geometry>], key: usize) -> i64
+pub fn key_of(row: &[Value<Geometry>], key: usize) -> i64
     ensures { result ≡ spec.key_of key row.now }
 {
     match items::at(row, key) {
@@ -50,8 +50,8 @@ fn ascend(rows: &[Items<Value<Geometry>>], key: usize) -> bool
     rows.is_sorted_by(|row, next| key_of(row.as_slice(), key) < key_of(next.as_slice(), key))
 }
 
-/// The number, from 1, of the first key that equals an earlier one; none if no two are equal.
-fn double_key(alloc: Global, keys: &[i64]) -> Result<Option<usize>, AllocError>
+/// The number, from 1, of the first key that equals an earlier one; none if no two are equal. It fails only when memory runs out.
+pub fn double_key(alloc: Global, keys: &[i64]) -> Result<Option<usize>, AllocError>
     ensures { IfOk result (λ number. number ≡ spec.double_key keys.now) }
 {
     let mut seen = BTreeSet::new(alloc);

@@ -3,7 +3,7 @@
 #![tactic(auto)]
 
 pub mod cells;
-mod fields;
+pub mod fields;
 pub mod geometry_fields;
 mod headers;
 pub mod indexes;
@@ -15,9 +15,12 @@ pub mod tables;
 mod typed_rows;
 
 pub use cells::Field;
+pub use fields::integer_of;
 pub use geometry_fields::{ColumnShape, Geometry};
+pub use headers::{Layout, field_at, layout_of};
 pub use indexes::Indexes;
-pub use keys::order_by_key;
-pub use records::{Records, next_record};
+pub use keys::{double_key, key_of, order_by_key};
+pub use records::{Records, fault_of, next_record, record_reader};
 pub use schemas::{ColumnDef, ColumnType, Schema, TableDef, lawful};
 pub use tables::{Row, Table};
+pub use typed_rows::row_of;

@@ -26,7 +26,7 @@ pub struct Records<R> {
 }
 
 /// A reader of records: no header is set apart, and records may differ in length.
-fn record_reader<R: Read + Drop>(alloc: Global, reader: R) -> Reader<R>
+pub fn record_reader<R: Read + Drop>(alloc: Global, reader: R) -> Reader<R>
     ensures steady { IsSteady result }
     ensures gives { (text : List ℕ) → R.remaining reader ≡ Some text
         → StillGives R.remaining result (records_in text) }
@@ -95,7 +95,7 @@ impl<R: Read + Drop> Records<R> {
 }
 
 /// The fault of an error: one of reading only where `csv` reports a fault of reading.
-fn fault_of(error: &Error) -> LoadFault
+pub fn fault_of(error: &Error) -> LoadFault
     ensures { result ≡ (if is_io (error_kind error.now) then fault.ReadFailed else fault.OutOfMemory) }
 {
     if error.is_io_error() {

@@ -61,7 +61,7 @@ fn value_at(
 }
 
 /// The values of a record's fields in the columns of a table, which are at these places of the header.
-fn row_of(
+pub fn row_of(
     alloc: Global,
     table: &TableDef,
     places: &[usize],

@@ -29,6 +29,10 @@ pub no-invalid : (c : ColumnDef ColumnShape) (field : List ℕ) (v : ValidityFau
 no-invalid c field v none (reasons.Lengths found wanted) is = is
 no-invalid c field v none (reasons.Missing name) is = is
 no-invalid c field v none (reasons.Repeated name) is = is
+no-invalid c field v none (reasons.Null name) is = is
+no-invalid c field v none (reasons.NoInteger name text) is = is
+no-invalid c field v none (reasons.NotUtf8 name) is = is
+no-invalid c field v none (reasons.SameKey number key) is = is
 no-invalid c field v none (reasons.Refused name shown) is = is
 no-invalid c field v none (reasons.Invalid name shown place) is = none is.2.geometry is.2.spelled
 no-invalid c field v none (reasons.OtherType name found wanted) is = is
@@ -40,6 +44,10 @@ pub no-fault : (c : ColumnDef ColumnShape) (field : List ℕ) (v : ValidityFault
 no-fault c field v g only none (reasons.Lengths found wanted) is = is
 no-fault c field v g only none (reasons.Missing name) is = is
 no-fault c field v g only none (reasons.Repeated name) is = is
+no-fault c field v g only none (reasons.Null name) is = is
+no-fault c field v g only none (reasons.NoInteger name text) is = is
+no-fault c field v g only none (reasons.NotUtf8 name) is = is
+no-fault c field v g only none (reasons.SameKey number key) is = is
 no-fault c field v g only none (reasons.Refused name shown) is = is
 no-fault c field v g only none (reasons.Invalid name shown place) is =
     let geometry = is.2.geometry in
@@ -52,6 +60,10 @@ pub no-type : (c : ColumnDef ColumnShape) (asked : GeometryType) (field : List �
 no-type c asked field none (reasons.Lengths found wanted) is = is
 no-type c asked field none (reasons.Missing name) is = is
 no-type c asked field none (reasons.Repeated name) is = is
+no-type c asked field none (reasons.Null name) is = is
+no-type c asked field none (reasons.NoInteger name text) is = is
+no-type c asked field none (reasons.NotUtf8 name) is = is
+no-type c asked field none (reasons.SameKey number key) is = is
 no-type c asked field none (reasons.Refused name shown) is = is
 no-type c asked field none (reasons.Invalid name shown place) is = is
 no-type c asked field none (reasons.OtherType name found wanted) is = none is.2.geometry is.2.spelled
@@ -63,6 +75,10 @@ pub same-type : (c : ColumnDef ColumnShape) (asked : GeometryType) (field : List
 same-type c asked field g only same (reasons.Lengths found wanted) is = is
 same-type c asked field g only same (reasons.Missing name) is = is
 same-type c asked field g only same (reasons.Repeated name) is = is
+same-type c asked field g only same (reasons.Null name) is = is
+same-type c asked field g only same (reasons.NoInteger name text) is = is
+same-type c asked field g only same (reasons.NotUtf8 name) is = is
+same-type c asked field g only same (reasons.SameKey number key) is = is
 same-type c asked field g only same (reasons.Refused name shown) is = is
 same-type c asked field g only same (reasons.Invalid name shown place) is = is
 same-type c asked field g only same (reasons.OtherType name found wanted) is =

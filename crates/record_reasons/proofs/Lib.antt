@@ -1,4 +1,7 @@
+mod AnyLemmas
 mod FieldLemmas
+mod KeyLemmas
+mod LineLemmas
 mod NameLemmas
 mod PartLemmas
 mod ReasonLemmas

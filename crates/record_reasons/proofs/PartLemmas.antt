@@ -14,6 +14,9 @@ six_parts a x b y z c = simp (append_assoc, append-nil)
 pub seven_parts : (a x b y c z d : List ℕ) → concat (a ∷ x ∷ b ∷ y ∷ c ∷ z ∷ d ∷ []) ≡ a ++ x ++ b ++ y ++ c ++ z ++ d
 seven_parts a x b y c z d = simp (append_assoc, append-nil)
 
+pub eight_parts : (a x b y z c w d : List ℕ) → concat (a ∷ x ∷ b ∷ y ∷ z ∷ c ∷ w ∷ d ∷ []) ≡ a ++ x ++ b ++ y ++ z ++ c ++ w ++ d
+eight_parts a x b y z c w d = simp (append_assoc, append-nil)
+
 -- what was put is the same text, by its parts or whole
 pub put-same : {A E : Type 0} (r : Result A E) (old new : Option (List ℕ)) (text parts : List ℕ) → parts ≡ text
     → OnOk r (Appends old new parts) → OnOk r (Appends old new text)

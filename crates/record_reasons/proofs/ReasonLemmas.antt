@@ -2,11 +2,12 @@
 use Rattle.std.proofs.Common.{◌≡◌, ◌∙◌, ◌++◌, ℕ, zero, suc, List, [], ◌∷◌, Option, Some, None, Result, Ok, Err, IfOk, IfSome, IfNone, ap, refl, subst, sym}
 use Rattle.std.specs.Prelude.{slice_get}
 use Rattle.loaded_tables.specs.Records.{records_in}
-use Rattle.record_reasons.specs.Reasons.{Finds, HasNoReason, HasReason, IsOfColumn, record_number}
+use Rattle.record_reasons.specs.Reasons.{Finds, HasNoRecordReason, HasReason, IsFilledReason, IsGeometryReason, IsOfColumn, record_number}
 use Rattle.record_reasons.specs.SeenRecords.{AreSeen, IsAbsent}
 use Rattle.record_reasons.specs.declared.reason.Reason.{Reason}
 use Rattle.table_model.specs.GeometryColumns.{ColumnShape}
 use Rattle.table_model.specs.Loading.{Record}
+use Rattle.table_model.specs.declared.definitions.ColumnDef.{ColumnDef}
 use Rattle.table_model.specs.declared.definitions.TableDef.{TableDef}
 use Rattle.table_model.specs.declared.faults.LoadFault.{LoadFault}
 use Rattle.table_model.specs.declared.faults.LoadFault.TheVariants as fault
@@ -14,13 +15,13 @@ use Rattle.table_model.specs.declared.faults.LoadFault.TheVariants as fault
 -- ---- elements
 
 -- what is in a list is in a longer one
-in-front : {X : Type 0} (xs ys : List X) (n : ℕ) (x : X) → slice_get xs n ≡ Some x → slice_get (xs ++ ys) n ≡ Some x
+pub in-front : {X : Type 0} (xs ys : List X) (n : ℕ) (x : X) → slice_get xs n ≡ Some x → slice_get (xs ++ ys) n ≡ Some x
 in-front [] ys n x is = cc is
 in-front (y ∷ xs) ys zero x is = is
 in-front (y ∷ xs) ys (suc n) x is = in-front xs ys n x is
 
 -- a value that is there is one
-some-is : {X : Type 0} (x y : X) → Some x ≡ Some y → x ≡ y
+pub some-is : {X : Type 0} (x y : X) → Some x ≡ Some y → x ≡ y
 some-is x y is = cc is
 
 -- what holds of a value that is there, and where there is none
@@ -44,7 +45,7 @@ seen-there known text header number fields is seen =
     )
 
 -- without its record a fault has no reason
-pub no-record : (known : Option (List ℕ)) (table : TableDef ColumnShape) (f : LoadFault) → IsAbsent known (record_number f) → HasNoReason known table f
+pub no-record : (known : Option (List ℕ)) (table : TableDef ColumnShape) (f : LoadFault) → IsAbsent known (record_number f) → HasNoRecordReason known table f
 no-record known table f absent text is within reason has =
     let there = (seen-there (Some text) text has.header (record_number f) has.fields refl has.seen).1 in
     let gone : None ≡ Some has.fields = sym (absent text is) ∙ there in
@@ -53,7 +54,7 @@ no-record known table f absent text is within reason has =
 -- where the record that was seen has no reason, the fault has none
 pub seen-none : {E : Type 0} (r : Result (Option Reason) E) (known : Option (List ℕ)) (table : TableDef ColumnShape) (f : LoadFault) (header fields : Record)
     → AreSeen known header (record_number f) fields → IfOk r (Finds (HasReason table header fields f))
-    → IfOk r (λ found. IfNone found (HasNoReason known table f))
+    → IfOk r (λ found. IfNone found (HasNoRecordReason known table f))
 seen-none (Err e) known table f header fields seen finds = tt
 seen-none (Ok (Some reason)) known table f header fields seen finds = tt
 seen-none (Ok None) known table f header fields seen finds = λ text is within reason has.
@@ -65,16 +66,36 @@ seen-none (Ok None) known table f header fields seen finds = λ text is within r
 
 -- a fault that is neither of the header nor of lengths has its reason in a column
 pub of-column : {E : Type 0} (r : Result (Option Reason) E) (table : TableDef ColumnShape) (header fields : Record) (f : LoadFault)
-    → (f ≡ fault.MissingColumn → ⊥) → (f ≡ fault.DoubleHeader → ⊥) → ((number : ℕ) → f ≡ fault.UnequalRecord number → ⊥) → IfOk r (Finds (IsOfColumn table header fields f)) → IfOk r (Finds (HasReason table header fields f))
-of-column r table header fields fault.MissingColumn lacks repeats other finds = absurd (lacks refl)
-of-column r table header fields fault.DoubleHeader lacks repeats other finds = absurd (repeats refl)
-of-column r table header fields (fault.UnequalRecord number) lacks repeats other finds = absurd (other number refl)
-of-column r table header fields (fault.NotUtf8 number) lacks repeats other finds = finds
-of-column r table header fields (fault.BadInteger number) lacks repeats other finds = finds
-of-column r table header fields (fault.BadGeometry number why) lacks repeats other finds = finds
-of-column r table header fields (fault.WrongType number) lacks repeats other finds = finds
-of-column r table header fields (fault.NullNotAllowed number) lacks repeats other finds = finds
-of-column r table header fields (fault.DoubleKey number) lacks repeats other finds = finds
-of-column r table header fields fault.TooManyRows lacks repeats other finds = finds
-of-column r table header fields fault.ReadFailed lacks repeats other finds = finds
-of-column r table header fields fault.OutOfMemory lacks repeats other finds = finds
+    → (f ≡ fault.MissingColumn → ⊥) → (f ≡ fault.DoubleHeader → ⊥) → ((number : ℕ) → f ≡ fault.UnequalRecord number → ⊥)
+    → ((number : ℕ) → f ≡ fault.NullNotAllowed number → ⊥) → IfOk r (Finds (IsOfColumn table header fields f)) → IfOk r (Finds (HasReason table header fields f))
+of-column r table header fields fault.MissingColumn lacks repeats other null finds = absurd (lacks refl)
+of-column r table header fields fault.DoubleHeader lacks repeats other null finds = absurd (repeats refl)
+of-column r table header fields (fault.UnequalRecord number) lacks repeats other null finds = absurd (other number refl)
+of-column r table header fields (fault.NotUtf8 number) lacks repeats other null finds = finds
+of-column r table header fields (fault.BadInteger number) lacks repeats other null finds = finds
+of-column r table header fields (fault.BadGeometry number why) lacks repeats other null finds = finds
+of-column r table header fields (fault.WrongType number) lacks repeats other null finds = finds
+of-column r table header fields (fault.NullNotAllowed number) lacks repeats other null finds = absurd (null number refl)
+of-column r table header fields (fault.DoubleKey number) lacks repeats other null finds = finds
+of-column r table header fields fault.TooManyRows lacks repeats other null finds = finds
+of-column r table header fields fault.ReadFailed lacks repeats other null finds = finds
+of-column r table header fields fault.OutOfMemory lacks repeats other null finds = finds
+
+-- ---- fields
+
+-- a fault of a field that is neither of a whole number nor of UTF-8 is one of a geometry
+pub of-geometry : {E : Type 0} (r : Result (Option Reason) E) (c : ColumnDef ColumnShape) (field : List ℕ) (f : LoadFault)
+    → ((number : ℕ) → f ≡ fault.NotUtf8 number → ⊥) → ((number : ℕ) → f ≡ fault.BadInteger number → ⊥) → IfOk r (Finds (IsGeometryReason c field f))
+    → IfOk r (Finds (IsFilledReason c field f))
+of-geometry r c field fault.MissingColumn utf8 integer finds = finds
+of-geometry r c field fault.DoubleHeader utf8 integer finds = finds
+of-geometry r c field (fault.UnequalRecord number) utf8 integer finds = finds
+of-geometry r c field (fault.NotUtf8 number) utf8 integer finds = absurd (utf8 number refl)
+of-geometry r c field (fault.BadInteger number) utf8 integer finds = absurd (integer number refl)
+of-geometry r c field (fault.BadGeometry number why) utf8 integer finds = finds
+of-geometry r c field (fault.WrongType number) utf8 integer finds = finds
+of-geometry r c field (fault.NullNotAllowed number) utf8 integer finds = finds
+of-geometry r c field (fault.DoubleKey number) utf8 integer finds = finds
+of-geometry r c field fault.TooManyRows utf8 integer finds = finds
+of-geometry r c field fault.ReadFailed utf8 integer finds = finds
+of-geometry r c field fault.OutOfMemory utf8 integer finds = finds

@@ -1,5 +1,6 @@
 -- What is wrong where a table isn't loaded.
-use Rattle.std.specs.Prelude.{◌≡◌, ◌≢◌, ◌+◌, ◌≤◌, ℕ, List, Option, None, Some, Err, false, count_by, length, slice_get}
+use Rattle.std.specs.Prelude.{◌≡◌, ◌≢◌, ◌+◌, ◌<◌, ◌≤◌, ℕ, ℤ, Bool, List, [], Option, None, Some, Err, false, true, count_by, length, slice_get}
+use Rattle.std.specs.Str.{IsUtf8}
 use Rattle.fault_places.specs.Places.{IsPlaceOf}
 use Rattle.fault_places.specs.declared.places.Place.{Place}
 use Rattle.geometry_model.specs.Geometries.{Geometry, type_of}
@@ -10,11 +11,12 @@ use Rattle.geometry_model.specs.declared.geometry_faults.GeometryFault.TheVarian
 use Rattle.geometry_model.specs.declared.shapes.GeometryType.{GeometryType}
 use Rattle.geometry_model.specs.declared.text_faults.TextFault.{TextFault}
 use Rattle.geometry_model.specs.declared.validity_faults.ValidityFault.{ValidityFault}
-use Rattle.record_reasons.specs.SeenRecords.{AreSeen}
+use Rattle.record_reasons.specs.SeenRecords.{AreSeen, BeginWith}
+use Rattle.record_reasons.specs.ShownTexts.{shown_text}
 use Rattle.record_reasons.specs.declared.reason.Reason.{Reason}
 use Rattle.record_reasons.specs.declared.reason.Reason.TheVariants as reasons
 use Rattle.table_model.specs.GeometryColumns.{ColumnShape, takes_type}
-use Rattle.table_model.specs.Loading.{Record, field_under, row_limit}
+use Rattle.table_model.specs.Loading.{Record, field_under, integer_of, is_required, row_limit}
 use Rattle.table_model.specs.Texts.{same_name}
 use Rattle.table_model.specs.declared.definitions.ColumnDef.{ColumnDef}
 use Rattle.table_model.specs.declared.definitions.ColumnType.{ColumnType}
@@ -27,6 +29,12 @@ use Rattle.table_model.specs.declared.faults.LoadFault.TheVariants as fault
 abbrev pub Finds : (Reason → Type 0) → Option Reason → Type 0
 Finds Is (Some reason) = Is reason
 Finds Is None = (reason : Reason) → Is reason → ⊥
+
+-- the reason is of one of the table's columns, and no column before it has one
+abbrev pub IsFirst : (ℕ → ColumnDef ColumnShape → Reason → Type 0) → TableDef ColumnShape → Reason → Type 0
+IsFirst Is table reason =
+    (place : ℕ) × (c : ColumnDef ColumnShape) × (slice_get table.columns place ≡ Some c) × Is place c reason
+    × ((k : ℕ) (d : ColumnDef ColumnShape) → k < place → slice_get table.columns k ≡ Some d → (other : Reason) × Is k d other → ⊥)
 
 -- ---- of a column
 
@@ -67,12 +75,38 @@ abbrev pub IsRefusedIn : ColumnDef ColumnShape → List ℕ → TextFault → Re
 IsRefusedIn c field w (reasons.Refused name shown) = (name.now ≡ c.name) × (shown ≡ w) × (read_text field ≡ Err w)
 IsRefusedIn c field w _ = ⊥
 
--- the reason of a fault of a field in a column
+-- the reason of a fault of a geometry, of a field in a column of geometries
+abbrev pub IsGeometryReason : ColumnDef ColumnShape → List ℕ → LoadFault → Reason → Type 0
+IsGeometryReason c field (fault.BadGeometry number (g.Text w)) reason = (shape : ColumnShape) × (shape_of c ≡ Some shape) × IsRefusedIn c field w reason
+IsGeometryReason c field (fault.BadGeometry number (g.Invalid v)) reason = (shape : ColumnShape) × (shape_of c ≡ Some shape) × IsInvalidIn c field v reason
+IsGeometryReason c field (fault.WrongType number) reason = (wanted : GeometryType) × (shape_of c ≡ Some (Some wanted)) × IsOtherTypeIn c wanted field reason
+IsGeometryReason c field _ reason = ⊥
+
+-- the reason names the column, which is one of whole numbers, and shows the text of its field, which writes none of 64 bits (SQL, INTEGER)
+abbrev pub IsNoIntegerIn : ColumnDef ColumnShape → List ℕ → Reason → Type 0
+IsNoIntegerIn c field (reasons.NoInteger name text) =
+    (c.column_type ≡ column.Integer) × (name.now ≡ c.name) × (text.items ≡ shown_text field) × (integer_of field ≡ None)
+IsNoIntegerIn c field _ = ⊥
+
+-- the reason names the column, which is one of texts, and whose field isn't UTF-8
+abbrev pub IsNotUtf8In : ColumnDef ColumnShape → List ℕ → Reason → Type 0
+IsNotUtf8In c field (reasons.NotUtf8 name) = (c.column_type ≡ column.Text) × (name.now ≡ c.name) × ¬ (IsUtf8 field)
+IsNotUtf8In c field _ = ⊥
+
+-- the reason of a fault of a field that isn't empty
+abbrev pub IsFilledReason : ColumnDef ColumnShape → List ℕ → LoadFault → Reason → Type 0
+IsFilledReason c field (fault.BadInteger number) reason = IsNoIntegerIn c field reason
+IsFilledReason c field (fault.NotUtf8 number) reason = IsNotUtf8In c field reason
+IsFilledReason c field f reason = IsGeometryReason c field f reason
+
+-- the reason of a fault of a field in a column; an empty field is null, and has none
 abbrev pub IsReasonIn : ColumnDef ColumnShape → List ℕ → LoadFault → Reason → Type 0
-IsReasonIn c field (fault.BadGeometry number (g.Text w)) reason = (shape : ColumnShape) × (shape_of c ≡ Some shape) × IsRefusedIn c field w reason
-IsReasonIn c field (fault.BadGeometry number (g.Invalid v)) reason = (shape : ColumnShape) × (shape_of c ≡ Some shape) × IsInvalidIn c field v reason
-IsReasonIn c field (fault.WrongType number) reason = (wanted : GeometryType) × (shape_of c ≡ Some (Some wanted)) × IsOtherTypeIn c wanted field reason
-IsReasonIn c field _ reason = ⊥
+IsReasonIn c field f reason = (field ≢ []) × IsFilledReason c field f reason
+
+-- the reason names the column, which takes no null, and whose field is empty
+abbrev pub IsNullIn : Bool → ColumnDef ColumnShape → List ℕ → Reason → Type 0
+IsNullIn required c field (reasons.Null name) = (required ≡ true) × (name.now ≡ c.name) × (field ≡ [])
+IsNullIn required c field _ = ⊥
 
 -- ---- of a header
 
@@ -90,15 +124,18 @@ abbrev pub IsRepeatedName : Record → ColumnDef ColumnShape → Reason → Type
 IsRepeatedName header c (reasons.Repeated name) = (name.now ≡ c.name) × (2 ≤ named_fields c header)
 IsRepeatedName header c _ = ⊥
 
--- the reason is of the name of one of the table's columns
+-- the reason is of the name of one of the table's columns, the first that has one
 abbrev pub IsOfName : (ColumnDef ColumnShape → Reason → Type 0) → TableDef ColumnShape → Reason → Type 0
-IsOfName Is table reason = (place : ℕ) × (c : ColumnDef ColumnShape) × (slice_get table.columns place ≡ Some c) × Is c reason
+IsOfName Is table reason = IsFirst (λ place c. Is c) table reason
 
 -- ---- of a record
 
 -- the number of the record that a fault has, and 0 of a fault of the header and any other
 abbrev pub record_number : LoadFault → ℕ
 record_number (fault.UnequalRecord number) = number
+record_number (fault.NullNotAllowed number) = number
+record_number (fault.BadInteger number) = number
+record_number (fault.NotUtf8 number) = number
 record_number (fault.BadGeometry number why) = number
 record_number (fault.WrongType number) = number
 record_number _ = 0
@@ -108,25 +145,81 @@ abbrev pub IsOfLengths : Record → Record → Reason → Type 0
 IsOfLengths header fields (reasons.Lengths found wanted) = (found ≡ length fields) × (wanted ≡ length header) × (found ≢ wanted)
 IsOfLengths header fields _ = ⊥
 
--- the reason is of the field in one of the table's columns
+-- the reason is of the field in one of the table's columns, the first that has one
 abbrev pub IsOfColumn : TableDef ColumnShape → Record → Record → LoadFault → Reason → Type 0
-IsOfColumn table header fields f reason =
-    (place : ℕ) × (c : ColumnDef ColumnShape) × (slice_get table.columns place ≡ Some c) × IsReasonIn c (field_under header fields c.name) f reason
+IsOfColumn table header fields f reason = IsFirst (λ place c. IsReasonIn c (field_under header fields c.name) f) table reason
+
+-- the reason is that the field in one of the table's columns is null where it mustn't be, the first such
+abbrev pub IsOfNull : TableDef ColumnShape → Record → Record → Reason → Type 0
+IsOfNull table header fields reason =
+    IsFirst (λ place c. IsNullIn (is_required table (place, c)) c (field_under header fields c.name)) table reason
 
 -- the reason of a fault of a record under this header, or of the header
 abbrev pub HasReason : TableDef ColumnShape → Record → Record → LoadFault → Reason → Type 0
 HasReason table header fields fault.MissingColumn reason = IsOfName (IsMissingName header) table reason
 HasReason table header fields fault.DoubleHeader reason = IsOfName (IsRepeatedName header) table reason
 HasReason table header fields (fault.UnequalRecord number) reason = IsOfLengths header fields reason
+HasReason table header fields (fault.NullNotAllowed number) reason = IsOfNull table header fields reason
 HasReason table header fields f reason = IsOfColumn table header fields f reason
 
--- the reason of a table's fault, in the record of its number of some bytes, if they are known; the header has number 0
-pub record IsReasonOf (known : Option (List ℕ)) (table : TableDef ColumnShape) (f : LoadFault) (reason : Reason) : Type 0 where
+-- the reason of the fault of a record, or of the header, of some bytes, if they are known; the header has number 0
+pub record IsRecordReason (known : Option (List ℕ)) (table : TableDef ColumnShape) (f : LoadFault) (reason : Reason) : Type 0 where
   pub header : Record
   pub fields : Record
   pub seen : AreSeen known header (record_number f) fields
   pub has : HasReason table header fields f reason
 
--- no reason is one of the fault of some bytes, if they are known, unless its record's number is past the limit of rows and one more
+-- ---- of a key
+
+-- the key of a record: the whole number that its field in the key's column writes, if it writes one (06-104r4, feature tables)
+abbrev pub key_in : Option (ColumnDef ColumnShape) → Record → Record → Option ℤ
+key_in None header fields = None
+key_in (Some c) header fields = integer_of (field_under header fields c.name)
+
+abbrev pub key_under : TableDef ColumnShape → Record → Record → Option ℤ
+key_under table header fields = key_in (slice_get table.columns table.key) header fields
+
+-- the record of this number has this key
+abbrev pub HasKey : TableDef ColumnShape → Record → List Record → ℕ → ℤ → Type 0
+HasKey table header read number key = (fields : Record) × (slice_get read number ≡ Some fields) × (key_under table header fields ≡ Some key)
+
+-- the reason names the first record with the key of the record of this number, and that key
+abbrev pub IsOfKey : TableDef ColumnShape → Record → List Record → ℕ → Reason → Type 0
+IsOfKey table header read number (reasons.SameKey first key) =
+    (1 ≤ first) × (first < number) × HasKey table header read number key × HasKey table header read first key
+    × ((k : ℕ) → 1 ≤ k → k < first → HasKey table header read k key → ⊥)
+IsOfKey table header read number _ = ⊥
+
+-- the reason of a key that two records of some bytes have, if the bytes are known
+pub record IsKeyReason (known : Option (List ℕ)) (table : TableDef ColumnShape) (number : ℕ) (reason : Reason) : Type 0 where
+  pub header : Record
+  pub read : List Record
+  pub begins : BeginWith known read
+  pub first : slice_get read 0 ≡ Some header
+  pub has : IsOfKey table header read number reason
+
+-- ---- of any fault
+
+-- the number of the record that a fault of loading has, and 0 of a fault without one
+abbrev pub fault_number : LoadFault → ℕ
+fault_number (fault.DoubleKey number) = number
+fault_number f = record_number f
+
+-- the reason of a table's fault in some bytes, if they are known
+abbrev pub IsReasonOf : Option (List ℕ) → TableDef ColumnShape → LoadFault → Reason → Type 0
+IsReasonOf known table (fault.DoubleKey number) reason = IsKeyReason known table number reason
+IsReasonOf known table f reason = IsRecordReason known table f reason
+
+-- if the bytes are known, no reason is one, unless the record's number is past the limit of rows and one more
+abbrev pub HasNone : Option (List ℕ) → ℕ → (Option (List ℕ) → Reason → Type 0) → Type 0
+HasNone known number Is = (text : List ℕ) → known ≡ Some text → number ≤ row_limit + 1 → (reason : Reason) → Is (Some text) reason → ⊥
+
+-- no reason is one of a record's fault, of a key that two records have, and of any fault
+abbrev pub HasNoRecordReason : Option (List ℕ) → TableDef ColumnShape → LoadFault → Type 0
+HasNoRecordReason known table f = HasNone known (record_number f) (λ bytes. IsRecordReason bytes table f)
+
+abbrev pub HasNoKeyReason : Option (List ℕ) → TableDef ColumnShape → ℕ → Type 0
+HasNoKeyReason known table number = HasNone known number (λ bytes. IsKeyReason bytes table number)
+
 abbrev pub HasNoReason : Option (List ℕ) → TableDef ColumnShape → LoadFault → Type 0
-HasNoReason known table f = (text : List ℕ) → known ≡ Some text → record_number f ≤ row_limit + 1 → (reason : Reason) → IsReasonOf (Some text) table f reason → ⊥
+HasNoReason known table f = HasNone known (fault_number f) (λ bytes. IsReasonOf bytes table f)

@@ -6,19 +6,22 @@ ghost use Rattle.geometry_model.specs.TextReading.{read_text};
 ghost use Rattle.geometry_model.specs.WellKnownText.{Spells};
 ghost use Rattle.loaded_tables.specs.Outcomes.{IsFailure};
 ghost use Rattle.table_model.specs.GeometryColumns.{takes_type};
-ghost use Rattle.record_reasons.specs.Reasons.{Finds, IsInvalidIn, IsOtherTypeIn, IsReasonIn, IsRefusedIn};
+ghost use Rattle.record_reasons.specs.Reasons.{Finds, IsFilledReason, IsGeometryReason, IsInvalidIn, IsNoIntegerIn, IsNotUtf8In, IsOtherTypeIn, IsReasonIn, IsRefusedIn};
 ghost use Rattle.record_reasons.specs.Reasons as spec;
 
 use crate::reason::Reason;
+use crate::shown_texts::shown_text;
 use fault_places::place_of;
 use geometries::Geometry;
 use geometry_model::{GeometryFault, GeometryType, TextFault, ValidityFault};
-use loaded_tables::{ColumnDef, ColumnShape, ColumnType};
+use loaded_tables::{ColumnDef, ColumnShape, ColumnType, integer_of};
 use std::alloc::Global;
+use std::str;
 use table_model::faults::LoadFault;
 use wkt::read;
 
-/// The reason of a fault in a field of this column; None if the field hasn't the fault. At Err memory ran out.
+/// The reason of a fault in a field of this column; None if the field hasn't the fault. An empty field has none, since it is null. At Err
+/// memory ran out.
 pub(crate) fn reason_in_column<'s>(
     alloc: Global,
     column: &'s ColumnDef,
@@ -26,6 +29,39 @@ pub(crate) fn reason_in_column<'s>(
     fault: LoadFault,
 ) -> Result<Option<Reason<'s>>, LoadFault>
     ensures finds { IfOk result (Finds (IsReasonIn column.entry.now field.now fault)) }
+    ensures fails { IfErr result IsFailure }
+{
+    if field.is_empty() {
+        return Ok(None);
+    }
+    filled_reason(alloc, column, field, fault)
+}
+
+/// The same of a field that isn't empty.
+fn filled_reason<'s>(
+    alloc: Global,
+    column: &'s ColumnDef,
+    field: &[u8],
+    fault: LoadFault,
+) -> Result<Option<Reason<'s>>, LoadFault>
+    ensures finds { IfOk result (Finds (IsFilledReason column.entry.now field.now fault)) }
+    ensures fails { IfErr result IsFailure }
+{
+    match fault {
+        LoadFault::BadInteger(_) => no_integer_in(alloc, column, field),
+        LoadFault::NotUtf8(_) => Ok(not_utf8_in(column, field)),
+        _ => geometry_reason(alloc, column, field, fault),
+    }
+}
+
+/// The same of a fault of a geometry.
+fn geometry_reason<'s>(
+    alloc: Global,
+    column: &'s ColumnDef,
+    field: &[u8],
+    fault: LoadFault,
+) -> Result<Option<Reason<'s>>, LoadFault>
+    ensures finds { IfOk result (Finds (IsGeometryReason column.entry.now field.now fault)) }
     ensures fails { IfErr result IsFailure }
 {
     let Some(shape) = shape_of(column) else {
@@ -41,6 +77,42 @@ pub(crate) fn reason_in_column<'s>(
             None => Ok(None),
         },
         _ => Ok(None),
+    }
+}
+
+/// The text of a field, if its column is one of whole numbers and it writes none.
+fn no_integer_in<'s>(
+    alloc: Global,
+    column: &'s ColumnDef,
+    field: &[u8],
+) -> Result<Option<Reason<'s>>, LoadFault>
+    ensures finds { IfOk result (Finds (IsNoIntegerIn column.entry.now field.now)) }
+    ensures fails { IfErr result IsFailure }
+{
+    let ColumnType::Integer = column.column_type else {
+        return Ok(None);
+    };
+    if integer_of(field).is_some() {
+        return Ok(None);
+    }
+    Ok(Some(Reason::NoInteger {
+        column: column.name.as_str(),
+        text: shown_text(alloc, field)?,
+    }))
+}
+
+/// That a field isn't UTF-8, if its column is one of texts.
+fn not_utf8_in<'s>(column: &'s ColumnDef, field: &[u8]) -> Option<Reason<'s>>
+    ensures { Finds (IsNotUtf8In column.entry.now field.now) result }
+{
+    let ColumnType::Text = column.column_type else {
+        return None;
+    };
+    match str::from_utf8(field) {
+        Ok(_) => None,
+        Err(_) => Some(Reason::NotUtf8 {
+            column: column.name.as_str(),
+        }),
     }
 }
 

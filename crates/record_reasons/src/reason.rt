@@ -3,12 +3,14 @@
 ghost use Rattle.std.specs.Prelude.{◌≡◌, IfErr, IfNone, IfOk, IfSome};
 ghost use Rattle.csv.specs.Records.{fields_of};
 ghost use Rattle.loaded_tables.specs.Outcomes.{IsFailure};
-ghost use Rattle.record_reasons.specs.Reasons.{Finds, HasNoReason, HasReason, IsOfColumn, IsOfLengths, IsReasonOf};
+ghost use Rattle.record_reasons.specs.Reasons.{Finds, HasNoReason, HasNoRecordReason, HasReason, IsOfColumn, IsOfLengths, IsReasonOf, IsRecordReason};
 ghost use Rattle.record_reasons.specs.Reasons as spec;
 
 use crate::column_reasons::reason_in_column;
 use crate::header_reasons::{missing, repeated};
 use crate::named_fields::field_named;
+use crate::null_reasons::null_field;
+use crate::same_keys::same_key;
 use crate::seen_records::{seen_header, seen_record};
 use csv::ByteRecord;
 use fault_places::Place;
@@ -20,7 +22,7 @@ use table_model::definitions::ROW_LIMIT;
 use table_model::faults::LoadFault;
 
 /// What is wrong where a table isn't loaded. Names of columns are lent, as the schema spells them.
-#[derive(Clone, Copy, Debug)]
+#[derive(Debug, Drop)]
 pub enum Reason<'s> {
     /// L1: the header lacks the name of a column.
     Missing {
@@ -38,6 +40,18 @@ pub enum Reason<'s> {
         found: usize,
         /// How many the header has.
         wanted: usize,
+    },
+    /// L8: a column that takes no null has an empty field.
+    Null {
+        /// The name of the column.
+        column: &'s str,
+    },
+    /// L5: the field in a column isn't a whole number of 64 bits.
+    NoInteger {
+        /// The name of the column.
+        column: &'s str,
+        /// The text of the field as it is shown: its first 60 bytes, escaped, and two dots if it has more.
+        text: Vec<u8>,
     },
     /// L6: the text in a column isn't that of a geometry.
     Refused {
@@ -64,12 +78,24 @@ pub enum Reason<'s> {
         /// The type of the column.
         wanted: GeometryType,
     },
+    /// L4: the field in a column isn't UTF-8.
+    NotUtf8 {
+        /// The name of the column.
+        column: &'s str,
+    },
+    /// L9: an earlier record has the same key.
+    SameKey {
+        /// The number of the first record with this key.
+        record: usize,
+        /// The key.
+        key: i64,
+    },
 }
 
-/// The reason of a table's fault, whose header or record is read again for it: `MissingColumn`, `DoubleHeader`, `UnequalRecord`,
-/// `BadGeometry` or `WrongType`. Of several columns the first that has this fault is shown. None comes for any other fault, where what
-/// is read now hasn't the fault, and for a number past 100,001. At most 100,002 records are read. At Err reading failed or memory ran
-/// out: the fault is ReadFailed or OutOfMemory (06-104r4, feature tables; which reason: this project's choice).
+/// The reason of a table's fault, whose header and records are read again for it; for any fault but TooManyRows, ReadFailed and
+/// OutOfMemory. Of several columns the first that has this fault is shown, and of several records with a key the first. None comes
+/// where what is read now hasn't the fault, and for a number past 100,001. At most 100,002 records are read. At Err reading failed or
+/// memory ran out: the fault is ReadFailed or OutOfMemory (06-104r4, feature tables; which reason: this project's choice).
 pub fn reason_of<'s, R: Read + Drop>(
     alloc: Global,
     table: &'s TableDef,
@@ -78,6 +104,23 @@ pub fn reason_of<'s, R: Read + Drop>(
 ) -> Result<Option<Reason<'s>>, LoadFault>
     ensures reason { IfOk result (λ found. IfSome found (IsReasonOf (R.remaining reader) table.entry.now fault)) }
     ensures none { IfOk result (λ found. IfNone found (HasNoReason (R.remaining reader) table.entry.now fault)) }
+    ensures fails { IfErr result IsFailure }
+{
+    match fault {
+        LoadFault::DoubleKey(number) => same_key(alloc, table, reader, number),
+        _ => record_reason(alloc, table, reader, fault),
+    }
+}
+
+/// The reason of a fault that one record shows, or the header.
+fn record_reason<'s, R: Read + Drop>(
+    alloc: Global,
+    table: &'s TableDef,
+    reader: R,
+    fault: LoadFault,
+) -> Result<Option<Reason<'s>>, LoadFault>
+    ensures reason { IfOk result (λ found. IfSome found (IsRecordReason (R.remaining reader) table.entry.now fault)) }
+    ensures none { IfOk result (λ found. IfNone found (HasNoRecordReason (R.remaining reader) table.entry.now fault)) }
     ensures fails { IfErr result IsFailure }
 {
     let number = record_number(fault);
@@ -102,6 +145,9 @@ fn record_number(fault: LoadFault) -> usize
 {
     match fault {
         LoadFault::UnequalRecord(number) => number,
+        LoadFault::NullNotAllowed(number) => number,
+        LoadFault::BadInteger(number) => number,
+        LoadFault::NotUtf8(number) => number,
         LoadFault::BadGeometry(number, _) => number,
         LoadFault::WrongType(number) => number,
         _ => 0,
@@ -124,6 +170,7 @@ fn reason_in<'s>(
         LoadFault::MissingColumn => Ok(missing(table, header)),
         LoadFault::DoubleHeader => Ok(repeated(table, header)),
         LoadFault::UnequalRecord(_) => Ok(lengths(header, record)),
+        LoadFault::NullNotAllowed(_) => Ok(null_field(table, header, record)),
         _ => reason_in_columns(alloc, table, header, record, fault),
     }
 }

@@ -17,33 +17,94 @@ use reasons::put_reason;
 use sinks::{Sink, SinkFault, put_parts};
 
 /// Writes the line of a reason: `sfq: column pop isn't in the header`, `sfq: column pop is in the header more than once`,
-/// `sfq: the record has 2 fields, the header 3`, `sfq: column geom: W1 at 5`,
-/// `sfq: column geom: V3 0: 0 0 to 4 4 and 4 0 to 0 4 share 2 2` or `sfq: column geom has a POINT, not a POLYGON` (this project's
-/// choice). It takes no memory. At Err the sink failed, and a beginning of the line has been written.
+/// `sfq: the record has 2 fields, the header 3`, `sfq: column pop is empty`, `sfq: column pop: "1.5" isn't a whole number of 64 bits`,
+/// `sfq: column geom: W1 at 5`, `sfq: column geom: V3 0: 0 0 to 4 4 and 4 0 to 0 4 share 2 2`,
+/// `sfq: column geom has a POINT, not a POLYGON`, `sfq: column name isn't UTF-8` or `sfq: record 3 has the key 7` (this project's choice). It takes no memory. At Err the sink failed, and a beginning of the line has been written.
 pub fn put_record_reason<S: Sink>(reason: &Reason<'_>, sink: &mut S) -> Result<(), SinkFault>
     ensures ok { OnOk result (Appends (S.taken sink.old) (S.taken sink.new) (reason_line reason.now)) }
     ensures front { OnErr result
         (AppendsFront (S.taken sink.old) (S.taken sink.new) (reason_line reason.now)) }
     ensures failures { CountsFailure (S.failures sink.old) (S.failures sink.new) result }
 {
-    match *reason {
+    match reason {
         Reason::Missing { column } => put_named(sink, column, " isn't in the header\n"),
         Reason::Repeated { column } => {
             put_named(sink, column, " is in the header more than once\n")
         }
-        Reason::Refused { column, fault } => put_refused(sink, column, fault),
-        Reason::Lengths { found, wanted } => put_lengths(sink, found, wanted),
+        Reason::Null { column } => put_named(sink, column, " is empty\n"),
+        Reason::NoInteger { column, text } => put_no_integer(sink, column, text.as_slice()),
+        Reason::NotUtf8 { column } => put_named(sink, column, " isn't UTF-8\n"),
+        Reason::Refused { column, fault } => put_refused(sink, column, *fault),
+        Reason::Lengths { found, wanted } => put_lengths(sink, *found, *wanted),
         Reason::Invalid {
             column,
             fault,
             place,
-        } => put_invalid(sink, column, fault, place),
+        } => put_invalid(sink, column, *fault, *place),
         Reason::OtherType {
             column,
             found,
             wanted,
-        } => put_types(sink, column, word_of(found), word_of(wanted)),
+        } => put_types(sink, column, word_of(*found), word_of(*wanted)),
+        Reason::SameKey { record, key } => put_same_key(sink, *record, *key),
     }
+}
+
+/// Writes the line of a record with the same key.
+fn put_same_key<S: Sink>(sink: &mut S, number: usize, key: i64) -> Result<(), SinkFault>
+    ensures ok { OnOk result
+        (Appends (S.taken sink.old) (S.taken sink.new) (reason_line (kinds.SameKey number key))) }
+    ensures front { OnErr result
+        (AppendsFront (S.taken sink.old) (S.taken sink.new) (reason_line (kinds.SameKey number key))) }
+    ensures failures { CountsFailure (S.failures sink.old) (S.failures sink.new) result }
+{
+    let mut first = Buffer::new();
+    let mut second = Buffer::new();
+    put_key(sink, first.format(number), second.format(key))
+}
+
+/// Writes the line of a record with these digits, which has a key with those.
+fn put_key<'t, S: Sink>(sink: &mut S, number: &'t str, key: &'t str) -> Result<(), SinkFault>
+    ensures ok { OnOk result (Appends (S.taken sink.old) (S.taken sink.new)
+        (codes "sfq: record " ++ number.now ++ codes " has the key " ++ key.now ++ codes "\n")) }
+    ensures front { OnErr result (AppendsFront (S.taken sink.old) (S.taken sink.new)
+        (codes "sfq: record " ++ number.now ++ codes " has the key " ++ key.now ++ codes "\n")) }
+    ensures failures { CountsFailure (S.failures sink.old) (S.failures sink.new) result }
+{
+    put_parts(
+        sink,
+        &[
+            b"sfq: record ",
+            number.as_bytes(),
+            b" has the key ",
+            key.as_bytes(),
+            b"\n",
+        ],
+    )
+}
+
+/// Writes the line of a text that isn't a whole number.
+fn put_no_integer<'t, S: Sink>(
+    sink: &mut S,
+    column: &'t str,
+    text: &'t [u8],
+) -> Result<(), SinkFault>
+    ensures ok { OnOk result (Appends (S.taken sink.old) (S.taken sink.new)
+        (codes "sfq: column " ++ column.now ++ codes ": \"" ++ text.now ++ codes "\" isn't a whole number of 64 bits\n")) }
+    ensures front { OnErr result (AppendsFront (S.taken sink.old) (S.taken sink.new)
+        (codes "sfq: column " ++ column.now ++ codes ": \"" ++ text.now ++ codes "\" isn't a whole number of 64 bits\n")) }
+    ensures failures { CountsFailure (S.failures sink.old) (S.failures sink.new) result }
+{
+    put_parts(
+        sink,
+        &[
+            b"sfq: column ",
+            column.as_bytes(),
+            b": \"",
+            text,
+            b"\" isn't a whole number of 64 bits\n",
+        ],
+    )
 }
 
 /// Writes the line of a column's name: what is wrong with it.

@@ -21,7 +21,7 @@ pub(crate) struct Seen {
 }
 
 /// Reads the next record, and returns whether there is one. The fault is ReadFailed or OutOfMemory.
-fn take_record<R: Read + Drop>(
+pub(crate) fn take_record<R: Read + Drop>(
     records: &mut Records<R>,
     record: &mut ByteRecord,
 ) -> Result<bool, LoadFault>

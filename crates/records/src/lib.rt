@@ -5,5 +5,6 @@ mod lines;
 pub mod put_fault;
 pub mod record_writer;
 
+pub use lines::push_line;
 pub use put_fault::PutFault;
 pub use record_writer::RecordWriter;

@@ -16,7 +16,7 @@ const LINE_FEED: u8 = b'\n';
 const CARRIAGE_RETURN: u8 = b'\r';
 
 /// Makes the line of a record, ended by a line feed. A record without a byte gets two quotes, since a blank line isn't one.
-pub(crate) fn push_line(line: &mut Vec<u8>, fields: &ByteRecord) -> Result<(), AllocError>
+pub fn push_line(line: &mut Vec<u8>, fields: &ByteRecord) -> Result<(), AllocError>
     requires { line.old.items ≡ [] }
     ensures { OnOk result (line.new.items ≡ spec.row_text spec.default_writer (fields_of fields.now)) }
 {

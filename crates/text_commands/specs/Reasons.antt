@@ -3,24 +3,19 @@ use Rattle.std.specs.Prelude.{◌≡◌, ℕ, List, codes, Option, IfErr, IfOk, 
 use Rattle.std.specs.Fn.{Mut}
 use denote.Ref.{Bor}
 use Rattle.failures.specs.declared.failure.Failure.{Failure}
-use Rattle.reasons.specs.FaultTexts.{reason_text}
 use Rattle.reasons.specs.WitnessTexts.{witnesses_text}
 use Rattle.table_model.specs.RunOutcomes.{MatrixOf}
 use Rattle.text_commands.specs.Ends.{End, PutsText, Then}
 use Rattle.text_commands.specs.TextCommands.{OverTexts, OverWord}
-use Rattle.text_reasons.specs.TextVerdicts.{IsVerdictOf, spelled_geometry}
+use Rattle.text_reasons.specs.TextVerdicts.{spelled_geometry}
 use Rattle.text_reasons.specs.TextWitnesses.{ShowsTexts}
-use Rattle.text_reasons.specs.declared.verdicts.Verdict.{Verdict}
-use Rattle.text_reasons.specs.declared.verdicts.Verdict.TheVariants as verdicts
 use Rattle.text_relation.specs.Relations.{IsFailureOf, relation}
+use Rattle.verdicts.specs.VerdictTexts.{verdict_text}
+use Rattle.verdicts.specs.Verdicts.{IsVerdictOf}
+use Rattle.verdicts.specs.declared.verdict.Verdict.{Verdict}
 use Rattle.witnesses.specs.Shown.{witness_at}
 use Rattle.witnesses.specs.declared.witness.Witnesses.{Witnesses}
 use Rattle.word_texts.specs.GivenTexts.{ReadsGeometry}
-
--- the line of a verdict: `valid`, or the fault and its place
-abbrev pub verdict_text : Verdict → List ℕ
-verdict_text verdicts.Valid = codes "valid\n"
-verdict_text (verdicts.Faulty fault place) = reason_text fault place
 
 -- showing the cells of the matrix of two texts ends so: witnesses of the cells are found, and their nine lines written; or the
 -- refusal of `relate` ends it, or running out of memory

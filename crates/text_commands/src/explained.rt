@@ -1,20 +1,19 @@
 //! What the command `why` does: it shows where two geometries meet, or why one isn't valid.
 
-ghost use Rattle.std.specs.Prelude.{OnErr, OnOk};
-ghost use Rattle.std.specs.Io.KnownBytes.{Appends};
-ghost use Rattle.sinks.specs.Sinks.{AppendsFront, CountsFailure};
 ghost use Rattle.text_commands.specs.Ends.{PutsText, Serves};
-ghost use Rattle.text_commands.specs.Reasons.{ExplainsCells, ExplainsValidity, ShowsCells, ShowsVerdict, verdict_text};
+ghost use Rattle.text_commands.specs.Reasons.{ExplainsCells, ExplainsValidity, ShowsCells, ShowsVerdict};
+ghost use Rattle.verdicts.specs.VerdictTexts.{verdict_text};
 ghost use Rattle.reasons.specs.WitnessTexts.{witnesses_text};
 ghost use Rattle.witnesses.specs.Shown.{witness_at};
 
 use crate::served::failed;
 use failures::Failure;
-use reasons::{put_reason, put_witnesses};
-use sinks::{Sink, SinkFault, put_all};
+use reasons::put_witnesses;
+use sinks::Sink;
 use std::alloc::Global;
 use std::io::Read;
-use text_reasons::{Verdict, reason_of_text, witnesses_of_texts};
+use text_reasons::{reason_of_text, witnesses_of_texts};
+use verdicts::{Verdict, put_verdict};
 use witnesses::witness::Witnesses;
 use word_texts::geometry_text;
 
@@ -108,31 +107,19 @@ fn show_verdict<S: Sink, E: Sink>(alloc: Global, text: &[u8], out: &mut S, err: 
         result err.old err.new }
 {
     match reason_of_text(alloc, text) {
-        Ok(verdict) => put_verdict(&verdict, out, err),
+        Ok(verdict) => put_validity(&verdict, out, err),
         Err(failure) => failed(&failure, err),
     }
 }
 
 /// Writes the line of a verdict, and returns the status.
-fn put_verdict<S: Sink, E: Sink>(verdict: &Verdict, out: &mut S, err: &mut E) -> u8
+fn put_validity<S: Sink, E: Sink>(verdict: &Verdict, out: &mut S, err: &mut E) -> u8
     ensures { Serves E.taken E.failures
         (PutsText S.taken S.failures out.old out.new (verdict_text verdict.now))
         result err.old err.new }
 {
-    match put_line(verdict, out) {
+    match put_verdict(verdict, out) {
         Ok(()) => 0,
         Err(_) => failed(&Failure::WriteFailed, err),
-    }
-}
-
-/// Writes the line of a verdict.
-fn put_line<S: Sink>(verdict: &Verdict, out: &mut S) -> Result<(), SinkFault>
-    ensures ok { OnOk result (Appends (S.taken out.old) (S.taken out.new) (verdict_text verdict.now)) }
-    ensures front { OnErr result (AppendsFront (S.taken out.old) (S.taken out.new) (verdict_text verdict.now)) }
-    ensures failures { CountsFailure (S.failures out.old) (S.failures out.new) result }
-{
-    match verdict {
-        Verdict::Valid => put_all(out, b"valid\n"),
-        Verdict::Faulty { fault, place } => put_reason(*fault, place, out),
     }
 }

@@ -1,41 +1,16 @@
--- The failure of a text that isn't well-known text, and the first fault of a geometry that is read twice.
-use Rattle.std.proofs.Common.{◌≡◌, ◌∙◌, sym, ap, subst, inl, inr, ℕ, List, Option, Some, None, Result, Ok, Err}
-use Rattle.std.specs.Prelude.{IfSome, option_map, MatchOption}
-use Rattle.geometry_model.specs.FirstFaults.{validity_fault}
-use Rattle.geometry_model.specs.Geometries.{Geometry}
+-- The failure of a text that isn't well-known text.
+use Rattle.std.proofs.Common.{◌≡◌, ◌∙◌, sym, ap, inl, inr, ℕ, List, Option, Some, None, Err}
+use Rattle.std.specs.Prelude.{IfSome, option_map}
 use Rattle.geometry_model.specs.TextReading.{read_text}
-use Rattle.geometry_model.specs.Validity.{HasFault}
 use Rattle.geometry_model.specs.declared.geometry_faults.GeometryFault.TheVariants as g
 use Rattle.geometry_model.specs.declared.text_faults.TextFault.{TextFault}
-use Rattle.geometry_model.specs.declared.validity_faults.ValidityFault.{ValidityFault}
 use Rattle.failures.specs.declared.failure.Failure.{Failure}
 use Rattle.failures.specs.declared.failure.GeometryWord.TheVariants.{First}
 use Rattle.text_relation.specs.Relations.{IsFailureOf, refused_or_memory}
-use Rattle.text_reasons.specs.TextVerdicts.{HasFirstFault, IsFirstFaultIn, or_unread, spelled_geometry}
+use Rattle.text_reasons.specs.TextVerdicts.{or_unread, spelled_geometry}
 
 -- the failure for a fault of reading is that of the text
 pub unread : (text : List ℕ) (fault : Option TextFault) (failure : Failure) → IfSome fault (λ found. read_text text ≡ Err found)
     → failure ≡ refused_or_memory First (option_map g.Text fault) → IsFailureOf (spelled_geometry text) failure
 unread text None failure read e = inl e
 unread text (Some found) failure read e = inr (ap or_unread read ∙ ap Err (sym e))
-
--- a text is read as one geometry
-same_read : (r : Result Geometry TextFault) (a b : Geometry) → r ≡ Ok a → r ≡ Ok b → a ≡ b
-same_read r a b first second = cc
-
--- the geometry that the text is read as again has the fault
-pub first_fault_of : (text : List ℕ) (fault : ValidityFault) (geometry : Geometry) → IsFirstFaultIn text fault → read_text text ≡ Ok geometry → HasFirstFault geometry fault
-first_fault_of text fault geometry found read =
-    subst (λ a. HasFirstFault a fault) (same_read (read_text text) found.geometry geometry found.read read) found.has
-
--- the fault that a geometry is refused with, as the first fault in its text
-pub first_fault_in : (text : List ℕ) (geometry : Geometry) (refused : Option ValidityFault) (fault : ValidityFault) → refused ≡ Some fault → read_text text ≡ Ok geometry
-    → MatchOption refused (Unit {0}) (λ found. validity_fault geometry ≡ Some found) → MatchOption refused (Unit {0}) (λ found. HasFault geometry found) → IsFirstFaultIn text fault
-first_fault_in text geometry refused fault e read first applies = record {
-  geometry = geometry;
-  read = read;
-  has = record {
-    first = subst (λ o. MatchOption o (Unit {0}) (λ found. validity_fault geometry ≡ Some found)) e first;
-    applies = subst (λ o. MatchOption o (Unit {0}) (λ found. HasFault geometry found)) e applies;
-  };
-}

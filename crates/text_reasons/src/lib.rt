@@ -3,7 +3,7 @@
 #![tactic(auto)]
 
 pub mod cell_witnesses;
-pub mod verdicts;
+pub mod text_verdicts;
 
 pub use cell_witnesses::witnesses_of_texts;
-pub use verdicts::{Verdict, reason_of_text};
+pub use text_verdicts::reason_of_text;

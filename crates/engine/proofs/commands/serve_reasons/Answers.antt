@@ -31,15 +31,15 @@ returns-in-Ok-check_over g c = (
       opened = record { shown = c.args.paths.now.schema; shows = refl; called = c.opener.ensures };
       schema = Ok c.in-Ok.schema;
       read = c.in-Ok.ensures;
-      rest = (c.in-Ok-check_over.ensures.checks, refl);
+      rest = (c.in-Ok-check_over.ensures.checks, c.put_notes.ensures);
     };
     returned = refl;
     reported = refl;
   },
 )
 
-pub returns-in-Err-check_over : goal.returns-in-Err-check_over
-returns-in-Err-check_over g c = (
+pub returns : goal.returns
+returns g c = (
   c.failed-status.new.err,
   record {
     end = Err c.in-Err-check_over.failure;

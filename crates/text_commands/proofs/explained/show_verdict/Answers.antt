@@ -4,15 +4,15 @@ use Rattle.text_commands.proofs.explained.show_verdict.Goals as goal
 
 pub returns-in-Ok : goal.returns-in-Ok
 returns-in-Ok g c = record {
-  end = c.put_verdict.ensures.end;
+  end = c.put_validity.ensures.end;
   ends = record {
     found = Ok c.in-Ok.verdict;
     holds = c.in-Ok.ensures.ok;
     refused = tt;
-    rest = c.put_verdict.ensures.ends;
+    rest = c.put_validity.ensures.ends;
   };
-  returned = c.put_verdict.ensures.returned;
-  reported = c.put_verdict.ensures.reported;
+  returned = c.put_validity.ensures.returned;
+  reported = c.put_validity.ensures.reported;
 }
 
 pub returns-in-Err : goal.returns-in-Err

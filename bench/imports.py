@@ -1,0 +1,102 @@
+#!/usr/bin/env python3
+"""Measures `sfq-import` beside `ogr2ogr -f CSV -lco GEOMETRY=AS_WKT`: the processor time of each over the same sources.
+
+For points and for polygons of six positions, as GeoPackage, shapefile and GeoJSON, it runs both in turns and prints the least
+processor seconds of each and their ratio, which is to be at most 4. `sfq-import` also rounds, and has each geometry checked by the
+library. It needs what ./build --library makes, python3-gdal and gdal-bin. It is no test: the gate doesn't run it.
+"""
+
+import argparse
+import os
+import pathlib
+import shutil
+import subprocess
+import sys
+import tempfile
+
+from timing import ROOT, Table, figure, measure
+
+LIBRARY = ROOT / "library" / "out" / "libsfq.so.0"
+MOST = 4
+SOURCE = """
+import random, sys
+from osgeo import gdal, ogr, osr
+gdal.UseExceptions(); ogr.UseExceptions(); osr.UseExceptions()
+path, kind, count = sys.argv[1], sys.argv[2], int(sys.argv[3])
+chance, system = random.Random(count), osr.SpatialReference()
+system.ImportFromEPSG(25832)
+file = ogr.GetDriverByName("GPKG").CreateDataSource(path)
+file.StartTransaction()
+layer = file.CreateLayer("t", system, ogr.wkbPoint if kind == "points" else ogr.wkbPolygon)
+for name, it in (("name", ogr.OFTString), ("pop", ogr.OFTInteger64), ("height", ogr.OFTReal)):
+    layer.CreateField(ogr.FieldDefn(name, it))
+for at in range(count):
+    feature = ogr.Feature(layer.GetLayerDefn())
+    feature["name"], feature["pop"], feature["height"] = f"name {at}", at, chance.uniform(0, 100)
+    x, y, w, h = (chance.uniform(*it) for it in ((500000, 550000), (5500000, 5550000), (1, 50), (1, 50)))
+    ring = [(x, y), (x + w, y + 0.3), (x + w + 0.2, y + h), (x + w / 2, y + h + 2.1), (x, y + h - 0.2), (x, y)]
+    ring = ",".join(f"{a!r} {b!r}" for a, b in ring)
+    feature.SetGeometryDirectly(ogr.CreateGeometryFromWkt(f"POINT({x!r} {y!r})" if kind == "points" else f"POLYGON(({ring}))"))
+    layer.CreateFeature(feature)
+file.CommitTransaction()
+"""
+
+
+def is_ready():
+    """Ends the program where something that it needs isn't there."""
+    if not LIBRARY.exists():
+        sys.exit("the library isn't made: run ./build --library")
+    if shutil.which("ogr2ogr") is None:
+        sys.exit("ogr2ogr isn't installed: apt-get install gdal-bin python3-gdal")
+
+
+def sources(room, kind, count):
+    """Makes the three sources, and returns their formats and paths."""
+    first = room / f"{kind}.gpkg"
+    subprocess.run(["/usr/bin/python3", "-c", SOURCE, first, kind, str(count)], check=True)
+    found = [("GeoPackage", first)]
+    for name, ending in (("shapefile", "shp"), ("GeoJSON", "geojson")):
+        found.append((name, room / f"{kind}.{ending}"))
+        subprocess.run(["ogr2ogr", found[-1][1], first], check=True, stderr=subprocess.DEVNULL)
+    return found
+
+
+def seconds(path, room, repeats):
+    """The least processor seconds of `sfq-import` and of `ogr2ogr`, and the peak kilobytes of the first."""
+    grid = ["--grid", "0.01", "--origin", "525000,5525000"]
+    ours, theirs, peak = [], [], 0
+    for _ in range(repeats):
+        for it in ("ours", "theirs.csv"):
+            shutil.rmtree(room / it, ignore_errors=True)
+            (room / it).unlink(missing_ok=True)
+        _, taken, memory = measure([ROOT / "python/bin/sfq-import", path, *grid, "--out", room / "ours"], room)
+        ours.append(taken)
+        peak = max(peak, memory)
+        theirs.append(measure(["ogr2ogr", "-f", "CSV", "-lco", "GEOMETRY=AS_WKT", room / "theirs.csv", path], room)[1])
+    return min(ours), min(theirs), peak
+
+
+def main():
+    parser = argparse.ArgumentParser(description=__doc__.splitlines()[0])
+    parser.add_argument("--repeats", type=int, default=3, help="runs of each command (3)")
+    parser.add_argument("--rows", type=int, default=100_000, help="rows of each source (100000)")
+    options = parser.parse_args()
+    is_ready()
+    os.environ["SFQ_LIBRARY"] = str(LIBRARY)
+    # What the commands say of each import isn't shown, what this program says is.
+    sys.stderr = os.fdopen(os.dup(2), "w")
+    os.dup2(os.open(os.devnull, os.O_WRONLY), 2)
+    table, worst = Table(["import of", "sfq-import s", "ogr2ogr s", "ratio", "MB"]), 0
+    with tempfile.TemporaryDirectory() as name:
+        room = pathlib.Path(name)
+        for kind in ("points", "polygons"):
+            for form, path in sources(room, kind, options.rows):
+                ours, theirs, peak = seconds(path, room, options.repeats)
+                worst = max(worst, ours / theirs)
+                table.add([f"{options.rows:,} {kind}, {form}", figure(ours), figure(theirs), f"{ours / theirs:.2f}", f"{peak / 1024:.0f}"])
+    print(f"greatest ratio {worst:.2f} of at most {MOST}")
+    return 0 if worst <= MOST else 1
+
+
+if __name__ == "__main__":
+    sys.exit(main())

@@ -1,0 +1,106 @@
+//! The reason of a key that an earlier record has.
+
+ghost use Rattle.std.specs.Prelude.{◌≡◌, ◌+◌, ◌<◌, ◌≤◌, IfErr, IfNone, IfOk, IfSome, None, Some, ℕ, length, slice_get};
+ghost use Rattle.csv.specs.Records.{fields_of};
+ghost use Rattle.loaded_tables.specs.Outcomes.{IsFailure};
+ghost use Rattle.record_reasons.specs.Reasons.{HasNoKeyReason, IsKeyReason, key_under};
+ghost use Rattle.record_reasons.specs.SeenKeys.{AreKeys};
+ghost use Rattle.record_reasons.specs.SeenRecords.{IsAbsent};
+ghost use Rattle.table_model.specs.Loading.{row_limit};
+
+use crate::named_fields::field_named;
+use crate::reason::Reason;
+use crate::seen_records::take_record;
+use csv::ByteRecord;
+use loaded_tables::{Records, TableDef, integer_of};
+use sqlite_items as items;
+use std::alloc::Global;
+use std::io::Read;
+use table_model::definitions::ROW_LIMIT;
+use table_model::faults::LoadFault;
+
+/// The first record with the key of the record of this number, if it is before that one. None comes for a number past 100,001. At Err
+/// reading failed or memory ran out.
+pub(crate) fn same_key<R: Read + Drop>(
+    alloc: Global,
+    table: &TableDef,
+    reader: R,
+    number: usize,
+) -> Result<Option<Reason<'static>>, LoadFault>
+    ensures reason { IfOk result (λ found. IfSome found (IsKeyReason (R.remaining reader) table.now number)) }
+    ensures none { IfOk result (λ found. IfNone found (HasNoKeyReason (R.remaining reader) table.now number)) }
+    ensures fails { IfErr result IsFailure }
+{
+    if number == 0 || number > ROW_LIMIT + 1 {
+        return Ok(None);
+    }
+    let Some(keys) = seen_keys(alloc, reader, table, number)? else {
+        return Ok(None);
+    };
+    let Some(key) = keys[number - 1] else {
+        return Ok(None);
+    };
+    let Some(place) = place_of_key(keys.as_slice(), number - 1, key) else {
+        return Ok(None);
+    };
+    Ok(Some(Reason::SameKey {
+        record: place + 1,
+        key,
+    }))
+}
+
+/// The place of the first of so many keys that is this one.
+fn place_of_key(keys: &[Option<i64>], count: usize, key: i64) -> Option<usize>
+    requires { count ≤ length keys.now }
+    ensures within { IfSome result (λ place. place < count) }
+    ensures there { IfSome result (λ place. slice_get keys.now place ≡ Some (Some key)) }
+    ensures first { IfSome result (λ place. (k : ℕ) → k < place → slice_get keys.now k ≡ Some (Some key) → ⊥) }
+    ensures none { IfNone result ((k : ℕ) → k < count → slice_get keys.now k ≡ Some (Some key) → ⊥) }
+{
+    for place in 0..count {
+        if let Some(other) = keys[place] {
+            if other == key {
+                return Some(place);
+            }
+        }
+    }
+    None
+}
+
+/// The key of a record under a header, if its field writes one.
+fn key_of(table: &TableDef, header: &ByteRecord, record: &ByteRecord) -> Option<i64>
+    ensures { result ≡ key_under table.now (fields_of header.now) (fields_of record.now) }
+{
+    let column = items::at(table.columns.as_slice(), table.key)?;
+    integer_of(field_named(header, record, column.name.bytes()))
+}
+
+/// Reads the header and the records up to the one of this number, and returns the keys of the records. None is for a text that hasn't so
+/// many records. The fault is ReadFailed or OutOfMemory.
+fn seen_keys<R: Read + Drop>(
+    alloc: Global,
+    reader: R,
+    table: &TableDef,
+    number: usize,
+) -> Result<Option<Vec<Option<i64>>>, LoadFault>
+    requires limit { number ≤ row_limit + 1 }
+    ensures seen { IfOk result (λ found. IfSome found
+        (λ keys. AreKeys (R.remaining reader) table.now number keys.items)) }
+    ensures absent { IfOk result (λ found. IfNone found (IsAbsent (R.remaining reader) number)) }
+    ensures fails { IfErr result IsFailure }
+{
+    let mut records = Records::new(alloc, reader);
+    let mut header = ByteRecord::new(alloc);
+    if !take_record(&mut records, &mut header)? {
+        return Ok(None);
+    }
+    let mut record = ByteRecord::new(alloc);
+    let mut keys = Vec::new(alloc);
+    for _place in 0..number {
+        if !take_record(&mut records, &mut record)? {
+            return Ok(None);
+        }
+        keys.push(key_of(table, &header, &record))?;
+    }
+    Ok(Some(keys))
+}

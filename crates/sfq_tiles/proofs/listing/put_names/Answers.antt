@@ -1,0 +1,9 @@
+-- The names before this one were put; this one comes after them.
+use Rattle.std.proofs.Common.{◌++◌, codes, length, ◌<◌, arith, ap}
+use Rattle.sinks.proofs.PartLemmas.{text-put}
+use Rattle.sfq_tiles.proofs.listing.put_names.Goals as goal
+
+pub loop-part-preserved : goal.loop-part-preserved
+loop-part-preserved g c =
+    let within : c.loop-part.part-index < length c.args.parts.now = omega arith in
+    text-put (λ part. codes "," ++ part.name.now) c.args.parts.now c.loop-part.part-index c.part-item.result (codes "," ++ c.part-item.result.name.now) _ (g.S.Sink.taken c.loop-part.out) _ within (ap (λ part. codes "," ++ part.name.now) c.part-item.is) c.loop-part.invariant c.in_ok-put_name.ensures

@@ -1,0 +1,28 @@
+-- Why the program ends early: what it prints then, and its status.
+use Rattle.std.specs.Prelude.{◌≡◌, ◌⊎◌, ◌++◌, ℕ, List, Option, codes}
+use Rattle.std.specs.Io.KnownBytes.{Appends}
+use Rattle.integers.specs.Counts.{one_more}
+use Rattle.sinks.specs.Sinks.{AppendsFront}
+use Rattle.failures.specs.Failures.{failure_line, failure_status}
+use Rattle.sfq_tiles.specs.declared.endings.Ending.{Ending}
+use Rattle.sfq_tiles.specs.declared.endings.Ending.TheVariants as e
+
+-- the line of a word of the command line that is wrong
+abbrev pub mistake_line : List ℕ → List ℕ
+mistake_line text = codes "error: " ++ text ++ codes "\n"
+
+-- the line of an ending: that of `sfq` where it ends for the same reason
+abbrev pub ending_line : Ending → List ℕ
+ending_line (e.Failed failure) = failure_line failure
+ending_line (e.Mistaken text) = mistake_line text.now
+ending_line e.Unwritable = codes "sfq: out unwritable\n"
+
+-- the status of an ending: that of `sfq` where it ends for the same reason, 2 for the command line, 6 where a file can't be written
+abbrev pub ending_status : Ending → ℕ
+ending_status (e.Failed failure) = failure_status failure
+ending_status (e.Mistaken text) = 2
+ending_status e.Unwritable = 6
+
+-- a line is printed: all of it, unless the sink failed once; then a beginning of it
+abbrev pub Prints : Option (List ℕ) → Option (List ℕ) → ℕ → ℕ → List ℕ → Type 0
+Prints old new before after line = (Appends old new line × (after ≡ before)) ⊎ (AppendsFront old new line × (after ≡ one_more before))

@@ -1,0 +1,172 @@
+//! The files of tiles and of stretches.
+
+ghost use Rattle.std.specs.Prelude.{None};
+
+use crate::interruptions::write_again;
+use itoa::Buffer;
+use sinks::SinkFault;
+use std::alloc::{AllocError, Global};
+use std::fs::{self, OpenOptions};
+use std::io::Write;
+use tile_texts::CellTexts;
+
+/// How many bytes of a file are kept before they are written.
+const BUFFER_BYTES: usize = 49_152;
+
+/// The files of a part, one in a folder for each cell: a file is opened to append when its buffer is full.
+#[derive(Drop)]
+pub struct CellFiles<'r, 'w> {
+    rt: &'r HostRuntime,
+    out: &'w str,
+    // What the folders' names begin with, before the number.
+    folder: &'w str,
+    name: &'w str,
+    // The number of the first folder.
+    first: usize,
+    buffers: Vec<Vec<u8>>,
+    // Whether no line of an earlier file comes any more once one of a later file has come.
+    is_sequence: bool,
+}
+
+impl<'r, 'w> CellFiles<'r, 'w> {
+    /// The files of the tiles of a part.
+    pub fn of_tiles(rt: &'r HostRuntime, out: &'w str, name: &'w str) -> CellFiles<'r, 'w> {
+        CellFiles {
+            rt,
+            out,
+            folder: "tile",
+            name,
+            first: 0,
+            buffers: Vec::new(rt.alloc()),
+            is_sequence: false,
+        }
+    }
+
+    /// The files of the stretches of a part.
+    pub fn of_stretches(rt: &'r HostRuntime, out: &'w str, name: &'w str) -> CellFiles<'r, 'w> {
+        CellFiles {
+            rt,
+            out,
+            folder: name,
+            name,
+            first: 1,
+            buffers: Vec::new(rt.alloc()),
+            is_sequence: true,
+        }
+    }
+
+    /// The path of a folder.
+    fn folder_path(&self, cell: usize) -> Result<String, AllocError> {
+        let mut digits = Buffer::new();
+        let number = digits.format(cell.saturating_add(self.first));
+        let mut path = String::from_str(self.rt.alloc(), self.out)?;
+        path.push_str("/")?;
+        path.push_str(self.folder)?;
+        path.push_str("-")?;
+        path.push_str(number)?;
+        Ok(path)
+    }
+
+    /// Appends bytes to a file.
+    fn append(&self, cell: usize, bytes: &[u8]) -> Result<(), SinkFault> {
+        let mut path = self.folder_path(cell).map_err(|_| SinkFault)?;
+        path.push_str("/").map_err(|_| SinkFault)?;
+        path.push_str(self.name).map_err(|_| SinkFault)?;
+        path.push_str(".csv").map_err(|_| SinkFault)?;
+        let mut options = OpenOptions::new();
+        options.append(true).create(true);
+        let Ok(mut file) = options.open(self.rt, path.as_str()) else {
+            return Err(SinkFault);
+        };
+        write_whole(&mut file, bytes)
+    }
+
+    /// Makes the folders up to that of a cell, and a buffer for each.
+    fn make_folders(&mut self, cell: usize) -> Result<(), SinkFault> {
+        for place in self.buffers.len()..cell.saturating_add(1) {
+            if self.is_sequence && place > 0 {
+                self.close(place - 1)?;
+            }
+            let path = self.folder_path(place).map_err(|_| SinkFault)?;
+            // Several parts share the folders of tiles.
+            if fs::create_dir(self.rt, path.as_str()).is_err() && self.is_sequence {
+                return Err(SinkFault);
+            }
+            self.buffers
+                .push(Vec::new(self.rt.alloc()))
+                .map_err(|_| SinkFault)?;
+        }
+        Ok(())
+    }
+
+    /// Writes what is kept for a cell to which nothing comes any more, and gives the memory back.
+    fn close(&mut self, cell: usize) -> Result<(), SinkFault> {
+        self.write_out(cell)?;
+        if let Some(buffer) = self.buffers.as_mut_slice().get_mut(cell) {
+            *buffer = Vec::new(self.rt.alloc());
+        }
+        Ok(())
+    }
+
+    /// Writes what is kept for a cell.
+    fn write_out(&mut self, cell: usize) -> Result<(), SinkFault> {
+        if let Some(buffer) = self.buffers.as_slice().get(cell) {
+            if !buffer.is_empty() {
+                self.append(cell, buffer.as_slice())?;
+            }
+        }
+        if let Some(buffer) = self.buffers.as_mut_slice().get_mut(cell) {
+            buffer.clear();
+        }
+        Ok(())
+    }
+
+    /// Writes all that is kept.
+    pub fn finish(&mut self) -> Result<(), SinkFault> {
+        for cell in 0..self.buffers.len() {
+            self.write_out(cell)?;
+        }
+        Ok(())
+    }
+
+    /// How many bytes are kept for a cell.
+    fn kept(&self, cell: usize) -> usize {
+        match self.buffers.as_slice().get(cell) {
+            Some(buffer) => buffer.len(),
+            None => 0,
+        }
+    }
+}
+
+impl CellTexts for CellFiles<'_, '_> {
+    ghost texts = { λ _ _. None };
+
+    fn put(&mut self, cell: usize, line: &[u8]) -> Result<(), SinkFault> {
+        self.make_folders(cell)?;
+        if self.kept(cell).saturating_add(line.len()) > BUFFER_BYTES {
+            self.write_out(cell)?;
+        }
+        if line.len() > BUFFER_BYTES {
+            return self.append(cell, line);
+        }
+        let Some(buffer) = self.buffers.as_mut_slice().get_mut(cell) else {
+            return Err(SinkFault);
+        };
+        buffer.extend_from_slice(line).map_err(|_| SinkFault)
+    }
+}
+
+/// Writes all bytes to a file.
+pub fn write_whole<W: Write>(file: &mut W, bytes: &[u8]) -> Result<(), SinkFault> {
+    let mut rest = bytes;
+    for _ in 0..=bytes.len() {
+        if rest.is_empty() {
+            return Ok(());
+        }
+        match write_again(file, rest) {
+            Ok(0) | Err(_) => return Err(SinkFault),
+            Ok(count) => rest = rest.get(count..).unwrap_or(&[]),
+        }
+    }
+    Err(SinkFault)
+}

@@ -1,0 +1,4 @@
+pub mod Bounds
+pub mod CutLemmas
+pub mod Powers
+pub mod TreeLemmas

@@ -1,0 +1,10 @@
+pub mod OwnerFacts
+pub mod MarkFacts
+pub mod TileLists
+pub mod Merging
+pub mod KeyOrder
+pub mod TwoTables
+pub mod Shuffles
+pub mod Blocks
+pub mod Narrowing
+pub mod NarrowTables

@@ -1,0 +1,21 @@
+//! What looks at each row of a table while it is checked.
+
+use loaded_tables::Geometry;
+use std::alloc::AllocError;
+use table_model::values::Value;
+
+/// Looks at the rows of a table, one by one, before each is dropped.
+pub trait RowWatcher {
+    /// Looks at the next row. The error is that memory ran out.
+    fn saw(&mut self, row: &[Value<Geometry>]) -> Result<(), AllocError>;
+}
+
+/// Looks at nothing.
+#[derive(Drop)]
+pub struct Unwatched;
+
+impl RowWatcher for Unwatched {
+    fn saw(&mut self, _row: &[Value<Geometry>]) -> Result<(), AllocError> {
+        Ok(())
+    }
+}

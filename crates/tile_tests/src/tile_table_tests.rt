@@ -1,0 +1,108 @@
+//! Tables that are checked before they are split, their faults, and the corners that are sampled.
+
+use loaded_tables::Schema;
+use schema_reader::read_schema;
+use std::alloc::{AllocError, Global};
+use std::test::Fail;
+use table_model::faults::LoadFault;
+use tile_tables::{Sampler, Unwatched, check_records, find_fault};
+
+const SCHEMA: &[u8] = b"CREATE TABLE t (id INTEGER PRIMARY KEY, geom POLYGON);";
+
+/// Three rows: one with a null geometry, a triangle whose least corner is at 2 -1, and an empty polygon.
+const ROWS: &[u8] = b"id,geom\n3,\n1,\"POLYGON((2 3,2 -1,6 3,2 3))\"\n2,POLYGON EMPTY\n";
+
+/// What checking a text and looking for its fault find.
+type Found = (Result<Option<usize>, LoadFault>, Result<usize, LoadFault>);
+
+/// What the two passes find in a text of the table.
+fn found_in(alloc: Global, text: &[u8]) -> Result<Found, Fail> {
+    let schema = read_schema(alloc, SCHEMA)?;
+    if schema.tables().is_empty() {
+        return Err(Fail::from("no table"));
+    }
+    let checked = check_records(alloc, schema.table(0), text, &mut Unwatched);
+    Ok((checked, find_fault(alloc, schema.table(0), text)))
+}
+
+/// What is kept of the second column of a text of the first table of a schema.
+fn sampled(alloc: Global, schema: &Schema, text: &[u8]) -> Result<Sampler, Fail> {
+    if schema.tables().is_empty() {
+        return Err(Fail::from("no table"));
+    }
+    let mut sampler = Sampler::new(alloc, 1);
+    check_records(alloc, schema.table(0), text, &mut sampler)?;
+    Ok(sampler)
+}
+
+/// How many corners a sampler kept, and the place of the last one.
+fn last_of(sampler: &Sampler) -> Result<(usize, i32, i32), Fail> {
+    let last = sampler.corners().last().ok_or("no corner")?;
+    Ok((sampler.corners().len(), last.x(), last.y()))
+}
+
+#[test]
+fn rows_are_counted(rt: HostRuntime) -> Result<(), Fail> {
+    assert_eq!(rt; found_in(rt.alloc(), ROWS)?, (Ok(Some(3)), Ok(3)));
+    assert_eq!(rt; found_in(rt.alloc(), b"geom,id\n")?, (Ok(Some(0)), Ok(0)));
+    Ok(())
+}
+
+#[test]
+fn keys_that_are_equal_are_found(rt: HostRuntime) -> Result<(), Fail> {
+    let found = found_in(rt.alloc(), b"id,geom\n7,\n5,\n7,\n5,\n")?;
+    assert_eq!(rt; found, (Ok(None), Err(LoadFault::DoubleKey(3))));
+    Ok(())
+}
+
+/// A text, and its first fault.
+const FAULTS: [(&[u8], LoadFault); 5] = [
+    (b"", LoadFault::MissingColumn),
+    (b"id,shape\n", LoadFault::MissingColumn),
+    (b"id,geom,geom\n", LoadFault::DoubleHeader),
+    (b"id,geom\n1,\n2,,\n1,\n", LoadFault::UnequalRecord(2)),
+    (b"id,geom\n1,\n,\n", LoadFault::NullNotAllowed(2)),
+];
+
+#[test]
+fn the_first_fault_is_found(rt: HostRuntime) -> Result<(), Fail> {
+    for (text, fault) in &FAULTS {
+        assert_eq!(rt; found_in(rt.alloc(), text)?, (Err(*fault), Err(*fault)));
+    }
+    Ok(())
+}
+
+#[test]
+fn least_corners_are_sampled(rt: HostRuntime) -> Result<(), Fail> {
+    let schema = read_schema(rt.alloc(), SCHEMA)?;
+    let sampler = sampled(rt.alloc(), &schema, ROWS)?;
+    assert_eq!(rt; last_of(&sampler)?, (1, 2, -1));
+    assert_eq!(rt; sampler.stride(), 1);
+    Ok(())
+}
+
+/// So many points in a row, from 0 0 to the east, as CSV.
+fn points(alloc: Global, count: usize) -> Result<String, AllocError> {
+    let mut text = String::from_str(alloc, "id,geom\n")?;
+    for k in 0..count {
+        write!(text, "{k},POINT({k} 0)\n")?;
+    }
+    Ok(text)
+}
+
+/// Of 16,385 points every second one is kept; thinned to one in eight, there are 2,049.
+#[test]
+fn a_sample_is_thinned(rt: HostRuntime) -> Result<(), Fail> {
+    let schema = read_schema(
+        rt.alloc(),
+        b"CREATE TABLE t (id INTEGER PRIMARY KEY, geom POINT);",
+    )?;
+    let text = points(rt.alloc(), 16_385)?;
+    let mut sampler = sampled(rt.alloc(), &schema, text.as_bytes())?;
+    assert_eq!(rt; sampler.stride(), 2);
+    assert_eq!(rt; last_of(&sampler)?, (8_193, 16_384, 0));
+    sampler.thin_to(8);
+    assert_eq!(rt; sampler.stride(), 8);
+    assert_eq!(rt; last_of(&sampler)?, (2_049, 16_384, 0));
+    Ok(())
+}

@@ -1,0 +1,159 @@
+//! What is at the edges: a row in four cells, fields that need quotes, stretches that are just full, tables without a row, and faults.
+
+ghost use Rattle.std.specs.Prelude.{None};
+
+use fraction::GridPoint;
+use loaded_tables::Schema;
+use schema_reader::read_schema;
+use sinks::SinkFault;
+use std::alloc::Global;
+use std::test::Fail;
+use table_model::faults::LoadFault;
+use tile_cells::Cells;
+use tile_texts::{CellTexts, CopyFault, Part, write_stretches, write_tiles};
+
+const SCHEMA: &[u8] = b"CREATE TABLE t (id INTEGER PRIMARY KEY, name TEXT, geom LINESTRING);";
+
+/// The corners of a square: the grid is cut at x = 10, then both parts at y = 10.
+const SQUARE: [(i32, i32); 4] = [(10, 10), (0, 0), (10, 0), (0, 10)];
+
+/// A line through all four boxes, one in the last, and one that runs north along x = 10.
+const ROWS: &[u8] =
+    b"id,geom,name\n7,\"LINESTRING(9 9,10 10)\",\"a,b\"\n8,\"LINESTRING(10 10,12 11)\",\"say \"\"so\"\"\"\n9,\"LINESTRING(10 9,10 10)\",\n";
+
+/// The texts of cells, one behind the other; those past the last can't be written.
+#[derive(Drop)]
+struct Texts {
+    texts: Vec<Vec<u8>>,
+}
+
+impl CellTexts for Texts {
+    ghost texts = { λ _ _. None };
+
+    fn put(&mut self, cell: usize, line: &[u8]) -> Result<(), SinkFault> {
+        match self.texts.get_mut(cell) {
+            Some(text) => text.extend_from_slice(line).or(Err(SinkFault)),
+            None => Err(SinkFault),
+        }
+    }
+}
+
+#[test]
+fn a_row_goes_to_each_cell_with_its_marks(rt: HostRuntime) -> Result<(), Fail> {
+    let schema = read_schema(rt.alloc(), SCHEMA)?;
+    let cells = four_cells(rt.alloc())?;
+    let mut texts = empty_texts(rt.alloc(), 5)?;
+    let found = write_tiles(rt.alloc(), &part(&schema)?, 2, &cells, ROWS, &mut texts);
+    assert_eq!(rt; counted(&found)?, [0, 1, 1, 2, 3].as_slice());
+    let expected: [&[u8]; 5] = [
+        b"id,name,west,south\n",
+        b"id,name,west,south\n7,\"a,b\",0,0\n",
+        b"id,name,west,south\n7,\"a,b\",0,1\n",
+        b"id,name,west,south\n7,\"a,b\",1,0\n9,,0,0\n",
+        b"id,name,west,south\n7,\"a,b\",1,1\n8,\"say \"\"so\"\"\",0,0\n9,,0,1\n",
+    ];
+    for (text, wanted) in texts.texts.iter().zip(&expected) {
+        assert_eq!(rt; text.as_slice(), *wanted);
+    }
+    Ok(())
+}
+
+/// How many records each stretch of the three rows has.
+#[test]
+fn stretches_are_full_but_for_the_last(rt: HostRuntime) -> Result<(), Fail> {
+    let schema = read_schema(rt.alloc(), SCHEMA)?;
+    let most: [(usize, &[usize]); 5] = [
+        (0, &[1, 1, 1]),
+        (1, &[1, 1, 1]),
+        (2, &[2, 1]),
+        (3, &[3]),
+        (4, &[3]),
+    ];
+    for (size, wanted) in &most {
+        let mut texts = empty_texts(rt.alloc(), wanted.len())?;
+        let found = write_stretches(rt.alloc(), &part(&schema)?, *size, ROWS, &mut texts);
+        assert_eq!(rt; counted(&found)?, *wanted, "{size}");
+    }
+    Ok(())
+}
+
+#[test]
+fn the_next_stretch_begins_with_the_header(rt: HostRuntime) -> Result<(), Fail> {
+    let schema = read_schema(rt.alloc(), SCHEMA)?;
+    let mut texts = empty_texts(rt.alloc(), 2)?;
+    let found = write_stretches(rt.alloc(), &part(&schema)?, 2, ROWS, &mut texts);
+    assert_eq!(rt; counted(&found)?, [2, 1].as_slice());
+    let expected: [&[u8]; 2] = [
+        b"id,name\n7,\"a,b\"\n8,\"say \"\"so\"\"\"\n",
+        b"id,name\n9,\n",
+    ];
+    for (text, wanted) in texts.texts.iter().zip(&expected) {
+        assert_eq!(rt; text.as_slice(), *wanted);
+    }
+    Ok(())
+}
+
+#[test]
+fn a_table_without_a_row_is_one_stretch(rt: HostRuntime) -> Result<(), Fail> {
+    let schema = read_schema(rt.alloc(), SCHEMA)?;
+    let header = b"geom,name,id\n".as_slice();
+    let mut texts = empty_texts(rt.alloc(), 1)?;
+    let found = write_stretches(rt.alloc(), &part(&schema)?, 2, header, &mut texts);
+    assert_eq!(rt; counted(&found)?, [0].as_slice());
+    for text in &texts.texts {
+        assert_eq!(rt; text.as_slice(), b"id,name\n".as_slice());
+    }
+    Ok(())
+}
+
+#[test]
+fn faults_end_the_pass(rt: HostRuntime) -> Result<(), Fail> {
+    let schema = read_schema(rt.alloc(), SCHEMA)?;
+    let mut one = empty_texts(rt.alloc(), 1)?;
+    let full = write_stretches(rt.alloc(), &part(&schema)?, 2, ROWS, &mut one);
+    assert!(rt; matches!(full, Err(CopyFault::Sink)));
+    let mut other = empty_texts(rt.alloc(), 1)?;
+    let lacking = b"id,name\n1,a\n".as_slice();
+    let missing = write_stretches(rt.alloc(), &part(&schema)?, 2, lacking, &mut other);
+    assert!(rt; matches!(missing, Err(CopyFault::Load(LoadFault::MissingColumn))));
+    let long = b"id,name,geom\n1,a,,\n".as_slice();
+    let unequal = write_stretches(rt.alloc(), &part(&schema)?, 2, long, &mut other);
+    assert!(rt; matches!(unequal, Err(CopyFault::Load(LoadFault::ReadFailed))));
+    Ok(())
+}
+
+/// The key and the name of the one table, with two marks.
+fn part(schema: &Schema) -> Result<Part<'_>, Fail> {
+    let table = schema.tables().first().ok_or("no table")?;
+    Ok(Part {
+        table,
+        columns: &[0, 1],
+        marks: ["west", "south"],
+    })
+}
+
+/// The cells of the square's four corners, one in each box.
+fn four_cells(alloc: Global) -> Result<Cells, Fail> {
+    let mut sample = Vec::new(alloc);
+    for (x, y) in &SQUARE {
+        sample.push(GridPoint::new(*x, *y).ok_or("past the limit")?)?;
+    }
+    Ok(Cells::cut(alloc, sample.as_mut_slice(), 1)?)
+}
+
+/// So many empty texts.
+fn empty_texts(alloc: Global, count: usize) -> Result<Texts, Fail> {
+    let mut texts = Vec::new(alloc);
+    for _ in 0..count {
+        texts.push(Vec::new(alloc))?;
+    }
+    Ok(Texts { texts })
+}
+
+/// The counts of a pass that was done to its end.
+fn counted(found: &Result<Vec<usize>, CopyFault>) -> Result<&[usize], Fail> {
+    match found {
+        Ok(counts) => Ok(counts.as_slice()),
+        Err(_) => Err(Fail::from("no pass")),
+    }
+}

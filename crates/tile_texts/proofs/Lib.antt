@@ -1,0 +1,6 @@
+pub mod CopyLemmas
+pub mod PlaceLemmas
+pub mod ReadBack
+pub mod RowLemmas
+pub mod StretchLemmas
+pub mod TextLemmas

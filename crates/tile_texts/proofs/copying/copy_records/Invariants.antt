@@ -1,0 +1,13 @@
+use Rattle.std.proofs.Common.{◌≡◌, List, length}
+use Rattle.loaded_tables.specs.Reading.{IsSteady}
+use Rattle.table_model.specs.Loading.{Record}
+use Rattle.tile_texts.specs.Copies.{AreAdded, WereRead, tiles}
+use Rattle.tile_texts.proofs.copying.copy_records.Given as goal
+
+-- the records that were read are in the tiles
+abbrev pub invariant-loop-place : goal.invariant-loop-place
+invariant-loop-place g l = record {
+  steady : IsSteady l.reader;
+  read : (read : List Record) × (length read ≡ l._place) × WereRead g.R.Read.remaining l.fn.reader l.reader l.layout.width read
+      × AreAdded (g.T.CellTexts.texts l.fn.texts) (g.T.CellTexts.texts l.texts) (tiles l.cells l.layout.places.items l.column l.columns read) l.counts.items;
+}

@@ -1,0 +1,13 @@
+use Rattle.std.proofs.Common.{◌≡◌, [], if◌then◌else◌, replicate}
+use Rattle.std.specs.Prelude.{nat_lt}
+use Rattle.csv.specs.Records.{fields_of}
+use Rattle.tile_texts.specs.Lines.{line_of}
+use Rattle.tile_texts.specs.Texts.{Grow}
+use Rattle.tile_texts.proofs.copying.put_headers.Given as goal
+
+-- each cell so far has the header and a count of no record
+abbrev pub invariant-loop-cell : goal.invariant-loop-cell
+invariant-loop-cell g l = record {
+  counts : l.counts.items ≡ replicate l.cell 0;
+  texts : Grow (g.T.CellTexts.texts l.fn.texts) (g.T.CellTexts.texts l.texts) (λ k. if nat_lt k l.cell then line_of (fields_of l.header) else []);
+}

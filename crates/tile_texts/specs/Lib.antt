@@ -1,0 +1,5 @@
+pub mod Copies
+pub mod Lines
+pub mod ReadBack
+pub mod Stretches
+pub mod Texts

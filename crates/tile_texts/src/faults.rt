@@ -1,0 +1,38 @@
+//! The fault of a second pass.
+
+use sinks::SinkFault;
+use std::alloc::{AllocError, AllocFailed};
+use table_model::faults::LoadFault;
+
+/// Why a second pass wasn't done to its end.
+#[derive(Clone, Copy, Debug)]
+pub enum CopyFault {
+    /// The table can't be read again as it was.
+    Load(LoadFault),
+    /// A text can't be written.
+    Sink,
+}
+
+impl From<LoadFault> for CopyFault {
+    fn from(fault: LoadFault) -> CopyFault {
+        CopyFault::Load(fault)
+    }
+}
+
+impl<T: Drop> From<AllocFailed<T>> for CopyFault {
+    fn from(_error: AllocFailed<T>) -> CopyFault {
+        CopyFault::Load(LoadFault::OutOfMemory)
+    }
+}
+
+impl From<AllocError> for CopyFault {
+    fn from(_error: AllocError) -> CopyFault {
+        CopyFault::Load(LoadFault::OutOfMemory)
+    }
+}
+
+impl From<SinkFault> for CopyFault {
+    fn from(_fault: SinkFault) -> CopyFault {
+        CopyFault::Sink
+    }
+}

@@ -1,0 +1,16 @@
+//! Where the texts of cells go.
+
+ghost use Rattle.std.specs.Prelude.{ℕ, List, Option, OnOk};
+ghost use Rattle.tile_texts.specs.Texts.{Grow, in_cell};
+
+use sinks::SinkFault;
+
+/// The texts of several cells, each of which grows at its end.
+pub trait CellTexts {
+    /// The text of each cell, by the cell's number; None where nobody knows it.
+    ghost texts: { Self → ℕ → Option (List ℕ) };
+
+    /// Adds a line to the text of a cell; the others stay as they are. After an error nothing is known of the texts.
+    fn put(&mut self, cell: usize, line: &[u8]) -> Result<(), SinkFault>
+        ensures { OnOk result (Grow (texts self.old) (texts self.new) (in_cell cell line.now)) };
+}

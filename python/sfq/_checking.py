@@ -1,0 +1,88 @@
+"""What sfq says of many texts of geometries: by the library libsfq, or where it isn't there by the program sfq.
+
+Both give the same reasons, those of the command `sfq why`.
+"""
+from __future__ import annotations
+
+import ctypes
+import os
+import shutil
+import subprocess
+import sys
+import tempfile
+from typing import List, Optional
+
+from . import Geometry, _library
+from ._faults import LibraryError
+
+
+class ByLibrary:
+    """The calls of the library."""
+
+    def __init__(self) -> None:
+        self.call = _library.library().sfq_check
+
+    def reasons(self, texts: List[str]) -> List[Optional[str]]:
+        """Returns the reason of each text that is refused, None for the others."""
+        call, fault, found = self.call, ctypes.byref(_library.CFault()), []
+        for text in texts:
+            given = text.encode()
+            found.append(Geometry(text).reason if _library.is_refused(call(given, len(given), fault)) else None)
+        return found
+
+    def reason(self, text: str) -> str:
+        """Returns why a text is refused."""
+        return Geometry(text).reason
+
+
+class ByProgram:
+    """Runs of the program."""
+
+    def __init__(self, program: str) -> None:
+        self.program = program
+
+    def run(self, *words: str) -> subprocess.CompletedProcess:
+        ran = subprocess.run([self.program, *words], stdin=subprocess.DEVNULL, stdout=subprocess.PIPE, stderr=subprocess.PIPE, text=True)
+        if ran.returncode == 7:
+            raise MemoryError("sfq: out of memory")
+        if ran.returncode not in (0, 5):
+            raise LibraryError(f"sfq: {self.program} {words[0]} ended with status {ran.returncode}: {ran.stderr.strip()}")
+        return ran
+
+    def reasons(self, texts: List[str]) -> List[Optional[str]]:
+        """Returns the reason of each text that is refused, None for the others: one run for all, and one for each that is refused."""
+        with tempfile.NamedTemporaryFile("w", suffix=".csv", encoding="utf-8") as file:
+            file.write("".join(f'"{it}",POINT EMPTY\n' for it in texts))
+            file.flush()
+            lines = self.run("pairs", file.name).stdout.splitlines()
+        if len(lines) != len(texts):
+            raise LibraryError(f"sfq: {self.program} pairs printed {len(lines)} lines for {len(texts)} pairs")
+        return [self.reason(text) if line.startswith("first ") else None for text, line in zip(texts, lines)]
+
+    def reason(self, text: str) -> str:
+        """Returns why a text is refused."""
+        with tempfile.NamedTemporaryFile("w", suffix=".wkt", encoding="utf-8") as file:
+            file.write(text)
+            file.flush()
+            ran = self.run("why", f"@{file.name}")
+        said = ran.stdout or ran.stderr.rpartition("sfq: first ")[2]
+        return said.strip()
+
+
+def checker(program: str = ""):
+    """Returns what checks: the program if one is named, else the library, else the program beside this command or on the path.
+
+    LibraryError if none is there.
+    """
+    if program:
+        found = shutil.which(program)
+        if not found:
+            raise LibraryError(f"sfq: no program {program}")
+        return ByProgram(os.path.abspath(found))
+    try:
+        return ByLibrary()
+    except LibraryError as error:
+        found = shutil.which(f"{os.path.dirname(os.path.realpath(sys.argv[0]))}/sfq") or shutil.which("sfq")
+        if not found:
+            raise LibraryError(f"{error}; and no program sfq is beside this command or on the path, which would do too") from None
+        return ByProgram(found)

@@ -1,0 +1,256 @@
+"""Reads the layers of a source by GDAL: fields, keys and geometries of its records, and GEOS's make-valid. None of it is proved."""
+from __future__ import annotations
+
+import re
+import sys
+from collections import Counter
+from typing import Any, Callable, Iterator, List, NamedTuple, Optional, Tuple
+
+from . import _grid, _tables, _wkb
+
+# Words of a source that are nobody's business but its own.
+SECRET = re.compile(r"(password\s*=\s*)('[^']*'|\S+)|(//[^/:@\s]*:)[^/@\s]*(?=@)", re.I)
+
+
+class Missing(Exception):
+    """What an import needs isn't there."""
+
+
+class Modules(NamedTuple):
+    """GDAL's modules."""
+
+    gdal: Any
+    ogr: Any
+    osr: Any
+
+
+def modules() -> Modules:
+    """Returns GDAL's modules, with errors as exceptions. Missing where they aren't there."""
+    try:
+        from osgeo import gdal, ogr, osr
+    except ImportError as error:
+        raise Missing(f"GDAL's module osgeo can't be loaded by {sys.executable}: install the package python3-gdal ({error})") from None
+    found = Modules(gdal, ogr, osr)
+    for it in found:
+        it.UseExceptions()
+    return found
+
+
+def without_secrets(source: str) -> str:
+    """Returns the name of a source without its password."""
+    return SECRET.sub(lambda it: f"{it[1] or it[3]}***", source)
+
+
+class Warnings:
+    """Keeps GDAL's warnings, and says each once. Errors are exceptions besides."""
+
+    def __init__(self, say: Callable[[str], None]) -> None:
+        self.say, self.said, self.most = say, set(), 10
+
+    def __call__(self, level: int, number: int, text: str) -> None:
+        if level == 2 and text not in self.said and len(self.said) < self.most:
+            self.said.add(text)
+            self.say(f"GDAL: {text}")
+
+
+class Source:
+    """A source that is open for reading."""
+
+    def __init__(self, path: str, say: Callable[[str], None]) -> None:
+        self.modules = modules()
+        gdal = self.modules.gdal
+        gdal.PushErrorHandler(Warnings(say))
+        try:
+            self.file = gdal.OpenEx(path, gdal.OF_VECTOR | gdal.OF_READONLY)
+        except RuntimeError as error:
+            raise OSError(without_secrets(f"{path}: {error}")) from None
+
+    def layers(self, names: List[str]) -> List[Layer]:
+        """Returns the layers of these names, in their order, or all. KeyError for a name that the source doesn't have."""
+        there = [self.file.GetLayer(it) for it in range(self.file.GetLayerCount())]
+        if names:
+            known = {it.GetName(): it for it in there}
+            there = [known.get(it) or self.named(it, known) for it in names]
+        return [Layer(self.modules, it) for it in there]
+
+    def named(self, name: str, known: Any) -> Any:
+        """Returns a layer that the source doesn't list, as those of PostGIS may be."""
+        try:
+            found = self.file.GetLayerByName(name)
+        except RuntimeError:
+            found = None
+        if found is None:
+            raise KeyError(f"no layer {name}; there are {', '.join(known) or 'none'}")
+        return found
+
+
+class Layer:
+    """A layer of a source."""
+
+    def __init__(self, found: Modules, layer: Any) -> None:
+        self.modules, self.layer, self.described = found, layer, layer.GetLayerDefn()
+        self.name = layer.GetName()
+        self.fields = [self.described.GetFieldDefn(it) for it in range(self.described.GetFieldCount())]
+        self.shapes = [self.described.GetGeomFieldDefn(it) for it in range(self.described.GetGeomFieldCount())]
+
+    def __iter__(self) -> Iterator[Any]:
+        """Reads the records. OSError where GDAL can't: what it would do behind such a record depends on the driver."""
+        self.layer.ResetReading()
+        take, count = self.layer.GetNextFeature, 0
+        while True:
+            try:
+                feature = take()
+            except RuntimeError as error:
+                raise OSError(f"{self.name} record {count + 1}: GDAL can't read it{f': {error}' if str(error) else ''}") from None
+            if feature is None:
+                return
+            count += 1
+            yield feature
+
+    def count(self) -> int:
+        """Returns how many records there are, or -1 where counting takes a pass."""
+        return self.layer.GetFeatureCount(0)
+
+    def has(self, name: str) -> bool:
+        """Whether there is a column of this name, that of the FID too."""
+        return name == self.layer.GetFIDColumn() or any(it.GetName() == name for it in self.fields)
+
+    def is_whole(self, name: str) -> bool:
+        """Whether a column of this name has whole numbers."""
+        ogr = self.modules.ogr
+        return any(it.GetName() == name and it.GetType() in (ogr.OFTInteger, ogr.OFTInteger64) for it in self.fields)
+
+    def without_geometries(self) -> Iterator[Any]:
+        """Reads the records without their geometries, where the driver can."""
+        can = self.layer.TestCapability(self.modules.ogr.OLCIgnoreFields)
+        if can:
+            self.layer.SetIgnoredFields(["OGR_GEOMETRY", "OGR_STYLE"])
+        try:
+            yield from self
+        finally:
+            if can:
+                self.layer.SetIgnoredFields([])
+
+    def repeated(self, key: Callable[[Any], Optional[int]]) -> Optional[str]:
+        """Returns why a key can't be one, or None. Keys are kept, in a second pass, only where they don't ascend."""
+        before = None
+        for feature in self.without_geometries():
+            found = key(feature)
+            if found is None:
+                return "a record has none"
+            if before is not None and found <= before:
+                break
+            before = found
+        else:
+            return None
+        kept = set()
+        for feature in self.without_geometries():
+            found = key(feature)
+            if found is None or found in kept:
+                return "a record has none" if found is None else f"{found} comes twice"
+            kept.add(found)
+        return None
+
+    def system(self) -> Any:
+        """Returns the coordinate system as grid.json has it, or None: its authority and code, and its text in WKT 2."""
+        found = self.layer.GetSpatialRef()
+        if found is None:
+            return None
+        authority, code = found.GetAuthorityName(None), found.GetAuthorityCode(None)
+        return {"authority": f"{authority}:{code}" if authority and code else None, "wkt": found.ExportToWkt(["FORMAT=WKT2_2019"])}
+
+    def word(self, at: int) -> str:
+        """Returns the type that the source says a geometry column has, or GEOMETRY."""
+        return _wkb.WORDS.get(self.modules.ogr.GT_Flatten(self.shapes[at].GetType()), "GEOMETRY")
+
+    def extent(self) -> Optional[Tuple[float, float, float, float]]:
+        """Returns the least x, the greatest x, the least y and the greatest y, or None."""
+        try:
+            return self.layer.GetExtent()
+        except RuntimeError:
+            return None
+
+    def whole(self, at: int) -> Callable[[Any], Optional[int]]:
+        """Returns what reads a whole number of a record."""
+        feature = self.modules.ogr.Feature
+        take, is_there = feature.GetFieldAsInteger64, feature.IsFieldSetAndNotNull
+        return lambda it: take(it, at) or (0 if is_there(it, at) else None)
+
+    def reader(self, at: int, empty: Counter) -> Callable[[Any], str]:
+        """Returns what reads the field of a record as CSV has it, and counts empty texts by their column."""
+        ogr, field = self.modules.ogr, self.fields[at]
+        name, kind, feature, quoted = field.GetName(), field.GetType(), ogr.Feature, _tables.quoted
+        is_there = feature.IsFieldSetAndNotNull
+        if kind in (ogr.OFTInteger, ogr.OFTInteger64):
+            number = feature.GetFieldAsInteger64
+            return lambda it: str(number(it, at) or (0 if is_there(it, at) else ""))
+        if kind == ogr.OFTReal:
+            double, shown = feature.GetFieldAsDouble, _tables.single if field.GetSubType() == ogr.OFSTFloat32 else _tables.real
+            return lambda it: shown(double(it, at)) if is_there(it, at) else ""
+        take, shows = self.taking(kind)
+
+        def read(it: Any) -> str:
+            if not is_there(it, at):
+                return ""
+            found = shows(take(it, at)) if shows else take(it, at)
+            if not found:
+                empty[name] += 1
+            return quoted(found)
+
+        return read
+
+    def taking(self, kind: int) -> Tuple[Callable, Optional[Callable]]:
+        """Returns what reads a value of a type that isn't a number, and what writes it as a text; None where it is one."""
+        ogr = self.modules.ogr
+        feature = ogr.Feature
+        return {
+            ogr.OFTDate: (feature.GetFieldAsDateTime, _tables.date),
+            ogr.OFTTime: (feature.GetFieldAsDateTime, _tables.time),
+            ogr.OFTDateTime: (feature.GetFieldAsDateTime, _tables.date_time),
+            ogr.OFTBinary: (feature.GetFieldAsBinary, _tables.coded),
+            ogr.OFTIntegerList: (feature.GetFieldAsIntegerList, _tables.listed),
+            ogr.OFTInteger64List: (feature.GetFieldAsInteger64List, _tables.listed),
+            ogr.OFTRealList: (feature.GetFieldAsDoubleList, _tables.listed),
+            ogr.OFTStringList: (feature.GetFieldAsStringList, _tables.listed),
+        }.get(kind, (feature.GetFieldAsString, None))
+
+
+def flat(geometry: Any) -> bytes:
+    """Returns the binary form of a geometry without Z and M, its curves as lines."""
+    copy = geometry.GetLinearGeometry() if geometry.HasCurveGeometry() else geometry.Clone()
+    copy.FlattenTo2D()
+    return binary(copy)
+
+
+def binary(geometry: Any) -> bytes:
+    """Returns the binary form of a geometry, least byte first."""
+    return bytes(geometry.ExportToIsoWkb(1))
+
+
+def made_valid(found: Modules, text: str) -> Optional[bytes]:
+    """Returns the binary form of what GEOS's make-valid makes of a text, or None where it makes nothing of the same dimension."""
+    found.gdal.PushErrorHandler("CPLQuietErrorHandler")
+    try:
+        geometry = found.ogr.CreateGeometryFromWkt(text)
+        geometry.CloseRings()
+        made = geometry.MakeValid(["METHOD=STRUCTURE", "KEEP_COLLAPSED=NO"])
+        if made is None or made.IsEmpty() or made.GetDimension() != geometry.GetDimension():
+            return None
+        made.FlattenTo2D()
+        return binary(made)
+    except RuntimeError:
+        return None
+    finally:
+        found.gdal.PopErrorHandler()
+
+
+UNITS = _grid.Grid("1")
+
+
+def mended(found: Modules, text: str) -> Optional[str]:
+    """Returns the text of what make-valid makes of a text on the grid, rounded to the grid again, or None."""
+    made = made_valid(found, text)
+    try:
+        return None if made is None else _wkb.text(_wkb.shape(made, drops_empty=True), UNITS, _grid.Shift())
+    except (_wkb.NoText, _grid.NotANumber):
+        return None

@@ -1,0 +1,121 @@
+"""What sfq takes of a table: names, types, the fields of its CSV and its schema, and the limits that README.md lists."""
+from __future__ import annotations
+
+import base64
+import json
+import re
+import struct
+import unicodedata
+from typing import Any, List, NamedTuple, Optional, Set
+
+RESERVED = {"select", "from", "where", "and", "or", "not", "is", "null", "join", "inner", "cross", "on", "as", "limit"}
+MOST_TABLES, MOST_COLUMNS, MOST_ROWS = 16, 32, 100_000
+MOST_BYTES, MOST_OF_RECORD = 1_048_576, 34_603_008
+# Longer names are cut, so that the longest schema is within the limit of sfq.
+LONGEST_NAME = 60
+QUOTED = re.compile(r'[",\r\n]')
+
+
+class Column(NamedTuple):
+    """A column: its name, the name that the source has for it, and its type. `source` is empty where the source has none."""
+
+    name: str
+    source: str
+    type: str
+
+
+class Names:
+    """Gives each name of a source one that sfq takes, and no two the same: case doesn't count."""
+
+    def __init__(self) -> None:
+        self.taken: Set[str] = set()
+
+    def of(self, name: str, otherwise: str) -> str:
+        """Returns the name with letters, digits and `_` alone. Accents are left out, and a number makes it differ from those before."""
+        plain = "".join(it for it in unicodedata.normalize("NFKD", name) if not unicodedata.combining(it))
+        plain = re.sub(r"[^A-Za-z0-9_]", "_", plain)[:LONGEST_NAME] or otherwise
+        if plain[0].isdigit() or plain.lower() in RESERVED:
+            plain = f"_{plain}"
+        found, number = plain, 2
+        while found.lower() in self.taken:
+            found, number = f"{plain}_{number}", number + 1
+        self.taken.add(found.lower())
+        return found
+
+
+def quoted(text: str) -> str:
+    """Returns the field of a text, in quotes where a comma, a quote or a line end is in it."""
+    return '"' + text.replace('"', '""') + '"' if QUOTED.search(text) else text
+
+
+def real(value: float) -> str:
+    """Returns the shortest text that is read as this double again."""
+    return repr(value).removesuffix(".0")
+
+
+def single(value: float) -> str:
+    """Returns the shortest text that is read as this number of 32 bits again."""
+    for digits in range(1, 10):
+        found = f"{value:.{digits}g}"
+        if struct.pack("f", float(found)) == struct.pack("f", value):
+            return real(float(found))
+    return real(value)
+
+
+def listed(values: Any) -> str:
+    """Returns a list as JSON has it."""
+    return json.dumps(values, ensure_ascii=False, separators=(",", ":"))
+
+
+def coded(value: bytes) -> str:
+    """Returns bytes in base64."""
+    return base64.b64encode(bytes(value)).decode()
+
+
+def date(parts: List[Any]) -> str:
+    """Returns the date of a year, a month and a day (ISO 8601)."""
+    return f"{parts[0]:04}-{parts[1]:02}-{parts[2]:02}"
+
+
+def time(parts: List[Any]) -> str:
+    """Returns the time of day of seven numbers, to the millisecond where it isn't a whole second (ISO 8601)."""
+    thousandths = round(parts[5] * 1000)
+    fraction = f".{thousandths % 1000:03}" if thousandths % 1000 else ""
+    return f"{parts[3]:02}:{parts[4]:02}:{thousandths // 1000:02}{fraction}"
+
+
+def date_time(parts: List[Any]) -> str:
+    """Returns date and time of seven numbers, with Z or the hours from it where the source says them (ISO 8601)."""
+    zone, behind = parts[6], ""
+    if zone == 100:
+        behind = "Z"
+    elif zone > 1:
+        quarters = abs(zone - 100)
+        behind = f"{'+' if zone > 100 else '-'}{quarters // 4:02}:{quarters % 4 * 15:02}"
+    return f"{date(parts)}T{time(parts)}{behind}"
+
+
+def taken(columns: List[Column], key: str) -> List[Column]:
+    """Returns the columns that a schema has of a table: where sfq doesn't take all, the key, the geometries and the first others."""
+    room = MOST_COLUMNS - sum(it.name == key or it.type not in ("INTEGER", "TEXT") for it in columns)
+    found = []
+    for it in columns:
+        is_other = it.name != key and it.type in ("INTEGER", "TEXT")
+        room -= is_other
+        if not is_other or room >= 0:
+            found.append(it)
+    return found[:MOST_COLUMNS]
+
+
+def schema(name: str, columns: List[Column], key: str) -> str:
+    """Returns the CREATE TABLE of a table."""
+    lines = [f"  {it.name} {it.type}{' PRIMARY KEY' if it.name == key else ''}" for it in taken(columns, key)]
+    return f"CREATE TABLE {name} (\n" + ",\n".join(lines) + "\n);\n"
+
+
+def too_long(row: bytes, names: List[str], fields: List[str]) -> Optional[str]:
+    """Returns which limit of a record's size a row is past, or None."""
+    for name, field in zip(names, fields):
+        if len(field.encode()) > MOST_BYTES:
+            return f"L11: {name} has more than 1,048,576 bytes"
+    return "L11: the record has more than 34,603,008 bytes" if len(row) > MOST_OF_RECORD else None

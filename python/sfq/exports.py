@@ -1,0 +1,364 @@
+"""The command sfq-export: brings the rows of an answer back with true coordinates, as GeoJSON (RFC 7946) and as a picture.
+
+    sfq run DIR/schema.sql DIR QUERY | sfq-export - --like DIR --to OUT.geojson --svg OUT.svg
+
+DIR is what sfq-import made: its grid.json has step and origin. A coordinate n is written as origin + n * step, exactly, with as many
+digits as these have. None of it is proved.
+"""
+from __future__ import annotations
+
+import argparse
+import csv
+import json
+import os
+import re
+import sys
+import tempfile
+from typing import Any, Callable, Dict, Iterator, List, NamedTuple, Optional, TextIO, Tuple
+from xml.sax.saxutils import escape
+
+from . import __version__, _grid, _reading, _texts
+
+DONE, MISSING, USAGE, DATA, FILES, MEMORY = 0, 1, 2, 4, 6, 7
+NAME = "sfq-export"
+GEOMETRIC = {"GEOMETRY", *(it.upper() for it in _texts.TYPES)}
+# Functions whose values are whole numbers.
+COUNTS = ("COUNT(", "ST_DIMENSION(", "ST_ISEMPTY(")
+SIZE, MARGIN, COLOUR = 480, 24, "#2a6fb0"
+
+
+class Stopped(Exception):
+    """Why an export ends early, and with which status."""
+
+    def __init__(self, text: str, status: int) -> None:
+        super().__init__(text)
+        self.status = status
+
+
+class Known(NamedTuple):
+    """What grid.json says: the grid, the columns by their names in lower case, and their tables' coordinate systems."""
+
+    grid: _grid.Grid
+    types: Dict[str, str]
+    systems: Dict[str, Any]
+
+
+def known(folder: str) -> Known:
+    """Reads the grid.json of a folder."""
+    path = os.path.join(folder, "grid.json")
+    with open(path, encoding="utf-8") as file:
+        try:
+            found = json.load(file)
+            types, systems = {}, {}
+            for layer in found["layers"]:
+                for it in layer["columns"]:
+                    name, kind = it["name"].lower(), it["type"]
+                    types[name] = kind if types.get(name, kind) == kind else "GEOMETRY" if kind in GEOMETRIC else "TEXT"
+                    if kind in GEOMETRIC:
+                        systems.setdefault(name, []).append(layer["coordinate_system"])
+            return Known(_grid.Grid.of_file(found), types, systems)
+        except (KeyError, TypeError, ValueError) as error:
+            raise Stopped(f"{path} isn't one that sfq-import made: {error!r}", DATA) from None
+
+
+def column_of(header: str) -> str:
+    """Returns the column that a header names, in lower case: `geom` of `a.geom` and of `ST_AsText(a.geom)`."""
+    found = re.fullmatch(r"ST_AsText\((.*)\)", header, re.I)
+    return (found[1] if found else header).rpartition(".")[2].lower()
+
+
+def geometry_in(headers: List[str], wanted: str, types: Dict[str, str]) -> int:
+    """Returns the place of the geometry among the columns of an answer. Stopped where there is none, or more than one."""
+    if wanted:
+        found = [at for at, it in enumerate(headers) if it.lower() == wanted.lower()]
+        if len(found) != 1:
+            raise Stopped(f"{len(found)} columns of the answer are named {wanted}; there are {', '.join(headers)}", USAGE)
+        return found[0]
+    found = [at for at, it in enumerate(headers) if "(" not in column_of(it) and types.get(column_of(it)) in GEOMETRIC]
+    if not found:
+        raise Stopped(f"no column of the answer is a geometry: select one (there are {', '.join(headers)}), or name it by --geometry", USAGE)
+    if len(found) > 1:
+        raise Stopped(f"the answer has {', '.join(headers[it] for it in found)}: choose one by --geometry", USAGE)
+    return found[0]
+
+
+class Row(NamedTuple):
+    """A row: its fields, and its geometry's type and whole coordinates, or None."""
+
+    fields: List[str]
+    shape: Optional[Tuple[str, Any]]
+
+
+def rows(records: Iterator[List[str]], place: int, width: int) -> Iterator[Row]:
+    """Reads the rows below the header. Stopped at a record of another length or whose geometry isn't one."""
+    for number, fields in enumerate(records, 1):
+        if len(fields) != width:
+            raise Stopped(f"record {number} has {len(fields)} fields, the header {width}", DATA)
+        try:
+            yield Row(fields, _texts.coordinates(fields[place]) if fields[place] else None)
+        except (KeyError, IndexError, ValueError):
+            raise Stopped(f"record {number}: the geometry isn't well-known text as sfq writes it", DATA) from None
+
+
+# ---- GeoJSON ----
+
+
+def turned(name: str, parts: Any) -> Any:
+    """Returns the coordinates with outer rings counterclockwise and holes clockwise (RFC 7946, 3.1.6)."""
+    if name == "Polygon":
+        return [ring if (area(ring) > 0) == (at == 0) else ring[::-1] for at, ring in enumerate(parts)]
+    return [turned("Polygon", it) for it in parts] if name == "MultiPolygon" else parts
+
+
+def area(ring: Any) -> int:
+    """Returns twice the area of a ring, negative where it is clockwise."""
+    return sum(a[0] * b[1] - b[0] * a[1] for a, b in zip(ring, ring[1:]))
+
+
+def listed(parts: Any, depth: int, position: Callable[[Any], str]) -> str:
+    """Returns coordinates as JSON has them."""
+    if depth == 0:
+        return position(parts)
+    return "[" + ",".join([listed(it, depth - 1, position) for it in parts]) + "]"
+
+
+def geometry_text(shape: Optional[Tuple[str, Any]], position: Callable[[Any], str]) -> str:
+    """Returns a geometry of GeoJSON (RFC 7946, 3.1); one that is EMPTY has no coordinates."""
+    if shape is None:
+        return "null"
+    name, parts = shape
+    spelled = listed(turned(name, parts), _texts.TYPES[name], position) if len(parts) else "[]"
+    return f'{{"type":"{name}","coordinates":{spelled}}}'
+
+
+def value(text: str, is_number: bool) -> Any:
+    """Returns what JSON has for a field: a number of a column of numbers, null of an empty field, else the text."""
+    if not text:
+        return None
+    return int(text) if is_number and re.fullmatch(r"[+-]?\d+", text) else text
+
+
+def as_it_is(grid: _grid.Grid) -> Callable[[Any], str]:
+    """Returns what writes a position in the units of the source."""
+    x, y = grid.x.text, grid.y.text
+    return lambda it: f"[{x(it[0])},{y(it[1])}]"
+
+
+def as_degrees(grid: _grid.Grid, system: Any) -> Callable[[Any], str]:
+    """Returns what writes a position as longitude and latitude of WGS 84, to nine digits after the point."""
+    osr = _reading.modules().osr
+    source, target = osr.SpatialReference(), osr.SpatialReference()
+    source.SetFromUserInput(system["wkt"])
+    target.ImportFromEPSG(4326)
+    for it in (source, target):
+        it.SetAxisMappingStrategy(osr.OAMS_TRADITIONAL_GIS_ORDER)
+    moves = osr.CoordinateTransformation(source, target).TransformPoint
+
+    def position(it: Any) -> str:
+        found = moves(float(grid.x.text(it[0])), float(grid.y.text(it[1])))
+        return f"[{found[0]:.9f},{found[1]:.9f}]"
+
+    return position
+
+
+def member_of_system(system: Any) -> str:
+    """Returns the member `crs` that GeoJSON had before RFC 7946, for a system with a code that isn't longitude and latitude."""
+    code = system and system["authority"]
+    if not code or code in ("EPSG:4326", "OGC:CRS84"):
+        return ""
+    name = "urn:ogc:def:crs:" + code.replace(":", "::")
+    return f'"crs":{{"type":"name","properties":{{"name":{json.dumps(name)}}}}},\n'
+
+
+class GeoJson:
+    """A file of GeoJSON that is written row by row."""
+
+    def __init__(self, file: TextIO, headers: List[str], place: int, types: Dict[str, str]) -> None:
+        self.file, self.place, self.count = file, place, 0
+        self.numbers = [it.upper().startswith(COUNTS) or types.get(column_of(it)) == "INTEGER" for it in headers]
+        self.names = [json.dumps(it, ensure_ascii=False) for it in headers]
+
+    def begin(self, system: str) -> None:
+        self.file.write(f'{{"type":"FeatureCollection",\n{system}"features":[')
+
+    def add(self, row: Row, position: Callable[[Any], str]) -> None:
+        pairs = [
+            f"{name}:{json.dumps(value(field, is_number), ensure_ascii=False)}"
+            for at, (name, field, is_number) in enumerate(zip(self.names, row.fields, self.numbers)) if at != self.place
+        ]
+        self.file.write(",\n" if self.count else "\n")
+        self.file.write(f'{{"type":"Feature","properties":{{{",".join(pairs)}}},"geometry":{geometry_text(row.shape, position)}}}')
+        self.count += 1
+
+    def end(self) -> None:
+        self.file.write("\n]}\n")
+
+
+# ---- SVG ----
+
+
+def lines_of(shape: Tuple[str, Any]) -> List[Any]:
+    """Returns the lists of positions of a geometry that has some."""
+    name, parts = shape
+    depth = _texts.TYPES[name]
+    if depth == 0:
+        return [[parts]]
+    return [parts] if depth == 1 else list(parts) if depth == 2 else [it for each in parts for it in each]
+
+
+class Picture:
+    """A picture of the rows. They are kept in a file until it is known where they lie."""
+
+    def __init__(self, spool: TextIO, grid: _grid.Grid) -> None:
+        self.spool, self.grid, self.count, self.bounds = spool, grid, 0, None
+
+    def add(self, row: Row) -> None:
+        if row.shape is None or not len(row.shape[1]):
+            return
+        self.count += 1
+        for line in lines_of(row.shape):
+            for x, y in line:
+                left, low, right, high = self.bounds or (x, y, x, y)
+                self.bounds = min(left, x), min(low, y), max(right, x), max(high, y)
+        self.spool.write(json.dumps(row.shape) + "\n")
+
+    def write(self, file: TextIO, name: str) -> None:
+        """Writes the picture: y goes up, as in the source."""
+        left, low, right, high = self.bounds or (0, 0, 0, 0)
+        scale = (SIZE - 2 * MARGIN) / max(right - left, high - low, 1)
+        x, y = self.grid.x.text, self.grid.y.text
+        where = f"x from {x(left)} to {x(right)}, y from {y(low)} to {y(high)}" if self.bounds else "no geometry"
+        file.write(f'<svg xmlns="http://www.w3.org/2000/svg" viewBox="0 0 {SIZE} {SIZE}" width="{SIZE}" height="{SIZE}">\n'
+                   f"<title>{escape(name)}: {self.count} geometries</title>\n<desc>{where}</desc>\n"
+                   '<rect width="100%" height="100%" fill="#fff"/>\n')
+        self.spool.seek(0)
+        for line in self.spool:
+            file.write(drawn(*json.loads(line), lambda it: (MARGIN + (it[0] - left) * scale, MARGIN + (high - it[1]) * scale)) + "\n")
+        file.write("</svg>\n")
+
+
+def drawn(name: str, parts: Any, place: Callable[[Any], Tuple[float, float]]) -> str:
+    """Returns the drawing of a geometry: a dot for a point, a path for the rest."""
+    if name in ("Point", "MultiPoint"):
+        dots = ["<circle cx=\"%.2f\" cy=\"%.2f\" r=\"5\"/>" % place(it) for it in ([parts] if name == "Point" else parts)]
+        return f'<g class="row" fill="{COLOUR}">{"".join(dots)}</g>'
+    way = " ".join("M" + " L".join("%.2f,%.2f" % place(it) for it in line) for line in lines_of((name, parts)))
+    if "Polygon" not in name:
+        return f'<path class="row" d="{way}" fill="none" stroke="{COLOUR}" stroke-width="2"/>'
+    return f'<path class="row" d="{way} Z" fill="{COLOUR}" fill-opacity="0.25" fill-rule="evenodd" stroke="{COLOUR}" stroke-width="2"/>'
+
+
+# ---- the command ----
+
+
+class Output:
+    """A file that is there as a whole once it is kept, or not at all."""
+
+    def __init__(self, path: str) -> None:
+        self.path = path
+        self.file = open(f"{path}.new", "w", encoding="utf-8") if path else None
+
+    def keep(self) -> None:
+        if self.file:
+            self.file.close()
+            os.replace(self.file.name, self.path)
+
+    def drop(self) -> None:
+        if self.file:
+            self.file.close()
+            if os.path.exists(self.file.name):
+                os.remove(self.file.name)
+
+
+def system_of(column: str, found: Known) -> Any:
+    """Returns the coordinate system of a geometry column, None where its tables have several or none."""
+    systems = found.systems.get(column) or [it for each in found.systems.values() for it in each]
+    return systems[0] if systems and all(it == systems[0] for it in systems) else None
+
+
+def export(records: Iterator[List[str]], options: argparse.Namespace, geo: Output, svg: Output) -> None:
+    """Writes the rows of an answer."""
+    found = known(options.like)
+    headers = next(records, None)
+    if headers is None:
+        raise Stopped("the answer has no header", DATA)
+    place = geometry_in(headers, options.geometry, found.types)
+    system = system_of(column_of(headers[place]), found)
+    if options.wgs84 and system is None:
+        raise Stopped(f"--wgs84: {options.like}/grid.json has no coordinate system of {headers[place]}", USAGE)
+    position = as_degrees(found.grid, system) if options.wgs84 else as_it_is(found.grid)
+    with tempfile.TemporaryFile("w+", encoding="utf-8") as spool:
+        picture, text = Picture(spool, found.grid), GeoJson(geo.file, headers, place, found.types) if geo.file else None
+        if text:
+            text.begin("" if options.wgs84 else member_of_system(system))
+        for row in rows(records, place, len(headers)):
+            if text:
+                text.add(row, position)
+            if svg.file:
+                picture.add(row)
+        if text:
+            text.end()
+        if svg.file:
+            picture.write(svg.file, "the answer" if options.rows == "-" else os.path.basename(options.rows))
+
+
+def parser() -> argparse.ArgumentParser:
+    found = argparse.ArgumentParser(prog=NAME, description="Brings the rows of an answer of sfq back with true coordinates.",
+                                    epilog="Statuses: 0 done, 1 GDAL isn't there (for --wgs84), 2 the command line, 4 a record, 6 files, "
+                                    "7 memory. The manual: man sfq-export.")
+    add = found.add_argument
+    add("rows", metavar="ROWS", help="the file of an answer with its header; - is standard input")
+    add("--like", metavar="DIR", required=True, help="the folder that sfq-import made")
+    add("--to", metavar="OUT.geojson", default="", help="write GeoJSON")
+    add("--svg", metavar="OUT.svg", default="", help="write a picture")
+    add("--geometry", metavar="NAME", default="", help="the column of the answer that is the geometry, by its header")
+    add("--wgs84", action="store_true", help="write longitude and latitude, where the source's coordinate system is known")
+    add("--version", action="version", version=f"{NAME} {__version__}")
+    return found
+
+
+def run(options: argparse.Namespace) -> None:
+    """Does an export: its files are there as a whole at the end, or not at all."""
+    csv.field_size_limit(sys.maxsize)
+    geo, svg = Output(options.to), Output(options.svg)
+    try:
+        if options.rows == "-":
+            export(csv.reader(open(sys.stdin.fileno(), newline="", encoding="utf-8", closefd=False)), options, geo, svg)
+        else:
+            with open(options.rows, newline="", encoding="utf-8") as file:
+                export(csv.reader(file), options, geo, svg)
+        geo.keep()
+        svg.keep()
+    finally:
+        geo.drop()
+        svg.drop()
+
+
+def main(words: Optional[List[str]] = None) -> int:
+    """Runs the command, and returns its status."""
+    options = parser().parse_args(words)
+    if not options.to and not options.svg:
+        parser().error("one of --to and --svg is needed")
+    if options.to and not options.to.lower().endswith((".geojson", ".json")):
+        parser().error(f"--to writes GeoJSON alone: name it {options.to}.geojson, and let ogr2ogr make other formats of it")
+    try:
+        run(options)
+        return DONE
+    except Stopped as error:
+        text, status = str(error), error.status
+    except _reading.Missing as error:
+        text, status = str(error), MISSING
+    except UnicodeDecodeError as error:
+        text, status = f"the answer isn't UTF-8: {error}", DATA
+    except MemoryError:
+        text, status = "out of memory", MEMORY
+    except (OSError, RuntimeError, csv.Error) as error:
+        text, status = str(error), FILES
+    except KeyboardInterrupt:
+        text, status = "interrupted", 130
+    print(f"{NAME}: {text}", file=sys.stderr, flush=True)
+    return status
+
+
+if __name__ == "__main__":
+    sys.exit(main())

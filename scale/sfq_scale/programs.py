@@ -1,0 +1,109 @@
+"""Runs sfq and sfq-tiles on this machine."""
+import csv
+import hashlib
+import io
+import os
+import resource
+import shutil
+import subprocess
+import sys
+
+from . import query, schema
+from .faults import CLUSTER, FILES, MEMORY, MISUSE, TABLE, Ended, ended
+
+# So many rows that a probe costs less than a scan, where a predicate may drive one.
+FEW = 10
+# What sfq-tiles says where a part can't be written.
+UNWRITABLE = b"sfq: out unwritable\n"
+# What makes each program in a checkout, and where it is then.
+CHECKOUT = os.path.dirname(os.path.dirname(os.path.dirname(os.path.realpath(__file__))))
+BUILT = {
+    "sfq": ("./build", f"{CHECKOUT}/crates/sfq/out/sfq"),
+    "sfq-tiles": ("./build --tiles", f"{CHECKOUT}/crates/sfq_tiles/out/sfq_tiles"),
+}
+
+
+def find(name, named):
+    """Returns the path of a program: the one that is named, or the one beside this program, in this checkout, or on the path."""
+    makes, built = BUILT[name]
+    beside = os.path.dirname(os.path.realpath(sys.argv[0]))
+    found = next(filter(None, map(shutil.which, [named] if named else [f"{beside}/{name}", built, name])), None)
+    if not found:
+        option = "--tiles" if name == "sfq-tiles" else "--sfq"
+        where = "" if named else f" beside sfq-scale or on the path: {makes} makes it in a checkout, and {option} names another place"
+        raise ended(MISUSE, f"there is no program {named or name}{where}")
+    return os.path.abspath(found)
+
+
+def sum_of(path):
+    """Returns the SHA-256 of a file."""
+    with open(path, "rb") as file:
+        return hashlib.sha256(file.read()).hexdigest()
+
+
+def write(path, text):
+    os.makedirs(os.path.dirname(path), exist_ok=True)
+    with open(path, "w", encoding="utf-8", newline="") as file:
+        file.write(text)
+
+
+class Programs:
+    """The two programs, and a folder for what they read and write."""
+
+    def __init__(self, sfq, tiles, room):
+        self.sfq, self.tiles, self.room = sfq, tiles, room
+        self.seconds = 0.0
+
+    def call(self, words):
+        """Runs a program, and returns what it wrote on its two streams and its status."""
+        ran = subprocess.run(words, stdin=subprocess.DEVNULL, capture_output=True)
+        return ran.stdout, ran.stderr, ran.returncode
+
+    def run(self, given, folder, text):
+        """Runs a query by sfq."""
+        return self.call([self.sfq, "run", "--", given, folder, text])
+
+    def tables(self, given):
+        """Returns the tables of a schema, which sfq has to accept."""
+        empty = f"{self.room}/nothing"
+        os.makedirs(empty, exist_ok=True)
+        out, err, status = self.call([self.sfq, "check", "--", given, empty])
+        if status and not (status == 6 and err.endswith(b" unreadable\n") and err != b"sfq: schema unreadable\n"):
+            raise Ended(status, err)
+        with open(given, encoding="utf-8", errors="surrogateescape") as file:
+            return schema.read(file.read())
+
+    def without_rows(self, name, tables):
+        """Makes a schema and tables without rows, and returns their paths."""
+        folder = f"{self.room}/{name}"
+        write(f"{folder}/schema.sql", "".join(it.text for it in tables))
+        for it in tables:
+            write(f"{folder}/tables/{it.name}.csv", it.header)
+        return f"{folder}/schema.sql", f"{folder}/tables"
+
+    def forces(self, meeting):
+        """Whether sfq says of a predicate that it drives a probe: it is true only where envelopes meet."""
+        folder = f"{self.room}/probe"
+        columns = (schema.Column("k", "INTEGER", True), schema.Column("g", "GEOMETRY"))
+        tables = [schema.Table(it, columns) for it in query.NAMES]
+        write(f"{folder}/schema.sql", "".join(it.text for it in tables))
+        for it in tables:
+            write(f"{folder}/{it.name}.csv", it.header + "".join(f"{at},\n" for at in range(FEW)))
+        condition = meeting.text([f"{query.NAMES[place]}.g" for place, _ in meeting.arguments])
+        out, _, status = self.run(f"{folder}/schema.sql", folder, f"EXPLAIN SELECT COUNT(*) FROM one, two WHERE {condition}")
+        return status == 0 and b" probe 1\n" in out
+
+    def split(self, given, folder, to, rows, parts):
+        """Runs sfq-tiles, and returns the records of its output by their names. A fault of a table ends the run as it ends sfq-tiles."""
+        words = ["--rows", str(rows), *(it for part in parts for it in ("--part", part))]
+        before = resource.getrusage(resource.RUSAGE_CHILDREN)
+        out, err, status = self.call([self.tiles, *words, "--", given, folder, to])
+        after = resource.getrusage(resource.RUSAGE_CHILDREN)
+        self.seconds += after.ru_utime + after.ru_stime - before.ru_utime - before.ru_stime
+        if err == UNWRITABLE:
+            raise ended(FILES, f"the parts of the tables can't be written in {self.room}: is it full?")
+        if status in (TABLE, FILES, MEMORY):
+            raise Ended(status, err)
+        if status:
+            raise ended(CLUSTER, f"{self.tiles} ended with status {status}: is it of this version? {err.decode(errors='replace').strip()}")
+        return list(csv.DictReader(io.StringIO(out.decode())))

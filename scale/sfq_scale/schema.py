@@ -1,0 +1,94 @@
+"""Reads a schema that sfq has accepted, and writes the schemas of tiles."""
+from typing import NamedTuple
+
+from . import words
+
+MOST_COLUMNS = 32
+
+
+class Column(NamedTuple):
+    """A column: its name and type as they are written."""
+
+    name: str
+    kind: str
+    is_key: bool = False
+    is_required: bool = False
+
+    @property
+    def text(self):
+        return f"{self.name} {self.kind}{' PRIMARY KEY' * self.is_key}{' NOT NULL' * self.is_required}"
+
+
+class Table(NamedTuple):
+    """A table: its name and its columns."""
+
+    name: str
+    columns: tuple
+
+    @property
+    def key(self):
+        return next(it.name for it in self.columns if it.is_key)
+
+    def column(self, name):
+        """Returns the column of this name, or None."""
+        return next((it for it in self.columns if words.same(it.name, name)), None)
+
+    def only(self, names):
+        """Returns the table with these columns and the key alone."""
+        kept = {it.lower() for it in names}
+        return self._replace(columns=tuple(it for it in self.columns if it.is_key or it.name.lower() in kept))
+
+    @property
+    def text(self):
+        return f"CREATE TABLE {self.name} ({', '.join(it.text for it in self.columns)});\n"
+
+    @property
+    def header(self):
+        return ",".join(it.name for it in self.columns) + "\n"
+
+
+def read(text):
+    """Returns the tables of a schema."""
+    reading, found = words.Reading(words.tokens(text)), []
+    while reading.at < len(reading.tokens):
+        reading.want("create", "table")
+        name, columns = reading.name(), []
+        reading.want("(")
+        while not columns or reading.take(","):
+            columns.append(column(reading))
+        reading.want(")")
+        found.append(Table(name, tuple(columns)))
+        if not reading.take(";"):
+            break
+    reading.end()
+    return found
+
+
+def column(reading):
+    """Reads a column with its marks."""
+    name, kind = reading.name(), reading.name()
+    is_key = is_required = False
+    while not reading.peek(",", ")"):
+        if reading.take("primary"):
+            reading.want("key")
+            is_key = True
+        else:
+            reading.want("not", "null")
+            is_required = True
+    return Column(name, kind, is_key, is_required)
+
+
+def marks(columns):
+    """Returns the names of the two marks beside these columns: w and s, with `_` behind until they are free."""
+    taken, found = {it.name.lower() for it in columns}, []
+    for name in ("w", "s"):
+        while name in taken:
+            name += "_"
+        taken.add(name)
+        found.append(name)
+    return found
+
+
+def marked(table):
+    """Returns the table of a tile: with the two marks at the end."""
+    return table._replace(columns=table.columns + tuple(Column(it, "INTEGER", False, True) for it in marks(table.columns)))

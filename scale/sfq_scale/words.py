@@ -1,0 +1,104 @@
+"""The tokens of sfq's schemas and queries, as sfq itself has them. Only texts that sfq has accepted come here."""
+import re
+from typing import NamedTuple
+
+# White space, a comment up to the end of its line, or a token. Words are of ASCII letters, so lower() is sfq's comparison.
+PATTERN = re.compile(
+    r"[ \t\n\r]+|--[^\n]*|(?P<word>[A-Za-z_][A-Za-z0-9_]*)|(?P<integer>[0-9]+)|(?P<string>'[^']*(?:''[^']*)*')"
+    r"|(?P<symbol><=|<>|>=|!=|[(),.;*+\-=<>])"
+)
+RESERVED = frozenset("select from where and or not is null join inner cross on as limit".split())
+
+
+class Unsure(Exception):
+    """What isn't read for sure; the text says why."""
+
+
+class Token(NamedTuple):
+    """A token: its kind, which is 'word', 'integer', 'string' or 'symbol', and its text, a string's with its quotes."""
+
+    kind: str
+    text: str
+
+    def has(self, text):
+        """Whether it is this symbol, or this word in any case."""
+        return self.kind != "string" and self.text.lower() == text
+
+    @property
+    def is_name(self):
+        return self.kind == "word" and self.text.lower() not in RESERVED
+
+
+def tokens(text):
+    """Returns the tokens of a text, without white space and comments."""
+    found, at = [], 0
+    while at < len(text):
+        match = PATTERN.match(text, at)
+        if not match:
+            raise Unsure(f"no token begins at character {at}")
+        if match.lastgroup:
+            found.append(Token(match.lastgroup, match[0]))
+        at = match.end()
+    return found
+
+
+def same(one, other):
+    """Whether two names are the same."""
+    return one.lower() == other.lower()
+
+
+def joined(parts):
+    """Returns a text of these tokens: a space between each two, but around a point, within a parenthesis and before a comma."""
+    text = ""
+    for it in parts:
+        is_close = not text or it.text in (".", ",", ")") or text[-1] in ".("
+        text += it.text if is_close else f" {it.text}"
+    return text
+
+
+class Reading:
+    """Tokens that are read one after another."""
+
+    def __init__(self, found):
+        self.tokens, self.at = found, 0
+
+    def peek(self, *texts):
+        """Whether the next token is one of these."""
+        return self.at < len(self.tokens) and any(self.tokens[self.at].has(it) for it in texts)
+
+    def take(self, *texts):
+        """Takes the next token if it is one of these, and returns whether it is."""
+        found = self.peek(*texts)
+        self.at += found
+        return found
+
+    def want(self, *texts):
+        for it in texts:
+            if not self.take(it):
+                raise Unsure(f"'{it}' is missing before '{joined(self.tokens[self.at:self.at + 3])}'")
+
+    def name(self):
+        """Takes a name."""
+        found = self.maybe_name()
+        if not found:
+            raise Unsure(f"no name before '{joined(self.tokens[self.at:self.at + 3])}'")
+        return found
+
+    def maybe_name(self):
+        """Takes a name if there is one next."""
+        if self.at < len(self.tokens) and self.tokens[self.at].is_name:
+            self.at += 1
+            return self.tokens[self.at - 1].text
+        return None
+
+    def until(self, *texts):
+        """Takes all tokens up to one of these outside parentheses, or to the end."""
+        begun, depth = self.at, 0
+        while self.at < len(self.tokens) and (depth or not self.peek(*texts)):
+            depth += self.tokens[self.at].has("(") - self.tokens[self.at].has(")")
+            self.at += 1
+        return self.tokens[begun : self.at]
+
+    def end(self):
+        if self.at < len(self.tokens):
+            raise Unsure(f"more is written: '{joined(self.tokens[self.at:self.at + 3])}'")

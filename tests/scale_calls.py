@@ -1,0 +1,52 @@
+#!/usr/bin/python3
+"""Makes many calls of sfq-scale in one process, so that Dask is loaded once. test_scale runs it.
+
+It reads from standard input, as JSON, `before`, a piece of Python that is run first, and `calls`, a list of lists of words.
+It prints, as JSON, what each wrote on its two streams, as Latin-1, and its status.
+"""
+import json
+import os
+import sys
+import tempfile
+
+ROOT = os.path.dirname(os.path.dirname(os.path.realpath(__file__)))
+sys.path.insert(0, f"{ROOT}/scale")
+sys.dont_write_bytecode = True
+
+from sfq_scale import command
+
+
+def call(words):
+    """Makes one call, and returns what it wrote and its status."""
+    with tempfile.TemporaryFile() as out, tempfile.TemporaryFile() as err:
+        kept = os.dup(1), os.dup(2)
+        try:
+            for number, it in ((1, out), (2, err)):
+                os.dup2(it.fileno(), number)
+            try:
+                status = command.answer(command.read_words(words))
+            except SystemExit as it:
+                status = it.code
+        finally:
+            sys.stdout.flush()
+            sys.stderr.flush()
+            for number, it in zip((1, 2), kept):
+                os.dup2(it, number)
+                os.close(it)
+        texts = []
+        for it in (out, err):
+            it.seek(0)
+            texts.append(it.read().decode("latin-1"))
+        return [*texts, status]
+
+
+def main():
+    given = json.load(sys.stdin)
+    exec(given["before"], {})
+    found = [call(it) for it in given["calls"]]
+    print(json.dumps(found), flush=True)
+    os._exit(0)
+
+
+if __name__ == "__main__":
+    main()

@@ -1,0 +1,188 @@
+"""Installs the program with its manual page and its shell completions, sfq-import and sfq-export, sfq-tiles with sfq-scale and the C
+library with what is over it where they are made; makes a tarball and a Debian package of the programs."""
+import datetime
+import glob
+import gzip
+import io
+import os
+import re
+import shutil
+import subprocess
+import tarfile
+import tempfile
+
+import bindings
+import library
+import repository
+import tiles
+
+# Where Python's modules of programs are installed, a folder for each package. The programs look there.
+SHARE = "share/sfq"
+# Where each shell looks for the completions of a command.
+SHELLS = {
+    "{}.bash": "share/bash-completion/completions/{}",
+    "_{}": "share/zsh/site-functions/_{}",
+    "{}.fish": "share/fish/vendor_completions.d/{}.fish",
+}
+
+
+def described(name):
+    """Returns the manual page and the completions of a command: where each lies in the repository, where under the prefix, its mode."""
+    found = [(f"completions/{source}", target) for source, target in SHELLS.items()]
+    return [(source.format(name), target.format(name), 0o644) for source, target in [("man/{}.1", "share/man/man1/{}.1"), *found]]
+
+
+def modules(folder):
+    """Returns the modules of a package of Python's, for a program that is installed without it."""
+    found = sorted(glob.glob(f"{repository.ROOT}/{folder}/*.py"))
+    return [(os.path.relpath(it, repository.ROOT), f"{SHARE}/{os.path.basename(folder)}/{os.path.basename(it)}", 0o644) for it in found]
+
+
+# What is installed: where it lies in the repository, where under the prefix, and its mode.
+PROGRAM = [("crates/sfq/out/sfq", "bin/sfq", 0o755), *described("sfq"), ("CHANGELOG.md", "share/doc/sfq/CHANGELOG.md", 0o644)]
+# sfq-scale is of no use without sfq-tiles.
+TILES = [
+    (tiles.PROGRAM, "bin/sfq-tiles", 0o755), *described("sfq-tiles"),
+    ("scale/sfq-scale", "bin/sfq-scale", 0o755), *described("sfq-scale"), *modules("scale/sfq_scale"),
+]
+DATA = [(f"python/bin/{it}", f"bin/{it}", 0o755) for it in bindings.COMMANDS]
+DATA += [*(file for it in bindings.COMMANDS for file in described(it)), *modules("python/sfq")]
+FILES = PROGRAM + TILES + DATA
+# Debian's zsh looks elsewhere for the completions of its packages.
+OF_DEBIAN = {"share/zsh/site-functions/": "share/zsh/vendor-completions/"}
+
+
+def copy(files, prefix):
+    """Copies each file under the prefix, a file in use by replacing it, and prints its path."""
+    for source, target, mode in files:
+        to = os.path.join(prefix, target)
+        os.makedirs(os.path.dirname(to), exist_ok=True)
+        shutil.copyfile(os.path.join(repository.ROOT, source), to + ".new")
+        os.chmod(to + ".new", mode)
+        os.replace(to + ".new", to)
+        print(f"installed {to}")
+
+
+def install(prefix):
+    """Installs the program, and sfq-tiles with sfq-scale and the C library with what is over it where they are made."""
+    with_library, with_tiles = library.is_made(), tiles.is_made()
+    copy(PROGRAM + DATA + TILES * with_tiles + (library.FILES + bindings.files()) * with_library, prefix)
+    made = library.install_made(prefix, released()[0]) + bindings.install_made(prefix) if with_library else []
+    for it in made:
+        print(f"installed {it}")
+    if not with_tiles:
+        print("not installed: sfq-tiles and sfq-scale, which need ./build --tiles")
+    if not with_library:
+        print("not installed: the C library and what is over it, which need ./build --library")
+    return 0
+
+
+def uninstall(prefix):
+    """Removes each installed file, and the folders below the prefix that are empty then."""
+    bindings.remove_compiled(prefix)
+    made = [*library.MADE, *bindings.made(prefix)]
+    for target in [*(it[1] for it in FILES + library.FILES + bindings.files()), *made]:
+        path = os.path.join(prefix, target)
+        if os.path.lexists(path):
+            os.remove(path)
+            print(f"removed {path}")
+        folder = os.path.dirname(target)
+        while folder:
+            try:
+                os.rmdir(os.path.join(prefix, folder))
+            except OSError:
+                break
+            folder = os.path.dirname(folder)
+    return 0
+
+
+def released():
+    """Returns the version and its date, in seconds, by the first entry of CHANGELOG.md."""
+    with open(f"{repository.ROOT}/CHANGELOG.md", encoding="utf-8") as text:
+        found = re.search(r"^## (\S+) \((\d+)-(\d+)-(\d+)\)", text.read(), re.M)
+    date = datetime.datetime(*map(int, found.groups()[1:]), tzinfo=datetime.timezone.utc)
+    return found[1], int(date.timestamp())
+
+
+def make_tarball(path, top, seconds):
+    """Writes the files below the folder `top`, with nothing in it that differs from one machine to another."""
+    room = io.BytesIO()
+    with tarfile.open(fileobj=room, mode="w", format=tarfile.USTAR_FORMAT) as archive:
+        for source, target, mode in sorted(FILES, key=lambda it: it[1]):
+            entry = tarfile.TarInfo(f"{top}/{target}")
+            with open(os.path.join(repository.ROOT, source), "rb") as file:
+                text = file.read()
+            entry.size, entry.mode, entry.mtime = len(text), mode, seconds
+            entry.uname = entry.gname = "root"
+            archive.addfile(entry, io.BytesIO(text))
+    with open(path, "wb") as file, gzip.GzipFile("", "wb", 9, file, mtime=seconds) as packed:
+        packed.write(room.getvalue())
+
+
+def wanted_libc(programs):
+    """Returns the oldest version of the C library that the programs' symbols allow."""
+    found = []
+    for it in programs:
+        with open(it, "rb") as file:
+            found += re.findall(rb"GLIBC_(\d+)\.(\d+)", file.read())
+    return ".".join(map(str, max((int(a), int(b)) for a, b in found))) if found else "2.17"
+
+
+def control(version, libc, size):
+    return (
+        f"Package: sfq\nVersion: {version}\nArchitecture: amd64\nSection: database\nPriority: optional\n"
+        f"Maintainer: The sfq project <sfq@localhost>\nDepends: libc6 (>= {libc})\n"
+        f"Suggests: python3, python3-gdal, python3-dask, python3-distributed\nInstalled-Size: {size}\n"
+        "Description: SQL over tables of an integer grid, by exact geometry\n"
+        " sfq reads a schema, one CSV file per table and a SELECT, and writes the rows that the\n"
+        " SELECT means. Its spatial predicates are exact, and what it writes is proved by machine.\n"
+        " sfq-import and sfq-export, which need GDAL, bring data in and answers out; sfq-scale runs\n"
+        " a query over more rows on a Dask cluster.\n"
+    )
+
+
+def make_deb(path, version, seconds):
+    """Makes the package by dpkg-deb, and returns whether dpkg-deb is there."""
+    if not shutil.which("dpkg-deb"):
+        return False
+    with tempfile.TemporaryDirectory(prefix="sfq-deb-") as room:
+        os.chmod(room, 0o755)
+        size = 0
+        for source, target, mode in FILES:
+            for usual, other in OF_DEBIAN.items():
+                target = target.replace(usual, other)
+            to = f"{room}/usr/{target}"
+            os.makedirs(os.path.dirname(to), 0o755, exist_ok=True)
+            shutil.copyfile(os.path.join(repository.ROOT, source), to)
+            os.chmod(to, mode)
+            size += os.path.getsize(to)
+        os.mkdir(f"{room}/DEBIAN", 0o755)
+        with open(f"{room}/DEBIAN/control", "w", encoding="utf-8") as file:
+            file.write(control(version, wanted_libc([repository.PROGRAM, tiles.PROGRAM]), (size + 1023) // 1024))
+        for at, _, names in os.walk(room):
+            os.chmod(at, 0o755)
+            for it in [at, *(f"{at}/{name}" for name in names)]:
+                os.utime(it, (seconds, seconds))
+        os.chmod(f"{room}/DEBIAN/control", 0o644)
+        subprocess.run(
+            ["dpkg-deb", "--root-owner-group", "-Zgzip", "-z9", "--build", room, path],
+            env={**os.environ, "SOURCE_DATE_EPOCH": str(seconds), "LC_ALL": "C"},
+            stdout=subprocess.DEVNULL,
+            check=True,
+        )
+    return True
+
+
+def make_packages(folder):
+    """Makes both packages in the folder: the same bytes from the same sources, wherever they are made."""
+    version, seconds = released()
+    os.makedirs(folder, exist_ok=True)
+    top = f"sfq-{version}-linux-x86_64"
+    made = [f"{folder}/{top}.tar.gz", f"{folder}/sfq_{version}_amd64.deb"]
+    make_tarball(made[0], top, seconds)
+    if not make_deb(made[1], version, seconds):
+        print("sfq: no dpkg-deb here, so no Debian package is made")
+        made.pop()
+    for it in made:
+        print(f"{repository.sum_of_file(it)}  {os.path.relpath(it)}")
+    return 0
