@@ -15,9 +15,9 @@ use failures::{Failure, Fault};
 use feature_table::{Database, Schema};
 use itoa::Buffer;
 use observers::{RowObserver, Unobserved};
-use query_runs::run_observed;
+use query_runs::run_by_references;
 use record_reasons::{LineEnd, Reason, first_line_end, put_line_end, put_record_reason, reason_of};
-use rtree::{CurveTree, EnvelopeIndex};
+use rtree::{CurveTree, EnvelopeIndex, RowTree};
 use schema_reader::read_schema;
 use sinks::{Sink, SinkFault, put_parts};
 use std::alloc::{AllocError, Global};
@@ -30,8 +30,11 @@ use text_commands::{
 };
 use word_texts::query_text;
 
-/// The type of the index of each geometry column.
+/// The type of the index of each geometry column under a query with two references, which may search it for each row.
 type ColumnIndex = CurveTree;
+
+/// The same under a query with a single reference, and in a check: one search at most.
+type RowIndex = RowTree;
 
 /// How many bytes of a schema's file are read: one more than a schema may have.
 const SCHEMA_BYTES: u64 = TEXT_LIMIT as u64 + 1;
@@ -183,7 +186,10 @@ fn run_over<'s, R: Read + Drop, F: FnMut(&str) -> Option<R>, S: Sink, O: RowObse
         directory.now query.now schema.entry.now result }
 {
     let readers = open_tables(alloc, schema, directory, &mut opener)?;
-    match run_observed::<ColumnIndex, R, S, O>(alloc, schema, readers, query, out, observer) {
+    let ran = run_by_references::<ColumnIndex, RowIndex, R, S, O>(
+        alloc, schema, readers, query, out, observer,
+    );
+    match ran {
         Ok(_) => Ok(()),
         Err(fault) => Err(run_failure(schema, fault)),
     }
@@ -406,7 +412,7 @@ fn check_over<'s, R: Read + Drop, F: FnMut(&str) -> Option<R>, S: Sink>(
         directory.now schema.entry.now result }
 {
     let readers = open_tables(alloc, schema, directory, opener)?;
-    let database: Database<'_, ColumnIndex> = match Database::load(alloc, schema, readers) {
+    let database: Database<'_, RowIndex> = match Database::load(alloc, schema, readers) {
         Ok(database) => database,
         Err(fault) => return Err(run_failure(schema, Fault::from(fault))),
     };

@@ -13,7 +13,7 @@ use Rattle.table_model.proofs.PlaceFacts.{meant_gives_limited}
 use Rattle.table_model.specs.AnswerTexts.{answer, header, record_of}
 use Rattle.table_model.specs.Arguments.{denoted}
 use Rattle.table_model.specs.Binding.{Checked, ◌>>=◌, binding, statement}
-use Rattle.table_model.specs.Databases.{Database, load_tables}
+use Rattle.table_model.specs.Databases.{load_tables}
 use Rattle.table_model.specs.GeometryColumns.{ColumnShape, geometry_binding, geometry_writing, read_geometry}
 use Rattle.table_model.specs.Loading.{Record}
 use Rattle.table_model.specs.Places.{Choice, meant, query_rows}
@@ -23,12 +23,10 @@ use Rattle.table_model.specs.ExplainTexts.{explain_text}
 use Rattle.table_model.specs.Queries.{SelectQuery}
 use Rattle.table_model.specs.RunOutcomes.{MatrixOf, Refusal, OfQuery, OfTable, after, answer_text, counted_text, loaded_outcome, outcome, query_outcome, text_for}
 use Rattle.table_model.specs.SpatialTables.{SpatialDatabase, SpatialQuery, SpatialSchema, SpatialStatement}
-use Rattle.table_model.specs.Statements.{Statement, by_conjuncts}
+use Rattle.table_model.specs.Statements.{by_conjuncts}
 use Rattle.table_model.specs.Truths.{truth}
-use Rattle.table_model.specs.declared.conditions.Bound.{Bound}
 use Rattle.table_model.specs.declared.conditions.ColumnPlace.{ColumnPlace}
 use Rattle.table_model.specs.declared.conditions.GeometryArgument.{GeometryArgument}
-use Rattle.table_model.specs.declared.definitions.TableDef.{TableDef}
 use Rattle.table_model.specs.declared.faults.LoadFault.{LoadFault}
 use Rattle.table_model.specs.declared.faults.LoadFault.TheVariants as load
 use Rattle.table_model.specs.declared.faults.QueryFault.{QueryFault}
@@ -37,7 +35,6 @@ use Rattle.table_model.specs.declared.faults.TableFault.{TableFault}
 use Rattle.table_model.specs.declared.plans.Plan.{Plan}
 use Rattle.table_model.specs.declared.queries.Explain.{Explain}
 use Rattle.table_model.specs.declared.queries.Explain.TheVariants as explains
-use Rattle.table_model.specs.declared.queries.Query.{Query}
 use Rattle.table_model.specs.declared.queries.WrittenColumn.{WrittenColumn}
 use Rattle.table_model.specs.declared.queries.WrittenGeometry.{WrittenGeometry}
 use Rattle.feature_table.specs.Outcomes.{IsFailure, is_of_reading}

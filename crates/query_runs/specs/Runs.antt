@@ -8,22 +8,20 @@ use Rattle.sinks.specs.Sinks.{AppendsFront}
 use Rattle.table_model.specs.AnswerTexts.{answer, count_records, record_of}
 use Rattle.table_model.specs.Arguments.{denoted}
 use Rattle.table_model.specs.Binding.{statement}
-use Rattle.table_model.specs.Databases.{Database, load_tables}
+use Rattle.table_model.specs.Databases.{load_tables}
 use Rattle.table_model.specs.ExplainTexts.{analyze_text, explain_text}
 use Rattle.table_model.specs.GeometryColumns.{geometry_binding, geometry_writing, read_geometry}
 use Rattle.table_model.specs.Loading.{Record}
-use Rattle.table_model.specs.Meanings.{Row, Table, passing_rows}
+use Rattle.table_model.specs.Meanings.{Row, passing_rows}
 use Rattle.table_model.specs.Places.{Choice, limited, query_rows}
 use Rattle.table_model.specs.Plans.{chosen}
 use Rattle.table_model.specs.Queries.{SelectQuery}
 use Rattle.table_model.specs.QueryReading.{query_of}
 use Rattle.table_model.specs.RunOutcomes.{ByEveryMatrix, MatrixOf, Refusal, OfQuery, OfTable, after, kept_count, outcome, query_outcome, records_text}
 use Rattle.table_model.specs.SpatialTables.{SpatialDatabase, SpatialQuery, SpatialSchema, SpatialStatement, SpatialTable}
-use Rattle.table_model.specs.Statements.{Statement, by_conjuncts}
+use Rattle.table_model.specs.Statements.{by_conjuncts}
 use Rattle.table_model.specs.Truths.{truth}
 use Rattle.table_model.specs.Work.{work}
-use Rattle.table_model.specs.declared.conditions.Bound.{Bound}
-use Rattle.table_model.specs.declared.definitions.TableDef.{TableDef}
 use Rattle.table_model.specs.declared.faults.TableFault.{TableFault}
 use Rattle.table_model.specs.declared.plans.Plan.{Plan}
 use Rattle.table_model.specs.declared.queries.Explain.{Explain}

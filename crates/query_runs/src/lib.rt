@@ -3,4 +3,4 @@
 
 pub mod runs;
 
-pub use runs::{run, run_observed};
+pub use runs::{run, run_by_references, run_observed};

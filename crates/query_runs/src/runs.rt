@@ -93,11 +93,46 @@ pub fn run_observed<I: EnvelopeIndex + Drop, R: Read + Drop, S: Sink, O: RowObse
     ensures failures { S.failures sink.new ≡ count_after (S.failures sink.old) result }
     ensures table { IfErr result (IsOfTables (length schema.now)) }
 {
+    run_by_references::<I, I, R, S, O>(alloc, schema, readers, query, sink, observer)
+}
+
+/// The same as `run_observed`. Under a query with two references the indexes are of the type `I`; under one with a single
+/// reference, which searches an index once at most, of the type `L`.
+pub fn run_by_references<
+    I: EnvelopeIndex + Drop,
+    L: EnvelopeIndex + Drop,
+    R: Read + Drop,
+    S: Sink,
+    O: RowObserver,
+>(
+    alloc: Global,
+    schema: &Schema,
+    readers: Vec<R>,
+    query: &str,
+    sink: &mut S,
+    observer: &mut O,
+) -> Result<Work, Fault>
+    requires { length readers.items ≡ length schema.now }
+    ensures texts { (texts : List (List ℕ)) → map R.remaining readers.items ≡ map Some texts
+        → RunsOver result schema.now (map records_in texts) query.now
+        (S.taken sink.old) (S.taken sink.new) }
+    ensures work { (texts : List (List ℕ)) → map R.remaining readers.items ≡ map Some texts
+        → CountsOver result schema.now (map records_in texts) query.now }
+    ensures records { (records : List (List Record)) × EachRecordsOf (map R.remaining readers.items) records
+        × RunsOver result schema.now records query.now (S.taken sink.old) (S.taken sink.new)
+        × CountsOver result schema.now records query.now }
+    ensures failures { S.failures sink.new ≡ count_after (S.failures sink.old) result }
+    ensures table { IfErr result (IsOfTables (length schema.now)) }
+{
     let query = read_query(alloc, query)?;
+    if query.references.as_slice().len() == 1 {
+        return load_and_answer::<L, R, S, O>(alloc, schema, readers, &query, sink, observer);
+    }
     load_and_answer::<I, R, S, O>(alloc, schema, readers, &query, sink, observer)
 }
 
 /// Loads all tables and runs a query over them. The clauses hold for each text that is read as this query.
+#[inline(never)]
 fn load_and_answer<I: EnvelopeIndex + Drop, R: Read + Drop, S: Sink, O: RowObserver>(
     alloc: Global,
     schema: &Schema,

@@ -1,8 +1,8 @@
 //! Envelopes, and indexes that find which envelopes of a list meet one asked for.
 //!
 //! The list has optional envelopes. An absent envelope is that of an empty geometry: it meets only another absent
-//! one. A program takes `CurveTree`. `RTree` is packed in another order and counts the nodes that a search opens; `ListIndex`
-//! looks at each envelope, and is for tests.
+//! one. A program takes `CurveTree`, or `RowTree` where an index is searched once at most. `RTree` is packed in
+//! another order and counts the nodes that a search opens; `ListIndex` looks at each envelope, and is for tests.
 #![tactic(auto)]
 
 mod curve;
@@ -12,10 +12,12 @@ pub mod indexes;
 pub mod list_index;
 mod packed_trees;
 mod packing;
+pub mod row_trees;
 pub mod trees;
 
 pub use curve_trees::CurveTree;
 pub use envelopes::{Envelope, Enveloped, meets};
 pub use indexes::EnvelopeIndex;
 pub use list_index::ListIndex;
+pub use row_trees::RowTree;
 pub use trees::RTree;

@@ -1,14 +1,14 @@
 //! The envelope of the geometry that a field spells.
 
-ghost use Rattle.std.specs.Prelude.{◌≡◌, flat_map, IfOk, option_map};
-ghost use Rattle.geometry_model.specs.Envelopes.{envelope, envelope_of_positions};
+ghost use Rattle.std.specs.Prelude.{◌≡◌, IfOk, option_map};
+ghost use Rattle.geometry_model.specs.Envelopes.{envelope};
 ghost use Rattle.tile_texts.specs.Lines.{geometry_of};
 
 use crate::faults::CopyFault;
 use rtree::Envelope;
 use std::alloc::Global;
 use table_model::faults::LoadFault;
-use wkt::{Geometry, LineString};
+use validity::envelope_of;
 
 /// The envelope of the geometry in a field, if the field isn't empty.
 #[tactic(auto, unfolding(crate::specs::Lines::geometry_of))]
@@ -28,24 +28,4 @@ pub(crate) fn envelope_in(
             None => Err(CopyFault::Load(LoadFault::OutOfMemory)),
         },
     }
-}
-
-/// The envelope of a geometry (06-103r4, 6.1.2.2: Envelope).
-fn envelope_of(geometry: &Geometry) -> Option<Envelope>
-    ensures { result ≡ envelope geometry.now }
-{
-    Envelope::with_positions(geometry.listed(), of_lines(geometry.lines()))
-}
-
-/// The envelope of the positions of some lines.
-fn of_lines(lines: &[LineString]) -> Option<Envelope>
-    ensures { result ≡ envelope_of_positions (flat_map (λ line. line) lines.now) }
-{
-    let mut all = None;
-    let mut left = lines.len();
-    while left > 0 {
-        left -= 1;
-        all = Envelope::with_positions(lines[left].positions(), all);
-    }
-    all
 }

@@ -11,9 +11,10 @@ pub mod outlines;
 mod part_tests;
 mod runs;
 mod searched_positions;
-mod valid_envelopes;
+pub mod valid_envelopes;
 pub mod valid_geometry;
 
 pub use check_fault::CheckFault;
 pub use checked_texts::read_valid;
+pub use valid_envelopes::envelope_of;
 pub use valid_geometry::{Valid, check};

@@ -15,8 +15,9 @@ impl Enveloped for Valid {
     }
 }
 
-/// The envelope of a geometry (06-103r4, 6.1.2.2: Envelope).
-fn envelope_of(geometry: &Geometry) -> Option<Envelope>
+/// The envelope of a geometry, valid or not: None exactly for an empty one (06-103r4, 6.1.2.2: Envelope). It takes
+/// no memory.
+pub fn envelope_of(geometry: &Geometry) -> Option<Envelope>
     ensures { result ≡ envelope geometry.now }
 {
     Envelope::with_positions(geometry.listed(), of_lines(geometry.lines()))

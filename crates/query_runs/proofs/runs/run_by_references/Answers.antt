@@ -3,7 +3,7 @@ use Rattle.std.proofs.Common.{length, map}
 use Rattle.feature_table.specs.Tables.{records_in}
 use Rattle.query_runs.proofs.ReaderLemmas.{some-records}
 use Rattle.query_runs.proofs.RunLemmas.{no-count, of-tables, query-of-tables, unread-runs}
-use Rattle.query_runs.proofs.runs.run_observed.Goals as goal
+use Rattle.query_runs.proofs.runs.run_by_references.Goals as goal
 
 pub returns-in_err-query-clause-texts : goal.returns-in_err-query-clause-texts
 returns-in_err-query-clause-texts g c = λ texts known matrix gives.
@@ -27,14 +27,26 @@ pub returns-in_err-query-clause-table : goal.returns-in_err-query-clause-table
 returns-in_err-query-clause-table g c =
     of-tables (length c.args.schema.now) c.from_residual.result _ c.from_residual.ensures.1 (query-of-tables (length c.args.schema.now) c.in_err-query.field-0.0)
 
+pub returns-then-as_slice-eq1-clause-texts : goal.returns-then-as_slice-eq1-clause-texts
+returns-then-as_slice-eq1-clause-texts g c = λ texts known. c.load_and_answer.ensures.texts c.args.query.now texts c.in_ok-query.ensures.exact known
+
+pub returns-then-as_slice-eq1-clause-work : goal.returns-then-as_slice-eq1-clause-work
+returns-then-as_slice-eq1-clause-work g c = λ texts known. c.load_and_answer.ensures.work c.args.query.now texts c.in_ok-query.ensures.exact known
+
+pub returns-then-as_slice-eq1-clause-records : goal.returns-then-as_slice-eq1-clause-records
+returns-then-as_slice-eq1-clause-records g c = c.load_and_answer.ensures.records c.args.query.now c.in_ok-query.ensures.exact
+
+pub returns-then-as_slice-eq1-clause-table : goal.returns-then-as_slice-eq1-clause-table
+returns-then-as_slice-eq1-clause-table g c = c.load_and_answer.ensures.table
+
 pub returns-clause-texts : goal.returns-clause-texts
-returns-clause-texts g c = λ texts known. c.load_and_answer.ensures.texts c.args.query.now texts c.in_ok-query.ensures.exact known
+returns-clause-texts g c = λ texts known. c.load_and_answer-2.ensures.texts c.args.query.now texts c.in_ok-query.ensures.exact known
 
 pub returns-clause-work : goal.returns-clause-work
-returns-clause-work g c = λ texts known. c.load_and_answer.ensures.work c.args.query.now texts c.in_ok-query.ensures.exact known
+returns-clause-work g c = λ texts known. c.load_and_answer-2.ensures.work c.args.query.now texts c.in_ok-query.ensures.exact known
 
 pub returns-clause-records : goal.returns-clause-records
-returns-clause-records g c = c.load_and_answer.ensures.records c.args.query.now c.in_ok-query.ensures.exact
+returns-clause-records g c = c.load_and_answer-2.ensures.records c.args.query.now c.in_ok-query.ensures.exact
 
 pub returns-clause-table : goal.returns-clause-table
-returns-clause-table g c = c.load_and_answer.ensures.table
+returns-clause-table g c = c.load_and_answer-2.ensures.table
