@@ -49,6 +49,10 @@ class Calls(unittest.TestCase):
     ASKS_LIBRARY = True
     def test_seven(self):
         pass
+class AsksAndCalls(unittest.TestCase):
+    ASKS_PROGRAM, ASKS_LIBRARY = True, True
+    def test_eight(self):
+        pass
 class Long(unittest.TestCase):
     IS_LONG = True
     def test_five(self):
@@ -89,8 +93,8 @@ class RunsTests(WithCheckout):
 
     def test_without_proof(self):
         status, last, lines = self.run_tests()
-        # ./lint, two tests of `low`, the program `scripts`, three tests of the file; one skipped for its package, one for ./build
-        self.assertEqual((status, last), (0, "7 passed, 0 failed, 2 skipped"), lines)
+        # ./lint, two tests of `low`, the program `scripts`, four tests of the file; one skipped for its package, one for ./build
+        self.assertEqual((status, last), (0, "8 passed, 0 failed, 2 skipped"), lines)
         self.assertIn("skipped: test_small.Asks.test_four: needs ./build", lines)
         self.assertIn("skipped: test_small.Quick.test_three: needs the package nothing", lines)
         self.assertNotIn("ci", self.verbs())
@@ -98,13 +102,13 @@ class RunsTests(WithCheckout):
     def test_parts(self):
         self.assertEqual(self.run_tests("scripts")[:2], (0, "1 passed, 0 failed, 0 skipped"))
         self.assertEqual(self.run_tests("lint", "low")[:2], (0, "3 passed, 0 failed, 0 skipped"))
-        self.assertEqual(self.run_tests("--long", "test_small")[:2], (0, "5 passed, 0 failed, 2 skipped"))
+        self.assertEqual(self.run_tests("--long", "test_small")[:2], (0, "6 passed, 0 failed, 2 skipped"))
         ran = self.checkout.run(["test", "nothing"])
         self.assertEqual(ran.returncode, 2)
         self.assertIn(b"no part nothing: the parts are lint, low, scripts, test_small", ran.stderr)
 
     def test_long(self):
-        self.assertEqual(self.run_tests("--long")[:2], (0, "9 passed, 0 failed, 2 skipped"))
+        self.assertEqual(self.run_tests("--long")[:2], (0, "10 passed, 0 failed, 2 skipped"))
 
     def test_with_proof(self):
         for name, words in (("test", ["--all"]), (".ci/run", [])):
@@ -112,10 +116,11 @@ class RunsTests(WithCheckout):
             shutil.rmtree(f"{self.checkout.root}/crates/sfq/out", ignore_errors=True)
             before = len(self.verbs())
             status, last, lines = self.run_tests(*words, name=name)
-            # ./lint, two quick tests, the nine of rt ci, one that asks the program, one that calls the library, one long one of the gate
-            self.assertEqual((status, last), (0, "15 passed, 0 failed, 1 skipped"), lines)
+            # ./lint, two quick tests, the nine of rt ci, one that asks the program, one that calls the library, one that does both,
+            # one long one of the gate; each once
+            self.assertEqual((status, last), (0, "16 passed, 0 failed, 1 skipped"), lines)
             self.assertEqual(self.verbs()[before:], ["ci"])
-            parts = ("test_one", "rt: proving", "test_four", "test_six", "test_seven")
+            parts = ("test_one", "rt: proving", "test_four", "test_six", "test_seven", "test_eight")
             order = [next(at for at, it in enumerate(lines) if part in it) for part in parts]
             self.assertTrue(order[0] < order[1] < min(order[2:]), lines)
             self.assertEqual(self.checkout.run(["sfq"]).returncode, 0)
@@ -125,7 +130,7 @@ class RunsTests(WithCheckout):
         failing = SMALL.replace("{passes}", "False").replace("assertEqual(it, it)", "assertEqual(it, 0)")
         write(f"{root}/tests/test_small.py", failing)
         status, last, lines = self.run_tests()
-        self.assertEqual((status, last), (1, "5 passed, 2 failed, 2 skipped"), lines)
+        self.assertEqual((status, last), (1, "6 passed, 2 failed, 2 skipped"), lines)
         self.assertIn("failed: test_small.Quick.test_one, test_small.Quick.test_two", lines)
 
     def test_a_script_that_differs_and_a_failing_lint(self):
@@ -133,18 +138,18 @@ class RunsTests(WithCheckout):
         write(f"{root}/crates/scripts/data/rows.txt", "1 differ\n")
         write(f"{root}/lint", "#!/bin/sh\necho a finding\nexit 1\n", 0o755)
         status, last, lines = self.run_tests()
-        self.assertEqual((status, last), (1, "5 passed, 2 failed, 2 skipped"), lines)
+        self.assertEqual((status, last), (1, "6 passed, 2 failed, 2 skipped"), lines)
         self.assertIn("a finding", lines)
 
     def test_a_test_file_that_cannot_be_read(self):
         write(f"{self.checkout.root}/tests/test_other.py", "import nothing_of_this_name\n")
         status, last, lines = self.run_tests()
-        self.assertEqual((status, last), (1, "7 passed, 1 failed, 2 skipped"), lines)
+        self.assertEqual((status, last), (1, "8 passed, 1 failed, 2 skipped"), lines)
 
     def test_a_gate_that_fails(self):
         write(f"{self.checkout.root}/crates/low/bad", "")
         status, last, lines = self.run_tests(name=".ci/run")
-        self.assertEqual((status, last), (1, "13 passed, 2 failed, 1 skipped"), lines)
+        self.assertEqual((status, last), (1, "14 passed, 2 failed, 1 skipped"), lines)
 
     def test_edits(self):
         root = self.checkout.root

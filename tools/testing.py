@@ -287,6 +287,23 @@ def tests_of_library(counts, tests, is_left):
     system_tests(counts, tests)
 
 
+def is_after_proof(test):
+    """Whether the test needs what `rt ci` leaves."""
+    return marked(test, "ASKS_PROGRAM") or marked(test, "ASKS_LIBRARY")
+
+
+def tests_after_proof(tests):
+    """Returns those that call the library, those that ask only the program, and long ones of the gate that do neither.
+
+    They run side by side, and two runs of one class would share its files, so each test is in one of the three.
+    """
+    found = [it for it in tests if is_after_proof(it) or marked(it, "IN_GATE")]
+    found = [it for it in found if marked(it, "IN_GATE") or not marked(it, "IS_LONG")]
+    calling = [it for it in found if marked(it, "ASKS_LIBRARY")]
+    asking = [it for it in found if marked(it, "ASKS_PROGRAM") and not marked(it, "ASKS_LIBRARY")]
+    return calling, asking, [it for it in found if not is_after_proof(it)]
+
+
 def with_proof():
     """First what is quick, then `rt ci`, then what asks the program that it leaves.
 
@@ -295,13 +312,10 @@ def with_proof():
     """
     counts, tests = Counts(), find_tests()
     lint(counts)
-    is_after = lambda it: marked(it, "ASKS_PROGRAM") or marked(it, "ASKS_LIBRARY")
-    system_tests(counts, [it for it in tests if not is_after(it) and not marked(it, "IS_LONG")])
+    system_tests(counts, [it for it in tests if not is_after_proof(it) and not marked(it, "IS_LONG")])
     is_new = not glob.glob(f"{ROOT}/crates/*/out/rlib")
     is_left = gate(counts) and is_new
-    asking = [it for it in tests if marked(it, "ASKS_PROGRAM") and (marked(it, "IN_GATE") or not marked(it, "IS_LONG"))]
-    others = [it for it in tests if marked(it, "IN_GATE") and not is_after(it)]
-    calling = [it for it in tests if marked(it, "ASKS_LIBRARY") and not marked(it, "IS_LONG")]
+    calling, asking, others = tests_after_proof(tests)
     side_by_side([(system_tests, counts, asking), (tests_of_library, counts, calling, is_left), (system_tests, counts, others)])
     return counts.close()
 
