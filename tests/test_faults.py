@@ -151,6 +151,19 @@ class Judging(unittest.TestCase):
             with self.subTest(call=call, out=out, err=err, status=status):
                 self.assertFalse(self.allows(call, how, out, err, status, path))
 
+    def test_a_table_that_is_read_twice(self):
+        """After a fault its line is there, and only what a second reading adds may be missing."""
+        line, reason, note = b"sfq: t record 1: L5\n", b"sfq: reason: n holds x\n", b"sfq: note: u record 2: field 1 holds a line end\n"
+        faulty, noted = (sweeps.Ran(b"", line + reason, 4, {}, 0, -1, -1, ""), sweeps.Ran(b"t 1\n", note + reason, 0, {}, 0, -1, -1, ""))
+        for well, err, status, is_fine in (
+            (faulty, line + reason, 4, True), (faulty, line, 4, True), (faulty, b"", 4, False), (faulty, reason + line, 4, False),
+            (faulty, line, 0, False), (faulty, line + note, 4, False), (noted, b"", 0, True), (noted, reason, 0, True), (noted, note, 6, False),
+        ):
+            with self.subTest(err=err, status=status):
+                ran = sweeps.Ran(well.out, err, status, {}, 1, 1, 0, "/x/t.csv")
+                self.assertEqual(sweeps.is_allowed(sweeps.Fault("growth", "ENOMEM", 1), ran, well, reads_again=True), is_fine)
+                self.assertFalse(err != well.err and sweeps.is_allowed(sweeps.Fault("growth", "ENOMEM", 1), ran, well))
+
 
 if __name__ == "__main__":
     unittest.main()
