@@ -89,16 +89,20 @@ whole_gap e wide = go (compare (point_at e.start) (point_at e.end)) refl
     }
 
 -- ---- what it shows
--- raised by an edge in the exterior, the matrix has grown by nothing but what is there
-pub apart_grows : (a b : Geometry) (e : Edge) (m n : Matrix) → edges b ≡ [] → Contains (edges a) e → HasLength e → IsRaisedTo (λ o. ShowsOff a o e Exterior) m n → Grows a b m n
-apart_grows a b e m n none own long r = grows_raised a b (λ o. ShowsOff a o e Exterior) m n r (λ va vb. at (whole_gap e long) va vb)
+-- all of the edge is in the exterior
+pub apart_is_there : (a b : Geometry) (e : Edge) → edges b ≡ [] → Contains (edges a) e → HasLength e → IsValid a → IsValid b → ShowsOff a (labelled_matrix a b) e Exterior
+apart_is_there a b e none own long va vb = at (whole_gap e long)
   where
-    at : WholeGap e → IsValid a → IsValid b → ShowsOff a (labelled_matrix a b) e Exterior
-    at w va vb =
+    at : WholeGap e → ShowsOff a (labelled_matrix a b) e Exterior
+    at w =
         let y = least_form (mediant w.lesser w.greater) in
         let gap : IsGap e (edges b) w.lesser w.greater = subst (λ (es : List Edge). IsGap e es w.lesser w.greater) (sym none) w.gap in
         let far = apart b none y in
         subst (ShowsOff a (labelled_matrix a b) e) (sym far.1) ((gap_is_there a b va vb e own long w.lesser w.greater y gap (gap_has_mediant e (edges b) w.lesser w.greater gap)).off far.0)
+
+-- raised by an edge in the exterior, the matrix has grown by nothing but what is there
+pub apart_grows : (a b : Geometry) (e : Edge) (m n : Matrix) → edges b ≡ [] → Contains (edges a) e → HasLength e → IsRaisedTo (λ o. ShowsOff a o e Exterior) m n → Grows a b m n
+apart_grows a b e m n none own long r = grows_raised a b (λ o. ShowsOff a o e Exterior) m n r (apart_is_there a b e none own long)
 
 -- .. and it covers the edge
 pub apart_covers : (a b : Geometry) (e : Edge) (m : Matrix) → edges b ≡ [] → Contains (edges a) e → ShowsEnds a b m → ShowsOff a m e Exterior → Covers a b m e

@@ -10,3 +10,4 @@ pub mod Rest
 pub mod Apart
 pub mod OutsideEdges
 pub mod OutsidePositions
+pub mod PointsAndArea

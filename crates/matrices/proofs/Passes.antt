@@ -27,7 +27,7 @@ use Rattle.matrices.proofs.EdgePoints.{covers_kept}
 turned_cell : (m : Matrix) (l k : Location) → cell (transposed m) l k ≡ cell m k l
 turned_cell m l k = cell_of (λ i j. cell m j i) l k
 
-turned_shows : (m : Matrix) (l k : Location) (d : Dimension) → Shows m l k d → Shows (transposed m) k l d
+pub turned_shows : (m : Matrix) (l k : Location) (d : Dimension) → Shows m l k d → Shows (transposed m) k l d
 turned_shows m l k d s = ap (at_most d) (turned_cell m k l) ∙ s
 
 part_turned : (m n : Matrix) → IsPartOf m n → IsPartOf (transposed m) (transposed n)

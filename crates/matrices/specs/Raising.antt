@@ -1,5 +1,5 @@
 -- How a matrix of two geometries grows while it is found.
-use Rattle.std.specs.Prelude.{◌≡◌, true, false, Bool, if◌then◌else◌, List, All, Any}
+use Rattle.std.specs.Prelude.{◌≡◌, ◌≢◌, true, false, Bool, if◌then◌else◌, List, All, Any}
 use Rattle.geometry_model.specs.Points.{Position, Point, IsPoint, point_at}
 use Rattle.geometry_model.specs.Geometries.{Edge, Geometry, kind, edges, lines, listed}
 use Rattle.geometry_model.specs.Sides.{on}
@@ -11,11 +11,12 @@ use Rattle.geometry_model.specs.declared.shapes.Kind.{Kind}
 use Rattle.geometry_model.specs.declared.shapes.Kind.TheVariants as kinds
 use Rattle.geometry_model.specs.declared.point_sets.Location.{Location}
 use Rattle.geometry_model.specs.declared.point_sets.Location.TheVariants.{Interior, Boundary, Exterior}
-use Rattle.geometry_model.specs.declared.point_sets.Dimension.TheVariants.{Zero, Two}
+use Rattle.geometry_model.specs.declared.point_sets.Dimension.TheVariants.{Zero, One, Two}
 use Rattle.edge_boxes.specs.NearEdges.{is_near}
 use Rattle.side_labels.specs.declared.piece_sides.Sides.{Sides}
 use Rattle.cover_laws.specs.Gaps.{IsBetween, mostly}
 use Rattle.matrix_laws.specs.Cells.{Shows, raised, IsPartOf, IsSound, CoversPosition}
+use Rattle.matrix_cells.specs.Cells.{of_exteriors}
 use Rattle.cover_laws.specs.Covering.{IsOffEdges, ShowsOff, ShowsAt}
 
 -- the matrix has grown just far enough to show this: every matrix that it was part of and that shows this, it is still part of
@@ -53,6 +54,15 @@ ShowsAllOff k l m = (a : Geometry) → kind a ≡ k → (e : Edge) → ShowsOff 
 -- the edge is upright, and its rectangle doesn't overlap the envelope: it has no sides to show
 abbrev pub IsUprightOutside : Envelope → Edge → Type 0
 IsUprightOutside around e = (e.start.x ≡ e.end.x) × (is_near around e ≡ false)
+
+-- an area with an edge that isn't upright (06-103r4, 6.1.11.1)
+pub record HasSides (g : Geometry) : Type 0 where
+  pub is_area : kind g ≡ kinds.Area
+  pub edge : Any (λ e. e.start.x ≢ e.end.x) (edges g)
+
+-- what an area shows beside points, wherever these lie (06-103r4, 6.1.15.2)
+abbrev pub of_area : Matrix
+of_area = record of_exteriors { exterior_interior = Two; exterior_boundary = One }
 
 -- the matrix shows each gap of the edge, whichever point of the edge is within it
 abbrev pub ShowsAllAlong : Geometry → Geometry → Matrix → Edge → Type 0

@@ -9,6 +9,7 @@ mod matrix_finding;
 mod matrix_positions;
 mod outside_edges;
 mod outside_positions;
+mod points_and_area;
 
 pub use geometry_model::{Dimension, Location};
 pub use matrix_cells::MatrixCells;

@@ -77,9 +77,11 @@ fn shows_row(matrix: &MatrixCells, part: Location, kind: Kind) -> bool
 }
 
 /// Raises cells by the listed positions of the first geometry, until no further one can raise a cell.
-fn raise_listed(first: &Valid, second: &Valid, matrix: &mut MatrixCells)
+pub(crate) fn raise_listed(first: &Valid, second: &Valid, matrix: &mut MatrixCells)
     ensures grows { Grows first.now second.now matrix.old matrix.new }
     ensures shows { All (CoversPosition first.now second.now matrix.new) (listed first.now) }
+    ensures first_valid { IsValid first.now }
+    ensures second_valid { IsValid second.now }
 {
     let listed = first.geometry().listed();
     let around = envelope_beside(listed.len(), second);
