@@ -2,7 +2,7 @@
 
 use crate::draws::Draws;
 use crate::shapes::{Place, position};
-use rtree::{CurveTree, Envelope, EnvelopeIndex, ListIndex, RTree, meets};
+use rtree::{CurveTree, Envelope, EnvelopeIndex, ListIndex, RTree, RowTree, meets};
 use std::alloc::{AllocError, Global};
 use std::process::Abort;
 use std::test::Fail;
@@ -100,25 +100,67 @@ fn finds_on_a_line<I: EnvelopeIndex + Drop>(rt: &(impl Abort + AllocGlobal)) -> 
     Ok(())
 }
 
+/// Of 30 rows, each third of them absent and the others at five positions in turn, a search finds the rows of a position below
+/// several nodes, and all absent ones. An empty list has neither.
+fn finds_in_turn<I: EnvelopeIndex + Drop>(rt: &(impl Abort + AllocGlobal)) -> Result<(), Fail> {
+    let rows = in_turn(rt.alloc())?;
+    for (asked, wanted) in &[
+        (framed((2, 0), (2, 0))?, [7, 12, 22, 27].as_slice()),
+        (
+            framed((3, -1), (9, 1))?,
+            [3, 4, 9, 13, 18, 19, 24, 28].as_slice(),
+        ),
+        (framed((5, 0), (6, 0))?, [].as_slice()),
+        (None, [2, 5, 8, 11, 14, 17, 20, 23, 26, 29].as_slice()),
+    ] {
+        let places = found::<I>(rt.alloc(), rows.as_slice(), *asked)?;
+        assert!(rt; places.as_slice() == *wanted);
+    }
+    let of_none = found::<I>(rt.alloc(), &[], None)?;
+    assert!(rt; of_none.is_empty());
+    Ok(())
+}
+
 #[test]
 fn the_list_finds(rt: HostRuntime) -> Result<(), Fail> {
     finds::<ListIndex>(&rt)?;
     finds_alike::<ListIndex>(&rt)?;
-    finds_on_a_line::<ListIndex>(&rt)
+    finds_on_a_line::<ListIndex>(&rt)?;
+    finds_in_turn::<ListIndex>(&rt)
 }
 
 #[test]
 fn the_tree_finds(rt: HostRuntime) -> Result<(), Fail> {
     finds::<RTree>(&rt)?;
     finds_alike::<RTree>(&rt)?;
-    finds_on_a_line::<RTree>(&rt)
+    finds_on_a_line::<RTree>(&rt)?;
+    finds_in_turn::<RTree>(&rt)
 }
 
 #[test]
 fn the_tree_along_the_curve_finds(rt: HostRuntime) -> Result<(), Fail> {
     finds::<CurveTree>(&rt)?;
     finds_alike::<CurveTree>(&rt)?;
-    finds_on_a_line::<CurveTree>(&rt)
+    finds_on_a_line::<CurveTree>(&rt)?;
+    finds_in_turn::<CurveTree>(&rt)
+}
+
+#[test]
+fn the_tree_in_the_order_of_rows_finds(rt: HostRuntime) -> Result<(), Fail> {
+    finds::<RowTree>(&rt)?;
+    finds_alike::<RowTree>(&rt)?;
+    finds_on_a_line::<RowTree>(&rt)?;
+    finds_in_turn::<RowTree>(&rt)
+}
+
+/// The envelopes of 30 rows: each third one is absent, and the others are five positions in turn.
+fn in_turn(alloc: Global) -> Result<Vec<Option<Envelope>>, Fail> {
+    let mut envelopes = Vec::new(alloc);
+    for k in 0..30u8 {
+        let envelope = Envelope::of_positions(&[position((i32::from(k % 5), 0))?]);
+        envelopes.push(if k % 3 == 2 { None } else { envelope })?;
+    }
+    Ok(envelopes)
 }
 
 /// The envelopes of 100 positions on a line, the last one first, and an absent one after them.
@@ -227,7 +269,8 @@ fn indexes_find_the_same(rt: HostRuntime) -> Result<(), Fail> {
             let wanted = found::<ListIndex>(rt.alloc(), envelopes.as_slice(), asked)?;
             let by_centres = found::<RTree>(rt.alloc(), envelopes.as_slice(), asked)?;
             let by_curve = found::<CurveTree>(rt.alloc(), envelopes.as_slice(), asked)?;
-            assert!(rt; by_centres == wanted && by_curve == wanted);
+            let by_rows = found::<RowTree>(rt.alloc(), envelopes.as_slice(), asked)?;
+            assert!(rt; by_centres == wanted && by_curve == wanted && by_rows == wanted);
         }
     }
     Ok(())
