@@ -249,10 +249,14 @@ def is_allowed(fault, ran, well, reads_again=False):
         return False
     if fault.call == "growth":
         return ran.said() == well.said() or (ran.status == NO_MEMORY and ran.err in OUT_OF_MEMORY)
-    if fault.call == "write" and ran.descriptor == 2 and well.status != 0:
-        return ran.status == well.status and beginning_of(ran.err, well.err)
+    if fault.call == "write" and ran.descriptor == 2:
+        # Nothing more is written there; where each write fails from there on, the answer is lost too.
+        is_done = ran.status == well.status and (ran.status != 0 or ran.out == well.out)
+        is_lost = fault.times != 1 and (well.status, ran.status) == (0, UNREADABLE)
+        return (is_done or is_lost) and beginning_of(ran.err, well.err)
     if fault.call == "write":
-        is_line = beginning_of(ran.err, WRITE_FAILED) if fault.times != 1 else ran.err == WRITE_FAILED
+        line = well.err + WRITE_FAILED if well.status == 0 else WRITE_FAILED
+        is_line = beginning_of(ran.err, line) if fault.times != 1 else ran.err == line
         return ran.status == UNREADABLE and is_line
     return (ran.out, ran.err, ran.status) == (b"", line_of(fault, ran.path), UNREADABLE)
 
