@@ -1,13 +1,13 @@
 -- Boxes within the grid, and samples within boxes.
 use Rattle.std.proofs.Common.{◌≡◌, ◌≤◌, ◌<◌, true, List, length, get_or, ℤ, pos, ◌-ℤ◌, ◌≤ℤ◌, ◌<ℤ◌, subst, sym, ap, arith}
 use Rattle.std.specs.Prelude.{int_le, unsigned_abs}
-use Rattle.std.specs.List.{All, AllPass}
+use Rattle.std.specs.List.{All}
 use Rattle.std.proofs.lemmas.Int.{ints}
 use Rattle.geometry_model.specs.Points.{Position}
 use Rattle.geometry_model.specs.Envelopes.{Envelope}
 use Rattle.fraction.specs.Ranges.{IsOnGrid}
 use Rattle.tile_laws.specs.Cells.{is_within}
-use Rattle.tile_cells.specs.Cuts.{IsMedian}
+use Rattle.tile_cells.specs.Cuts.{HasBothSides, IsMedian, LiesWithin}
 use Rattle.tile_cells.specs.Lines.{coordinate, IsInGrid, PassesThrough, low_part, high_part}
 use Rattle.tile_cells.specs.declared.lines.Axis.{Axis}
 use Rattle.tile_cells.specs.declared.lines.Axis.TheVariants.{X, Y}
@@ -55,14 +55,14 @@ one_through : (axis : Axis) (at : ℤ) (box : Envelope) (p q : Position) → is_
 one_through X at box p q h l k e = (from_least box.least_x p.x at (bounded box p h).0 l, subst (λ z. z ≤ℤ box.greatest_x) e (bounded box q k).1)
 one_through Y at box p q h l k e = (from_least box.least_y p.y at (bounded box p h).2 l, subst (λ z. z ≤ℤ box.greatest_y) e (bounded box q k).3)
 
--- a median line of a sample passes through the box that has the sample
-pub passes_through : (line : Line) (box : Envelope) (before behind : List Position) → AllPass (is_within box) before → AllPass (is_within box) behind
-    → IsMedian line before behind → PassesThrough line.axis line.at box
-passes_through line box before behind low high h =
-    let q = h.reached.1 in
-    let p = get_or before 0 q in
-    let q_within : is_within box q ≡ true = subst (λ r. is_within box r ≡ true) h.reached.3 (high h.reached.0 q h.reached.2) in
-    one_through line.axis line.at box p q (low 0 q h.some) (h.less 0 q h.some) q_within h.reached.4
+-- a line that has some of the sample of a box on both sides passes through the box
+pub passes_through : (line : Line) (box : Envelope) (sample : List Position) → LiesWithin sample box → HasBothSides line sample → PassesThrough line.axis line.at box
+passes_through line box sample all (low, high) =
+    let p = low.1 in
+    let q = high.1 in
+    let p_within : is_within box p ≡ true = subst (λ r. IsOnGrid r → is_within box r ≡ true) low.3 (all low.0 p low.2) low.4.0 in
+    let q_within : is_within box q ≡ true = subst (λ r. IsOnGrid r → is_within box r ≡ true) high.3 (all high.0 q high.2) high.4.0 in
+    one_through line.axis line.at box p q p_within low.4.1 q_within high.4.1
 
 below_one : (axis : Axis) (at : ℤ) (box : Envelope) (p : Position) → is_within box p ≡ true → coordinate axis p <ℤ at → is_within (low_part axis at box) p ≡ true
 below_one X at box p h l =
@@ -81,8 +81,8 @@ above_one Y at box p h l =
     all_four (int_le box.least_x p.x) (int_le p.x box.greatest_x) (int_le at p.y) (int_le p.y box.greatest_y) f.0 f.1 (is_at_least at p.y l) f.3
 
 -- those before the line are within the part before it, and those behind it within the other
-pub within_low : (line : Line) (box : Envelope) (before behind : List Position) → AllPass (is_within box) before → IsMedian line before behind → AllPass (is_within (low_part line.axis line.at box)) before
-within_low line box before behind all h k d l = below_one line.axis line.at box (get_or before k d) (all k d l) (h.less k d l)
+pub within_low : (line : Line) (box : Envelope) (before behind : List Position) → LiesWithin before box → IsMedian line before behind → LiesWithin before (low_part line.axis line.at box)
+within_low line box before behind all h k d l on = below_one line.axis line.at box (get_or before k d) (all k d l on) (h.less k d l)
 
-pub within_high : (line : Line) (box : Envelope) (before behind : List Position) → AllPass (is_within box) behind → IsMedian line before behind → AllPass (is_within (high_part line.axis line.at box)) behind
-within_high line box before behind all h k d l = above_one line.axis line.at box (get_or behind k d) (all k d l) (h.not_less k d l)
+pub within_high : (line : Line) (box : Envelope) (before behind : List Position) → LiesWithin behind box → IsMedian line before behind → LiesWithin behind (high_part line.axis line.at box)
+within_high line box before behind all h k d l on = above_one line.axis line.at box (get_or behind k d) (all k d l on) (h.not_less k d l)

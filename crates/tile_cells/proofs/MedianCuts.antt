@@ -1,6 +1,5 @@
 -- Boxes cut at the medians of a sample.
 use Rattle.std.proofs.Common.{◌≡◌, ◌⊎◌, inl, inr, ◌∙◌, ◌+◌, ◌-◌, ◌^◌, ◌<◌, ◌≤◌, ℕ, zero, suc, true, List, [], ◌∷◌, ◌++◌, length, take, drop, append_assoc, length-append, Option, Some, None, MatchOption, Result, OnOk, refl, sym, ap, subst, arith}
-use Rattle.std.specs.List.{AllPass}
 use Rattle.std.specs.List.Sorted.{IsPermutation}
 use Rattle.std.proofs.lemmas.Nat.{pow_pos}
 use Rattle.std.proofs.lemmas.Result.{on_ok_weaker}
@@ -9,8 +8,9 @@ use Rattle.std.proofs.lemmas.List.Sorted.{All-permutation}
 use Rattle.std.proofs.lemmas.List.Elements.{All-take, All-drop}
 use Rattle.geometry_model.specs.Points.{Position}
 use Rattle.geometry_model.specs.Envelopes.{Envelope}
+use Rattle.fraction.specs.Ranges.{IsOnGrid}
 use Rattle.tile_laws.specs.Cells.{is_within}
-use Rattle.tile_cells.specs.Cuts.{HasOneCoordinate, IsMedian, StaysWhole, IsHalved, IsCutAtMedians, longer}
+use Rattle.tile_cells.specs.Cuts.{HasBothSides, HasOneCoordinate, LiesWithin, IsMedian, StaysWhole, IsHalved, IsCutAtMedians, longer}
 use Rattle.tile_cells.specs.Lines.{IsInGrid, PassesThrough, Parts, low_part, high_part}
 use Rattle.tile_cells.specs.declared.lines.Line.{Line}
 use Rattle.tile_cells.proofs.Insides.{corner_below, corner_above, passes_through, within_low, within_high}
@@ -74,31 +74,31 @@ halves_added lines most sample sorted n rest line box low high old mid new some 
 
 -- ---- what the halves begin with
 
+-- a sample in another order lies within the same box
+pub moved_within : (sample sorted : List Position) (box : Envelope) → IsPermutation sample sorted → LiesWithin sample box → LiesWithin sorted box
+moved_within sample sorted box moved all = All-permutation (λ p. IsOnGrid p → is_within box p ≡ true) sample sorted moved all
+
 -- a line at the median of a box's sample passes through the box
-pub median_passes : (line : Line) (box : Envelope) (sample sorted : List Position) (n : ℕ) → AllPass (is_within box) sample → IsPermutation sample sorted
-    → IsMedian line (take n sorted) (drop n sorted) → PassesThrough line.axis line.at box
-median_passes line box sample sorted n all moved median =
-    let all_sorted : AllPass (is_within box) sorted = All-permutation (λ p. is_within box p ≡ true) sample sorted moved all in
-    passes_through line box (take n sorted) (drop n sorted) (All-take (λ p. is_within box p ≡ true) n sorted all_sorted) (All-drop (λ p. is_within box p ≡ true) n sorted all_sorted) median
+pub median_passes : (line : Line) (box : Envelope) (sample sorted : List Position) → LiesWithin sample box → IsPermutation sample sorted
+    → HasBothSides line sorted → PassesThrough line.axis line.at box
+median_passes line box sample sorted all moved sides = passes_through line box sorted (moved_within sample sorted box moved all) sides
 
-pub low_begins : (line : Line) (box low high : Envelope) (sample sorted : List Position) (n : ℕ) → IsInGrid box → AllPass (is_within box) sample → IsPermutation sample sorted
-    → Parts line box low high → IsMedian line (take n sorted) (drop n sorted) → IsInGrid low × AllPass (is_within low) (take n sorted)
+pub low_begins : (line : Line) (box low high : Envelope) (sample sorted : List Position) (n : ℕ) → IsInGrid box → LiesWithin sample box → IsPermutation sample sorted
+    → Parts line box low high → IsMedian line (take n sorted) (drop n sorted) → IsInGrid low × LiesWithin (take n sorted) low
 low_begins line box low high sample sorted n grid all moved parts median =
-    let all_sorted : AllPass (is_within box) sorted = All-permutation (λ p. is_within box p ≡ true) sample sorted moved all in
-    let within : AllPass (is_within (low_part line.axis line.at box)) (take n sorted) =
-        within_low line box (take n sorted) (drop n sorted) (All-take (λ p. is_within box p ≡ true) n sorted all_sorted) median in
+    let within : LiesWithin (take n sorted) (low_part line.axis line.at box) = within_low line box (take n sorted) (drop n sorted)
+        (All-take (λ p. IsOnGrid p → is_within box p ≡ true) n sorted (moved_within sample sorted box moved all)) median in
     (subst IsInGrid (sym parts.low_is) (corner_below line.axis line.at box grid parts.passes),
-     subst (λ b. AllPass (is_within b) (take n sorted)) (sym parts.low_is) within)
+     subst (LiesWithin (take n sorted)) (sym parts.low_is) within)
 
-pub high_begins : (line : Line) (box low high : Envelope) (sample sorted : List Position) (n : ℕ) (rest : List Position) → IsInGrid box → AllPass (is_within box) sample
+pub high_begins : (line : Line) (box low high : Envelope) (sample sorted : List Position) (n : ℕ) (rest : List Position) → IsInGrid box → LiesWithin sample box
     → IsPermutation sample sorted → rest ≡ drop n sorted → Parts line box low high → IsMedian line (take n sorted) (drop n sorted)
-    → IsInGrid high × AllPass (is_within high) rest
+    → IsInGrid high × LiesWithin rest high
 high_begins line box low high sample sorted n rest grid all moved is parts median =
-    let all_sorted : AllPass (is_within box) sorted = All-permutation (λ p. is_within box p ≡ true) sample sorted moved all in
-    let within : AllPass (is_within (high_part line.axis line.at box)) (drop n sorted) =
-        within_high line box (take n sorted) (drop n sorted) (All-drop (λ p. is_within box p ≡ true) n sorted all_sorted) median in
+    let within : LiesWithin (drop n sorted) (high_part line.axis line.at box) = within_high line box (take n sorted) (drop n sorted)
+        (All-drop (λ p. IsOnGrid p → is_within box p ≡ true) n sorted (moved_within sample sorted box moved all)) median in
     (subst IsInGrid (sym parts.high_is) (corner_above line.axis line.at box grid parts.passes),
-     subst (AllPass (is_within high)) (sym is) (subst (λ b. AllPass (is_within b) (drop n sorted)) (sym parts.high_is) within))
+     subst (λ l. LiesWithin l high) (sym is) (subst (LiesWithin (drop n sorted)) (sym parts.high_is) within))
 
 -- what is behind the line once those before it were put into another order
 pub rest_is : (new sorted : List Position) (n : ℕ) → n ≤ length sorted → length new ≡ length (take n sorted)

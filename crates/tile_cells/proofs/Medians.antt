@@ -1,5 +1,5 @@
 -- Samples in order, and the line at the median of one.
-use Rattle.std.proofs.Common.{◌≡◌, ◌⊎◌, inl, inr, ◌∙◌, ◌+◌, ◌-◌, ◌*◌, ◌/◌, ◌<◌, ◌≤◌, ℕ, zero, suc, Bool, true, false, cond, List, [], ◌∷◌, ◌++◌, length, take, drop, get_or, ℤ, pos, ◌≤ℤ◌, ◌<ℤ◌, refl, sym, ap, subst, arith}
+use Rattle.std.proofs.Common.{◌≡◌, ◌⊎◌, inl, inr, ◌∙◌, ◌+◌, ◌-◌, ◌*◌, ◌/◌, ◌<◌, ◌≤◌, min, ℕ, zero, suc, Bool, true, false, cond, List, [], ◌∷◌, ◌++◌, length, take, drop, get_or, ℤ, pos, ◌≤ℤ◌, ◌<ℤ◌, refl, sym, ap, subst, arith}
 use Rattle.std.specs.Prelude.{int_le, int_lt, count_by}
 use Rattle.std.specs.Ordering.{int_cmp, is_lt}
 use Rattle.std.specs.List.{All, AllPass}
@@ -7,14 +7,14 @@ use Rattle.std.specs.List.Sorted.{IsPermutation, IsSortedByKey, IsPartitionedBy,
 use Rattle.std.proofs.lemmas.Bool.{cases_lt}
 use Rattle.std.proofs.lemmas.Int.{ints}
 use Rattle.std.proofs.lemmas.Cmp.{int_cmp_total}
-use Rattle.std.proofs.lemmas.List.{length-take-le, length-drop, get_or-take, get_or-drop, get_or_default, take-append-drop}
+use Rattle.std.proofs.lemmas.List.{length-take, length-take-le, length-drop, get_or-take, get_or-drop, get_or_default, take-append-drop}
 use Rattle.std.proofs.lemmas.List.Sorted.{All-permutation}
 use Rattle.std.proofs.lemmas.List.Sums.{sum_by-cons, sum_by-take-drop, count_by-le-length}
 use Rattle.std.proofs.lemmas.List.Sorted.{sorted_far, ranks_by, IsPermutation-sym}
 use Rattle.geometry_model.specs.Points.{Position}
 use Rattle.geometry_model.specs.Envelopes.{Envelope}
-use Rattle.tile_laws.specs.Cells.{is_within}
-use Rattle.tile_cells.specs.Cuts.{HasOneCoordinate, IsMedian, other}
+use Rattle.fraction.specs.Ranges.{IsOnGrid}
+use Rattle.tile_cells.specs.Cuts.{HasBothSides, HasOneCoordinate, IsMedian, other}
 use Rattle.tile_cells.specs.Lines.{coordinate, PassesThrough, low_part, high_part}
 use Rattle.tile_cells.specs.declared.lines.Axis.{Axis}
 use Rattle.tile_cells.specs.declared.lines.Axis.TheVariants.{X, Y}
@@ -157,13 +157,20 @@ median_at line ps mid i p up within half half2 here at below part some = record 
     back : i + (mid - i) ≡ mid
     back = omega (arith, first)
 
+-- where the first one isn't less than another, none is
+none_less : (axis : Axis) (ps : List Position) (p o : Position) → Ascend axis ps → get_or ps 0 o ≡ o → coordinate axis p ≤ℤ coordinate axis o
+    → (k : ℕ) (d : Position) → k < length ps → coordinate axis p ≤ℤ coordinate axis (get_or ps k d)
+none_less axis ps p o up first least k d l =
+    between (coordinate axis p) (coordinate axis o) (coordinate axis (get_or ps k d)) least
+    (subst (λ r. coordinate axis r ≤ℤ coordinate axis (get_or ps k d)) (at_place ps 0 o d (omega arith) first) (up.up 0 k d (omega arith) l))
+
 -- a line at the coordinate of the first one past the least, where the middle one has the least
-pub next_at : (line : Line) (ps : List Position) (mid i j : ℕ) (p q : Position) → Ascend line.axis ps → mid < length ps → length ps < 2 * mid + 2
-    → get_or ps mid p ≡ p → i ≤ 0 → IsPartitionPoint (λ r. int_lt (coordinate line.axis r) (coordinate line.axis p) ≡ true) (λ r. int_lt (coordinate line.axis r) (coordinate line.axis p) ≡ false) ps i
+pub next_at : (line : Line) (ps : List Position) (mid j : ℕ) (o p q : Position) → Ascend line.axis ps → mid < length ps → length ps < 2 * mid + 2
+    → get_or ps 0 o ≡ o → coordinate line.axis p ≤ℤ coordinate line.axis o → get_or ps mid p ≡ p
     → j < length ps → get_or ps j q ≡ q → line.at ≡ coordinate line.axis q
     → IsPartitionPoint (λ r. int_le (coordinate line.axis r) (coordinate line.axis p) ≡ true) (λ r. int_le (coordinate line.axis r) (coordinate line.axis p) ≡ false) ps j
     → IsMedian line (take j ps) (drop j ps)
-next_at line ps mid i j p q up within half here none below within2 here2 at part = record {
+next_at line ps mid j o p q up within half start least here within2 here2 at part = record {
   less = λ k d l.
     let k_below : k < j = omega (arith, size) in
     subst (λ r. coordinate line.axis r <ℤ line.at) (sym (get_or-take j ps k d k_below))
@@ -181,7 +188,7 @@ next_at line ps mid i j p q up within half here none below within2 here2 at part
     let k_below : k < j = omega (arith, size) in
     ap (coordinate line.axis) (get_or-take j ps k d k_below)
     ∙ same (coordinate line.axis (get_or ps k d)) (coordinate line.axis p) (most k d k_below)
-      (is_not_less (coordinate line.axis (get_or ps k d)) (coordinate line.axis p) (below.1 k d (omega arith) (omega arith))));
+      (none_less line.axis ps p o up start least k d (omega arith)));
 }
   where
     size : length (take j ps) ≡ j
@@ -219,13 +226,34 @@ next_at line ps mid i j p q up within half here none below within2 here2 at part
     ]
 
 -- where no one is past the middle one, and none is less, all have its coordinate
-pub all_at : (axis : Axis) (ps : List Position) (i j : ℕ) (p : Position) → i ≤ 0
-    → IsPartitionPoint (λ r. int_lt (coordinate axis r) (coordinate axis p) ≡ true) (λ r. int_lt (coordinate axis r) (coordinate axis p) ≡ false) ps i
+pub all_at : (axis : Axis) (ps : List Position) (j : ℕ) (o p : Position) → Ascend axis ps → get_or ps 0 o ≡ o → coordinate axis p ≤ℤ coordinate axis o
     → length ps ≤ j → IsPartitionPoint (λ r. int_le (coordinate axis r) (coordinate axis p) ≡ true) (λ r. int_le (coordinate axis r) (coordinate axis p) ≡ false) ps j
     → HasOneCoordinate axis ps
-all_at axis ps i j p none below end part = (coordinate axis p, λ k d l.
+all_at axis ps j o p up start least end part = (coordinate axis p, λ k d l.
     same (coordinate axis (get_or ps k d)) (coordinate axis p) (is_most (coordinate axis (get_or ps k d)) (coordinate axis p) (part.0 k d (omega arith) (omega arith)))
-    (is_not_less (coordinate axis (get_or ps k d)) (coordinate axis p) (below.1 k d (omega arith) l)))
+    (none_less axis ps p o up start least k d l))
+
+-- where the first one is less, some are
+pub some_less : (axis : Axis) (ps : List Position) (i : ℕ) (o : Position) (z : ℤ) → 0 < length ps → get_or ps 0 o ≡ o → coordinate axis o <ℤ z
+    → IsPartitionPoint (λ r. int_lt (coordinate axis r) z ≡ true) (λ r. int_lt (coordinate axis r) z ≡ false) ps i → 0 < i
+some_less axis ps zero o z within first less part =
+    let no : int_lt (coordinate axis o) z ≡ false = ap (λ r. int_lt (coordinate axis r) z) (sym first) ∙ part.1 0 o (omega arith) within in
+    absurd (differ (sym no ∙ yes (coordinate axis o) z less))
+  where
+    yes : (a b : ℤ) → a <ℤ b → int_lt a b ≡ true
+    yes a b h = grind (arith, ints)
+some_less axis ps (suc i) o z within first less part = omega arith
+
+-- the first one is before the line, and one is at it
+pub with_sides : (line : Line) (ps : List Position) (n k : ℕ) (o q : Position) → get_or ps 0 o ≡ o → IsOnGrid o → k < length ps → get_or ps k q ≡ q → IsOnGrid q
+    → line.at ≡ coordinate line.axis q → IsMedian line (take n ps) (drop n ps) → IsMedian line (take n ps) (drop n ps) × HasBothSides line ps
+with_sides line ps n k o q first on within there on2 at median =
+    let size : length (take n ps) ≡ min n (length ps) = length-take n ps in
+    let some : 0 < length (take n ps) = median.some in
+    let n_some : 0 < n = omega (arith, size, some) in
+    (median, ((0, o, omega arith, first,
+        (on, subst (λ r. coordinate line.axis r <ℤ line.at) (get_or-take n ps 0 o n_some ∙ first) (median.less 0 o some))),
+        (k, q, within, there, (on2, sym at))))
 
 -- none has one coordinate
 pub none_at : (axis : Axis) (ps : List Position) → length ps ≤ 0 → HasOneCoordinate axis ps

@@ -1,9 +1,11 @@
 -- How a box is cut at medians of a sample of positions, and when it is left whole (this project's choice).
-use Rattle.std.specs.Prelude.{◌≡◌, ◌⊎◌, ℕ, zero, suc, ◌+◌, ◌*◌, ◌<◌, ◌≤◌, if◌then◌else◌, List, [], ◌∷◌, ◌++◌, length, count_by, ℤ, ◌-ℤ◌, ◌≤ℤ◌, ◌<ℤ◌, int_lt}
+use Rattle.std.specs.Prelude.{◌≡◌, ◌⊎◌, ℕ, zero, suc, ◌+◌, ◌*◌, ◌<◌, ◌≤◌, true, if◌then◌else◌, List, [], ◌∷◌, ◌++◌, length, count_by, ℤ, ◌-ℤ◌, ◌≤ℤ◌, ◌<ℤ◌, int_lt}
 use Rattle.std.specs.List.{All, Any}
 use Rattle.std.specs.List.Sorted.{IsPermutation}
 use Rattle.geometry_model.specs.Envelopes.{Envelope}
 use Rattle.geometry_model.specs.Points.{Position}
+use Rattle.fraction.specs.Ranges.{IsOnGrid}
+use Rattle.tile_laws.specs.Cells.{is_within}
 use Rattle.tile_cells.specs.Lines.{coordinate, low_part, high_part}
 use Rattle.tile_cells.specs.declared.lines.Axis.{Axis}
 use Rattle.tile_cells.specs.declared.lines.Axis.TheVariants.{X, Y}
@@ -31,6 +33,15 @@ pub record IsMedian (line : Line) (before behind : List Position) : Type 0 where
   pub reached : Any (λ p. coordinate line.axis p ≡ line.at) behind
   pub few_past : 2 * count_by (λ p. int_lt line.at (coordinate line.axis p)) behind < length before + length behind
   pub few_before : (length before ≤ length behind) ⊎ HasOneCoordinate line.axis before
+
+-- some of a sample that is on the grid is before a line, and some is at it
+abbrev pub HasBothSides : Line → List Position → Type 0
+HasBothSides line sample =
+    Any (λ p. IsOnGrid p × (coordinate line.axis p <ℤ line.at)) sample × Any (λ p. IsOnGrid p × (coordinate line.axis p ≡ line.at)) sample
+
+-- what a sample has of the grid is within a box
+abbrev pub LiesWithin : List Position → Envelope → Type 0
+LiesWithin sample box = All (λ p. IsOnGrid p → is_within box p ≡ true) sample
 
 -- a box is left whole if it has at most `most` of the sample, or all that it has lies at one position
 abbrev pub StaysWhole : ℕ → List Position → Type 0

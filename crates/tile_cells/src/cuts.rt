@@ -1,12 +1,11 @@
 //! How a box is cut into smaller ones.
 
 ghost use Rattle.std.specs.Prelude.{◌≡◌, ◌⊎◌, ◌+◌, ◌≤◌, ◌^◌, ◌∷◌, ◌++◌, List, [], true, length, take, drop, IfSome, IfOk, OnOk, MatchOption};
-ghost use Rattle.std.specs.List.{AllPass, enumerate_from};
+ghost use Rattle.std.specs.List.{enumerate_from};
 ghost use Rattle.std.specs.List.Sorted.{IsPermutation};
 ghost use Rattle.geometry_model.specs.Envelopes.{Envelope as Rectangle};
 ghost use Rattle.geometry_model.specs.Points.{Position};
-ghost use Rattle.tile_laws.specs.Cells.{is_within};
-ghost use Rattle.tile_cells.specs.Cuts.{HasOneCoordinate, IsMedian, IsCutAtMedians, longer};
+ghost use Rattle.tile_cells.specs.Cuts.{HasOneCoordinate, IsMedian, IsCutAtMedians, LiesWithin, longer};
 ghost use Rattle.tile_cells.specs.Lines.{IsInGrid, Parts, times_within};
 ghost use Rattle.tile_cells.specs.Trees.{numbered_boxes, is_parted};
 ghost use Rattle.tile_cells.specs.declared.lines.Axis.{Axis as Direction};
@@ -42,7 +41,7 @@ pub(crate) fn push_boxes(
     boxes: &mut Vec<Envelope>,
 ) -> Result<Tree, AllocError>
     requires grid { IsInGrid region }
-    requires inside { AllPass (is_within region) sample.old }
+    requires inside { LiesWithin sample.old region }
     ensures cut { OnOk result ((added : List Rectangle) × (boxes.new.items ≡ boxes.old.items ++ added)
         × IsCutAtMedians cuts most sample.old region added) }
     ensures once { OnOk result ((p : Position)
@@ -89,7 +88,7 @@ fn push_whole(region: Envelope, boxes: &mut Vec<Envelope>) -> Result<Tree, Alloc
 /// those before the line come first.
 fn halved(region: &Envelope, sample: &mut [GridPoint]) -> Option<Halves>
     requires grid { IsInGrid region.now }
-    requires inside { AllPass (is_within region.now) sample.old }
+    requires inside { LiesWithin sample.old region.now }
     ensures parts { IfSome result (λ halves. Parts halves.line region.now halves.low halves.high) }
     ensures once { IfSome result (λ halves. (p : Position)
         → times_within p (halves.low ∷ halves.high ∷ []) ≡ times_within p (region.now ∷ [])) }
@@ -110,7 +109,7 @@ fn halved(region: &Envelope, sample: &mut [GridPoint]) -> Option<Halves>
 /// Cuts a box in two by a line along one axis, if one parts its sample.
 fn halved_along(axis: Axis, region: &Envelope, sample: &mut [GridPoint]) -> Option<Halves>
     requires grid { IsInGrid region.now }
-    requires inside { AllPass (is_within region.now) sample.old }
+    requires inside { LiesWithin sample.old region.now }
     ensures parts { IfSome result (λ halves. Parts halves.line region.now halves.low halves.high) }
     ensures once { IfSome result (λ halves. (p : Position)
         → times_within p (halves.low ∷ halves.high ∷ []) ≡ times_within p (region.now ∷ [])) }

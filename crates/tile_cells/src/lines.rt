@@ -3,7 +3,7 @@
 ghost use Rattle.std.specs.Prelude.{◌≡◌, ◌≤◌, ◌≤ℤ◌, ◌-ℤ◌, length, take, drop, IfSome, MatchOption};
 ghost use Rattle.std.specs.List.Sorted.{IsPermutation};
 ghost use Rattle.fraction.specs.Ranges.{IsOnGrid};
-ghost use Rattle.tile_cells.specs.Cuts.{HasOneCoordinate, IsMedian, longer, other};
+ghost use Rattle.tile_cells.specs.Cuts.{HasBothSides, HasOneCoordinate, IsMedian, longer, other};
 ghost use Rattle.tile_cells.specs.Lines.{coordinate, least_along, greatest_along, IsInGrid, PassesThrough, Parts};
 
 use fraction::GridPoint;
@@ -30,7 +30,8 @@ pub(crate) struct Line {
 impl Axis {
     /// The coordinate of a position along this axis.
     fn of(self, position: &GridPoint) -> i32
-        ensures { result ≡ coordinate self position.now }
+        ensures value { result ≡ coordinate self position.now }
+        ensures on_grid { IsOnGrid position.now }
     {
         match self {
             Axis::X => position.x(),
@@ -95,17 +96,18 @@ pub(crate) fn median_line(axis: Axis, sample: &mut [GridPoint]) -> Option<(Line,
     ensures within { IfSome result (λ cut. cut.1 ≤ length sample.old) }
     ensures along { IfSome result (λ cut. (cut.0).axis ≡ axis) }
     ensures median { MatchOption result (HasOneCoordinate axis sample.new)
-        (λ cut. IsMedian cut.0 (take cut.1 sample.new) (drop cut.1 sample.new)) }
+        (λ cut. IsMedian cut.0 (take cut.1 sample.new) (drop cut.1 sample.new) × HasBothSides cut.0 sample.new) }
 {
     sample.sort_unstable_by_key(|position| axis.of(position));
+    let least = axis.of(sample.first()?);
     let median = axis.of(sample.get(sample.len() / 2)?);
-    let before = sample.partition_point(|position| axis.of(position) < median);
-    if before > 0 {
+    if least < median {
+        let before = sample.partition_point(|position| axis.of(position) < median);
         return Some((Line { axis, at: median }, before));
     }
-    let least = sample.partition_point(|position| axis.of(position) <= median);
-    let at = axis.of(sample.get(least)?);
-    Some((Line { axis, at }, least))
+    let before = sample.partition_point(|position| axis.of(position) <= median);
+    let at = axis.of(sample.get(before)?);
+    Some((Line { axis, at }, before))
 }
 
 /// The two parts of a box on the two sides of a line that passes through it, the lesser coordinates first.

@@ -1,15 +1,14 @@
-use Rattle.std.proofs.Common.{◌≡◌, true, subst, take, drop}
-use Rattle.std.proofs.lemmas.List.Sorted.{All-permutation, IsPermutation-trans}
-use Rattle.tile_laws.specs.Cells.{is_within}
+use Rattle.std.proofs.Common.{subst, take, drop}
+use Rattle.std.proofs.lemmas.List.Sorted.{IsPermutation-trans}
 use Rattle.tile_cells.specs.Cuts.{HasOneCoordinate, IsMedian}
 use Rattle.tile_cells.specs.declared.lines.Axis.{Axis}
 use Rattle.tile_cells.proofs.Medians.{along_both, one_coordinate}
-use Rattle.tile_cells.proofs.MedianCuts.{none_then}
+use Rattle.tile_cells.proofs.MedianCuts.{moved_within, none_then}
 use Rattle.tile_cells.proofs.cuts.halved.Goals as goal
 
 pub halved_along-requires-in-None-clause-inside : goal.halved_along-requires-in-None-clause-inside
 halved_along-requires-in-None-clause-inside c =
-    All-permutation (λ p. is_within c.args.region.now p ≡ true) c.args.sample.now c.halved_along.new.sample c.halved_along.ensures.moved c.requires.inside
+    moved_within c.args.sample.now c.halved_along.new.sample c.args.region.now c.halved_along.ensures.moved c.requires.inside
 
 pub returns-in-None-clause-moved : goal.returns-in-None-clause-moved
 returns-in-None-clause-moved c =

@@ -13,7 +13,10 @@ returns-in_err-line-clause-median c =
 
 pub parted-low-requires-clause-passes : goal.parted-low-requires-clause-passes
 parted-low-requires-clause-passes c =
-    median_passes c.in_ok-line.line c.args.region.now c.args.sample.now c.median_line.new.sample c.in_ok-line.before c.requires.inside c.median_line.ensures.moved c.in_ok-line.ensures.median
+    median_passes c.in_ok-line.line c.args.region.now c.args.sample.now c.median_line.new.sample c.requires.inside c.median_line.ensures.moved c.in_ok-line.ensures.median.1
 
 pub returns-clause-once : goal.returns-clause-once
 returns-clause-once c p = parts_once c.in_ok-line.line c.args.region.now c.parted-low.result.0 c.parted-low.result.1 c.parted-low.ensures p
+
+pub returns-clause-median : goal.returns-clause-median
+returns-clause-median c = c.in_ok-line.ensures.median.0
