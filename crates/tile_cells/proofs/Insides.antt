@@ -1,7 +1,6 @@
 -- Boxes within the grid, and samples within boxes.
-use Rattle.std.proofs.Common.{◌≡◌, ◌≤◌, ◌<◌, true, List, length, get_or, ℤ, pos, ◌-ℤ◌, ◌≤ℤ◌, ◌<ℤ◌, subst, sym, ap, arith}
+use Rattle.std.proofs.Common.{◌≡◌, ◌≤◌, true, List, get_or, ℤ, pos, ◌-ℤ◌, ◌≤ℤ◌, ◌<ℤ◌, subst, arith}
 use Rattle.std.specs.Prelude.{int_le, unsigned_abs}
-use Rattle.std.specs.List.{All}
 use Rattle.std.proofs.lemmas.Int.{ints}
 use Rattle.geometry_model.specs.Points.{Position}
 use Rattle.geometry_model.specs.Envelopes.{Envelope}

@@ -56,21 +56,24 @@ pub halves_added : (lines most : ℕ) (sample sorted : List Position) (n : ℕ) 
     → 0 < lines → most < length sample → IsPermutation sample sorted → rest ≡ drop n sorted → Parts line box low high
     → IsMedian line (take n sorted) (drop n sorted) → (line.axis ≡ longer box) ⊎ HasOneCoordinate (longer box) sample
     → Added (lines - 1) most (take n sorted) low old mid → Added (lines - 1) most rest high mid new → Added lines most sample box old new
-halves_added lines most sample sorted n rest line box low high old mid new some many moved is parts median along first second =
-    (first.0 ++ second.0, second.1 ∙ ap (λ l. l ++ second.0) first.1 ∙ append_assoc old first.0 second.0, halved_cut lines most sample box (first.0 ++ second.0) some (record {
-      line = line;
-      before = take n sorted;
-      behind = drop n sorted;
-      low = first.0;
-      high = second.0;
-      many = many;
-      parts = subst (λ l. IsPermutation sample l) (sym (take-append-drop n sorted)) moved;
-      median = median;
-      along = along;
-      joined = refl;
-      cut_low = subst (λ b. IsCutAtMedians (lines - 1) most (take n sorted) b first.0) parts.low_is first.2;
-      cut_high = subst (λ b. IsCutAtMedians (lines - 1) most (drop n sorted) b second.0) parts.high_is (subst (λ l. IsCutAtMedians (lines - 1) most l high second.0) is second.2);
-    }))
+halves_added lines most sample sorted n rest line box low high old mid new some many moved is parts median along first second = (
+  first.0 ++ second.0,
+  second.1 ∙ ap (λ l. l ++ second.0) first.1 ∙ append_assoc old first.0 second.0,
+  halved_cut lines most sample box (first.0 ++ second.0) some (record {
+    line = line;
+    before = take n sorted;
+    behind = drop n sorted;
+    low = first.0;
+    high = second.0;
+    many = many;
+    parts = subst (λ l. IsPermutation sample l) (sym (take-append-drop n sorted)) moved;
+    median = median;
+    along = along;
+    joined = refl;
+    cut_low = subst (λ b. IsCutAtMedians (lines - 1) most (take n sorted) b first.0) parts.low_is first.2;
+    cut_high = subst (λ b. IsCutAtMedians (lines - 1) most (drop n sorted) b second.0) parts.high_is (subst (λ l. IsCutAtMedians (lines - 1) most l high second.0) is second.2);
+  }),
+)
 
 -- ---- what the halves begin with
 
@@ -87,18 +90,20 @@ pub low_begins : (line : Line) (box low high : Envelope) (sample sorted : List P
     → Parts line box low high → IsMedian line (take n sorted) (drop n sorted) → IsInGrid low × LiesWithin (take n sorted) low
 low_begins line box low high sample sorted n grid all moved parts median =
     let within : LiesWithin (take n sorted) (low_part line.axis line.at box) = within_low line box (take n sorted) (drop n sorted)
-        (All-take (λ p. IsOnGrid p → is_within box p ≡ true) n sorted (moved_within sample sorted box moved all)) median in
-    (subst IsInGrid (sym parts.low_is) (corner_below line.axis line.at box grid parts.passes),
-     subst (LiesWithin (take n sorted)) (sym parts.low_is) within)
+    (All-take (λ p. IsOnGrid p → is_within box p ≡ true) n sorted (moved_within sample sorted box moved all)) median in (
+      subst IsInGrid (sym parts.low_is) (corner_below line.axis line.at box grid parts.passes),
+      subst (LiesWithin (take n sorted)) (sym parts.low_is) within,
+    )
 
 pub high_begins : (line : Line) (box low high : Envelope) (sample sorted : List Position) (n : ℕ) (rest : List Position) → IsInGrid box → LiesWithin sample box
     → IsPermutation sample sorted → rest ≡ drop n sorted → Parts line box low high → IsMedian line (take n sorted) (drop n sorted)
     → IsInGrid high × LiesWithin rest high
 high_begins line box low high sample sorted n rest grid all moved is parts median =
     let within : LiesWithin (drop n sorted) (high_part line.axis line.at box) = within_high line box (take n sorted) (drop n sorted)
-        (All-drop (λ p. IsOnGrid p → is_within box p ≡ true) n sorted (moved_within sample sorted box moved all)) median in
-    (subst IsInGrid (sym parts.high_is) (corner_above line.axis line.at box grid parts.passes),
-     subst (λ l. LiesWithin l high) (sym is) (subst (LiesWithin (drop n sorted)) (sym parts.high_is) within))
+    (All-drop (λ p. IsOnGrid p → is_within box p ≡ true) n sorted (moved_within sample sorted box moved all)) median in (
+      subst IsInGrid (sym parts.high_is) (corner_above line.axis line.at box grid parts.passes),
+      subst (λ l. LiesWithin l high) (sym is) (subst (LiesWithin (drop n sorted)) (sym parts.high_is) within),
+    )
 
 -- what is behind the line once those before it were put into another order
 pub rest_is : (new sorted : List Position) (n : ℕ) → n ≤ length sorted → length new ≡ length (take n sorted)

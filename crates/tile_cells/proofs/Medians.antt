@@ -1,21 +1,20 @@
 -- Samples in order, and the line at the median of one.
-use Rattle.std.proofs.Common.{◌≡◌, ◌⊎◌, inl, inr, ◌∙◌, ◌+◌, ◌-◌, ◌*◌, ◌/◌, ◌<◌, ◌≤◌, min, ℕ, zero, suc, Bool, true, false, cond, List, [], ◌∷◌, ◌++◌, length, take, drop, get_or, ℤ, pos, ◌≤ℤ◌, ◌<ℤ◌, refl, sym, ap, subst, arith}
+use Rattle.std.proofs.Common.{◌≡◌, inl, inr, ◌∙◌, ◌+◌, ◌-◌, ◌*◌, ◌<◌, ◌≤◌, min, ℕ, zero, suc, Bool, true, false, cond, List, [], ◌∷◌, length, take, drop, get_or, ℤ, pos, ◌≤ℤ◌, ◌<ℤ◌, refl, sym, ap, subst, arith}
 use Rattle.std.specs.Prelude.{int_le, int_lt, count_by}
 use Rattle.std.specs.Ordering.{int_cmp, is_lt}
-use Rattle.std.specs.List.{All, AllPass}
+use Rattle.std.specs.List.{All}
 use Rattle.std.specs.List.Sorted.{IsPermutation, IsSortedByKey, IsPartitionedBy, IsPartitionPoint}
 use Rattle.std.proofs.lemmas.Bool.{cases_lt}
 use Rattle.std.proofs.lemmas.Int.{ints}
 use Rattle.std.proofs.lemmas.Cmp.{int_cmp_total}
-use Rattle.std.proofs.lemmas.List.{length-take, length-take-le, length-drop, get_or-take, get_or-drop, get_or_default, take-append-drop}
+use Rattle.std.proofs.lemmas.List.{length-take, length-take-le, length-drop, get_or-take, get_or-drop, get_or_default}
 use Rattle.std.proofs.lemmas.List.Sorted.{All-permutation}
 use Rattle.std.proofs.lemmas.List.Sums.{sum_by-cons, sum_by-take-drop, count_by-le-length}
 use Rattle.std.proofs.lemmas.List.Sorted.{sorted_far, ranks_by, IsPermutation-sym}
 use Rattle.geometry_model.specs.Points.{Position}
-use Rattle.geometry_model.specs.Envelopes.{Envelope}
 use Rattle.fraction.specs.Ranges.{IsOnGrid}
 use Rattle.tile_cells.specs.Cuts.{HasBothSides, HasOneCoordinate, IsMedian, other}
-use Rattle.tile_cells.specs.Lines.{coordinate, PassesThrough, low_part, high_part}
+use Rattle.tile_cells.specs.Lines.{coordinate}
 use Rattle.tile_cells.specs.declared.lines.Axis.{Axis}
 use Rattle.tile_cells.specs.declared.lines.Axis.TheVariants.{X, Y}
 use Rattle.tile_cells.specs.declared.lines.Line.{Line}
@@ -30,7 +29,7 @@ not_less a b e = grind (arith, ints)
 pub ascends : (axis : Axis) (ps : List Position) → IsSortedByKey (coordinate axis) int_cmp ps → Ascend axis ps
 ascends axis ps h = record {
   up = λ i j d l m. not_less (coordinate axis (get_or ps i d)) (coordinate axis (get_or ps j d))
-    (sorted_far (λ (a b : Position). is_lt (int_cmp (coordinate axis a) (coordinate axis b))) (ranks_by int_cmp_total (coordinate axis)) ps h i j d l m);
+      (sorted_far (λ (a b : Position). is_lt (int_cmp (coordinate axis a) (coordinate axis b))) (ranks_by int_cmp_total (coordinate axis)) ps h i j d l m);
 }
 
 still_less : (a b x : ℤ) → a ≤ℤ b → int_lt b x ≡ true → int_lt a x ≡ true
@@ -90,8 +89,8 @@ few_counted : (f : Position → Bool) (ps : List Position) (k : ℕ) → k ≤ l
     → count_by f ps ≤ length ps - k
 few_counted f ps k within h =
     let none : count_by f (take k ps) ≡ 0 = none_counted f (take k ps) (λ i d l.
-        let below : i < k = omega (arith, length-take-le k ps within) in
-        ap f (get_or-take k ps i d below) ∙ h i d below) in
+    let below : i < k = omega (arith, length-take-le k ps within) in
+    ap f (get_or-take k ps i d below) ∙ h i d below) in
     omega (arith, none, sum_by-take-drop (λ p. cond (f p) 1 0) ps k, count_by-le-length f (drop k ps), length-drop k ps)
 
 -- what is at a place, at any default
@@ -110,8 +109,8 @@ few_past axis ps mid i p z up within here most below half =
     let past : Position → Bool = λ q. int_lt z (coordinate axis q) in
     let few : count_by past (drop i ps) ≤ count_by past ps = omega (arith, sum_by-take-drop (λ q. cond (past q) 1 0) ps i) in
     let counted : count_by past ps ≤ length ps - suc mid = few_counted past ps (suc mid) (omega arith) (λ k d l.
-        none_past (coordinate axis (get_or ps k d)) z (between (coordinate axis (get_or ps k d)) (coordinate axis p) z
-        (subst (λ q. coordinate axis (get_or ps k d) ≤ℤ coordinate axis q) (at_place ps mid p d within here) (up.up k mid d (omega arith) within)) most)) in
+    none_past (coordinate axis (get_or ps k d)) z (between (coordinate axis (get_or ps k d)) (coordinate axis p) z
+    (subst (λ q. coordinate axis (get_or ps k d) ≤ℤ coordinate axis q) (at_place ps mid p d within here) (up.up k mid d (omega arith) within)) most)) in
     omega (arith, few, counted, counted_both ps i below)
 
 -- a line at the coordinate of the middle one, where some are less
@@ -121,11 +120,11 @@ pub median_at : (line : Line) (ps : List Position) (mid i : ℕ) (p : Position) 
     → IsMedian line (take i ps) (drop i ps)
 median_at line ps mid i p up within half half2 here at below part some = record {
   less = λ k d l.
-    let k_below : k < i = omega (arith, size) in
-    subst (λ q. coordinate line.axis q <ℤ line.at) (sym (get_or-take i ps k d k_below)) (is_less (coordinate line.axis (get_or ps k d)) line.at (part.0 k d (omega arith) k_below));
+      let k_below : k < i = omega (arith, size) in
+      subst (λ q. coordinate line.axis q <ℤ line.at) (sym (get_or-take i ps k d k_below)) (is_less (coordinate line.axis (get_or ps k d)) line.at (part.0 k d (omega arith) k_below));
   not_less = λ k d l.
-    let k_below : i + k < length ps = omega (arith, rest) in
-    subst (λ q. line.at ≤ℤ coordinate line.axis q) (sym (get_or-drop i ps k d)) (is_not_less (coordinate line.axis (get_or ps (i + k) d)) line.at (part.1 (i + k) d (omega arith) k_below));
+      let k_below : i + k < length ps = omega (arith, rest) in
+      subst (λ q. line.at ≤ℤ coordinate line.axis q) (sym (get_or-drop i ps k d)) (is_not_less (coordinate line.axis (get_or ps (i + k) d)) line.at (part.1 (i + k) d (omega arith) k_below));
   some = omega (arith, size);
   reached = (mid - i, p, omega (arith, rest, first), get_or-drop i ps (mid - i) p ∙ ap (λ k. get_or ps k p) back ∙ here, sym at);
   few_past = few_past line.axis ps mid i p line.at up within here (subst (λ z. coordinate line.axis p ≤ℤ z) (sym at) (itself (coordinate line.axis p))) below half;
@@ -149,8 +148,8 @@ median_at line ps mid i p up within half half2 here at below part some = record 
       | inr h ↦ h
       | inl h ↦
           let less : int_lt (coordinate line.axis p) (coordinate line.axis p) ≡ true =
-              ap (λ q. int_lt (coordinate line.axis q) (coordinate line.axis p)) (sym here)
-              ∙ ap (λ z. int_lt (coordinate line.axis (get_or ps mid p)) z) (sym at) ∙ part.0 mid p (omega arith) h in
+          ap (λ q. int_lt (coordinate line.axis q) (coordinate line.axis p)) (sym here)
+          ∙ ap (λ z. int_lt (coordinate line.axis (get_or ps mid p)) z) (sym at) ∙ part.0 mid p (omega arith) h in
           absurd (differ (sym (not_itself (coordinate line.axis p)) ∙ less))
     ]
 
@@ -172,23 +171,26 @@ pub next_at : (line : Line) (ps : List Position) (mid j : ℕ) (o p q : Position
     → IsMedian line (take j ps) (drop j ps)
 next_at line ps mid j o p q up within half start least here within2 here2 at part = record {
   less = λ k d l.
-    let k_below : k < j = omega (arith, size) in
-    subst (λ r. coordinate line.axis r <ℤ line.at) (sym (get_or-take j ps k d k_below))
-    (subst (λ z. coordinate line.axis (get_or ps k d) <ℤ z) (sym at) (under (coordinate line.axis (get_or ps k d)) (coordinate line.axis p) (coordinate line.axis q) (most k d k_below) past));
+      let k_below : k < j = omega (arith, size) in
+      subst (λ r. coordinate line.axis r <ℤ line.at) (sym (get_or-take j ps k d k_below))
+      (subst (λ z. coordinate line.axis (get_or ps k d) <ℤ z) (sym at) (under (coordinate line.axis (get_or ps k d)) (coordinate line.axis p) (coordinate line.axis q) (most k d k_below) past));
   not_less = λ k d l.
-    let k_below : j + k < length ps = omega (arith, rest) in
-    subst (λ r. line.at ≤ℤ coordinate line.axis r) (sym (get_or-drop j ps k d))
-    (subst (λ z. z ≤ℤ coordinate line.axis (get_or ps (j + k) d)) (sym at)
-    (subst (λ r. coordinate line.axis r ≤ℤ coordinate line.axis (get_or ps (j + k) d)) (at_place ps j q d within2 here2) (up.up j (j + k) d (omega arith) k_below)));
+      let k_below : j + k < length ps = omega (arith, rest) in
+      subst (λ r. line.at ≤ℤ coordinate line.axis r) (sym (get_or-drop j ps k d))
+      (subst (λ z. z ≤ℤ coordinate line.axis (get_or ps (j + k) d)) (sym at)
+      (subst (λ r. coordinate line.axis r ≤ℤ coordinate line.axis (get_or ps (j + k) d)) (at_place ps j q d within2 here2) (up.up j (j + k) d (omega arith) k_below)));
   some = omega (arith, size, first);
   reached = (0, q, omega (arith, rest), get_or-drop j ps 0 q ∙ ap (λ k. get_or ps k q) (plain j) ∙ here2, sym at);
   few_past = few_past line.axis ps mid j p line.at up within here
-    (subst (λ z. coordinate line.axis p ≤ℤ z) (sym at) (weaker (coordinate line.axis p) (coordinate line.axis q) past)) (omega arith) half;
-  few_before = inr (coordinate line.axis p, λ k d l.
-    let k_below : k < j = omega (arith, size) in
-    ap (coordinate line.axis) (get_or-take j ps k d k_below)
-    ∙ same (coordinate line.axis (get_or ps k d)) (coordinate line.axis p) (most k d k_below)
-      (none_less line.axis ps p o up start least k d (omega arith)));
+      (subst (λ z. coordinate line.axis p ≤ℤ z) (sym at) (weaker (coordinate line.axis p) (coordinate line.axis q) past)) (omega arith) half;
+  few_before = inr (
+    coordinate line.axis p,
+    λ k d l.
+        let k_below : k < j = omega (arith, size) in
+        ap (coordinate line.axis) (get_or-take j ps k d k_below)
+        ∙ same (coordinate line.axis (get_or ps k d)) (coordinate line.axis p) (most k d k_below)
+        (none_less line.axis ps p o up start least k d (omega arith)),
+  );
 }
   where
     size : length (take j ps) ≡ j
@@ -221,7 +223,7 @@ next_at line ps mid j o p q up within half start least here within2 here2 at par
       | inl h ↦ h
       | inr h ↦
           let more : int_le (coordinate line.axis p) (coordinate line.axis p) ≡ false =
-              ap (λ r. int_le (coordinate line.axis r) (coordinate line.axis p)) (sym here) ∙ part.1 mid p h within in
+          ap (λ r. int_le (coordinate line.axis r) (coordinate line.axis p)) (sym here) ∙ part.1 mid p h within in
           absurd (differ (sym more ∙ itself (coordinate line.axis p)))
     ]
 
@@ -229,9 +231,12 @@ next_at line ps mid j o p q up within half start least here within2 here2 at par
 pub all_at : (axis : Axis) (ps : List Position) (j : ℕ) (o p : Position) → Ascend axis ps → get_or ps 0 o ≡ o → coordinate axis p ≤ℤ coordinate axis o
     → length ps ≤ j → IsPartitionPoint (λ r. int_le (coordinate axis r) (coordinate axis p) ≡ true) (λ r. int_le (coordinate axis r) (coordinate axis p) ≡ false) ps j
     → HasOneCoordinate axis ps
-all_at axis ps j o p up start least end part = (coordinate axis p, λ k d l.
-    same (coordinate axis (get_or ps k d)) (coordinate axis p) (is_most (coordinate axis (get_or ps k d)) (coordinate axis p) (part.0 k d (omega arith) (omega arith)))
-    (none_less axis ps p o up start least k d l))
+all_at axis ps j o p up start least end part = (
+  coordinate axis p,
+  λ k d l.
+      same (coordinate axis (get_or ps k d)) (coordinate axis p) (is_most (coordinate axis (get_or ps k d)) (coordinate axis p) (part.0 k d (omega arith) (omega arith)))
+      (none_less axis ps p o up start least k d l),
+)
 
 -- where the first one is less, some are
 pub some_less : (axis : Axis) (ps : List Position) (i : ℕ) (o : Position) (z : ℤ) → 0 < length ps → get_or ps 0 o ≡ o → coordinate axis o <ℤ z
@@ -250,10 +255,19 @@ pub with_sides : (line : Line) (ps : List Position) (n k : ℕ) (o q : Position)
 with_sides line ps n k o q first on within there on2 at median =
     let size : length (take n ps) ≡ min n (length ps) = length-take n ps in
     let some : 0 < length (take n ps) = median.some in
-    let n_some : 0 < n = omega (arith, size, some) in
-    (median, ((0, o, omega arith, first,
-        (on, subst (λ r. coordinate line.axis r <ℤ line.at) (get_or-take n ps 0 o n_some ∙ first) (median.less 0 o some))),
-        (k, q, within, there, (on2, sym at))))
+    let n_some : 0 < n = omega (arith, size, some) in (
+      median,
+      (
+        (
+          0,
+          o,
+          omega arith,
+          first,
+          (on, subst (λ r. coordinate line.axis r <ℤ line.at) (get_or-take n ps 0 o n_some ∙ first) (median.less 0 o some)),
+        ),
+        (k, q, within, there, (on2, sym at)),
+      ),
+    )
 
 -- none has one coordinate
 pub none_at : (axis : Axis) (ps : List Position) → length ps ≤ 0 → HasOneCoordinate axis ps

@@ -1,4 +1,4 @@
-use Rattle.std.proofs.Common.{◌≡◌, ◌⊎◌, inl, inr, ◌∙◌, ◌++◌, ◌-◌, ◌<◌, length, take, drop, ap, sym, arith}
+use Rattle.std.proofs.Common.{◌≡◌, ◌⊎◌, inl, inr, ◌∙◌, ◌++◌, ◌-◌, length, take, drop, ap, sym, arith}
 use Rattle.std.specs.List.{enumerate_from}
 use Rattle.tile_cells.specs.Trees.{numbered_boxes, is_parted}
 use Rattle.tile_cells.specs.Cuts.{StaysWhole}
@@ -31,7 +31,7 @@ pub push_boxes-requires : goal.push_boxes-requires
 push_boxes-requires t c =
     let halves = c.in-Some.halves in
     let begins = low_begins halves.line c.args.region halves.low halves.high c.args.sample.now c.halved.new.sample halves.before c.requires.grid c.requires.inside
-        c.halved.ensures.moved c.in-Some.ensures.parts c.in-Some.ensures.median in
+    c.halved.ensures.moved c.in-Some.ensures.parts c.in-Some.ensures.median in
     (omega (arith, c.if-cuts-eq0.false, c.decreases), begins)
 
 pub push_boxes-requires-in-Some : goal.push_boxes-requires-in-Some
@@ -41,8 +41,8 @@ push_boxes-requires-in-Some t c =
     let behind = drop halves.before (c.push_boxes.new.sample ++ drop halves.before sorted) in
     let rest = take (length (c.push_boxes.new.sample ++ drop halves.before sorted) - halves.before) behind in
     let begins = high_begins halves.line c.args.region halves.low halves.high c.args.sample.now sorted halves.before rest c.requires.grid c.requires.inside
-        c.halved.ensures.moved (rest_is c.push_boxes.new.sample sorted halves.before (omega (arith, c.in-Some.ensures.within, c.halved.auto.sample)) c.push_boxes.auto.sample)
-        c.in-Some.ensures.parts c.in-Some.ensures.median in
+    c.halved.ensures.moved (rest_is c.push_boxes.new.sample sorted halves.before (omega (arith, c.in-Some.ensures.within, c.halved.auto.sample)) c.push_boxes.auto.sample)
+    c.in-Some.ensures.parts c.in-Some.ensures.median in
     (omega (arith, c.if-cuts-eq0.false, c.decreases), begins)
 
 pub returns-in_ok-new-in-Some-2-clause-cut : goal.returns-in_ok-new-in-Some-2-clause-cut
