@@ -1,5 +1,5 @@
 -- The bounds of boxes, and of the two parts of one.
-use Rattle.std.proofs.Common.{◌≡◌, ◌∙◌, ◌+◌, ◌⊎◌, inl, inr, ℕ, Bool, true, false, cond, [], ◌∷◌, ℤ, pos, ◌-ℤ◌, ◌≤ℤ◌, ◌<ℤ◌, Option, Some, IfSome, refl, sym, ap, subst, arith}
+use Rattle.std.proofs.Common.{◌≡◌, ◌∙◌, ◌+◌, ◌⊎◌, inl, inr, ℕ, Bool, true, false, cond, [], ◌∷◌, ℤ, pos, ◌-ℤ◌, ◌≤ℤ◌, ◌<ℤ◌, Option, Some, refl, sym, ap, arith}
 use Rattle.std.specs.Prelude.{◌&&◌, int_le, int_lt}
 use Rattle.std.specs.Int.{int_min, int_max}
 use Rattle.std.proofs.lemmas.Int.{ints}
@@ -21,14 +21,13 @@ greater : (x y : ℤ) → x ≤ℤ y → int_max x y ≡ y
 greater x y h = cond-false (int_lt y x) x y (not_below x y h)
 
 -- the envelope of two corners in order is the box between them
-pub as_spanned : (o : Option Envelope) (a b : Position) (lx gx ly gy : ℤ)
-    → o ≡ envelope_of_positions (a ∷ b ∷ []) → a ≡ record { x = lx; y = ly } → b ≡ record { x = gx; y = gy } → lx ≤ℤ gx → ly ≤ℤ gy
-    → IfSome o (λ e. e ≡ record { least_x = lx; greatest_x = gx; least_y = ly; greatest_y = gy })
-as_spanned o a b lx gx ly gy is is_a is_b across up =
-    subst (λ r. IfSome r (λ e. e ≡ record { least_x = lx; greatest_x = gx; least_y = ly; greatest_y = gy })) (sym whole) refl
+pub as_spanned : (o : Option Envelope) (e : Envelope) (a b : Position) (lx gx ly gy : ℤ)
+    → o ≡ envelope_of_positions (a ∷ b ∷ []) → o ≡ Some e → a ≡ record { x = lx; y = ly } → b ≡ record { x = gx; y = gy } → lx ≤ℤ gx → ly ≤ℤ gy
+    → e ≡ record { least_x = lx; greatest_x = gx; least_y = ly; greatest_y = gy }
+as_spanned o e a b lx gx ly gy is is_e is_a is_b across up = one_of e (record { least_x = lx; greatest_x = gx; least_y = ly; greatest_y = gy }) (sym is_e ∙ whole)
   where
-    E : Position → Position → Option Envelope
-    E p q = envelope_of_positions (p ∷ q ∷ [])
+    one_of : (e f : Envelope) → Some e ≡ Some f → e ≡ f
+    one_of e f h = cc
 
     whole : o ≡ Some (record { least_x = lx; greatest_x = gx; least_y = ly; greatest_y = gy })
     whole = is ∙ ap (λ p. envelope_of_positions (p ∷ b ∷ [])) is_a
@@ -87,12 +86,12 @@ parts_once line box low high h p = ap (λ b. times_within p (b ∷ high ∷ []))
 -- a line across the x axis makes two parts
 pub parts_x : (line : Line) (box low high : Envelope) (lx gx ly gy : ℤ)
     → line.axis ≡ X → lx ≡ box.least_x → gx ≡ box.greatest_x → ly ≡ box.least_y → gy ≡ box.greatest_y
-    → lx <ℤ line.at → line.at ≤ℤ gx
+    → PassesThrough line.axis line.at box
     → low ≡ record { least_x = lx; greatest_x = line.at -ℤ pos 1; least_y = ly; greatest_y = gy }
     → high ≡ record { least_x = line.at; greatest_x = gx; least_y = ly; greatest_y = gy }
     → Parts line box low high
-parts_x line box low high lx gx ly gy axis is_lx is_gx is_ly is_gy before behind is_low is_high = record {
-  passes = subst (λ a. PassesThrough a line.at box) (sym axis) (subst (λ z. z <ℤ line.at) is_lx before, subst (λ z. line.at ≤ℤ z) is_gx behind);
+parts_x line box low high lx gx ly gy axis is_lx is_gx is_ly is_gy passes is_low is_high = record {
+  passes = passes;
   low_is = is_low ∙ ap (λ z. record { least_x = z; greatest_x = line.at -ℤ pos 1; least_y = ly; greatest_y = gy }) is_lx
       ∙ ap (λ z. record { least_x = box.least_x; greatest_x = line.at -ℤ pos 1; least_y = z; greatest_y = gy }) is_ly
       ∙ ap (λ z. record { least_x = box.least_x; greatest_x = line.at -ℤ pos 1; least_y = box.least_y; greatest_y = z }) is_gy
@@ -106,12 +105,12 @@ parts_x line box low high lx gx ly gy axis is_lx is_gx is_ly is_gy before behind
 -- a line across the y axis makes two parts
 pub parts_y : (line : Line) (box low high : Envelope) (lx gx ly gy : ℤ)
     → line.axis ≡ Y → lx ≡ box.least_x → gx ≡ box.greatest_x → ly ≡ box.least_y → gy ≡ box.greatest_y
-    → ly <ℤ line.at → line.at ≤ℤ gy
+    → PassesThrough line.axis line.at box
     → low ≡ record { least_x = lx; greatest_x = gx; least_y = ly; greatest_y = line.at -ℤ pos 1 }
     → high ≡ record { least_x = lx; greatest_x = gx; least_y = line.at; greatest_y = gy }
     → Parts line box low high
-parts_y line box low high lx gx ly gy axis is_lx is_gx is_ly is_gy before behind is_low is_high = record {
-  passes = subst (λ a. PassesThrough a line.at box) (sym axis) (subst (λ z. z <ℤ line.at) is_ly before, subst (λ z. line.at ≤ℤ z) is_gy behind);
+parts_y line box low high lx gx ly gy axis is_lx is_gx is_ly is_gy passes is_low is_high = record {
+  passes = passes;
   low_is = is_low ∙ ap (λ z. record { least_x = z; greatest_x = gx; least_y = ly; greatest_y = line.at -ℤ pos 1 }) is_lx
       ∙ ap (λ z. record { least_x = box.least_x; greatest_x = z; least_y = ly; greatest_y = line.at -ℤ pos 1 }) is_gx
       ∙ ap (λ z. record { least_x = box.least_x; greatest_x = box.greatest_x; least_y = z; greatest_y = line.at -ℤ pos 1 }) is_ly

@@ -7,7 +7,8 @@ use Rattle.std.proofs.lemmas.Bool.{and_from}
 use Rattle.geometry_model.specs.Points.{Position}
 use Rattle.geometry_model.specs.Envelopes.{Envelope}
 use Rattle.tile_laws.specs.Cells.{IsCut, IsOnGrid, is_within, cells_of}
-use Rattle.tile_cells.specs.Lines.{times_within, whole}
+use Rattle.tile_cells.specs.Cuts.{LiesWithin}
+use Rattle.tile_cells.specs.Lines.{IsInGrid, times_within, whole}
 
 above : (z : ℤ) → unsigned_abs z ≤ 10000000 → int_le (negsuc 9999999) z ≡ true
 above (pos n) h = grind (arith, ints)
@@ -33,3 +34,10 @@ box_numbered boxes (suc n) box some in_range is =
     let back : suc n - 1 ≡ n = omega arith in
     let at : box ≡ get_or boxes n box = is ∙ ap (λ k. get_or boxes k box) back in
     slice_get-map Some boxes n ∙ ap (option_map Some) (slice_get-get_or boxes n box (omega arith)) ∙ ap (λ b. Some (Some b)) (sym at)
+
+-- the box of the whole grid is within it, and holds what a sample has of it
+pub whole_in_grid : IsInGrid whole
+whole_in_grid = (record { x = omega arith; y = omega arith }, record { x = omega arith; y = omega arith })
+
+pub all_within : (sample : List Position) → LiesWithin sample whole
+all_within sample k d l on = within (get_or sample k d) (on.x, on.y)

@@ -19,14 +19,14 @@ use Rattle.tile_cells.specs.declared.trees.Tree.{Tree, Whole, Parted'}
 
 -- ---- overlaps, by their four comparisons
 
-four : (a b c d : Bool) → (a && b && c && d) ≡ true → (a ≡ true) × (b ≡ true) × (c ≡ true) × (d ≡ true)
+pub four : (a b c d : Bool) → (a && b && c && d) ≡ true → (a ≡ true) × (b ≡ true) × (c ≡ true) × (d ≡ true)
 four a b c d h =
     let last = and_parts (a && b && c) d h in
     let third = and_parts (a && b) c last.0 in
     let first = and_parts a b third.0 in
     (first.0, first.1, third.1, last.1)
 
-all_four : (a b c d : Bool) → a ≡ true → b ≡ true → c ≡ true → d ≡ true → (a && b && c && d) ≡ true
+pub all_four : (a b c d : Bool) → a ≡ true → b ≡ true → c ≡ true → d ≡ true → (a && b && c && d) ≡ true
 all_four a b c d h h2 h3 h4 = and_from (a && b && c) d (and_from (a && b) c (and_from a b h h2) h3) h4
 
 before : (z at : ℤ) → z <ℤ at → int_le z (at -ℤ pos 1) ≡ true

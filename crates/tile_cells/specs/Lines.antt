@@ -2,6 +2,7 @@
 use Rattle.std.specs.Prelude.{◌≡◌, ℕ, List, count_by, ℤ, pos, negsuc, ◌-ℤ◌, ◌≤ℤ◌, ◌<ℤ◌}
 use Rattle.geometry_model.specs.Envelopes.{Envelope}
 use Rattle.geometry_model.specs.Points.{Position}
+use Rattle.fraction.specs.Ranges.{IsOnGrid}
 use Rattle.tile_laws.specs.Cells.{is_within}
 use Rattle.tile_cells.specs.declared.lines.Axis.{Axis}
 use Rattle.tile_cells.specs.declared.lines.Axis.TheVariants.{X, Y}
@@ -40,6 +41,10 @@ times_within p boxes = count_by (λ box. is_within box p) boxes
 -- the whole grid
 abbrev pub whole : Envelope
 whole = record { least_x = negsuc 9999999; greatest_x = pos 10000000; least_y = negsuc 9999999; greatest_y = pos 10000000 }
+
+-- a box is within the grid: its least and its greatest corner are positions of it
+abbrev pub IsInGrid : Envelope → Type 0
+IsInGrid box = IsOnGrid (record { x = box.least_x; y = box.least_y }) × IsOnGrid (record { x = box.greatest_x; y = box.greatest_y })
 
 -- the least coordinate of a box along an axis
 abbrev pub least_along : Axis → Envelope → ℤ

@@ -5,6 +5,7 @@ ghost use Rattle.std.specs.List.{enumerate_from};
 ghost use Rattle.geometry_model.specs.Envelopes.{Envelope as Rectangle};
 ghost use Rattle.rtree.specs.Found.{meeting_places};
 ghost use Rattle.tile_laws.specs.Cells.{IsCut, cells_of};
+ghost use Rattle.tile_cells.specs.Cuts.{IsCutAtMedians};
 ghost use Rattle.tile_cells.specs.Lines.{whole};
 ghost use Rattle.tile_cells.specs.Trees.{numbered_boxes, is_parted};
 
@@ -54,6 +55,7 @@ impl Cells {
     /// another order. It fails only when memory runs out.
     pub fn cut(alloc: Global, sample: &mut [GridPoint], most: usize) -> Result<Cells, AllocError>
         ensures cut { IfOk result (λ cells. IsCut cells) }
+        ensures medians { IfOk result (λ cells. IsCutAtMedians 10 most sample.old whole cells) }
         ensures few { IfOk result (λ cells. length cells ≤ MOST_BOXES) }
         ensures some { IfOk result (λ cells. 1 ≤ length cells) }
     {

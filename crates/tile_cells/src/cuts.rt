@@ -1,10 +1,14 @@
 //! How a box is cut into smaller ones.
 
-ghost use Rattle.std.specs.Prelude.{◌≡◌, ◌+◌, ◌≤◌, ◌^◌, ◌∷◌, ◌++◌, [], true, length, IfSome, IfOk, OnOk};
+ghost use Rattle.std.specs.Prelude.{◌≡◌, ◌⊎◌, ◌+◌, ◌≤◌, ◌^◌, ◌∷◌, ◌++◌, List, [], true, length, take, drop, IfSome, IfOk, OnOk, MatchOption};
 ghost use Rattle.std.specs.List.{enumerate_from};
+ghost use Rattle.std.specs.List.Sorted.{IsPermutation};
+ghost use Rattle.geometry_model.specs.Envelopes.{Envelope as Rectangle};
 ghost use Rattle.geometry_model.specs.Points.{Position};
-ghost use Rattle.tile_cells.specs.Lines.{Parts, times_within};
+ghost use Rattle.tile_cells.specs.Cuts.{HasOneCoordinate, IsMedian, IsCutAtMedians, LiesWithin, longer};
+ghost use Rattle.tile_cells.specs.Lines.{IsInGrid, Parts, times_within};
 ghost use Rattle.tile_cells.specs.Trees.{numbered_boxes, is_parted};
+ghost use Rattle.tile_cells.specs.declared.lines.Axis.{Axis as Direction};
 
 use crate::lines::{Axis, Line, longer_axis, median_line, parted};
 use crate::trees::Tree;
@@ -36,6 +40,10 @@ pub(crate) fn push_boxes(
     cuts: u32,
     boxes: &mut Vec<Envelope>,
 ) -> Result<Tree, AllocError>
+    requires grid { IsInGrid region }
+    requires inside { LiesWithin sample.old region }
+    ensures cut { OnOk result ((added : List Rectangle) × (boxes.new.items ≡ boxes.old.items ++ added)
+        × IsCutAtMedians cuts most sample.old region added) }
     ensures once { OnOk result ((p : Position)
         → times_within p boxes.new.items ≡ times_within p boxes.old.items + times_within p (region ∷ [])) }
     ensures few { OnOk result (length boxes.new.items ≤ length boxes.old.items + 2 ^ cuts) }
@@ -79,10 +87,17 @@ fn push_whole(region: Envelope, boxes: &mut Vec<Envelope>) -> Result<Tree, Alloc
 /// Cuts a box in two, if a line parts its sample: along the longer side, else along the other. It sorts the sample so that
 /// those before the line come first.
 fn halved(region: &Envelope, sample: &mut [GridPoint]) -> Option<Halves>
+    requires grid { IsInGrid region.now }
+    requires inside { LiesWithin sample.old region.now }
     ensures parts { IfSome result (λ halves. Parts halves.line region.now halves.low halves.high) }
     ensures once { IfSome result (λ halves. (p : Position)
         → times_within p (halves.low ∷ halves.high ∷ []) ≡ times_within p (region.now ∷ [])) }
     ensures within { IfSome result (λ halves. halves.before ≤ length sample.old) }
+    ensures moved { IsPermutation sample.old sample.new }
+    ensures median { MatchOption result ((axis : Direction) → HasOneCoordinate axis sample.old)
+        (λ halves. IsMedian halves.line (take halves.before sample.new) (drop halves.before sample.new)) }
+    ensures along { IfSome result (λ halves. (halves.line.axis ≡ longer region.now)
+        ⊎ HasOneCoordinate (longer region.now) sample.old) }
 {
     let longer = longer_axis(region);
     match halved_along(longer, region, sample) {
@@ -93,13 +108,19 @@ fn halved(region: &Envelope, sample: &mut [GridPoint]) -> Option<Halves>
 
 /// Cuts a box in two by a line along one axis, if one parts its sample.
 fn halved_along(axis: Axis, region: &Envelope, sample: &mut [GridPoint]) -> Option<Halves>
+    requires grid { IsInGrid region.now }
+    requires inside { LiesWithin sample.old region.now }
     ensures parts { IfSome result (λ halves. Parts halves.line region.now halves.low halves.high) }
     ensures once { IfSome result (λ halves. (p : Position)
         → times_within p (halves.low ∷ halves.high ∷ []) ≡ times_within p (region.now ∷ [])) }
     ensures within { IfSome result (λ halves. halves.before ≤ length sample.old) }
+    ensures moved { IsPermutation sample.old sample.new }
+    ensures median { MatchOption result (HasOneCoordinate axis sample.old)
+        (λ halves. IsMedian halves.line (take halves.before sample.new) (drop halves.before sample.new)) }
+    ensures along { IfSome result (λ halves. halves.line.axis ≡ axis) }
 {
     let (line, before) = median_line(axis, sample)?;
-    let (low, high) = parted(region, line)?;
+    let (low, high) = parted(region, line);
     Some(Halves {
         line,
         low,

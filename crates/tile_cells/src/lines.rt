@@ -1,8 +1,10 @@
 //! The lines along which a box is cut in two.
 
-ghost use Rattle.std.specs.Prelude.{◌≡◌, ◌+◌, ◌≤◌, ◌<◌, ◌≤ℤ◌, ◌<ℤ◌, pos, ◌-ℤ◌, length, IfSome, Option, Some};
-ghost use Rattle.geometry_model.specs.Envelopes.{Envelope as Rectangle};
-ghost use Rattle.tile_cells.specs.Lines.{coordinate, least_along, greatest_along, low_part, high_part, Parts};
+ghost use Rattle.std.specs.Prelude.{◌≡◌, ◌≤◌, ◌≤ℤ◌, ◌-ℤ◌, length, take, drop, IfSome, MatchOption};
+ghost use Rattle.std.specs.List.Sorted.{IsPermutation};
+ghost use Rattle.fraction.specs.Ranges.{IsOnGrid};
+ghost use Rattle.tile_cells.specs.Cuts.{HasBothSides, HasOneCoordinate, IsMedian, longer, other};
+ghost use Rattle.tile_cells.specs.Lines.{coordinate, least_along, greatest_along, IsInGrid, PassesThrough, Parts};
 
 use fraction::GridPoint;
 use rtree::Envelope;
@@ -28,7 +30,8 @@ pub(crate) struct Line {
 impl Axis {
     /// The coordinate of a position along this axis.
     fn of(self, position: &GridPoint) -> i32
-        ensures { result ≡ coordinate self position.now }
+        ensures value { result ≡ coordinate self position.now }
+        ensures on_grid { IsOnGrid position.now }
     {
         match self {
             Axis::X => position.x(),
@@ -57,7 +60,9 @@ impl Axis {
     }
 
     /// The other axis.
-    pub(crate) fn other(self) -> Axis {
+    pub(crate) fn other(self) -> Axis
+        ensures { result ≡ other self }
+    {
         match self {
             Axis::X => Axis::Y,
             Axis::Y => Axis::X,
@@ -66,7 +71,9 @@ impl Axis {
 }
 
 /// The axis along which a box is longer; the first where both sides are equal.
-pub(crate) fn longer_axis(region: &Envelope) -> Axis {
+pub(crate) fn longer_axis(region: &Envelope) -> Axis
+    ensures { result ≡ longer region.now }
+{
     if length(Axis::X, region) < length(Axis::Y, region) {
         Axis::Y
     } else {
@@ -75,7 +82,9 @@ pub(crate) fn longer_axis(region: &Envelope) -> Axis {
 }
 
 /// The length of a box along an axis.
-fn length(axis: Axis, region: &Envelope) -> i64 {
+fn length(axis: Axis, region: &Envelope) -> i64
+    ensures { result ≡ greatest_along axis region.now -ℤ least_along axis region.now }
+{
     i64::from(axis.greatest(region)) - i64::from(axis.least(region))
 }
 
@@ -83,46 +92,54 @@ fn length(axis: Axis, region: &Envelope) -> i64 {
 /// sorts the sample along the axis, so that those before the line are first. Where half of the sample or more has the
 /// least coordinate, the line passes behind these.
 pub(crate) fn median_line(axis: Axis, sample: &mut [GridPoint]) -> Option<(Line, usize)>
+    ensures moved { IsPermutation sample.old sample.new }
     ensures within { IfSome result (λ cut. cut.1 ≤ length sample.old) }
+    ensures along { IfSome result (λ cut. (cut.0).axis ≡ axis) }
+    ensures median { MatchOption result (HasOneCoordinate axis sample.new)
+        (λ cut. IsMedian cut.0 (take cut.1 sample.new) (drop cut.1 sample.new) × HasBothSides cut.0 sample.new) }
 {
     sample.sort_unstable_by_key(|position| axis.of(position));
+    let least = axis.of(sample.first()?);
     let median = axis.of(sample.get(sample.len() / 2)?);
-    let before = sample.partition_point(|position| axis.of(position) < median);
-    if before > 0 {
+    if least < median {
+        let before = sample.partition_point(|position| axis.of(position) < median);
         return Some((Line { axis, at: median }, before));
     }
-    let least = sample.partition_point(|position| axis.of(position) <= median);
-    let at = axis.of(sample.get(least)?);
-    Some((Line { axis, at }, least))
+    let before = sample.partition_point(|position| axis.of(position) <= median);
+    let at = axis.of(sample.get(before)?);
+    Some((Line { axis, at }, before))
 }
 
-/// The two parts of a box on the two sides of a line, the lesser coordinates first; `None` where the line doesn't part it.
-pub(crate) fn parted(region: &Envelope, line: Line) -> Option<(Envelope, Envelope)>
-    ensures { IfSome result (λ parts. Parts line region.now parts.0 parts.1) }
+/// The two parts of a box on the two sides of a line that passes through it, the lesser coordinates first.
+pub(crate) fn parted(region: &Envelope, line: Line) -> (Envelope, Envelope)
+    requires grid { IsInGrid region.now }
+    requires passes { PassesThrough line.axis line.at region.now }
+    ensures { Parts line region.now result.0 result.1 }
 {
     let (least_x, greatest_x) = (region.least_x(), region.greatest_x());
     let (least_y, greatest_y) = (region.least_y(), region.greatest_y());
     match line.axis {
-        Axis::X if least_x < line.at && line.at <= greatest_x => Some((
-            spanned(least_x, line.at - 1, least_y, greatest_y)?,
-            spanned(line.at, greatest_x, least_y, greatest_y)?,
-        )),
-        Axis::Y if least_y < line.at && line.at <= greatest_y => Some((
-            spanned(least_x, greatest_x, least_y, line.at - 1)?,
-            spanned(least_x, greatest_x, line.at, greatest_y)?,
-        )),
-        _ => None,
+        Axis::X => (
+            spanned(least_x, line.at - 1, least_y, greatest_y),
+            spanned(line.at, greatest_x, least_y, greatest_y),
+        ),
+        Axis::Y => (
+            spanned(least_x, greatest_x, least_y, line.at - 1),
+            spanned(least_x, greatest_x, line.at, greatest_y),
+        ),
     }
 }
 
-/// The box of these bounds; `None` where it goes past the grid.
-fn spanned(least_x: i32, greatest_x: i32, least_y: i32, greatest_y: i32) -> Option<Envelope>
+/// The box of these bounds.
+fn spanned(least_x: i32, greatest_x: i32, least_y: i32, greatest_y: i32) -> Envelope
+    requires least { IsOnGrid (record { x = least_x; y = least_y }) }
+    requires greatest { IsOnGrid (record { x = greatest_x; y = greatest_y }) }
     requires across { least_x ≤ℤ greatest_x }
     requires up { least_y ≤ℤ greatest_y }
-    ensures { IfSome result (λ e. e
-        ≡ record { least_x = least_x; greatest_x = greatest_x; least_y = least_y; greatest_y = greatest_y }) }
+    ensures { result
+        ≡ record { least_x = least_x; greatest_x = greatest_x; least_y = least_y; greatest_y = greatest_y } }
 {
-    let least = GridPoint::new(least_x, least_y)?;
-    let greatest = GridPoint::new(greatest_x, greatest_y)?;
-    Envelope::of_positions(&[least, greatest])
+    let least = GridPoint::new(least_x, least_y).unwrap();
+    let greatest = GridPoint::new(greatest_x, greatest_y).unwrap();
+    Envelope::of_positions(&[least, greatest]).unwrap()
 }
