@@ -1,4 +1,5 @@
--- What a bounded reader shows.
+-- What a bounded reader and a patient one show.
+use Rattle.bounded_readers.specs.declared.interruptions.PatientReader.{PatientReader}
 use Rattle.bounded_readers.specs.declared.readers.BoundedReader.{BoundedReader}
 use Rattle.bounded_readers.specs.declared.tallies.Tally.{Tally}
 
@@ -9,3 +10,7 @@ reader_under b = b.reader
 -- the tally of the bytes that it gave
 abbrev pub tally_of : {R : Type 0} → BoundedReader R → Tally
 tally_of b = b.tally
+
+-- the reader beneath a patient one
+abbrev pub patient_under : {R : Type 0} → PatientReader R → R
+patient_under p = p.reader

@@ -3,7 +3,6 @@
 #![tactic(auto)]
 
 mod inputs;
-mod interruptions;
 mod progress;
 
 use crate::inputs::{CommandReader, Input};

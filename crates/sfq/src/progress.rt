@@ -2,7 +2,7 @@
 //! The line is removed before anything else is written. Once output has been written to a terminal, no line is shown any more.
 
 use crate::inputs::Input;
-use crate::interruptions::{PatientReader, write_again};
+use bounded_readers::{PatientReader, write_again};
 use observers::{Followed, ReadObserver, RowObserver};
 use std::cell::Cell;
 use std::io::{self, IsTerminal, Write};

@@ -2,7 +2,7 @@
 
 ghost use Rattle.std.specs.Prelude.{None};
 
-use crate::interruptions::write_again;
+use bounded_readers::write_again;
 use itoa::Buffer;
 use sinks::SinkFault;
 use std::alloc::{AllocError, Global};

@@ -4,9 +4,8 @@ ghost use Rattle.std.specs.Prelude.{◌∷◌, ◌<◌, [], IsTrue, length};
 ghost use Rattle.table_model.specs.Definitions.{lawful};
 
 use crate::endings::Ending;
-use crate::interruptions::PatientReader;
 use crate::parts::NamedPart;
-use bounded_readers::BoundedReader;
+use bounded_readers::{BoundedReader, PatientReader};
 use failures::Failure;
 use loaded_tables::{Geometry, Schema, TableDef};
 use schema_reader::read_schema;

@@ -5,7 +5,6 @@ mod definitions;
 mod endings;
 mod files;
 mod inputs;
-mod interruptions;
 mod listing;
 mod made_tables;
 mod parts;

@@ -140,6 +140,7 @@ not_ascending keys sorted moved up k within equal = go (double_key keys) refl
 -- keys of which a count is known exactly if they differ
 pub seen_to_differ : {T G : Type 0} (geometry : GeometryReader T G) (table : TableDef T) (records : List Record) (keys : List ℤ) (seen : Option ℕ)
     → keys_of_table geometry table records ≡ Ok keys → IfSome seen (λ count. count ≡ length keys) → IfSome seen (λ _. double_key keys ≡ None)
-    → IfNone seen ((number : ℕ) × (double_key keys ≡ Some number)) → Counts (Ok seen) (checked geometry table records)
+    → IfNone seen ((number : ℕ) × (double_key keys ≡ Some number)) → Counts (Ok seen) (keys_of_table geometry table records)
+unfolding checked
 seen_to_differ geometry table records keys (Some count) is same differ double = counts geometry table records keys is differ ∙ ap Ok (sym same)
 seen_to_differ geometry table records keys None is same differ double = (double.0, doubles geometry table records keys double.0 is double.1)

@@ -1,12 +1,13 @@
 -- What one pass over the records of a table returns.
-use Rattle.std.specs.Prelude.{◌≡◌, ◌∷◌, ⊤, ℕ, List, [], Option, Some, None, Result, Ok, Err}
+use Rattle.std.specs.Prelude.{◌≡◌, ◌∷◌, ⊤, ℕ, ℤ, List, [], Option, Some, None, Result, Ok, Err}
 use Rattle.csv.specs.declared.reader.Reader.{Reader}
 use Rattle.loaded_tables.specs.Outcomes.{IsFailure, Loads}
 use Rattle.loaded_tables.specs.Reading.{StillGives}
 use Rattle.loaded_tables.specs.Tables.{AreRecordsOf}
-use Rattle.table_model.specs.Loading.{Record}
+use Rattle.table_model.specs.Loading.{Record, and_then}
 use Rattle.table_model.specs.declared.faults.LoadFault.{LoadFault}
 use Rattle.table_model.specs.declared.faults.LoadFault.TheVariants as fault
+use Rattle.tile_tables.specs.Checks.{counted}
 
 -- what a record of this number gives: a value or a fault
 abbrev pub Of : Type 0 → Type 0
@@ -30,8 +31,9 @@ IsOfRecord of number (Err f) = ¬ (IsFailure f) → (fields : Record) × (of (nu
 abbrev pub IsOf : {X Y : Type 0} → Option (List ℕ) → (X → Y) → Result X LoadFault → (List Record → Result Y LoadFault) → Type 0
 IsOf known view answer meant = (records : List Record) × AreRecordsOf known records × Loads view answer (meant records)
 
--- how many rows there are, or the first fault; none where the fault is that two keys are equal, whichever they are
-abbrev pub Counts : Result (Option ℕ) LoadFault → Result ℕ LoadFault → Type 0
-Counts (Ok (Some rows)) answer = answer ≡ Ok rows
-Counts (Ok None) answer = (number : ℕ) × (answer ≡ Err (fault.DoubleKey number))
-Counts (Err f) answer = ¬ (IsFailure f) → answer ≡ Err f
+-- how many rows there are by their keys; none where the one fault is that two keys are equal, whichever they are; or the first
+-- fault that isn't one of keys
+abbrev pub Counts : Result (Option ℕ) LoadFault → Result (List ℤ) LoadFault → Type 0
+Counts (Ok (Some rows)) keys = and_then keys counted ≡ Ok rows
+Counts (Ok None) keys = (number : ℕ) × (and_then keys counted ≡ Err (fault.DoubleKey number))
+Counts (Err f) keys = ¬ (IsFailure f) → keys ≡ Err f

@@ -35,7 +35,7 @@ pub fn check_records<R: Read + Drop, W: RowWatcher>(
 ) -> Result<Option<usize>, LoadFault>
     requires { IsTrue (lawful (table.now ∷ [])) }
     ensures { (records : List Record) × AreRecordsOf (R.remaining reader) records
-        × Counts result (checked reading table.now records) }
+        × Counts result (keys_of_table reading table.now records) }
 {
     let keys = keys_in(alloc, table, reader, watcher)?;
     Ok(differing(keys))

@@ -1,13 +1,13 @@
 use Rattle.std.proofs.lemmas.Result.{err_from_is_err_and}
 use Rattle.loaded_tables.specs.GeometryFields.{reading}
-use Rattle.tile_tables.proofs.CheckLemmas.{fails, seen_to_differ}
+use Rattle.tile_tables.proofs.CheckLemmas.{seen_to_differ}
 use Rattle.tile_tables.proofs.checking.check_records.Goals as goal
 
 pub returns-in_err-keys : goal.returns-in_err-keys
 returns-in_err-keys g c =
     let found = c.in_err-keys.ensures in
     let p = err_from_is_err_and c.from_residual.result c.from_residual.ensures.1 in
-    rw (p.1, p.2) (found.0, found.1, λ other. fails reading c.args.table.now found.0 c.in_err-keys.field-0.0 (found.2 other))
+    rw (p.1, p.2) (found.0, found.1, found.2)
 
 pub returns : goal.returns
 returns g c =

@@ -1,6 +1,7 @@
 //! Makes calls of the system again that a signal interrupted.
 
 ghost use Rattle.std.specs.Io.{WritesAtMost};
+ghost use Rattle.std.specs.Io.KnownBytes.{WriteAppends};
 
 use std::io::{self, Error, ErrorKind, Read, Write};
 
@@ -14,13 +15,22 @@ pub struct PatientReader<R: Read> {
 }
 
 impl<R: Read> PatientReader<R> {
-    /// A reader over an open file or stream.
-    pub fn new(reader: R) -> PatientReader<R> {
+    ghost use Rattle.std.specs.Prelude.{◌≡◌};
+    ghost use Rattle.bounded_readers.specs.Readers.{patient_under};
+
+    /// A reader over an open file or stream. It takes no memory.
+    pub fn new(reader: R) -> PatientReader<R>
+        ensures { patient_under result ≡ reader }
+    {
         PatientReader { reader }
     }
 }
 
 impl<R: Read> Read for PatientReader<R> {
+    ghost use Rattle.bounded_readers.specs.Readers.{patient_under};
+
+    ghost remaining = { λ p. R.remaining (patient_under p) };
+
     fn read(&mut self, buffer: &mut [u8]) -> io::Result<usize> {
         for _ in 0..TURNS {
             match self.reader.read(buffer) {
@@ -32,9 +42,11 @@ impl<R: Read> Read for PatientReader<R> {
     }
 }
 
-/// Writes to a stream, and again where a signal interrupts it.
+/// Writes some bytes to a stream, and again where a signal interrupts it. It returns how many were written; none are after an
+/// error.
 pub fn write_again<W: Write>(stream: &mut W, buffer: &[u8]) -> io::Result<usize>
-    ensures { WritesAtMost result buffer.now }
+    ensures bound { WritesAtMost result buffer.now }
+    ensures bytes { WriteAppends (W.contents stream.old) (W.contents stream.new) result buffer.now }
 {
     for _ in 0..TURNS {
         match stream.write(buffer) {
