@@ -143,7 +143,9 @@ fn why_flag<'a>(alloc: Global) -> Arg<'a>
     Arg::new(alloc, "why")
         .long("why")
         .action(ArgAction::SetTrue)
-        .help("Reads the table of a fault again, and says what is wrong there; notes fields with a line end")
+        .help(
+            "Reads the table of a fault again, and says what is wrong there; notes fields with a line end",
+        )
 }
 
 /// `check SCHEMA DIR`, with the flag `--why`

@@ -5,7 +5,7 @@ use crate::inputs::Input;
 use bounded_readers::{PatientReader, write_again};
 use observers::{Followed, ReadObserver, RowObserver};
 use std::cell::Cell;
-use std::io::{self, IsTerminal, Write};
+use std::io::{self, Error, ErrorKind, IsTerminal, Write};
 use std::path::Path;
 use std::time::{Duration, Instant};
 
@@ -95,12 +95,13 @@ impl<'r> Progress<'r> {
     }
 
     /// A stream before whose bytes the line is removed; on a terminal no line is printed after the first of them. What a
-    /// signal interrupts is written again.
+    /// signal interrupts is written again, and after another error nothing more is written.
     pub fn before<W: Write + IsTerminal>(&self, stream: W) -> Cleared<'_, W> {
         let is_last = stream.is_terminal();
         Cleared {
             stream,
             is_last,
+            has_failed: false,
             progress: self,
         }
     }
@@ -227,21 +228,28 @@ impl Drop for Search<'_> {
     }
 }
 
-/// A stream before whose bytes the line is removed, and whose writes are made again where a signal interrupts them.
+/// A stream before whose bytes the line is removed, and whose writes are made again where a signal interrupts them. After
+/// another error nothing more is written, so what is there is a beginning of what was to be.
 #[derive(Drop)]
 pub struct Cleared<'p, W: Write> {
     stream: W,
     is_last: bool,
+    has_failed: bool,
     progress: &'p Progress<'p>,
 }
 
 impl<W: Write> Write for Cleared<'_, W> {
     fn write(&mut self, buffer: &[u8]) -> io::Result<usize> {
+        if self.has_failed {
+            return Err(Error::from(ErrorKind::BrokenPipe));
+        }
         self.progress.clear();
         if self.is_last {
             self.progress.is_over.set(true);
         }
-        write_again(&mut self.stream, buffer)
+        let written = write_again(&mut self.stream, buffer);
+        self.has_failed = written.is_err();
+        written
     }
 
     fn flush(&mut self) -> io::Result<()> {
