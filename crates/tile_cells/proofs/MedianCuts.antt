@@ -1,10 +1,11 @@
 -- Boxes cut at the medians of a sample.
-use Rattle.std.proofs.Common.{◌≡◌, ◌⊎◌, inl, inr, ◌∙◌, ◌+◌, ◌-◌, ◌^◌, ◌<◌, ◌≤◌, ℕ, zero, suc, true, List, [], ◌∷◌, ◌++◌, length, take, drop, append_assoc, length-append, Option, Some, None, MatchOption, Result, OnOk, refl, sym, ap, subst, arith}
+use Rattle.std.proofs.Common.{◌≡◌, ◌⊎◌, inl, inr, ◌∙◌, ◌+◌, ◌-◌, ◌^◌, ◌<◌, ◌≤◌, ℕ, zero, suc, true, List, [], ◌∷◌, ◌++◌, length, take, drop, append_assoc, length-append, Option, Some, None, MatchOption, Result, Ok, Err, OnOk, refl, sym, ap, subst, arith}
 use Rattle.std.specs.List.Sorted.{IsPermutation}
 use Rattle.std.proofs.lemmas.Nat.{pow_pos}
 use Rattle.std.proofs.lemmas.Result.{on_ok_weaker}
 use Rattle.std.proofs.lemmas.List.{take-append-drop, drop_at, take_rest, length-take-le}
-use Rattle.std.proofs.lemmas.List.Sorted.{All-permutation}
+use Rattle.std.proofs.lemmas.List.Sorted.{All-permutation, IsPermutation-append_left, IsPermutation-put_mid, IsPermutation-trans}
+use borrow.Rule.Slice.PartMut.{put_mid}
 use Rattle.std.proofs.lemmas.List.Elements.{All-take, All-drop}
 use Rattle.geometry_model.specs.Points.{Position}
 use Rattle.geometry_model.specs.Envelopes.{Envelope}
@@ -115,3 +116,18 @@ rest_is new sorted n within size =
 pub none_then : {A : Type 0} (o : Option A) (P Q : Type 0) (R : A → Type 0) → (P → Q) → MatchOption o P R → MatchOption o Q R
 none_then None P Q R f h = f h
 none_then (Some x) P Q R f h = h
+
+-- what holds holds at each answer
+pub any_ok : {T E : Type 0} (r : Result T E) (P : Type 0) → P → OnOk r P
+any_ok (Ok x) P h = h
+any_ok (Err e) P h = tt
+
+-- the whole sample is only put into another order
+pub all_moved : (sample sorted : List Position) (n : ℕ) (low high : List Position) → IsPermutation sample sorted → IsPermutation (take n sorted) low
+    → IsPermutation (take (length (low ++ drop n sorted) - n) (drop n (low ++ drop n sorted))) high
+    → IsPermutation sample (put_mid n (length (low ++ drop n sorted) - n) (low ++ drop n sorted) high)
+all_moved sample sorted n low high moved first second =
+    let mid = low ++ drop n sorted in
+    let there : IsPermutation sorted mid = subst (λ l. IsPermutation l mid) (take-append-drop n sorted) (IsPermutation-append_left (drop n sorted) (take n sorted) low first) in
+    IsPermutation-trans sample mid (put_mid n (length mid - n) mid high) (IsPermutation-trans sample sorted mid moved there)
+    (IsPermutation-put_mid n (length mid - n) mid high second)

@@ -24,8 +24,8 @@ longer box = if int_lt (box.greatest_x -ℤ box.least_x) (box.greatest_y -ℤ bo
 abbrev pub HasOneCoordinate : Axis → List Position → Type 0
 HasOneCoordinate axis sample = (z : ℤ) × All (λ p. coordinate axis p ≡ z) sample
 
--- a line is at the median of a sample, of which these lie before it and those behind: fewer than half are past its coordinate, which
--- one has; and no more than half are before it, unless it is the first line that has some before it
+-- a line is at the median of a sample, of which these lie before it and those behind: it is at the coordinate of one of them, and fewer
+-- than half are past that; some are before it, but no more than half, unless all these have one coordinate
 pub record IsMedian (line : Line) (before behind : List Position) : Type 0 where
   pub less : All (λ p. coordinate line.axis p <ℤ line.at) before
   pub not_less : All (λ p. line.at ≤ℤ coordinate line.axis p) behind

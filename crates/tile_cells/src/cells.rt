@@ -2,6 +2,7 @@
 
 ghost use Rattle.std.specs.Prelude.{◌≡◌, ◌≤◌, true, List, [], length, slice_get, Some, None, IfOk, OnOk, OnErr};
 ghost use Rattle.std.specs.List.{enumerate_from};
+ghost use Rattle.std.specs.List.Sorted.{IsPermutation};
 ghost use Rattle.geometry_model.specs.Envelopes.{Envelope as Rectangle};
 ghost use Rattle.rtree.specs.Found.{meeting_places};
 ghost use Rattle.tile_laws.specs.Cells.{IsCut, cells_of};
@@ -56,6 +57,7 @@ impl Cells {
     pub fn cut(alloc: Global, sample: &mut [GridPoint], most: usize) -> Result<Cells, AllocError>
         ensures cut { IfOk result (λ cells. IsCut cells) }
         ensures medians { IfOk result (λ cells. IsCutAtMedians 10 most sample.old whole cells) }
+        ensures moved { OnOk result (IsPermutation sample.old sample.new) }
         ensures few { IfOk result (λ cells. length cells ≤ MOST_BOXES) }
         ensures some { IfOk result (λ cells. 1 ≤ length cells) }
     {

@@ -42,6 +42,7 @@ pub(crate) fn push_boxes(
 ) -> Result<Tree, AllocError>
     requires grid { IsInGrid region }
     requires inside { LiesWithin sample.old region }
+    ensures moved { OnOk result (IsPermutation sample.old sample.new) }
     ensures cut { OnOk result ((added : List Rectangle) × (boxes.new.items ≡ boxes.old.items ++ added)
         × IsCutAtMedians cuts most sample.old region added) }
     ensures once { OnOk result ((p : Position)

@@ -1,8 +1,10 @@
 use Rattle.std.proofs.Common.{◌≡◌, ◌⊎◌, inl, inr, ◌∙◌, ◌++◌, ◌-◌, length, take, drop, ap, sym, arith}
 use Rattle.std.specs.List.{enumerate_from}
 use Rattle.tile_cells.specs.Trees.{numbered_boxes, is_parted}
+use Rattle.std.specs.List.Sorted.{IsPermutation}
+use Rattle.std.proofs.lemmas.List.Sorted.{IsPermutation-refl}
 use Rattle.tile_cells.specs.Cuts.{StaysWhole}
-use Rattle.tile_cells.proofs.MedianCuts.{whole_added, few_added, halves_added, low_begins, high_begins, rest_is}
+use Rattle.tile_cells.proofs.MedianCuts.{all_moved, any_ok, whole_added, few_added, halves_added, low_begins, high_begins, rest_is}
 use Rattle.tile_cells.proofs.Powers.{twice}
 use Rattle.tile_cells.proofs.TreeLemmas.{both_parted, numbered_parts}
 use Rattle.tile_cells.proofs.cuts.+push_boxes.Goals as goal
@@ -78,3 +80,14 @@ returns-in_ok-new-in-Some-2-clause-numbered t c =
     c.in-Some.ensures.parts.low_is c.in-Some.ensures.parts.high_is
     (c.in_ok-low-in-Some.ensures.numbered ∙ ap (λ tree. old ++ numbered_boxes tree halves.low) (sym c.in_ok-new-in-Some.ensures.ok))
     (c.in_ok-high-in-Some.ensures.numbered ∙ ap (λ tree. mid ++ numbered_boxes tree halves.high) (sym c.in_ok-new-in-Some-2.ensures.ok))
+
+pub returns-then-cuts-eq0-clause-moved : goal.returns-then-cuts-eq0-clause-moved
+returns-then-cuts-eq0-clause-moved t c = any_ok c.push_whole.result (IsPermutation c.args.sample.now c.args.sample.now) (IsPermutation-refl c.args.sample.now)
+
+pub returns-in-None-clause-moved : goal.returns-in-None-clause-moved
+returns-in-None-clause-moved t c = any_ok c.push_whole-in-None.result (IsPermutation c.args.sample.now c.halved.new.sample) c.halved.ensures.moved
+
+pub returns-in_ok-new-in-Some-2-clause-moved : goal.returns-in_ok-new-in-Some-2-clause-moved
+returns-in_ok-new-in-Some-2-clause-moved t c =
+    all_moved c.args.sample.now c.halved.new.sample c.in-Some.halves.before c.push_boxes.new.sample c.push_boxes-in-Some.new.sample c.halved.ensures.moved
+    c.in_ok-low-in-Some.ensures.moved c.in_ok-high-in-Some.ensures.moved
