@@ -4,6 +4,7 @@
 
 pub mod cells;
 pub mod fields;
+pub mod flat_rows;
 pub mod geometry_fields;
 mod headers;
 pub mod indexes;
@@ -16,6 +17,7 @@ mod typed_rows;
 
 pub use cells::Field;
 pub use fields::integer_of;
+pub use flat_rows::FlatRows;
 pub use geometry_fields::{ColumnShape, Geometry};
 pub use headers::{Layout, field_at, layout_of};
 pub use indexes::Indexes;

@@ -12,16 +12,16 @@ ghost use Rattle.table_model.specs.FeatureTables.{AreRows};
 ghost use Rattle.table_model.specs.Loading as spec;
 
 use crate::cells::{Field, field_of};
+use crate::flat_rows::FlatRows;
 use crate::geometry_fields::Geometry;
 use crate::headers::layout_of;
 use crate::indexes::Indexes;
-use crate::keys::order_by_key;
+use crate::keys::rows_by_key;
 use crate::loading::read_rows;
 use crate::records::{Records, next_record};
 use crate::schemas::TableDef;
 use csv::ByteRecord;
 use rtree::EnvelopeIndex;
-use sqlite_items::Items;
 use std::alloc::Global;
 use std::io::Read;
 use std::marker::Model;
@@ -31,7 +31,7 @@ use table_model::values::Value;
 /// A row of a table, which contracts see as the list of its values (06-104r4, feature tables).
 #[derive(Drop)]
 pub struct Row<'a> {
-    values: &'a Items<Value<Geometry>>,
+    values: &'a [Value<Geometry>],
 }
 
 impl<'a> Model for Row<'a> {
@@ -56,8 +56,7 @@ impl<'a> Row<'a> {
         requires { column < length self.now }
         ensures { slice_get self.now column ≡ Some (shown result) }
     {
-        let values = self.values.as_slice();
-        field_of(&values[column])
+        field_of(&self.values[column])
     }
 }
 
@@ -65,7 +64,7 @@ impl<'a> Row<'a> {
 /// feature tables). Contracts see it as the list of its rows.
 #[derive(Drop)]
 pub struct Table<I: EnvelopeIndex> {
-    rows: Vec<Items<Value<Geometry>>>,
+    rows: FlatRows,
     indexes: Indexes<I>,
 }
 
@@ -77,10 +76,10 @@ impl<I: EnvelopeIndex> Model for Table<I> {
 
     ghost Value = { plain.Table GeometryValue };
 
-    ghost view = { λ t. t.rows.items };
+    ghost view = { λ t. t.rows };
 
     ghost invariant = { λ t.
-        IsTable takes t.rows.items × ListColumns I.indexed t.rows.items t.indexes };
+        IsTable takes t.rows × ListColumns I.indexed t.rows t.indexes };
 }
 
 impl<I: EnvelopeIndex + Drop> Table<I> {
@@ -132,9 +131,9 @@ impl<I: EnvelopeIndex + Drop> Table<I> {
             return Err(LoadFault::MissingColumn);
         }
         let layout = layout_of(alloc, table.columns.as_slice(), &header)?;
-        let mut rows = read_rows(alloc, table, &layout, records)?;
-        order_by_key(alloc, &mut rows, table.key)?;
-        let indexes = Indexes::build(alloc, table, rows.as_slice())?;
+        let read = read_rows(alloc, table, &layout, records)?;
+        let rows = rows_by_key(alloc, read, table.columns.len(), table.key)?;
+        let indexes = Indexes::build(alloc, table, &rows)?;
         Ok(Table { rows, indexes })
     }
 
@@ -153,7 +152,7 @@ impl<I: EnvelopeIndex + Drop> Table<I> {
         ensures { slice_get self.now i ≡ Some result }
     {
         Row {
-            values: &self.rows[i],
+            values: self.rows.row(i),
         }
     }
 

@@ -1,8 +1,9 @@
-//! The typed row of a record.
+//! The typed row of a record, put behind those of earlier records.
 
-ghost use Rattle.std.specs.Prelude.{◌≡◌, ◌<◌, IfErr, Result, false, length, map, vec_len};
+ghost use Rattle.std.specs.Prelude.{◌≡◌, ◌+◌, ◌<◌, IfErr, OnOk, Result, false, length, map, vec_len};
 ghost use Rattle.std.specs.List.{slice_index_or};
 ghost use Rattle.csv.specs.Records.{fields_of};
+ghost use Rattle.loaded_tables.specs.FlatRows.{PutsRow};
 ghost use Rattle.loaded_tables.specs.Layouts.{IsLayout};
 ghost use Rattle.loaded_tables.specs.Outcomes.{is_of_reading};
 ghost use Rattle.loaded_tables.specs.GeometryFields.{GeometryValue, reading};
@@ -60,6 +61,30 @@ fn value_at(
     )
 }
 
+/// Puts the values of a record's fields in the columns of a table, which are at these places of the header, behind those of
+/// earlier records.
+fn push_row(
+    alloc: Global,
+    table: &TableDef,
+    places: &[usize],
+    number: usize,
+    record: &ByteRecord,
+    values: &mut Vec<Value<Geometry>>,
+) -> Result<(), LoadFault>
+    requires { length places.now ≡ length table.now.columns }
+    ensures not_reading { IfErr result (λ f. is_of_reading f ≡ false) }
+    ensures width { OnOk result (vec_len values.new ≡ vec_len values.old + length table.now.columns) }
+    ensures row { (header : spec.Record)
+        → places.now ≡ map (λ c. spec.place_in header c.name) table.now.columns
+        → PutsRow fault.OutOfMemory values.old.items values.new.items result
+        (spec.row_of reading table.now header number (fields_of record.now)) }
+{
+    for place in 0..places.len() {
+        values.push(value_at(alloc, table, places, number, record, place)?)?;
+    }
+    Ok(())
+}
+
 /// The values of a record's fields in the columns of a table, which are at these places of the header.
 pub fn row_of(
     alloc: Global,
@@ -76,24 +101,25 @@ pub fn row_of(
         (spec.row_of reading table.now header number (fields_of record.now)) }
 {
     let mut values = Vec::with_capacity(alloc, places.len())?;
-    for place in 0..places.len() {
-        values.push(value_at(alloc, table, places, number, record, place)?)?;
-    }
+    push_row(alloc, table, places, number, record, &mut values)?;
     Ok(Items::from_vec(values))
 }
 
-/// The row of the record with this number, whose length is tested first, then the number of rows.
-pub(crate) fn checked_row(
+/// Puts the row of the record with this number, whose length is tested first, then the number of rows, behind those of earlier
+/// records.
+pub(crate) fn push_checked_row(
     alloc: Global,
     table: &TableDef,
     layout: &Layout,
     number: usize,
     record: &ByteRecord,
-) -> Result<Items<Value<Geometry>>, LoadFault>
+    values: &mut Vec<Value<Geometry>>,
+) -> Result<(), LoadFault>
     requires { vec_len layout.now.places ≡ length table.now.columns }
     ensures not_reading { IfErr result (λ f. is_of_reading f ≡ false) }
+    ensures width { OnOk result (vec_len values.new ≡ vec_len values.old + length table.now.columns) }
     ensures row { (header : spec.Record) → IsLayout table.now.columns header layout.now
-        → Gives fault.OutOfMemory (λ row. row) result
+        → PutsRow fault.OutOfMemory values.old.items values.new.items result
         (spec.checked_row reading table.now header (number, fields_of record.now)) }
 {
     if record.len() != layout.width {
@@ -102,5 +128,12 @@ pub(crate) fn checked_row(
     if number > ROW_LIMIT {
         return Err(LoadFault::TooManyRows);
     }
-    row_of(alloc, table, layout.places.as_slice(), number, record)
+    push_row(
+        alloc,
+        table,
+        layout.places.as_slice(),
+        number,
+        record,
+        values,
+    )
 }
