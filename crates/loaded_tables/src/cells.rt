@@ -1,6 +1,6 @@
 //! The fields of a row, as a row lends them.
 
-ghost use Rattle.std.specs.Prelude.{◌≡◌};
+ghost use Rattle.std.specs.Prelude.{◌≡◌, ◌<◌, Some, length, slice_get};
 ghost use Rattle.loaded_tables.specs.Cells.{shown};
 
 use crate::geometry_fields::Geometry;
@@ -20,7 +20,7 @@ pub enum Field<'a> {
 }
 
 /// The field of a value.
-pub(crate) fn field_of(value: &Value<Geometry>) -> Field<'_>
+fn field_of(value: &Value<Geometry>) -> Field<'_>
     ensures { shown result ≡ value.now }
 {
     match value {
@@ -29,4 +29,12 @@ pub(crate) fn field_of(value: &Value<Geometry>) -> Field<'_>
         Value::Text(text) => Field::Text(text.as_str()),
         Value::Geometry(geometry) => Field::Geom(geometry),
     }
+}
+
+/// The field of the value at a place of a row.
+pub(crate) fn field_of_row(values: &[Value<Geometry>], place: usize) -> Field<'_>
+    requires { place < length values.now }
+    ensures { slice_get values.now place ≡ Some (shown result) }
+{
+    field_of(&values[place])
 }

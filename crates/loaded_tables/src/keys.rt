@@ -1,6 +1,6 @@
 //! Feature keys: finds two records with equal keys, and orders records by key.
 
-ghost use Rattle.std.specs.Prelude.{◌≡◌, ◌≢◌, ◌*◌, IfErr, IfOk, Ok, Err, None, OnOk, Some, false, int_lt, length, map, option_map, vec_len};
+ghost use Rattle.std.specs.Prelude.{◌≡◌, ◌≢◌, ◌*◌, IfErr, IfOk, Ok, Err, None, OnOk, Some, false, int_lt, length, map, option_map};
 ghost use Rattle.std.specs.List.{IsAllAdjacentAnswer, range_with_len};
 ghost use Rattle.std.specs.List.Sorted.{IsPermutation, IsSortedByKey};
 ghost use Rattle.std.specs.Ordering.{int_cmp};
@@ -67,6 +67,13 @@ pub fn double_key(alloc: Global, keys: &[i64]) -> Result<Option<usize>, AllocErr
         }
     }
     Ok(None)
+}
+
+/// The first places, this many, from 0.
+fn first_places(alloc: Global, count: usize) -> Result<Vec<usize>, AllocError>
+    ensures { IfOk result (λ places. places.items ≡ range_with_len 0 count) }
+{
+    (0..count).collect(alloc)
 }
 
 /// A place beside the key there, so that the sort looks into no row.
@@ -139,7 +146,7 @@ pub fn order_by_key(alloc: Global, keys: &[i64]) -> Result<Vec<usize>, LoadFault
 {
     // Records mostly come in the order of their keys.
     if ascend(keys) {
-        return Ok((0..keys.len()).collect(alloc)?);
+        return Ok(first_places(alloc, keys.len())?);
     }
     let mut keyed = with_places(alloc, keys)?;
     sort_keyed(&mut keyed);
@@ -156,7 +163,7 @@ pub(crate) fn rows_by_key(
     width: usize,
     key: usize,
 ) -> Result<FlatRows, LoadFault>
-    requires { vec_len read.values ≡ read.count * width }
+    requires { length read.values.items ≡ read.count * width }
     ensures ok { IfOk result (λ rows. spec.keyed_rows key (rows_read width read) ≡ Ok rows) }
     ensures not_reading { IfErr result (λ f. is_of_reading f ≡ false) }
     ensures fault { IfErr result (λ f. f ≢ fault.OutOfMemory → spec.keyed_rows key (rows_read width read) ≡ Err f) }

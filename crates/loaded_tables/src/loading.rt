@@ -1,6 +1,6 @@
 //! The rows of a table, read record by record.
 
-ghost use Rattle.std.specs.Prelude.{◌≡◌, ◌*◌, ◌+◌, ◌-◌, ◌<◌, ◌≤◌, IfErr, IfOk, IsOk, List, OnOk, false, if◌then◌else◌, length, take, true, vec_len};
+ghost use Rattle.std.specs.Prelude.{◌≡◌, ◌*◌, ◌+◌, ◌-◌, ◌<◌, ◌≤◌, IfErr, IfOk, IsOk, List, OnOk, false, length, take, true, vec_len};
 ghost use Rattle.loaded_tables.specs.Layouts.{IsLayout};
 ghost use Rattle.loaded_tables.specs.Outcomes.{Loads, is_of_reading};
 ghost use Rattle.loaded_tables.specs.Records.{Gives, IsReady, asked, read_failed, record_limit};
@@ -38,8 +38,8 @@ fn push_next_row<R: Read + Drop>(
     ensures asked { asked records.new ≡ asked records.old + 1 }
     ensures read_failed { IfErr result (λ f. is_of_reading f ≡ true → read_failed records.new ≡ true) }
     ensures ready { OnOk result (IsReady records.new) }
-    ensures width { IfOk result (λ found. vec_len values.new
-        ≡ vec_len values.old + (if found then length table.now.columns else 0)) }
+    ensures width { IfOk result (λ found. found ≡ true
+        → length values.new.items ≡ length values.old.items + length table.now.columns) }
     ensures none { IfOk result (λ found. found ≡ false → values.new.items ≡ values.old.items) }
     ensures takes { (header : spec.Record) (rest : List spec.Record)
         → IsLayout table.now.columns header layout.now → Gives R.remaining records.old rest
@@ -68,7 +68,7 @@ pub(crate) fn read_rows<R: Read + Drop>(
     requires header { asked records.old ≡ 1 }
     ensures taken { asked records.new ≤ record_limit }
     ensures read_failed { IfErr result (λ f. is_of_reading f ≡ true → read_failed records.new ≡ true) }
-    ensures width { IfOk result (λ read. vec_len read.values ≡ read.count * length table.now.columns) }
+    ensures width { IfOk result (λ read. length read.values.items ≡ read.count * length table.now.columns) }
     ensures loads { (header : spec.Record) (rest : List spec.Record)
         → IsLayout table.now.columns header layout.now → Gives R.remaining records.old rest
         → Loads (rows_read (length table.now.columns)) result (spec.rows_of reading table.now header rest) }

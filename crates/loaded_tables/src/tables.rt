@@ -11,7 +11,7 @@ ghost use Rattle.table_model.specs.Definitions.{lawful};
 ghost use Rattle.table_model.specs.FeatureTables.{AreRows};
 ghost use Rattle.table_model.specs.Loading as spec;
 
-use crate::cells::{Field, field_of};
+use crate::cells::{Field, field_of_row};
 use crate::flat_rows::FlatRows;
 use crate::geometry_fields::Geometry;
 use crate::headers::layout_of;
@@ -56,7 +56,7 @@ impl<'a> Row<'a> {
         requires { column < length self.now }
         ensures { slice_get self.now column ≡ Some (shown result) }
     {
-        field_of(&self.values[column])
+        field_of_row(self.values, column)
     }
 }
 

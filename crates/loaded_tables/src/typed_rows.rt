@@ -73,7 +73,7 @@ fn push_row(
 ) -> Result<(), LoadFault>
     requires { length places.now ≡ length table.now.columns }
     ensures not_reading { IfErr result (λ f. is_of_reading f ≡ false) }
-    ensures width { OnOk result (vec_len values.new ≡ vec_len values.old + length table.now.columns) }
+    ensures width { OnOk result (length values.new.items ≡ length values.old.items + length table.now.columns) }
     ensures row { (header : spec.Record)
         → places.now ≡ map (λ c. spec.place_in header c.name) table.now.columns
         → PutsRow fault.OutOfMemory values.old.items values.new.items result
@@ -117,7 +117,7 @@ pub(crate) fn push_checked_row(
 ) -> Result<(), LoadFault>
     requires { vec_len layout.now.places ≡ length table.now.columns }
     ensures not_reading { IfErr result (λ f. is_of_reading f ≡ false) }
-    ensures width { OnOk result (vec_len values.new ≡ vec_len values.old + length table.now.columns) }
+    ensures width { OnOk result (length values.new.items ≡ length values.old.items + length table.now.columns) }
     ensures row { (header : spec.Record) → IsLayout table.now.columns header layout.now
         → PutsRow fault.OutOfMemory values.old.items values.new.items result
         (spec.checked_row reading table.now header (number, fields_of record.now)) }
