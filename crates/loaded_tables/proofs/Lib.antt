@@ -16,3 +16,4 @@ pub mod MapLemmas
 pub mod OrderLemmas
 pub mod PlaceOrderLemmas
 pub mod ReadingLemmas
+pub mod ValueLemmas

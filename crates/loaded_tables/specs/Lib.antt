@@ -10,3 +10,4 @@ pub mod Outcomes
 pub mod Reading
 pub mod ReadRows
 pub mod Records
+pub mod Values

@@ -7,4 +7,4 @@ use Rattle.table_model.specs.Meanings.{Table}
 
 -- the rows of this width that were read
 abbrev pub rows_read : ℕ → ReadRows → Table GeometryValue
-rows_read width read = first_rows width read.values.items read.count
+rows_read width read = first_rows width read.values read.count

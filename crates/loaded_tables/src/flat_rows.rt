@@ -1,36 +1,26 @@
-//! Rows of one width, kept one after another in one vector.
+//! Rows of one width, kept one after another.
 
 ghost use Rattle.std.specs.Prelude.{◌≡◌, ◌<◌, Some, length, slice_get};
 ghost use Rattle.std.specs.List.{All};
-ghost use Rattle.loaded_tables.specs.FlatRows.{IsWithin, row_at, rows_at};
+ghost use Rattle.loaded_tables.specs.FlatRows.{IsWithin, rows_at};
 
-use crate::geometry_fields::Geometry;
+use crate::values::{Row, Values};
 use std::marker::Model;
-use table_model::values::Value;
 
 /// The rows that were read, in the order of their records.
 #[derive(Drop)]
 pub(crate) struct ReadRows {
     /// The values, row after row.
-    pub(crate) values: Vec<Value<Geometry>>,
+    pub(crate) values: Values,
     /// How many rows there are.
     pub(crate) count: usize,
-}
-
-/// The values of the row at a place, of rows of this width.
-pub(crate) fn row_in(values: &[Value<Geometry>], width: usize, place: usize) -> &[Value<Geometry>]
-    requires { IsWithin width values.now place }
-    ensures { result.now ≡ row_at width values.now place }
-{
-    let start = place * width;
-    &values[start..start + width]
 }
 
 /// Rows of one width in an order of their own. Contracts see them as the list of these rows.
 #[derive(Drop)]
 pub struct FlatRows {
     /// The values of the records, in the order of the records: for each as many as there are columns.
-    values: Vec<Value<Geometry>>,
+    values: Values,
     /// How many values a row has.
     width: usize,
     /// The places of the records, from 0, in the order of the rows.
@@ -45,16 +35,16 @@ impl Model for FlatRows {
 
     ghost Value = { plain.Table GeometryValue };
 
-    ghost view = { λ r. rows_at r.width r.values.items r.order.items };
+    ghost view = { λ r. rows_at r.width r.values r.order.items };
 
-    ghost invariant = { λ r. All (IsWithin r.width r.values.items) r.order.items };
+    ghost invariant = { λ r. All (IsWithin r.width r.values) r.order.items };
 }
 
 impl FlatRows {
     /// The rows at these places of the values.
-    pub(crate) fn new(values: Vec<Value<Geometry>>, width: usize, order: Vec<usize>) -> FlatRows
-        requires { All (IsWithin width values.items) order.items }
-        ensures { result ≡ rows_at width values.items order.items }
+    pub(crate) fn new(values: Values, width: usize, order: Vec<usize>) -> FlatRows
+        requires { All (IsWithin width values) order.items }
+        ensures { result ≡ rows_at width values order.items }
     {
         FlatRows {
             values,
@@ -70,11 +60,11 @@ impl FlatRows {
         self.order.len()
     }
 
-    /// Lends the values of the row at a place.
-    pub fn row(&self, i: usize) -> &[Value<Geometry>]
+    /// Lends the row at a place.
+    pub fn row(&self, i: usize) -> Row<'_>
         requires { i < length self.now }
-        ensures { slice_get self.now i ≡ Some result.now }
+        ensures { slice_get self.now i ≡ Some result }
     {
-        row_in(self.values.as_slice(), self.width, self.order[i])
+        self.values.row(self.width, self.order[i])
     }
 }

@@ -6,13 +6,12 @@ ghost use Rattle.loaded_tables.specs.Indexes.{HoldsNone, ListColumns, absent, co
 ghost use Rattle.table_model.specs.FeatureTables.{AreRows};
 ghost use Rattle.table_model.specs.Meanings as plain;
 
+use crate::cells::Field;
 use crate::flat_rows::FlatRows;
-use crate::geometry_fields::Geometry;
 use crate::schemas::{ColumnType, TableDef};
+use crate::values::Row;
 use rtree::{Envelope, EnvelopeIndex};
-use sqlite_items as items;
 use std::alloc::{AllocError, Global};
-use table_model::values::Value;
 
 /// An index for each geometry column, and one that all other columns share, which lists an absent envelope for each row.
 #[derive(Drop)]
@@ -78,7 +77,7 @@ fn index_of<I: EnvelopeIndex + Drop>(
 {
     let mut envelopes = Vec::with_capacity(alloc, rows.len())?;
     for place in 0..rows.len() {
-        envelopes.push(envelope_in(rows.row(place), column))?;
+        envelopes.push(envelope_in(&rows.row(place), column))?;
     }
     I::build(alloc, envelopes.as_slice())
 }
@@ -95,11 +94,11 @@ fn bare_index<I: EnvelopeIndex + Drop>(alloc: Global, rows: &FlatRows) -> Result
 }
 
 /// The envelope of what is in a column of a row.
-fn envelope_in(row: &[Value<Geometry>], column: usize) -> Option<Envelope>
+fn envelope_in(row: &Row<'_>, column: usize) -> Option<Envelope>
     ensures { result ≡ field_envelope (field_in column row.now) }
 {
-    match items::at(row, column) {
-        Some(Value::Geometry(geometry)) => Envelope::of(geometry),
+    match row.get(column) {
+        Some(Field::Geom(geometry)) => Envelope::of(geometry),
         _ => None,
     }
 }

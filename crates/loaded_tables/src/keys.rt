@@ -11,8 +11,10 @@ ghost use Rattle.loaded_tables.specs.ReadRows.{rows_read};
 ghost use Rattle.table_model.specs.Loading as spec;
 ghost use Rattle.table_model.specs.declared.faults.LoadFault.TheVariants as fault;
 
-use crate::flat_rows::{FlatRows, ReadRows, row_in};
+use crate::cells::Field;
+use crate::flat_rows::{FlatRows, ReadRows};
 use crate::geometry_fields::Geometry;
+use crate::values::{Row, Values};
 use sqlite_items as items;
 use std::alloc::{AllocError, Global};
 use std::collections::BTreeSet;
@@ -29,10 +31,20 @@ pub fn key_of(row: &[Value<Geometry>], key: usize) -> i64
     }
 }
 
+/// The number at the key's place of a row that is lent.
+fn key_in(row: &Row<'_>, key: usize) -> i64
+    ensures { result ≡ spec.key_of key row.now }
+{
+    match row.get(key) {
+        Some(Field::Int(number)) => number,
+        _ => 0,
+    }
+}
+
 /// The keys of the first rows of this width, this many.
 fn keys_of(
     alloc: Global,
-    values: &[Value<Geometry>],
+    values: &Values,
     width: usize,
     count: usize,
     key: usize,
@@ -43,7 +55,7 @@ fn keys_of(
 {
     let mut keys = Vec::with_capacity(alloc, count)?;
     for place in 0..count {
-        keys.push(key_of(row_in(values, width, place), key))?;
+        keys.push(key_in(&values.row(width, place), key))?;
     }
     Ok(keys)
 }
@@ -163,12 +175,12 @@ pub(crate) fn rows_by_key(
     width: usize,
     key: usize,
 ) -> Result<FlatRows, LoadFault>
-    requires { length read.values.items ≡ read.count * width }
+    requires { length read.values ≡ read.count * width }
     ensures ok { IfOk result (λ rows. spec.keyed_rows key (rows_read width read) ≡ Ok rows) }
     ensures not_reading { IfErr result (λ f. is_of_reading f ≡ false) }
     ensures fault { IfErr result (λ f. f ≢ fault.OutOfMemory → spec.keyed_rows key (rows_read width read) ≡ Err f) }
 {
-    let keys = keys_of(alloc, read.values.as_slice(), width, read.count, key)?;
+    let keys = keys_of(alloc, &read.values, width, read.count, key)?;
     let order = order_by_key(alloc, keys.as_slice())?;
     Ok(FlatRows::new(read.values, width, order))
 }

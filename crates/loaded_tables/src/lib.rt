@@ -14,6 +14,7 @@ pub mod records;
 pub mod schemas;
 pub mod tables;
 mod typed_rows;
+mod values;
 
 pub use cells::Field;
 pub use fields::integer_of;
@@ -24,5 +25,6 @@ pub use indexes::Indexes;
 pub use keys::{double_key, key_of, order_by_key};
 pub use records::{Records, fault_of, next_record, record_reader};
 pub use schemas::{ColumnDef, ColumnType, Schema, TableDef, lawful};
-pub use tables::{Row, Table};
+pub use tables::Table;
 pub use typed_rows::row_of;
+pub use values::Row;

@@ -10,17 +10,16 @@ ghost use Rattle.loaded_tables.specs.GeometryFields.{reading};
 ghost use Rattle.table_model.specs.Loading as spec;
 
 use crate::flat_rows::ReadRows;
-use crate::geometry_fields::Geometry;
 use crate::headers::Layout;
 use crate::records::{Records, next_record};
 use crate::schemas::TableDef;
 use crate::typed_rows::push_checked_row;
+use crate::values::Values;
 use csv::ByteRecord;
 use std::alloc::Global;
 use std::io::Read;
 use table_model::definitions::ROW_LIMIT;
 use table_model::faults::LoadFault;
-use table_model::values::Value;
 
 /// Reads the next record, puts its row behind those of earlier records, and returns whether there was one.
 fn push_next_row<R: Read + Drop>(
@@ -30,7 +29,7 @@ fn push_next_row<R: Read + Drop>(
     number: usize,
     records: &mut Records<R>,
     record: &mut ByteRecord,
-    values: &mut Vec<Value<Geometry>>,
+    values: &mut Values,
 ) -> Result<bool, LoadFault>
     requires size { vec_len layout.now.places ≡ length table.now.columns }
     requires ready { IsReady records.old }
@@ -39,13 +38,13 @@ fn push_next_row<R: Read + Drop>(
     ensures read_failed { IfErr result (λ f. is_of_reading f ≡ true → read_failed records.new ≡ true) }
     ensures ready { OnOk result (IsReady records.new) }
     ensures width { IfOk result (λ found. found ≡ true
-        → length values.new.items ≡ length values.old.items + length table.now.columns) }
-    ensures none { IfOk result (λ found. found ≡ false → values.new.items ≡ values.old.items) }
+        → length values.new ≡ length values.old + length table.now.columns) }
+    ensures none { IfOk result (λ found. found ≡ false → values.new ≡ values.old) }
     ensures takes { (header : spec.Record) (rest : List spec.Record)
         → IsLayout table.now.columns header layout.now → Gives R.remaining records.old rest
-        → TakesRow R.remaining records.new reading table.now header number rest values.old.items values.new.items result }
+        → TakesRow R.remaining records.new reading table.now header number rest values.old values.new result }
     ensures record { (header : spec.Record) → IsLayout table.now.columns header layout.now
-        → IsOfRecord reading table.now header number values.old.items values.new.items result }
+        → IsOfRecord reading table.now header number values.old values.new result }
 {
     let found = next_record(records, record)?;
     if !found {
@@ -68,7 +67,7 @@ pub(crate) fn read_rows<R: Read + Drop>(
     requires header { asked records.old ≡ 1 }
     ensures taken { asked records.new ≤ record_limit }
     ensures read_failed { IfErr result (λ f. is_of_reading f ≡ true → read_failed records.new ≡ true) }
-    ensures width { IfOk result (λ read. length read.values.items ≡ read.count * length table.now.columns) }
+    ensures width { IfOk result (λ read. length read.values ≡ read.count * length table.now.columns) }
     ensures loads { (header : spec.Record) (rest : List spec.Record)
         → IsLayout table.now.columns header layout.now → Gives R.remaining records.old rest
         → Loads (rows_read (length table.now.columns)) result (spec.rows_of reading table.now header rest) }
@@ -79,7 +78,7 @@ pub(crate) fn read_rows<R: Read + Drop>(
         → IfErr result (λ f. is_of_reading f ≡ true
         → IsOk (spec.each (take (asked records.new - 2) (spec.checked_rows reading table.now header rest)))) }
 {
-    let mut values = Vec::new(alloc);
+    let mut values = Values::new(alloc);
     let mut record = ByteRecord::new(alloc);
     for place in 0..ROW_LIMIT + 1 {
         let found = push_next_row(

@@ -1,7 +1,6 @@
 //! Tables of typed rows.
 
 ghost use Rattle.std.specs.Prelude.{◌≡◌, ◌-◌, ◌∷◌, ◌<◌, ◌≤◌, ℕ, IfErr, IfOk, IsTrue, List, [], Some, length, slice_get, true};
-ghost use Rattle.loaded_tables.specs.Cells.{shown};
 ghost use Rattle.loaded_tables.specs.Outcomes.{Loads, is_of_reading};
 ghost use Rattle.loaded_tables.specs.Records.{Gives, IsReady, asked, read_failed, record_limit};
 ghost use Rattle.loaded_tables.specs.GeometryFields.{reading, takes};
@@ -11,54 +10,20 @@ ghost use Rattle.table_model.specs.Definitions.{lawful};
 ghost use Rattle.table_model.specs.FeatureTables.{AreRows};
 ghost use Rattle.table_model.specs.Loading as spec;
 
-use crate::cells::{Field, field_of_row};
 use crate::flat_rows::FlatRows;
-use crate::geometry_fields::Geometry;
 use crate::headers::layout_of;
 use crate::indexes::Indexes;
 use crate::keys::rows_by_key;
 use crate::loading::read_rows;
 use crate::records::{Records, next_record};
 use crate::schemas::TableDef;
+use crate::values::Row;
 use csv::ByteRecord;
 use rtree::EnvelopeIndex;
 use std::alloc::Global;
 use std::io::Read;
 use std::marker::Model;
 use table_model::faults::LoadFault;
-use table_model::values::Value;
-
-/// A row of a table, which contracts see as the list of its values (06-104r4, feature tables).
-#[derive(Drop)]
-pub struct Row<'a> {
-    values: &'a [Value<Geometry>],
-}
-
-impl<'a> Model for Row<'a> {
-    ghost use Rattle.table_model.specs.Meanings as plain;
-    ghost use Rattle.loaded_tables.specs.GeometryFields.{GeometryValue};
-
-    ghost Value = { plain.Row GeometryValue };
-
-    ghost view = { λ r. r.values.now };
-}
-
-impl<'a> Row<'a> {
-    /// How many fields the row has: as many as its table has columns.
-    pub fn len(&self) -> usize
-        ensures { result ≡ length self.now }
-    {
-        self.values.len()
-    }
-
-    /// Lends the field of the column at a place.
-    pub fn field(&self, column: usize) -> Field<'a>
-        requires { column < length self.now }
-        ensures { slice_get self.now column ≡ Some (shown result) }
-    {
-        field_of_row(self.values, column)
-    }
-}
 
 /// A table: the rows of a lawful definition, by ascending key, with an index of each geometry column (06-104r4,
 /// feature tables). Contracts see it as the list of its rows.
@@ -151,9 +116,7 @@ impl<I: EnvelopeIndex + Drop> Table<I> {
         requires { i < length self.now }
         ensures { slice_get self.now i ≡ Some result }
     {
-        Row {
-            values: self.rows.row(i),
-        }
+        self.rows.row(i)
     }
 
     /// Lends the index of a column: it lists the envelope of the column's geometry in each row. NULL and an empty geometry have

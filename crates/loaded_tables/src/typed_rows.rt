@@ -17,6 +17,7 @@ use crate::fields::value_of;
 use crate::geometry_fields::Geometry;
 use crate::headers::{Layout, field_at};
 use crate::schemas::{ColumnDef, TableDef};
+use crate::values::Values;
 use csv::ByteRecord;
 use sqlite_items::Items;
 use std::alloc::Global;
@@ -69,14 +70,14 @@ fn push_row(
     places: &[usize],
     number: usize,
     record: &ByteRecord,
-    values: &mut Vec<Value<Geometry>>,
+    values: &mut Values,
 ) -> Result<(), LoadFault>
     requires { length places.now ≡ length table.now.columns }
     ensures not_reading { IfErr result (λ f. is_of_reading f ≡ false) }
-    ensures width { OnOk result (length values.new.items ≡ length values.old.items + length table.now.columns) }
+    ensures width { OnOk result (length values.new ≡ length values.old + length table.now.columns) }
     ensures row { (header : spec.Record)
         → places.now ≡ map (λ c. spec.place_in header c.name) table.now.columns
-        → PutsRow fault.OutOfMemory values.old.items values.new.items result
+        → PutsRow fault.OutOfMemory values.old values.new result
         (spec.row_of reading table.now header number (fields_of record.now)) }
 {
     for place in 0..places.len() {
@@ -101,7 +102,9 @@ pub fn row_of(
         (spec.row_of reading table.now header number (fields_of record.now)) }
 {
     let mut values = Vec::with_capacity(alloc, places.len())?;
-    push_row(alloc, table, places, number, record, &mut values)?;
+    for place in 0..places.len() {
+        values.push(value_at(alloc, table, places, number, record, place)?)?;
+    }
     Ok(Items::from_vec(values))
 }
 
@@ -113,13 +116,13 @@ pub(crate) fn push_checked_row(
     layout: &Layout,
     number: usize,
     record: &ByteRecord,
-    values: &mut Vec<Value<Geometry>>,
+    values: &mut Values,
 ) -> Result<(), LoadFault>
     requires { vec_len layout.now.places ≡ length table.now.columns }
     ensures not_reading { IfErr result (λ f. is_of_reading f ≡ false) }
-    ensures width { OnOk result (length values.new.items ≡ length values.old.items + length table.now.columns) }
+    ensures width { OnOk result (length values.new ≡ length values.old + length table.now.columns) }
     ensures row { (header : spec.Record) → IsLayout table.now.columns header layout.now
-        → PutsRow fault.OutOfMemory values.old.items values.new.items result
+        → PutsRow fault.OutOfMemory values.old values.new result
         (spec.checked_row reading table.now header (number, fields_of record.now)) }
 {
     if record.len() != layout.width {

@@ -1,4 +1,4 @@
-use Rattle.std.proofs.Common.{◌≡◌, ◌∙◌, ◌++◌, ◌∷◌, [], ℕ, ℤ, List, ap, ap₂, arith, sym, subst, map}
+use Rattle.std.proofs.Common.{◌≡◌, ◌∙◌, ◌++◌, ◌∷◌, [], ℕ, ℤ, List, ap, ap₂, arith, sym, map}
 use Rattle.std.proofs.lemmas.Int.{to_z-of_z}
 use Rattle.std.proofs.lemmas.List.FromFn.{map-range_with_len_more}
 use Rattle.std.specs.List.{range_with_len}
@@ -8,8 +8,8 @@ use Rattle.loaded_tables.specs.FlatRows.{row_at}
 use Rattle.table_model.specs.Loading.{key_of}
 use Rattle.loaded_tables.proofs.keys.keys_of.Goals as goal
 
-pub row_in-requires : goal.row_in-requires
-row_in-requires c =
+pub row-requires : goal.row-requires
+row-requires c =
     let inside = within_first c.args.width c.args.count c.loop-place.place c.loop-place-test.true in
     omega (arith, inside, c.requires)
 
@@ -17,7 +17,7 @@ pub loop-place-preserved : goal.loop-place-preserved
 loop-place-preserved c =
     let key = λ (place : ℕ). key_of c.args.key (row_at c.args.width c.args.values.now place) in
     let grown = map-range_with_len_more key 0 c.loop-place.place c.loop-place.place (omega arith) in
-    let read = to_z-of_z w64 c.key_of.result (record { sfits = c.key_of.type_inv }) ∙ c.key_of.ensures ∙ ap (key_of c.args.key) c.row_in.ensures in
+    let read = to_z-of_z w64 c.key_in.result (record { sfits = c.key_in.type_inv }) ∙ c.key_in.ensures ∙ ap (key_of c.args.key) c.row.ensures in
     c.in_ok-push.ensures.items ∙ ap₂ (λ (l : List ℤ) (k : ℤ). l ++ k ∷ []) c.loop-place.invariant read ∙ sym grown
 
 pub returns : goal.returns

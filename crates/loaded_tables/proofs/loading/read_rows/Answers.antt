@@ -1,4 +1,4 @@
-use Rattle.std.proofs.Common.{Err, ◌+◌, ◌-◌, ◌*◌, ◌≡◌, ◌∙◌, ap, arith, drop, length, subst, sym}
+use Rattle.std.proofs.Common.{Err, ◌+◌, ◌-◌, ◌≡◌, ◌∙◌, ap, arith, drop, length, subst, sym}
 use Rattle.std.proofs.lemmas.Result.{err_from_is_err_and}
 use Rattle.loaded_tables.proofs.EachLemmas.{passed_front}
 use Rattle.loaded_tables.specs.Records.{asked}
@@ -14,7 +14,7 @@ pub returns-in_err-found-clause-loads : goal.returns-in_err-found-clause-loads
 returns-in_err-found-clause-loads g c header records layout gives =
     let m = c.loop-place.invariant.midway header records layout gives in
     let took = c.in_err-found.ensures.takes header (drop c.loop-place.place records) layout m.gives in
-    let rows = first_rows (length c.args.table.now.columns) c.loop-place.values.items c.loop-place.place in
+    let rows = first_rows (length c.args.table.now.columns) c.loop-place.values c.loop-place.place in
     let p = err_from_is_err_and c.from_residual.result c.from_residual.ensures.1 in
     rw (p.1, p.2) (λ other. let t = took other in
     midway_fault _ _ reading c.args.table.now header records c.loop-place.place rows t.0 t.1 c.in_err-found.field-0.0 m t.2 t.3)
@@ -25,15 +25,15 @@ returns-then-not-found-clause-width g c = ap length (c.in_ok-found.ensures.none 
 pub returns-then-not-found-clause-loads : goal.returns-then-not-found-clause-loads
 returns-then-not-found-clause-loads g c header records layout gives =
     let m = c.loop-place.invariant.midway header records layout gives in
-    let rows = first_rows (length c.args.table.now.columns) c.loop-place.values.items c.loop-place.place in
+    let rows = first_rows (length c.args.table.now.columns) c.loop-place.values c.loop-place.place in
     let took = rw c.if-not-found.true at (c.in_ok-found.ensures.takes header (drop c.loop-place.place records) layout m.gives) in
     rw (c.in_ok-found.ensures.none c.if-not-found.true) (midway_end _ _ reading c.args.table.now header records c.loop-place.place rows m took)
 
 pub loop-place-preserved : goal.loop-place-preserved
 loop-place-preserved g c =
     let wide = length c.args.table.now.columns in
-    let old = c.loop-place.values.items in
-    let new = c.push_next_row.new.values.items in
+    let old = c.loop-place.values in
+    let new = c.push_next_row.new.values in
     let place = c.loop-place.place in
     let longer = c.in_ok-found.ensures.width c.if-not-found.false in
     record {
@@ -60,7 +60,7 @@ loop-place-preserved g c =
 pub returns-in_err-found-clause-records : goal.returns-in_err-found-clause-records
 returns-in_err-found-clause-records g c header layout =
     let a = c.loop-place.invariant.read header layout in
-    let rows = first_rows (length c.args.table.now.columns) c.loop-place.values.items c.loop-place.place in
+    let rows = first_rows (length c.args.table.now.columns) c.loop-place.values c.loop-place.place in
     let p = err_from_is_err_and c.from_residual.result c.from_residual.ensures.1 in
     rw (p.1, p.2)
     (of_fault c.in_err-found.field-0.0 (λ records. rows_of reading c.args.table.now header records ≡ Err c.in_err-found.field-0.0) (λ other. let t = c.in_err-found.ensures.record header layout other in
@@ -68,7 +68,7 @@ returns-in_err-found-clause-records g c header layout =
 
 pub returns-then-not-found-clause-records : goal.returns-then-not-found-clause-records
 returns-then-not-found-clause-records g c header layout =
-    let rows = first_rows (length c.args.table.now.columns) c.loop-place.values.items c.loop-place.place in
+    let rows = first_rows (length c.args.table.now.columns) c.loop-place.values c.loop-place.place in
     rw (c.in_ok-found.ensures.none c.if-not-found.true)
     (read_end reading c.args.table.now header c.loop-place.place rows (c.loop-place.invariant.read header layout))
 
@@ -76,7 +76,7 @@ pub returns-in_err-found-clause-before : goal.returns-in_err-found-clause-before
 returns-in_err-found-clause-before g c header records layout gives =
     let m = c.loop-place.invariant.midway header records layout gives in
     let rows = checked_rows reading c.args.table.now header records in
-    let read = first_rows (length c.args.table.now.columns) c.loop-place.values.items c.loop-place.place in
+    let read = first_rows (length c.args.table.now.columns) c.loop-place.values c.loop-place.place in
     let place : asked c.push_next_row.new.records - 2 ≡ c.loop-place.place = omega (arith, c.push_next_row.ensures.asked, c.loop-place.invariant.asked) in
     let p = err_from_is_err_and c.from_residual.result c.from_residual.ensures.1 in
     rw (p.1, p.2, place) (λ failed. passed_front rows c.loop-place.place read m.passed)

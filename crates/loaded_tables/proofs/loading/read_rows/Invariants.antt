@@ -12,9 +12,9 @@ invariant-loop-place g l = record {
   ready : IsReady l.records;
   asked : asked l.records ≡ 1 + l.place;
   within : (header : Record) → IsLayout l.table.columns header l.layout → l.place ≤ row_limit;
-  width : length l.values.items ≡ l.place * length l.table.columns;
+  width : length l.values ≡ l.place * length l.table.columns;
   midway : (header : Record) (rest : List Record) → IsLayout l.table.columns header l.layout → Gives g.R.Read.remaining l.fn.records rest
-      → Midway g.R.Read.remaining l.records reading l.table header rest l.place (first_rows (length l.table.columns) l.values.items l.place);
+      → Midway g.R.Read.remaining l.records reading l.table header rest l.place (first_rows (length l.table.columns) l.values l.place);
   read : (header : Record) → IsLayout l.table.columns header l.layout
-      → AreRead reading l.table header l.place (first_rows (length l.table.columns) l.values.items l.place);
+      → AreRead reading l.table header l.place (first_rows (length l.table.columns) l.values l.place);
 }

@@ -1,4 +1,4 @@
-use Rattle.std.proofs.Common.{Err, ◌+◌, ◌<◌, ◌≤◌, ◌≡◌, ap, arith, length}
+use Rattle.std.proofs.Common.{Err, ◌<◌, ◌≤◌, ap, arith, length}
 use Rattle.std.proofs.lemmas.List.{length_push}
 use Rattle.std.proofs.lemmas.Result.{err_from_is_err_and}
 use Rattle.csv.specs.Records.{fields_of}
@@ -12,19 +12,19 @@ use Rattle.loaded_tables.proofs.typed_rows.push_row.Goals as goal
 pub loop-place-init : goal.loop-place-init
 loop-place-init c = record {
   width = omega arith;
-  row = λ header is. grown_none (values_of reading c.args.table.now header c.args.number (fields_of c.args.record.now)) c.args.values.now.items;
+  row = λ header is. grown_none (values_of reading c.args.table.now header c.args.number (fields_of c.args.record.now)) c.args.values.now;
 }
 
 pub loop-place-preserved : goal.loop-place-preserved
 loop-place-preserved c = record {
-  width = omega (arith, ap length c.in_ok-push.ensures.items, length_push c.loop-place.values.items c.in_ok-value_at.field-0, c.loop-place.invariant.width);
+  width = omega (arith, ap length c.in_ok-push.ensures, length_push c.loop-place.values c.in_ok-value_at.field-0, c.loop-place.invariant.width);
   row = λ header is.
       let values = values_of reading c.args.table.now header c.args.number (fields_of c.args.record.now) in
       let size = length-values reading c.args.table.now header c.args.number (fields_of c.args.record.now) in
       let within : c.loop-place.place < length values = omega (arith, size) in
       let here = c.in_ok-value_at.ensures.value header (Err fault.TooManyRows) is in
-      rw c.in_ok-push.ensures.items
-      (grown_more values c.loop-place.place c.args.values.now.items c.loop-place.values.items c.in_ok-value_at.field-0 (Err fault.TooManyRows) within
+      rw c.in_ok-push.ensures
+      (grown_more values c.loop-place.place c.args.values.now c.loop-place.values c.in_ok-value_at.field-0 (Err fault.TooManyRows) within
       (c.loop-place.invariant.row header is) here);
 }
 

@@ -7,7 +7,7 @@ use Rattle.loaded_tables.proofs.typed_rows.push_row.Given as goal
 
 abbrev pub invariant-loop-place : goal.invariant-loop-place
 invariant-loop-place l = record {
-  width : length l.values.items ≡ length l.fn.values.items + l.place;
+  width : length l.values ≡ length l.fn.values + l.place;
   row : (header : Record) → l.places ≡ map (λ c. place_in header c.name) l.table.columns
-      → Grown (values_of reading l.table header l.number (fields_of l.record)) l.place l.fn.values.items l.values.items;
+      → Grown (values_of reading l.table header l.number (fields_of l.record)) l.place l.fn.values l.values;
 }

@@ -5,4 +5,4 @@ pub row-requires : goal.row-requires
 row-requires g c = let view = ap length c.self.view_is in omega (arith, view, c.requires)
 
 pub returns : goal.returns
-returns g c = subst (λ rows. slice_get rows c.args.i ≡ Some c.row.result.now) c.self.view_is c.row.ensures
+returns g c = subst (λ rows. slice_get rows c.args.i ≡ Some c.row.result) c.self.view_is c.row.ensures
