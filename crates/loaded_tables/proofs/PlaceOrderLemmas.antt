@@ -1,5 +1,5 @@
 -- Rows by the places of their keys, in the order of the keys.
-use Rattle.std.proofs.Common.{◌≡◌, ◌∙◌, ◌+◌, ◌*◌, ◌<◌, ◌≤◌, ℕ, ℤ, pos, List, None, Option, Some, Ok, Err, Result, ap, ap₂, arith, get_or, length, map, refl, subst, sym}
+use Rattle.std.proofs.Common.{◌≡◌, ◌∙◌, ◌+◌, ◌*◌, ◌<◌, ℕ, ℤ, pos, List, None, Some, Ok, Err, ap, ap₂, arith, get_or, length, map, refl, subst, sym}
 use Rattle.std.specs.Prelude.{IsPermutation, IsSortedByKey, option_map}
 use Rattle.std.proofs.lemmas.List.{get_or-map, length-map}
 use Rattle.std.proofs.lemmas.List.Elements.{All-get_or, All-weaker}

@@ -1,4 +1,4 @@
-use Rattle.std.proofs.Common.{[], ◌<◌, ◌≡◌, arith, get_or, length, refl}
+use Rattle.std.proofs.Common.{[], ◌<◌, arith, get_or, length, refl}
 use Rattle.std.proofs.lemmas.List.{get_or_default}
 use Rattle.loaded_tables.specs.Indexes.{absent}
 use Rattle.loaded_tables.proofs.MapLemmas.{one_more_mapped}

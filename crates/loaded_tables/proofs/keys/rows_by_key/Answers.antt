@@ -1,10 +1,8 @@
-use Rattle.std.proofs.Common.{Ok, ◌≡◌, ◌∙◌, ℕ, ap, arith, length, map, sym}
+use Rattle.std.proofs.Common.{Ok, ◌≡◌, ◌∙◌, ap, length, sym}
 use Rattle.std.proofs.lemmas.List.FromFn.{length-map-range_with_len}
 use Rattle.std.proofs.lemmas.Result.{err_from_is_err_and}
-use Rattle.std.specs.List.{range_with_len}
 use Rattle.loaded_tables.proofs.PlaceOrderLemmas.{keyed_fault, keyed_in_order, places_within}
 use Rattle.loaded_tables.specs.FlatRows.{row_at}
-use Rattle.table_model.specs.Loading.{key_of}
 use Rattle.loaded_tables.proofs.keys.rows_by_key.Goals as goal
 
 pub keys_of-requires : goal.keys_of-requires

@@ -1,4 +1,4 @@
-use Rattle.std.proofs.Common.{Err, ◌+◌, ◌<◌, ◌≤◌, ◌≡◌, ap, arith, length}
+use Rattle.std.proofs.Common.{Err, ◌<◌, ◌≤◌, ap, arith, length}
 use Rattle.std.proofs.lemmas.List.{length_push}
 use Rattle.std.proofs.lemmas.Result.{err_from_is_err_and}
 use Rattle.csv.specs.Records.{fields_of}
