@@ -8,7 +8,7 @@ use Rattle.table_model.specs.Loading.{each}
 abbrev pub Passed : {A F : Type 0} → List (Result A F) → ℕ → List A → Type 0
 Passed answers i front = take i answers ≡ map Ok front
 
--- values behind which those of the first answers, this many, were put
+-- values to which those of the first answers, this many, were appended
 pub record Grown {A F : Type 0} (answers : List (Result A F)) (i : ℕ) (old new : List A) : Type 0 where
   pub front : List A
   pub passed : Passed answers i front
@@ -45,11 +45,11 @@ passed_all answers i front past so_far = ap each (sym (take_all i answers past) 
 pub passed_front : {A F : Type 0} (answers : List (Result A F)) (i : ℕ) (front : List A) → Passed answers i front → IsOk (each (take i answers))
 passed_front {F = F} answers i front so_far = rw (so_far, all-ok {F = F} front) refl
 
--- at first none was put there
+-- at first none is appended
 pub grown_none : {A F : Type 0} (answers : List (Result A F)) (old : List A) → Grown answers 0 old old
 grown_none answers old = record { front = []; passed = refl; grown = sym (append-nil old) }
 
--- one more is put there
+-- one more is appended
 pub grown_more : {A F : Type 0} (answers : List (Result A F)) (i : ℕ) (old new : List A) (x : A) (d : Result A F) → i < length answers → Grown answers i old new
     → get_or answers i d ≡ Ok x → Grown answers (i + 1) old (new ++ x ∷ [])
 grown_more {A = A} answers i old new x d within g here = record {

@@ -51,13 +51,13 @@ within_first width count place h =
 pub row_width : {A : Type 0} (width : ℕ) (values : List A) (place : ℕ) → IsWithin width values place → width ≤ length (drop (place * width) values)
 row_width width values place h = let rest = length-drop (place * width) values in omega (arith, h, rest)
 
--- more values behind leave a row as it was
+-- more values at the end leave a row as it was
 row_kept : {A : Type 0} (width : ℕ) (values row : List A) (place : ℕ) → IsWithin width values place → row_at width (values ++ row) place ≡ row_at width values place
 row_kept width values row place h =
     let there : place * width ≤ length values = omega (arith, h) in
     ap (take width) (drop-append-le (place * width) values row there) ∙ take-append-le width (drop (place * width) values) row (row_width width values place h)
 
--- values as many as a row has, behind so many rows, are one row more
+-- as many values as a row has, after so many rows, are one row more
 pub one_row_more : {A : Type 0} (width : ℕ) (values row : List A) (count : ℕ) → length values ≡ count * width → length row ≡ width
     → first_rows width (values ++ row) (count + 1) ≡ first_rows width values count ++ row ∷ []
 one_row_more {A = A} width values row count size whole =
@@ -85,10 +85,10 @@ pub row_within : {A : Type 0} (width : ℕ) (values : List A) (order : List ℕ)
     → All (IsWithin width values) order → IsWithin width values place
 row_within width values order i place within is all = subst (IsWithin width values) (sym is) (All-get_or (IsWithin width values) order i place within all)
 
--- a row that was put behind so many rows is one row more
-pub put_row : {A : Type 0} (width : ℕ) (old new row : List A) (count : ℕ) → length old ≡ count * width → length new ≡ length old + width → new ≡ old ++ row
+-- a row that was appended to so many rows is one row more
+pub row_appended : {A : Type 0} (width : ℕ) (old new row : List A) (count : ℕ) → length old ≡ count * width → length new ≡ length old + width → new ≡ old ++ row
     → first_rows width new (count + 1) ≡ first_rows width old count ++ row ∷ []
-put_row width old new row count size longer put =
+row_appended width old new row count size longer put =
     let both = ap length put in
     let sum = length-append old row in
     let whole : length row ≡ width = omega (arith, both, sum, longer) in

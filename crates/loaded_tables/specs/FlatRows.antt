@@ -18,7 +18,7 @@ rows_at width values places = map (row_at width values) places
 abbrev pub first_rows : {A : Type 0} → ℕ → List A → ℕ → List (List A)
 first_rows width values count = rows_at width values (range_with_len 0 count)
 
--- a call puts a row behind the values, or returns the row's fault, or that memory ran out
-abbrev pub PutsRow : {A F X : Type 0} → F → List A → List A → Result X F → Result (List A) F → Type 0
-PutsRow {A = A} memory old new (Ok x) answer = (row : List A) × (answer ≡ Ok row) × (new ≡ old ++ row)
-PutsRow memory old new (Err f) answer = f ≢ memory → answer ≡ Err f
+-- a call appends a row to the values, or returns the row's fault, or that memory ran out
+abbrev pub AppendsRow : {A F X : Type 0} → F → List A → List A → Result X F → Result (List A) F → Type 0
+AppendsRow {A = A} memory old new (Ok x) answer = (row : List A) × (answer ≡ Ok row) × (new ≡ old ++ row)
+AppendsRow memory old new (Err f) answer = f ≢ memory → answer ≡ Err f

@@ -8,7 +8,7 @@ use Rattle.table_model.specs.Meanings.{Row}
 use Rattle.table_model.specs.declared.definitions.TableDef.{TableDef}
 use Rattle.table_model.specs.declared.faults.LoadFault.{LoadFault}
 
--- no record was left, or the first of those left was taken, and its row put behind the values or its fault returned
+-- no record was left, or the first of those left was taken, and its row appended to the values or its fault returned
 abbrev pub TakesRow : {R T G : Type 0} → (R → Option (List ℕ)) → Records R → GeometryReader T G → TableDef T → Record → ℕ → List Record
     → Row G → Row G → Result Bool LoadFault → Type 0
 TakesRow remaining records geometry table header number rest old new (Ok false) = rest ≡ []
@@ -18,7 +18,7 @@ TakesRow {G = G} remaining records geometry table header number rest old new (Ok
 TakesRow remaining records geometry table header number rest old new (Err f) =
     ¬ (IsFailure f) → (first : Record) × (more : List Record) × (rest ≡ first ∷ more) × (checked_row geometry table header (number, first) ≡ Err f)
 
--- a row that was put behind the values is that of some record, and so is a fault that the definitions give
+-- a row that was appended to the values is that of some record, and so is a fault that the definitions give
 abbrev pub IsOfRecord : {T G : Type 0} → GeometryReader T G → TableDef T → Record → ℕ → Row G → Row G → Result Bool LoadFault → Type 0
 IsOfRecord geometry table header number old new (Ok false) = ⊤
 IsOfRecord {G = G} geometry table header number old new (Ok true) =

@@ -21,7 +21,7 @@ use std::io::Read;
 use table_model::definitions::ROW_LIMIT;
 use table_model::faults::LoadFault;
 
-/// Reads the next record, puts its row behind those of earlier records, and returns whether there was one.
+/// Reads the next record, appends its row to those of earlier records, and returns whether there was one.
 fn push_next_row<R: Read + Drop>(
     alloc: Global,
     table: &TableDef,

@@ -1,9 +1,9 @@
-//! The typed row of a record, put behind those of earlier records.
+//! The typed row of a record, appended to those of earlier records.
 
 ghost use Rattle.std.specs.Prelude.{◌≡◌, ◌+◌, ◌<◌, IfErr, OnOk, Result, false, length, map, vec_len};
 ghost use Rattle.std.specs.List.{slice_index_or};
 ghost use Rattle.csv.specs.Records.{fields_of};
-ghost use Rattle.loaded_tables.specs.FlatRows.{PutsRow};
+ghost use Rattle.loaded_tables.specs.FlatRows.{AppendsRow};
 ghost use Rattle.loaded_tables.specs.Layouts.{IsLayout};
 ghost use Rattle.loaded_tables.specs.Outcomes.{is_of_reading};
 ghost use Rattle.loaded_tables.specs.GeometryFields.{GeometryValue, reading};
@@ -62,8 +62,7 @@ fn value_at(
     )
 }
 
-/// Puts the values of a record's fields in the columns of a table, which are at these places of the header, behind those of
-/// earlier records.
+/// Appends the values of a record's fields in the columns of a table, which are at these places of the header.
 fn push_row(
     alloc: Global,
     table: &TableDef,
@@ -77,7 +76,7 @@ fn push_row(
     ensures width { OnOk result (length values.new ≡ length values.old + length table.now.columns) }
     ensures row { (header : spec.Record)
         → places.now ≡ map (λ c. spec.place_in header c.name) table.now.columns
-        → PutsRow fault.OutOfMemory values.old values.new result
+        → AppendsRow fault.OutOfMemory values.old values.new result
         (spec.row_of reading table.now header number (fields_of record.now)) }
 {
     for place in 0..places.len() {
@@ -108,8 +107,7 @@ pub fn row_of(
     Ok(Items::from_vec(values))
 }
 
-/// Puts the row of the record with this number, whose length is tested first, then the number of rows, behind those of earlier
-/// records.
+/// Appends the row of the record with this number, whose length is tested first, then the number of rows.
 pub(crate) fn push_checked_row(
     alloc: Global,
     table: &TableDef,
@@ -122,7 +120,7 @@ pub(crate) fn push_checked_row(
     ensures not_reading { IfErr result (λ f. is_of_reading f ≡ false) }
     ensures width { OnOk result (length values.new ≡ length values.old + length table.now.columns) }
     ensures row { (header : spec.Record) → IsLayout table.now.columns header layout.now
-        → PutsRow fault.OutOfMemory values.old values.new result
+        → AppendsRow fault.OutOfMemory values.old values.new result
         (spec.checked_row reading table.now header (number, fields_of record.now)) }
 {
     if record.len() != layout.width {

@@ -112,7 +112,7 @@ impl Values {
         }
     }
 
-    /// Puts a value behind the others.
+    /// Appends a value.
     pub(crate) fn push(&mut self, value: Value<Geometry>) -> Result<(), AllocError>
         ensures { OnOk result (self.new ≡ self.old ++ value ∷ []) }
     {

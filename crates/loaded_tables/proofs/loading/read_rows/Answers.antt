@@ -3,7 +3,7 @@ use Rattle.std.proofs.lemmas.Result.{err_from_is_err_and}
 use Rattle.loaded_tables.proofs.EachLemmas.{passed_front}
 use Rattle.loaded_tables.specs.Records.{asked}
 use Rattle.loaded_tables.proofs.FailureLemmas.{of_fault}
-use Rattle.loaded_tables.proofs.FlatLemmas.{one_more_wide, put_row}
+use Rattle.loaded_tables.proofs.FlatLemmas.{one_more_wide, row_appended}
 use Rattle.loaded_tables.proofs.LoadingLemmas.{AreRead, Midway, midway_end, midway_fault, midway_more, read_end, read_fault, read_more, row_is_within}
 use Rattle.loaded_tables.specs.FlatRows.{first_rows}
 use Rattle.loaded_tables.specs.GeometryFields.{reading}
@@ -46,13 +46,13 @@ loop-place-preserved g c =
       midway = λ header records layout gives.
           let m = c.loop-place.invariant.midway header records layout gives in
           let t = rw c.if-not-found.false at (c.in_ok-found.ensures.takes header (drop place records) layout m.gives) in
-          let rows = put_row wide old new t.2 place c.loop-place.invariant.width longer t.5 in
+          let rows = row_appended wide old new t.2 place c.loop-place.invariant.width longer t.5 in
           subst (Midway g.R.Read.remaining c.push_next_row.new.records reading c.args.table.now header records (place + 1)) (sym rows)
           (midway_more _ _ _ reading c.args.table.now header records place (first_rows wide old place) t.0 t.1 t.2 m t.3 t.4 t.6);
       read = λ header layout.
           let a = c.loop-place.invariant.read header layout in
           let t = rw c.if-not-found.false at (c.in_ok-found.ensures.record header layout) in
-          let rows = put_row wide old new t.1 place c.loop-place.invariant.width longer t.3 in
+          let rows = row_appended wide old new t.1 place c.loop-place.invariant.width longer t.3 in
           subst (AreRead reading c.args.table.now header (place + 1)) (sym rows)
           (read_more reading c.args.table.now header place (first_rows wide old place) t.0 t.1 a t.2);
     }
