@@ -1,19 +1,20 @@
--- Keys that ascend: none of them comes twice, and rows that are in their order are the rows by key.
-use Rattle.std.proofs.Common.{◌≡◌, ◌∙◌, ◌+◌, ◌<◌, ℕ, ℤ, pos, Bool, true, false, List, [], ◌∷◌, None, ap₂, arith, get_or, length, map, refl, subst, sym}
-use Rattle.std.specs.Prelude.{IsPermutation, int_lt}
+-- Keys that ascend: none of them comes twice, and their places are in their order.
+use Rattle.std.proofs.Common.{◌≡◌, ◌∙◌, ◌+◌, ◌<◌, ℕ, ℤ, pos, Bool, true, false, List, [], ◌∷◌, None, ap, ap₂, arith, get_or, length, map, refl, subst, sym}
+use Rattle.std.specs.Prelude.{IsPermutation, IsSortedByKey, int_lt}
 use Rattle.std.proofs.lemmas.Bool.Decides.{Decides-int_eq}
 use Rattle.std.proofs.lemmas.Cmp.{int_cmp_total, int_eq_equiv}
 use Rattle.std.proofs.lemmas.List.{get_or-map, length-map}
 use Rattle.std.proofs.lemmas.List.Sorted.{IsPermutation-map, IsPermutation-refl, IsPermutation-sym}
 use Rattle.std.proofs.lemmas.Map.Keys.{IsDistinct-IsPermutation, IsDistinct-from_sorted, sorted_from_all_adjacent}
 use Rattle.std.proofs.lemmas.Map.Made.{AllPairs-from_IsDistinct}
-use Rattle.std.specs.List.{AllAdjacentBelow}
+use Rattle.std.proofs.lemmas.List.FromFn.{get_or-range_with_len, length-range_with_len}
+use Rattle.std.specs.List.{AllAdjacentBelow, range_with_len}
 use Rattle.std.specs.List.Sorted.{IsStrictlySortedBy}
 use Rattle.std.specs.Ordering.{int_cmp, int_eq, is_lt}
-use Rattle.loaded_tables.proofs.OrderLemmas.{less-order, one-way, the_order}
+use Rattle.loaded_tables.proofs.OrderLemmas.{less-order, one-way}
+use Rattle.loaded_tables.specs.KeyPlaces.{key_at}
 use Rattle.table_laws.proofs.Doubles.{none_is_double}
-use Rattle.table_model.specs.Loading.{by_key, double_key, key_of}
-use Rattle.table_model.specs.Meanings.{Row}
+use Rattle.table_model.specs.Loading.{double_key}
 
 -- each key is below the next
 abbrev pub Ascend : {X : Type 0} → (X → ℤ) → List X → Type 0
@@ -47,15 +48,25 @@ below-first a b e = go (int_lt b a) refl
     go true h = absurd (one-way a b e h)
     go false h = rw (h, e) refl
 
--- rows whose keys ascend are the rows by key, and no key comes twice
-pub ascending_alone : {G : Type 0} (key : ℕ) (xs : List (Row G)) → Ascend (key_of key) xs → double_key (map (key_of key) xs) ≡ None
-ascending_alone key xs up = no_double (key_of key) (map (key_of key) xs) xs (IsPermutation-refl (map (key_of key) xs)) up
+same-list : {X : Type 0} (xs : List X) → map (λ x. x) xs ≡ xs
+same-list [] = refl
+same-list {X = X} (x ∷ xs) = ap (λ (ys : List X). x ∷ ys) (same-list xs)
 
--- and they are the rows by key already
-pub ascending_order : {G : Type 0} (key : ℕ) (xs : List (Row G)) → Ascend (key_of key) xs → by_key key xs ≡ xs
-ascending_order key xs up =
-    the_order key xs xs (ascending_alone key xs up) (IsPermutation-refl xs)
-    (λ k d low high. below-first (key_of key (get_or xs k d)) (key_of key (get_or xs (k + 1) d)) (sym (up k d high)))
+-- of keys that ascend none comes twice
+pub ascending_alone : (keys : List ℤ) → Ascend (λ k. k) keys → double_key keys ≡ None
+ascending_alone keys up = no_double (λ k. k) keys keys (subst (IsPermutation keys) (sym (same-list keys)) (IsPermutation-refl keys)) up
+
+-- and their places are in the keys' order already
+pub ascending_places : (keys : List ℤ) → Ascend (λ k. k) keys → IsSortedByKey (key_at keys) int_cmp (range_with_len 0 (length keys))
+ascending_places keys up k d low high =
+    let size = length-range_with_len 0 (length keys) in
+    let later : k + 1 < length keys = omega (arith, high, size) in
+    let here = get_or-range_with_len 0 (length keys) k d (omega (arith, later)) in
+    let next = get_or-range_with_len 0 (length keys) (k + 1) d later in
+    let first : get_or (range_with_len 0 (length keys)) k d ≡ k = omega (arith, here) in
+    let second : get_or (range_with_len 0 (length keys)) (k + 1) d ≡ k + 1 = omega (arith, next) in
+    ap₂ (λ (p q : ℕ). is_lt (int_cmp (key_at keys p) (key_at keys q))) second first
+    ∙ below-first (key_at keys k) (key_at keys (k + 1)) (sym (up k (pos 0) later))
 
 -- the keys beside which rows are, in the order into which these were put
 pub keys_moved : {R K : Type 0} (number : K → ℤ) (make : R → K) (key : R → ℤ) (xs : List R) (ks : List K) → ((r : R) → number (make r) ≡ key r) → IsPermutation (map make xs) ks

@@ -1,5 +1,6 @@
 pub mod FailureLemmas
 pub mod FieldLemmas
+pub mod FlatLemmas
 pub mod SchemaLemmas
 pub mod HeaderLemmas
 pub mod EachLemmas
@@ -13,4 +14,6 @@ pub mod IndexLemmas
 pub mod KeyLemmas
 pub mod MapLemmas
 pub mod OrderLemmas
+pub mod PlaceOrderLemmas
 pub mod ReadingLemmas
+pub mod ValueLemmas

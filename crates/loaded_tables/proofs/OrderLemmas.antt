@@ -260,32 +260,36 @@ the_order {G = G} key xs ys none moved up =
     (λ r i. let c = Contains-permutation xs ys r moved (at-in xs r (in-by_key key xs r i)) in in-at ys c.0 r c.1 c.2)
     (λ r i. let c = Contains-permutation ys xs r (IsPermutation-sym xs ys moved) (at-in ys r i) in by_key-in key xs r (in-at xs c.0 r c.1 c.2))
 
--- where a row is beside its key
-abbrev Says : {G K : Type 0} → (K → ℤ) → (K → Row G) → ℕ → K → Type 0
-Says number row key k = number k ≡ key_of key (row k)
+-- where a thing is beside its key
+abbrev Says : {Y K : Type 0} → (K → ℤ) → (Y → ℤ) → (K → Y) → K → Type 0
+Says number key thing k = number k ≡ key (thing k)
 
--- rows that were put beside their keys are the rows again when the keys are left out
-rows-of-made : {G K : Type 0} (row : K → Row G) (make : Row G → K) → ((r : Row G) → row (make r) ≡ r) → (xs : List (Row G)) → map row (map make xs) ≡ xs
-rows-of-made row make back [] = refl
-rows-of-made row make back (x ∷ xs) = rw (back x, rows-of-made row make back xs) refl
+-- things that were put beside their keys are the things again when the keys are left out
+things-of-made : {Y K : Type 0} (thing : K → Y) (make : Y → K) → ((y : Y) → thing (make y) ≡ y) → (ys : List Y) → map thing (map make ys) ≡ ys
+things-of-made thing make back [] = refl
+things-of-made thing make back (y ∷ ys) = rw (back y, things-of-made thing make back ys) refl
 
--- rows that are beside their keys, sorted by those, are sorted by key
-sorted-rows : {G K : Type 0} (number : K → ℤ) (row : K → Row G) (make : Row G → K) (key : ℕ) (ks : List K) → All (Says number row key) ks → IsSortedByKey number int_cmp ks
-    → IsSortedByKey (key_of key) int_cmp (map row ks)
-sorted-rows {G = G} number row make key ks says up k d low high =
-    let size : length (map row ks) ≡ length ks = simp length-map in
+-- things that are beside their keys, sorted by those, are sorted by key
+sorted-things : {Y K : Type 0} (number : K → ℤ) (key : Y → ℤ) (thing : K → Y) (make : Y → K) (ks : List K) → All (Says number key thing) ks
+    → IsSortedByKey number int_cmp ks → IsSortedByKey key int_cmp (map thing ks)
+sorted-things {Y = Y} number key thing make ks says up k d low high =
+    let size : length (map thing ks) ≡ length ks = simp length-map in
     let later : k + 1 < length ks = omega (arith, high, size) in
     let here : k < length ks = omega (arith, later) in
-    let key-here = ap (key_of key) (get_or-map row ks k (make d) d here) ∙ sym (says k (make d) here) in
-    let key-later = ap (key_of key) (get_or-map row ks (k + 1) (make d) d later) ∙ sym (says (k + 1) (make d) later) in
+    let key-here = ap key (get_or-map thing ks k (make d) d here) ∙ sym (says k (make d) here) in
+    let key-later = ap key (get_or-map thing ks (k + 1) (make d) d later) ∙ sym (says (k + 1) (make d) later) in
     ap₂ (λ (a b : ℤ). is_lt (int_cmp a b)) key-later key-here ∙ up k (make d) low later
 
--- the rows of a list of rows beside their keys, which is sorted by those, are the rows by key
-pub the_keyed_order : {G K : Type 0} (number : K → ℤ) (row : K → Row G) (make : Row G → K) (key : ℕ) (xs : List (Row G)) (ks : List K)
-    → ((r : Row G) → row (make r) ≡ r) → ((r : Row G) → number (make r) ≡ key_of key r) → double_key (map (key_of key) xs) ≡ None
-    → IsPermutation (map make xs) ks → IsSortedByKey number int_cmp ks → by_key key xs ≡ map row ks
-the_keyed_order {G = G} number row make key xs ks back said none moved up =
-    let says : All (Says number row key) (map make xs) =
-    All-map (Says number row key) make xs (λ j d h. said (get_or xs j d) ∙ ap (key_of key) (sym (back (get_or xs j d)))) in
-    let rows : IsPermutation xs (map row ks) = subst (λ l. IsPermutation l (map row ks)) (rows-of-made row make back xs) (IsPermutation-map row (map make xs) ks moved) in
-    the_order key xs (map row ks) none rows (sorted-rows number row make key ks (All-permutation (Says number row key) (map make xs) ks moved says) up)
+-- the things of a list of things beside their keys, which is sorted by those, are the same things in another order, sorted by key
+pub things_moved : {Y K : Type 0} (thing : K → Y) (make : Y → K) (ys : List Y) (ks : List K) → ((y : Y) → thing (make y) ≡ y)
+    → IsPermutation (map make ys) ks → IsPermutation ys (map thing ks)
+things_moved thing make ys ks back moved =
+    subst (λ l. IsPermutation l (map thing ks)) (things-of-made thing make back ys) (IsPermutation-map thing (map make ys) ks moved)
+
+pub things_sorted : {Y K : Type 0} (number : K → ℤ) (key : Y → ℤ) (thing : K → Y) (make : Y → K) (ys : List Y) (ks : List K)
+    → ((y : Y) → thing (make y) ≡ y) → ((y : Y) → number (make y) ≡ key y) → IsPermutation (map make ys) ks → IsSortedByKey number int_cmp ks
+    → IsSortedByKey key int_cmp (map thing ks)
+things_sorted number key thing make ys ks back said moved up =
+    let says : All (Says number key thing) (map make ys) =
+    All-map (Says number key thing) make ys (λ j d h. said (get_or ys j d) ∙ ap key (sym (back (get_or ys j d)))) in
+    sorted-things number key thing make ks (All-permutation (Says number key thing) (map make ys) ks moved says) up

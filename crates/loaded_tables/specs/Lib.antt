@@ -4,7 +4,10 @@ pub mod RowReading
 pub mod Tables
 pub mod GeometryFields
 pub mod Indexes
-pub mod KeyedRows
+pub mod FlatRows
+pub mod KeyPlaces
 pub mod Outcomes
 pub mod Reading
+pub mod ReadRows
 pub mod Records
+pub mod Values

@@ -6,12 +6,12 @@ ghost use Rattle.loaded_tables.specs.Indexes.{HoldsNone, ListColumns, absent, co
 ghost use Rattle.table_model.specs.FeatureTables.{AreRows};
 ghost use Rattle.table_model.specs.Meanings as plain;
 
-use crate::geometry_fields::Geometry;
+use crate::cells::Field;
+use crate::flat_rows::FlatRows;
 use crate::schemas::{ColumnType, TableDef};
+use crate::values::Row;
 use rtree::{Envelope, EnvelopeIndex};
-use sqlite_items::{self as items, Items};
 use std::alloc::{AllocError, Global};
-use table_model::values::Value;
 
 /// An index for each geometry column, and one that all other columns share, which lists an absent envelope for each row.
 #[derive(Drop)]
@@ -24,11 +24,7 @@ pub struct Indexes<I> {
 
 impl<I: EnvelopeIndex + Drop> Indexes<I> {
     /// The indexes of the columns of a table. It fails only when memory runs out.
-    pub fn build(
-        alloc: Global,
-        table: &TableDef,
-        rows: &[Items<Value<Geometry>>],
-    ) -> Result<Indexes<I>, AllocError>
+    pub fn build(alloc: Global, table: &TableDef, rows: &FlatRows) -> Result<Indexes<I>, AllocError>
         requires { AreRows takes table.now rows.now }
         ensures { IfOk result (λ indexes. ListColumns I.indexed rows.now indexes) }
     {
@@ -58,7 +54,7 @@ impl<I: EnvelopeIndex + Drop> Indexes<I> {
 fn own_index<I: EnvelopeIndex + Drop>(
     alloc: Global,
     column_type: &ColumnType,
-    rows: &[Items<Value<Geometry>>],
+    rows: &FlatRows,
     column: usize,
 ) -> Result<Option<I>, AllocError>
     ensures own { IfOk result
@@ -74,38 +70,35 @@ fn own_index<I: EnvelopeIndex + Drop>(
 /// The index of what is in a column.
 fn index_of<I: EnvelopeIndex + Drop>(
     alloc: Global,
-    rows: &[Items<Value<Geometry>>],
+    rows: &FlatRows,
     column: usize,
 ) -> Result<I, AllocError>
     ensures { IfOk result (λ index. I.indexed index ≡ column_envelopes column rows.now) }
 {
     let mut envelopes = Vec::with_capacity(alloc, rows.len())?;
-    for row in rows {
-        envelopes.push(envelope_in(row.as_slice(), column))?;
+    for place in 0..rows.len() {
+        envelopes.push(envelope_in(&rows.row(place), column))?;
     }
     I::build(alloc, envelopes.as_slice())
 }
 
 /// The index of as many absent envelopes as there are rows.
-fn bare_index<I: EnvelopeIndex + Drop>(
-    alloc: Global,
-    rows: &[Items<Value<Geometry>>],
-) -> Result<I, AllocError>
+fn bare_index<I: EnvelopeIndex + Drop>(alloc: Global, rows: &FlatRows) -> Result<I, AllocError>
     ensures { IfOk result (λ index. I.indexed index ≡ map absent rows.now) }
 {
     let mut envelopes = Vec::with_capacity(alloc, rows.len())?;
-    for _row in rows {
+    for _place in 0..rows.len() {
         envelopes.push(None)?;
     }
     I::build(alloc, envelopes.as_slice())
 }
 
 /// The envelope of what is in a column of a row.
-fn envelope_in(row: &[Value<Geometry>], column: usize) -> Option<Envelope>
+fn envelope_in(row: &Row<'_>, column: usize) -> Option<Envelope>
     ensures { result ≡ field_envelope (field_in column row.now) }
 {
-    match items::at(row, column) {
-        Some(Value::Geometry(geometry)) => Envelope::of(geometry),
+    match row.get(column) {
+        Some(Field::Geom(geometry)) => Envelope::of(geometry),
         _ => None,
     }
 }

@@ -1,19 +1,23 @@
-//! Feature keys: finds two rows with equal keys, and sorts rows by key.
+//! Feature keys: finds two records with equal keys, and orders records by key.
 
-ghost use Rattle.std.specs.Prelude.{◌≡◌, ◌≢◌, [], IfErr, IfOk, Ok, Err, OnErr, OnOk, false, int_lt, map};
-ghost use Rattle.std.specs.List.{IsAllAdjacentAnswer};
+ghost use Rattle.std.specs.Prelude.{◌≡◌, ◌≢◌, ◌*◌, IfErr, IfOk, Ok, Err, None, OnOk, Some, false, int_lt, length, map, option_map};
+ghost use Rattle.std.specs.List.{IsAllAdjacentAnswer, range_with_len};
 ghost use Rattle.std.specs.List.Sorted.{IsPermutation, IsSortedByKey};
 ghost use Rattle.std.specs.Ordering.{int_cmp};
-ghost use Rattle.loaded_tables.specs.KeyedRows.{keyed_row};
+ghost use Rattle.loaded_tables.specs.FlatRows.{row_at};
+ghost use Rattle.loaded_tables.specs.KeyPlaces.{key_at, key_place};
 ghost use Rattle.loaded_tables.specs.Outcomes.{is_of_reading};
+ghost use Rattle.loaded_tables.specs.ReadRows.{rows_read};
 ghost use Rattle.table_model.specs.Loading as spec;
 ghost use Rattle.table_model.specs.declared.faults.LoadFault.TheVariants as fault;
 
+use crate::cells::Field;
+use crate::flat_rows::{FlatRows, ReadRows};
 use crate::geometry_fields::Geometry;
-use sqlite_items::{self as items, Items};
+use crate::values::{Row, Values};
+use sqlite_items as items;
 use std::alloc::{AllocError, Global};
 use std::collections::BTreeSet;
-use std::mem;
 use table_model::faults::LoadFault;
 use table_model::values::Value;
 
@@ -27,27 +31,40 @@ pub fn key_of(row: &[Value<Geometry>], key: usize) -> i64
     }
 }
 
-/// The keys of rows.
+/// The number at the key's place of a row that is lent.
+fn key_in(row: &Row<'_>, key: usize) -> i64
+    ensures { result ≡ spec.key_of key row.now }
+{
+    match row.get(key) {
+        Some(Field::Int(number)) => number,
+        _ => 0,
+    }
+}
+
+/// The keys of the first rows of this width, this many.
 fn keys_of(
     alloc: Global,
-    rows: &[Items<Value<Geometry>>],
+    values: &Values,
+    width: usize,
+    count: usize,
     key: usize,
 ) -> Result<Vec<i64>, AllocError>
-    ensures { IfOk result (λ keys. keys.items ≡ map (spec.key_of key) rows.now) }
+    requires { length values.now ≡ count * width }
+    ensures { IfOk result (λ keys. keys.items
+        ≡ map (λ place. spec.key_of key (row_at width values.now place)) (range_with_len 0 count)) }
 {
-    let mut keys = Vec::with_capacity(alloc, rows.len())?;
-    for row in rows {
-        keys.push(key_of(row.as_slice(), key))?;
+    let mut keys = Vec::with_capacity(alloc, count)?;
+    for place in 0..count {
+        keys.push(key_in(&values.row(width, place), key))?;
     }
     Ok(keys)
 }
 
-/// Whether each row's key is below the next row's.
-fn ascend(rows: &[Items<Value<Geometry>>], key: usize) -> bool
-    ensures { IsAllAdjacentAnswer
-        (λ row next below. below ≡ int_lt (spec.key_of key row) (spec.key_of key next)) rows.now result }
+/// Whether each key is below the next.
+fn ascend(keys: &[i64]) -> bool
+    ensures { IsAllAdjacentAnswer (λ key next below. below ≡ int_lt key next) keys.now result }
 {
-    rows.is_sorted_by(|row, next| key_of(row.as_slice(), key) < key_of(next.as_slice(), key))
+    keys.is_sorted_by(|key, next| key < next)
 }
 
 /// The number, from 1, of the first key that equals an earlier one; none if no two are equal. It fails only when memory runs out.
@@ -64,64 +81,62 @@ pub fn double_key(alloc: Global, keys: &[i64]) -> Result<Option<usize>, AllocErr
     Ok(None)
 }
 
-/// A row beside its key, so that the sort looks into no row.
-#[derive(Drop)]
-pub(crate) struct KeyedRow {
-    number: i64,
-    row: Items<Value<Geometry>>,
+/// The first places, this many, from 0.
+fn first_places(alloc: Global, count: usize) -> Result<Vec<usize>, AllocError>
+    ensures { IfOk result (λ places. places.items ≡ range_with_len 0 count) }
+{
+    (0..count).collect(alloc)
 }
 
-/// Rows beside their keys.
-fn with_keys(
-    alloc: Global,
-    rows: Vec<Items<Value<Geometry>>>,
-    key: usize,
-) -> Result<Vec<KeyedRow>, AllocError>
-    ensures { IfOk result (λ keyed. keyed.items ≡ map (keyed_row key) rows.items) }
+/// A place beside the key there, so that the sort looks into no row.
+#[derive(Drop)]
+pub(crate) struct KeyPlace {
+    number: i64,
+    place: usize,
+}
+
+/// The places of keys, each beside its key.
+fn with_places(alloc: Global, keys: &[i64]) -> Result<Vec<KeyPlace>, AllocError>
+    ensures { IfOk result (λ keyed. keyed.items ≡ map (key_place keys.now) (range_with_len 0 (length keys.now))) }
 {
-    let mut keyed = Vec::new(alloc);
-    for row in rows {
-        let number = key_of(row.as_slice(), key);
-        keyed.push(KeyedRow { number, row })?;
+    let mut keyed = Vec::with_capacity(alloc, keys.len())?;
+    for place in 0..keys.len() {
+        keyed.push(KeyPlace {
+            number: keys[place],
+            place,
+        })?;
     }
     Ok(keyed)
 }
 
-/// The rows of those that are beside their keys.
-fn without_keys(
-    alloc: Global,
-    keyed: Vec<KeyedRow>,
-) -> Result<Vec<Items<Value<Geometry>>>, AllocError>
-    ensures { IfOk result (λ rows. rows.items ≡ map (λ k. k.row) keyed.items) }
+/// The places of those that are beside their keys.
+fn places_of(alloc: Global, keyed: &[KeyPlace]) -> Result<Vec<usize>, AllocError>
+    ensures { IfOk result (λ places. places.items ≡ map (λ k. k.place) keyed.now) }
 {
-    let mut rows = Vec::new(alloc);
-    for keyed_row in keyed {
-        rows.push(keyed_row.row)?;
-    }
-    Ok(rows)
+    keyed.iter().map(|key_place| key_place.place).collect(alloc)
 }
 
-/// Sorts rows that are beside their keys into the order of the keys.
-fn sort_keyed(keyed: &mut Vec<KeyedRow>)
+/// Sorts places that are beside their keys into the order of the keys.
+fn sort_keyed(keyed: &mut Vec<KeyPlace>)
     ensures moved { IsPermutation keyed.old.items keyed.new.items }
     ensures sorted { IsSortedByKey (λ k. k.number) int_cmp keyed.new.items }
 {
-    keyed.sort_unstable_by_key(|keyed_row| keyed_row.number);
+    keyed.sort_unstable_by_key(|key_place| key_place.number);
 }
 
-/// Whether each key is below the next, of rows that are beside their keys.
-fn keyed_ascend(keyed: &[KeyedRow]) -> bool
-    ensures { IsAllAdjacentAnswer (λ row next below. below ≡ int_lt row.number next.number) keyed.now result }
+/// Whether each key is below the next, of places that are beside their keys.
+fn keyed_ascend(keyed: &[KeyPlace]) -> bool
+    ensures { IsAllAdjacentAnswer (λ place next below. below ≡ int_lt place.number next.number) keyed.now result }
 {
-    keyed.is_sorted_by(|row, next| row.number < next.number)
+    keyed.is_sorted_by(|place, next| place.number < next.number)
 }
 
-/// The number, from 1, of the first key that equals an earlier one. The rows are beside the same keys, sorted: if these strictly
-/// ascend, there is none, and no set of keys is made.
+/// The number, from 1, of the first key that equals an earlier one. The places are beside the same keys, sorted: if these
+/// strictly ascend, there is none, and no set of keys is made.
 fn double_among(
     alloc: Global,
     keys: &[i64],
-    keyed: &[KeyedRow],
+    keyed: &[KeyPlace],
 ) -> Result<Option<usize>, AllocError>
     requires { IsPermutation keys.now (map (λ k. k.number) keyed.now) }
     ensures { IfOk result (λ number. number ≡ spec.double_key keys.now) }
@@ -132,31 +147,40 @@ fn double_among(
     double_key(alloc, keys)
 }
 
-/// Sorts rows into the order of their keys. The fault is DoubleKey, with the record's number, or OutOfMemory; it leaves no rows.
-pub fn order_by_key(
-    alloc: Global,
-    rows: &mut Vec<Items<Value<Geometry>>>,
-    key: usize,
-) -> Result<(), LoadFault>
-    ensures ok { OnOk result (spec.keyed_rows key rows.old.items ≡ Ok rows.new.items) }
+/// The places of keys, from 0, in the order of the keys. The fault is DoubleKey, with the record's number, or OutOfMemory.
+pub fn order_by_key(alloc: Global, keys: &[i64]) -> Result<Vec<usize>, LoadFault>
+    ensures each { IfOk result (λ order. IsPermutation (range_with_len 0 (length keys.now)) order.items) }
+    ensures ascend { IfOk result (λ order. IsSortedByKey (key_at keys.now) int_cmp order.items) }
+    ensures single { OnOk result (spec.double_key keys.now ≡ None) }
     ensures not_reading { IfErr result (λ f. is_of_reading f ≡ false) }
-    ensures fault { IfErr result (λ f. f ≢ fault.OutOfMemory → spec.keyed_rows key rows.old.items ≡ Err f) }
-    ensures refused { OnErr result (rows.new.items ≡ []) }
+    ensures fault { IfErr result
+        (λ f. f ≢ fault.OutOfMemory → option_map fault.DoubleKey (spec.double_key keys.now) ≡ Some f) }
 {
-    // Rows mostly come in the order of their keys, and stay as they are.
-    if ascend(rows.as_slice(), key) {
-        return Ok(());
+    // Records mostly come in the order of their keys.
+    if ascend(keys) {
+        return Ok(first_places(alloc, keys.len())?);
     }
-    let given = mem::replace(rows, Vec::new(alloc));
-    // A fault names a record, so the keys are kept in the order of records.
-    let keys = keys_of(alloc, given.as_slice(), key)?;
-    let mut keyed = with_keys(alloc, given, key)?;
+    let mut keyed = with_places(alloc, keys)?;
     sort_keyed(&mut keyed);
-    match double_among(alloc, keys.as_slice(), keyed.as_slice())? {
+    match double_among(alloc, keys, keyed.as_slice())? {
         Some(number) => Err(LoadFault::DoubleKey(number)),
-        None => {
-            *rows = without_keys(alloc, keyed)?;
-            Ok(())
-        }
+        None => Ok(places_of(alloc, keyed.as_slice())?),
     }
+}
+
+/// The rows that were read, by ascending key. The fault is DoubleKey, with the record's number, or OutOfMemory.
+pub(crate) fn rows_by_key(
+    alloc: Global,
+    read: ReadRows,
+    width: usize,
+    key: usize,
+) -> Result<FlatRows, LoadFault>
+    requires { length read.values ≡ read.count * width }
+    ensures ok { IfOk result (λ rows. spec.keyed_rows key (rows_read width read) ≡ Ok rows) }
+    ensures not_reading { IfErr result (λ f. is_of_reading f ≡ false) }
+    ensures fault { IfErr result (λ f. f ≢ fault.OutOfMemory → spec.keyed_rows key (rows_read width read) ≡ Err f) }
+{
+    let keys = keys_of(alloc, &read.values, width, read.count, key)?;
+    let order = order_by_key(alloc, keys.as_slice())?;
+    Ok(FlatRows::new(read.values, width, order))
 }

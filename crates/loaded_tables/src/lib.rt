@@ -4,6 +4,7 @@
 
 pub mod cells;
 pub mod fields;
+pub mod flat_rows;
 pub mod geometry_fields;
 mod headers;
 pub mod indexes;
@@ -13,14 +14,17 @@ pub mod records;
 pub mod schemas;
 pub mod tables;
 mod typed_rows;
+mod values;
 
 pub use cells::Field;
 pub use fields::integer_of;
+pub use flat_rows::FlatRows;
 pub use geometry_fields::{ColumnShape, Geometry};
 pub use headers::{Layout, field_at, layout_of};
 pub use indexes::Indexes;
 pub use keys::{double_key, key_of, order_by_key};
 pub use records::{Records, fault_of, next_record, record_reader};
 pub use schemas::{ColumnDef, ColumnType, Schema, TableDef, lawful};
-pub use tables::{Row, Table};
+pub use tables::Table;
 pub use typed_rows::row_of;
+pub use values::Row;

@@ -1,53 +1,57 @@
 //! The rows of a table, read record by record.
 
-ghost use Rattle.std.specs.Prelude.{◌≡◌, ◌+◌, ◌-◌, ◌<◌, ◌≤◌, IfErr, IsOk, List, OnOk, length, take, true, vec_len};
+ghost use Rattle.std.specs.Prelude.{◌≡◌, ◌*◌, ◌+◌, ◌-◌, ◌<◌, ◌≤◌, IfErr, IfOk, IsOk, List, OnOk, false, length, take, true, vec_len};
 ghost use Rattle.loaded_tables.specs.Layouts.{IsLayout};
 ghost use Rattle.loaded_tables.specs.Outcomes.{Loads, is_of_reading};
 ghost use Rattle.loaded_tables.specs.Records.{Gives, IsReady, asked, read_failed, record_limit};
+ghost use Rattle.loaded_tables.specs.ReadRows.{rows_read};
 ghost use Rattle.loaded_tables.specs.RowReading.{IsOfRecord, RowsOfRecords, TakesRow};
 ghost use Rattle.loaded_tables.specs.GeometryFields.{reading};
 ghost use Rattle.table_model.specs.Loading as spec;
 
-use crate::geometry_fields::Geometry;
+use crate::flat_rows::ReadRows;
 use crate::headers::Layout;
 use crate::records::{Records, next_record};
 use crate::schemas::TableDef;
-use crate::typed_rows::checked_row;
+use crate::typed_rows::push_checked_row;
+use crate::values::Values;
 use csv::ByteRecord;
-use sqlite_items::Items;
 use std::alloc::Global;
 use std::io::Read;
 use table_model::definitions::ROW_LIMIT;
 use table_model::faults::LoadFault;
-use table_model::values::Value;
 
-/// Reads the next record, and returns its row; none after the last record.
-fn next_row<R: Read + Drop>(
+/// Reads the next record, appends its row to those of earlier records, and returns whether there was one.
+fn push_next_row<R: Read + Drop>(
     alloc: Global,
     table: &TableDef,
     layout: &Layout,
     number: usize,
     records: &mut Records<R>,
     record: &mut ByteRecord,
-) -> Result<Option<Items<Value<Geometry>>>, LoadFault>
+    values: &mut Values,
+) -> Result<bool, LoadFault>
     requires size { vec_len layout.now.places ≡ length table.now.columns }
     requires ready { IsReady records.old }
     requires limit { asked records.old < record_limit }
     ensures asked { asked records.new ≡ asked records.old + 1 }
     ensures read_failed { IfErr result (λ f. is_of_reading f ≡ true → read_failed records.new ≡ true) }
     ensures ready { OnOk result (IsReady records.new) }
+    ensures width { IfOk result (λ found. found ≡ true
+        → length values.new ≡ length values.old + length table.now.columns) }
+    ensures none { IfOk result (λ found. found ≡ false → values.new ≡ values.old) }
     ensures takes { (header : spec.Record) (rest : List spec.Record)
         → IsLayout table.now.columns header layout.now → Gives R.remaining records.old rest
-        → TakesRow R.remaining records.new reading table.now header number rest result }
+        → TakesRow R.remaining records.new reading table.now header number rest values.old values.new result }
     ensures record { (header : spec.Record) → IsLayout table.now.columns header layout.now
-        → IsOfRecord reading table.now header number result }
+        → IsOfRecord reading table.now header number values.old values.new result }
 {
     let found = next_record(records, record)?;
     if !found {
-        return Ok(None);
+        return Ok(false);
     }
-    let row = checked_row(alloc, table, layout, number, record)?;
-    Ok(Some(row))
+    push_checked_row(alloc, table, layout, number, record, values)?;
+    Ok(true)
 }
 
 /// Reads the records after the header, and returns their rows or the first fault. TooManyRows is the fault of the first
@@ -57,28 +61,40 @@ pub(crate) fn read_rows<R: Read + Drop>(
     table: &TableDef,
     layout: &Layout,
     records: &mut Records<R>,
-) -> Result<Vec<Items<Value<Geometry>>>, LoadFault>
+) -> Result<ReadRows, LoadFault>
     requires size { vec_len layout.now.places ≡ length table.now.columns }
     requires ready { IsReady records.old }
     requires header { asked records.old ≡ 1 }
     ensures taken { asked records.new ≤ record_limit }
     ensures read_failed { IfErr result (λ f. is_of_reading f ≡ true → read_failed records.new ≡ true) }
+    ensures width { IfOk result (λ read. length read.values ≡ read.count * length table.now.columns) }
     ensures loads { (header : spec.Record) (rest : List spec.Record)
         → IsLayout table.now.columns header layout.now → Gives R.remaining records.old rest
-        → Loads (λ rows. rows.items) result (spec.rows_of reading table.now header rest) }
+        → Loads (rows_read (length table.now.columns)) result (spec.rows_of reading table.now header rest) }
     ensures records { (header : spec.Record) → IsLayout table.now.columns header layout.now
-        → RowsOfRecords reading table.now header (λ rows. rows.items) result }
+        → RowsOfRecords reading table.now header (rows_read (length table.now.columns)) result }
     ensures before { (header : spec.Record) (rest : List spec.Record)
         → IsLayout table.now.columns header layout.now → Gives R.remaining records.old rest
         → IfErr result (λ f. is_of_reading f ≡ true
         → IsOk (spec.each (take (asked records.new - 2) (spec.checked_rows reading table.now header rest)))) }
 {
-    let mut rows = Vec::new(alloc);
+    let mut values = Values::new(alloc);
     let mut record = ByteRecord::new(alloc);
     for place in 0..ROW_LIMIT + 1 {
-        match next_row(alloc, table, layout, place + 1, records, &mut record)? {
-            Some(row) => rows.push(row)?,
-            None => return Ok(rows),
+        let found = push_next_row(
+            alloc,
+            table,
+            layout,
+            place + 1,
+            records,
+            &mut record,
+            &mut values,
+        )?;
+        if !found {
+            return Ok(ReadRows {
+                values,
+                count: place,
+            });
         }
     }
     Err(LoadFault::TooManyRows)

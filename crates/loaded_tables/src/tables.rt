@@ -1,7 +1,6 @@
 //! Tables of typed rows.
 
 ghost use Rattle.std.specs.Prelude.{◌≡◌, ◌-◌, ◌∷◌, ◌<◌, ◌≤◌, ℕ, IfErr, IfOk, IsTrue, List, [], Some, length, slice_get, true};
-ghost use Rattle.loaded_tables.specs.Cells.{shown};
 ghost use Rattle.loaded_tables.specs.Outcomes.{Loads, is_of_reading};
 ghost use Rattle.loaded_tables.specs.Records.{Gives, IsReady, asked, read_failed, record_limit};
 ghost use Rattle.loaded_tables.specs.GeometryFields.{reading, takes};
@@ -11,61 +10,26 @@ ghost use Rattle.table_model.specs.Definitions.{lawful};
 ghost use Rattle.table_model.specs.FeatureTables.{AreRows};
 ghost use Rattle.table_model.specs.Loading as spec;
 
-use crate::cells::{Field, field_of};
-use crate::geometry_fields::Geometry;
+use crate::flat_rows::FlatRows;
 use crate::headers::layout_of;
 use crate::indexes::Indexes;
-use crate::keys::order_by_key;
+use crate::keys::rows_by_key;
 use crate::loading::read_rows;
 use crate::records::{Records, next_record};
 use crate::schemas::TableDef;
+use crate::values::Row;
 use csv::ByteRecord;
 use rtree::EnvelopeIndex;
-use sqlite_items::Items;
 use std::alloc::Global;
 use std::io::Read;
 use std::marker::Model;
 use table_model::faults::LoadFault;
-use table_model::values::Value;
-
-/// A row of a table, which contracts see as the list of its values (06-104r4, feature tables).
-#[derive(Drop)]
-pub struct Row<'a> {
-    values: &'a Items<Value<Geometry>>,
-}
-
-impl<'a> Model for Row<'a> {
-    ghost use Rattle.table_model.specs.Meanings as plain;
-    ghost use Rattle.loaded_tables.specs.GeometryFields.{GeometryValue};
-
-    ghost Value = { plain.Row GeometryValue };
-
-    ghost view = { λ r. r.values.now };
-}
-
-impl<'a> Row<'a> {
-    /// How many fields the row has: as many as its table has columns.
-    pub fn len(&self) -> usize
-        ensures { result ≡ length self.now }
-    {
-        self.values.len()
-    }
-
-    /// Lends the field of the column at a place.
-    pub fn field(&self, column: usize) -> Field<'a>
-        requires { column < length self.now }
-        ensures { slice_get self.now column ≡ Some (shown result) }
-    {
-        let values = self.values.as_slice();
-        field_of(&values[column])
-    }
-}
 
 /// A table: the rows of a lawful definition, by ascending key, with an index of each geometry column (06-104r4,
 /// feature tables). Contracts see it as the list of its rows.
 #[derive(Drop)]
 pub struct Table<I: EnvelopeIndex> {
-    rows: Vec<Items<Value<Geometry>>>,
+    rows: FlatRows,
     indexes: Indexes<I>,
 }
 
@@ -77,10 +41,10 @@ impl<I: EnvelopeIndex> Model for Table<I> {
 
     ghost Value = { plain.Table GeometryValue };
 
-    ghost view = { λ t. t.rows.items };
+    ghost view = { λ t. t.rows };
 
     ghost invariant = { λ t.
-        IsTable takes t.rows.items × ListColumns I.indexed t.rows.items t.indexes };
+        IsTable takes t.rows × ListColumns I.indexed t.rows t.indexes };
 }
 
 impl<I: EnvelopeIndex + Drop> Table<I> {
@@ -132,9 +96,9 @@ impl<I: EnvelopeIndex + Drop> Table<I> {
             return Err(LoadFault::MissingColumn);
         }
         let layout = layout_of(alloc, table.columns.as_slice(), &header)?;
-        let mut rows = read_rows(alloc, table, &layout, records)?;
-        order_by_key(alloc, &mut rows, table.key)?;
-        let indexes = Indexes::build(alloc, table, rows.as_slice())?;
+        let read = read_rows(alloc, table, &layout, records)?;
+        let rows = rows_by_key(alloc, read, table.columns.len(), table.key)?;
+        let indexes = Indexes::build(alloc, table, &rows)?;
         Ok(Table { rows, indexes })
     }
 
@@ -152,9 +116,7 @@ impl<I: EnvelopeIndex + Drop> Table<I> {
         requires { i < length self.now }
         ensures { slice_get self.now i ≡ Some result }
     {
-        Row {
-            values: &self.rows[i],
-        }
+        self.rows.row(i)
     }
 
     /// Lends the index of a column: it lists the envelope of the column's geometry in each row. NULL and an empty geometry have

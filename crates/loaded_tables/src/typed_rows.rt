@@ -1,8 +1,9 @@
-//! The typed row of a record.
+//! The typed row of a record, appended to those of earlier records.
 
-ghost use Rattle.std.specs.Prelude.{◌≡◌, ◌<◌, IfErr, Result, false, length, map, vec_len};
+ghost use Rattle.std.specs.Prelude.{◌≡◌, ◌+◌, ◌<◌, IfErr, OnOk, Result, false, length, map, vec_len};
 ghost use Rattle.std.specs.List.{slice_index_or};
 ghost use Rattle.csv.specs.Records.{fields_of};
+ghost use Rattle.loaded_tables.specs.FlatRows.{AppendsRow};
 ghost use Rattle.loaded_tables.specs.Layouts.{IsLayout};
 ghost use Rattle.loaded_tables.specs.Outcomes.{is_of_reading};
 ghost use Rattle.loaded_tables.specs.GeometryFields.{GeometryValue, reading};
@@ -16,6 +17,7 @@ use crate::fields::value_of;
 use crate::geometry_fields::Geometry;
 use crate::headers::{Layout, field_at};
 use crate::schemas::{ColumnDef, TableDef};
+use crate::values::Values;
 use csv::ByteRecord;
 use sqlite_items::Items;
 use std::alloc::Global;
@@ -60,6 +62,29 @@ fn value_at(
     )
 }
 
+/// Appends the values of a record's fields in the columns of a table, which are at these places of the header.
+fn push_row(
+    alloc: Global,
+    table: &TableDef,
+    places: &[usize],
+    number: usize,
+    record: &ByteRecord,
+    values: &mut Values,
+) -> Result<(), LoadFault>
+    requires { length places.now ≡ length table.now.columns }
+    ensures not_reading { IfErr result (λ f. is_of_reading f ≡ false) }
+    ensures width { OnOk result (length values.new ≡ length values.old + length table.now.columns) }
+    ensures row { (header : spec.Record)
+        → places.now ≡ map (λ c. spec.place_in header c.name) table.now.columns
+        → AppendsRow fault.OutOfMemory values.old values.new result
+        (spec.row_of reading table.now header number (fields_of record.now)) }
+{
+    for place in 0..places.len() {
+        values.push(value_at(alloc, table, places, number, record, place)?)?;
+    }
+    Ok(())
+}
+
 /// The values of a record's fields in the columns of a table, which are at these places of the header.
 pub fn row_of(
     alloc: Global,
@@ -82,18 +107,20 @@ pub fn row_of(
     Ok(Items::from_vec(values))
 }
 
-/// The row of the record with this number, whose length is tested first, then the number of rows.
-pub(crate) fn checked_row(
+/// Appends the row of the record with this number, whose length is tested first, then the number of rows.
+pub(crate) fn push_checked_row(
     alloc: Global,
     table: &TableDef,
     layout: &Layout,
     number: usize,
     record: &ByteRecord,
-) -> Result<Items<Value<Geometry>>, LoadFault>
+    values: &mut Values,
+) -> Result<(), LoadFault>
     requires { vec_len layout.now.places ≡ length table.now.columns }
     ensures not_reading { IfErr result (λ f. is_of_reading f ≡ false) }
+    ensures width { OnOk result (length values.new ≡ length values.old + length table.now.columns) }
     ensures row { (header : spec.Record) → IsLayout table.now.columns header layout.now
-        → Gives fault.OutOfMemory (λ row. row) result
+        → AppendsRow fault.OutOfMemory values.old values.new result
         (spec.checked_row reading table.now header (number, fields_of record.now)) }
 {
     if record.len() != layout.width {
@@ -102,5 +129,12 @@ pub(crate) fn checked_row(
     if number > ROW_LIMIT {
         return Err(LoadFault::TooManyRows);
     }
-    row_of(alloc, table, layout.places.as_slice(), number, record)
+    push_row(
+        alloc,
+        table,
+        layout.places.as_slice(),
+        number,
+        record,
+        values,
+    )
 }

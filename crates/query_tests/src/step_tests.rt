@@ -5,18 +5,16 @@ use answer_records::{header_record, row_record};
 use csv::ByteRecord;
 use de9im::Work;
 use engine::{Unobserved, run_observed};
-use feature_table::{Database, Geometry, Records, Row, Schema};
+use feature_table::{Database, Records, Row, Schema};
 use filters::passes;
 use loaded_tables::{next_record, order_by_key};
 use planner::choose_by_counts;
 use query_binder::{Bound, bind};
 use rtree::RTree;
 use spatial_sql::{Query, read_query, read_schema};
-use sqlite_items::Items;
 use std::alloc::{AllocError, Global};
 use std::test::Fail;
 use table_model::plans::Plan;
-use table_model::values::Value;
 use wkt::MemorySink;
 
 const PROBED: &str = "SELECT id FROM big \
@@ -27,14 +25,7 @@ fn field_of(record: &ByteRecord, place: usize) -> &[u8] {
     record.get(place).unwrap_or(&[])
 }
 
-/// A row of a table that has its key alone.
-fn row_with(alloc: Global, key: i64) -> Result<Items<Value<Geometry>>, AllocError> {
-    let mut row = Items::new(alloc);
-    row.push(Value::Integer(key))?;
-    Ok(row)
-}
-
-/// Records are read one by one, and rows are sorted by their keys.
+/// Records are read one by one, and put in the order of their keys.
 #[test]
 fn records_and_rows(rt: HostRuntime) -> Result<(), Fail> {
     let text: &[u8] = b"id,geom\n2,POLYGON EMPTY\n";
@@ -43,10 +34,8 @@ fn records_and_rows(rt: HostRuntime) -> Result<(), Fail> {
     assert!(rt;
         next_record(&mut records, &mut record)? && field_of(&record, 1) == b"geom".as_slice()
     );
-    let mut rows = Vec::new(rt.alloc());
-    rows.push(row_with(rt.alloc(), 2)?)?;
-    rows.push(row_with(rt.alloc(), 1)?)?;
-    assert!(rt; order_by_key(rt.alloc(), &mut rows, 0).is_ok() && rows.len() == 2);
+    let order = order_by_key(rt.alloc(), [20, 10].as_slice())?;
+    assert_eq!(rt; order.as_slice(), [1, 0].as_slice());
     Ok(())
 }
 

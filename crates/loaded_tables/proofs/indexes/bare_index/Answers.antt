@@ -1,8 +1,12 @@
-use Rattle.std.proofs.Common.{refl}
+use Rattle.std.proofs.Common.{[], ◌<◌, arith, get_or, length, refl}
+use Rattle.std.proofs.lemmas.List.{get_or_default}
 use Rattle.loaded_tables.specs.Indexes.{absent}
 use Rattle.loaded_tables.proofs.MapLemmas.{one_more_mapped}
 use Rattle.loaded_tables.proofs.indexes.bare_index.Goals as goal
 
-pub loop-row-preserved : goal.loop-row-preserved
-loop-row-preserved g c =
-    one_more_mapped absent c.args.rows.now c.loop-row._row-index c._row-item.result _ _ _ c.loop-row-test.true c._row-item.is c.loop-row.invariant refl c.in_ok-push.ensures.items
+pub loop-place-preserved : goal.loop-place-preserved
+loop-place-preserved g c =
+    let rows = c.args.rows.now in
+    let place = c.loop-place._place in
+    let within : place < length rows = omega arith in
+    one_more_mapped absent rows place (get_or rows place []) _ _ _ within (get_or_default rows place [] (get_or rows place []) within) c.loop-place.invariant refl c.in_ok-push.ensures.items

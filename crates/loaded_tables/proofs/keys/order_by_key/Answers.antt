@@ -1,47 +1,49 @@
-use Rattle.std.proofs.Common.{rules, None, Ok, ◌∙◌, ◌≡◌, ap, map, refl, subst, sym}
-use Rattle.std.specs.Prelude.{IsPermutation}
-use Rattle.loaded_tables.proofs.AscentLemmas.{ascending_alone, ascending_order, keys_moved}
-use Rattle.loaded_tables.proofs.OrderLemmas.{the_keyed_order}
-use Rattle.loaded_tables.specs.KeyedRows.{keyed_row}
-use Rattle.loaded_tables.specs.declared.keys.KeyedRow.{KeyedRow}
-use Rattle.table_model.specs.Loading.{double_key, key_of}
+use Rattle.std.proofs.Common.{◌∙◌, ap, length, map, pos, refl, subst, sym}
+use Rattle.std.specs.Prelude.{IsPermutation, IsSortedByKey}
+use Rattle.std.proofs.lemmas.List.Sorted.{IsPermutation-refl}
+use Rattle.std.specs.List.{range_with_len}
+use Rattle.std.specs.Ordering.{int_cmp}
+use Rattle.loaded_tables.proofs.AscentLemmas.{ascending_alone, ascending_places, keys_moved}
+use Rattle.loaded_tables.proofs.FlatLemmas.{read_all}
+use Rattle.loaded_tables.proofs.OrderLemmas.{things_moved, things_sorted}
+use Rattle.loaded_tables.specs.KeyPlaces.{key_at, key_place}
+use Rattle.loaded_tables.specs.declared.keys.KeyPlace.{KeyPlace}
 use Rattle.loaded_tables.proofs.keys.order_by_key.Goals as goal
 
-pub returns-then-ascend-clause-ok : goal.returns-then-ascend-clause-ok
-returns-then-ascend-clause-ok c =
-    let key = c.args.key in
-    let rows = c.args.rows.now.items in
-    let up = rw (c.if-ascend.true, c.as_slice.ensures.value) at c.ascend.ensures in
-    let none : double_key (map (key_of key) rows) ≡ None = ascending_alone key rows up in
-    rw none (ap Ok (ascending_order key rows up))
+pub returns-then-ascend-clause-each : goal.returns-then-ascend-clause-each
+returns-then-ascend-clause-each c =
+    let places = range_with_len 0 (length c.args.keys.now) in subst (IsPermutation places) (sym c.in_ok-first_places.ensures) (IsPermutation-refl places)
+
+pub returns-then-ascend-clause-ascend : goal.returns-then-ascend-clause-ascend
+returns-then-ascend-clause-ascend c =
+    let up = rw c.if-ascend.true at c.ascend.ensures in
+    subst (IsSortedByKey (key_at c.args.keys.now) int_cmp) (sym c.in_ok-first_places.ensures) (ascending_places c.args.keys.now up)
+
+pub returns-then-ascend-clause-single : goal.returns-then-ascend-clause-single
+returns-then-ascend-clause-single c = let up = rw c.if-ascend.true at c.ascend.ensures in ascending_alone c.args.keys.now up
 
 pub double_among-requires : goal.double_among-requires
 double_among-requires c =
-    let key = c.args.key in
-    let rows = c.args.rows.now.items in
+    let keys = c.args.keys.now in
+    let places = range_with_len 0 (length keys) in
     let sorted = c.sort_keyed.new.keyed.items in
-    let given : c.in_ok-keyed.keyed.items ≡ map (keyed_row key) rows = rw c.replace-given.ensures.value at c.in_ok-keyed.ensures in
-    let moved = subst (λ l. IsPermutation l sorted) given c.sort_keyed.ensures.moved in
-    rw (c.as_slice-3.ensures.value, c.as_slice-4.ensures.value, c.in_ok-keys.ensures, c.as_slice-2.ensures.value, c.replace-given.ensures.value)
-    (keys_moved (λ (k : KeyedRow). k.number) (keyed_row key) (key_of key) rows sorted (λ r. refl) moved)
+    let moved = subst (λ l. IsPermutation l sorted) c.in_ok-keyed.ensures c.sort_keyed.ensures.moved in
+    let beside = keys_moved (λ (k : KeyPlace). k.number) (key_place keys) (key_at keys) places sorted (λ p. refl) moved in
+    rw c.as_slice.ensures.value (subst (λ l. IsPermutation l (map (λ (k : KeyPlace). k.number) sorted)) (read_all (pos 0) keys) beside)
 
-pub returns-clause-ok : goal.returns-clause-ok
-returns-clause-ok c =
-    let key = c.args.key in
-    let rows = c.args.rows.now.items in
+pub returns-clause-each : goal.returns-clause-each
+returns-clause-each c =
+    let keys = c.args.keys.now in
+    let places = range_with_len 0 (length keys) in
     let sorted = c.sort_keyed.new.keyed.items in
-    let keys = rw c.replace-given.ensures.value at (c.as_slice-3.ensures.value ∙ c.in_ok-keys.ensures ∙ ap (map (key_of key)) c.as_slice-2.ensures.value) in
-    let none : double_key (map (key_of key) rows) ≡ None = ap double_key (sym keys) ∙ sym c.in_ok-number.ensures ∙ c.in-None.is in
-    let given : c.in_ok-keyed.keyed.items ≡ map (keyed_row key) rows = rw c.replace-given.ensures.value at c.in_ok-keyed.ensures in
-    let moved = subst (λ l. IsPermutation l sorted) given c.sort_keyed.ensures.moved in
-    let order = the_keyed_order (λ (k : KeyedRow). k.number) (λ (k : KeyedRow). k.row) (keyed_row key) key rows sorted (λ r. refl) (λ r. refl) none moved c.sort_keyed.ensures.sorted in
-    rw none (ap Ok (order ∙ sym c.in_ok-rows-in-None.ensures))
+    let moved = subst (λ l. IsPermutation l sorted) c.in_ok-keyed.ensures c.sort_keyed.ensures.moved in
+    rw (c.in_ok-places_of-in-None.ensures, c.as_slice-in-None.ensures.value) (things_moved (λ (k : KeyPlace). k.place) (key_place keys) places sorted (λ p. refl) moved)
 
-pub returns-in-Some-clause-ok : goal.returns-in-Some-clause-ok
-returns-in-Some-clause-ok c = search rules
-
-pub returns-in-Some-clause-not_reading : goal.returns-in-Some-clause-not_reading
-returns-in-Some-clause-not_reading c = search rules
-
-pub returns-in-Some-clause-fault : goal.returns-in-Some-clause-fault
-returns-in-Some-clause-fault c = search rules
+pub returns-clause-ascend : goal.returns-clause-ascend
+returns-clause-ascend c =
+    let keys = c.args.keys.now in
+    let places = range_with_len 0 (length keys) in
+    let sorted = c.sort_keyed.new.keyed.items in
+    let moved = subst (λ l. IsPermutation l sorted) c.in_ok-keyed.ensures c.sort_keyed.ensures.moved in
+    let up = things_sorted (λ (k : KeyPlace). k.number) (key_at keys) (λ (k : KeyPlace). k.place) (key_place keys) places sorted (λ p. refl) (λ p. refl) moved c.sort_keyed.ensures.sorted in
+    subst (IsSortedByKey (key_at keys) int_cmp) (sym (c.in_ok-places_of-in-None.ensures ∙ ap (map (λ (k : KeyPlace). k.place)) c.as_slice-in-None.ensures.value)) up

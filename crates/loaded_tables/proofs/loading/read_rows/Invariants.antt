@@ -1,5 +1,6 @@
-use Rattle.std.proofs.Common.{◌+◌, ◌≤◌, ◌≡◌, List}
+use Rattle.std.proofs.Common.{◌+◌, ◌*◌, ◌≤◌, ◌≡◌, List, length}
 use Rattle.loaded_tables.proofs.LoadingLemmas.{AreRead, Midway}
+use Rattle.loaded_tables.specs.FlatRows.{first_rows}
 use Rattle.loaded_tables.specs.GeometryFields.{reading}
 use Rattle.loaded_tables.specs.Layouts.{IsLayout}
 use Rattle.loaded_tables.specs.Records.{Gives, IsReady, asked}
@@ -11,7 +12,9 @@ invariant-loop-place g l = record {
   ready : IsReady l.records;
   asked : asked l.records ≡ 1 + l.place;
   within : (header : Record) → IsLayout l.table.columns header l.layout → l.place ≤ row_limit;
+  width : length l.values ≡ l.place * length l.table.columns;
   midway : (header : Record) (rest : List Record) → IsLayout l.table.columns header l.layout → Gives g.R.Read.remaining l.fn.records rest
-      → Midway g.R.Read.remaining l.records reading l.table header rest l.place l.rows.items;
-  read : (header : Record) → IsLayout l.table.columns header l.layout → AreRead reading l.table header l.place l.rows.items;
+      → Midway g.R.Read.remaining l.records reading l.table header rest l.place (first_rows (length l.table.columns) l.values l.place);
+  read : (header : Record) → IsLayout l.table.columns header l.layout
+      → AreRead reading l.table header l.place (first_rows (length l.table.columns) l.values l.place);
 }

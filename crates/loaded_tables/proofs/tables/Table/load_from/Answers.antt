@@ -1,12 +1,11 @@
-use Rattle.std.proofs.Common.{◌-◌, arith, inl, [], ◌∙◌, ◌≡◌, ◌∷◌, ap, inr, refl, subst, sym}
+use Rattle.std.proofs.Common.{◌-◌, arith, inl, [], ◌∙◌, ◌≡◌, ◌∷◌, ap, inr, length, refl}
 use Rattle.std.proofs.lemmas.Result.{err_from_is_err_and}
 use Rattle.csv.specs.Records.{fields_of}
 use Rattle.loaded_tables.proofs.LoadLemmas.{header_fails, no_header, rows_fail, rows_pass}
 use Rattle.loaded_tables.proofs.GeometryFieldLemmas.{table_rows}
 use Rattle.loaded_tables.specs.Records.{asked}
-use Rattle.loaded_tables.specs.GeometryFields.{reading, takes}
-use Rattle.loaded_tables.specs.Indexes.{AreIndexes}
-use Rattle.table_model.specs.FeatureTables.{AreRows}
+use Rattle.loaded_tables.specs.GeometryFields.{reading}
+use Rattle.loaded_tables.specs.ReadRows.{rows_read}
 use Rattle.table_model.specs.Loading.{load}
 use Rattle.loaded_tables.proofs.tables.Table.load_from.Goals as goal
 
@@ -25,28 +24,28 @@ returns-in_err-layout-clause-loads g c all gives =
     let some = rw c.as_slice.ensures at (c.in_err-layout.ensures.fault (λ e. other (inr e))) in
     ap (load reading table) took.2 ∙ header_fails reading table header took.0 c.in_err-layout.field-0.0 some)
 
+pub returns-in_err-read-clause-loads : goal.returns-in_err-read-clause-loads
+returns-in_err-read-clause-loads g c all gives =
+    let table = c.args.table.now in
+    let header = fields_of c.next_record.new.record in
+    let took = rw c.if-not-found.false at (c.in_ok-found.ensures.takes all gives) in
+    let layout = rw c.as_slice.ensures at c.in_ok-layout.ensures.ok in
+    let p = err_from_is_err_and c.from_residual-in_err-read.result c.from_residual-in_err-read.ensures.1 in
+    rw (p.1, p.2) (λ other.
+    ap (load reading table) took.2
+    ∙ rows_fail reading table header took.0 c.in_err-read.field-0.0 layout.0 (c.in_err-read.ensures.loads header took.0 layout.1 took.1 other))
+
 pub returns-in_err-rows-clause-loads : goal.returns-in_err-rows-clause-loads
 returns-in_err-rows-clause-loads g c all gives =
     let table = c.args.table.now in
     let header = fields_of c.next_record.new.record in
     let took = rw c.if-not-found.false at (c.in_ok-found.ensures.takes all gives) in
     let layout = rw c.as_slice.ensures at c.in_ok-layout.ensures.ok in
+    let rows = c.in_ok-read.ensures.loads header took.0 layout.1 took.1 in
     let p = err_from_is_err_and c.from_residual-in_err-rows.result c.from_residual-in_err-rows.ensures.1 in
     rw (p.1, p.2) (λ other.
-    ap (load reading table) took.2
-    ∙ rows_fail reading table header took.0 c.in_err-rows.field-0.0 layout.0 (c.in_err-rows.ensures.loads header took.0 layout.1 took.1 other))
-
-pub returns-in_err-order_by_key-clause-loads : goal.returns-in_err-order_by_key-clause-loads
-returns-in_err-order_by_key-clause-loads g c all gives =
-    let table = c.args.table.now in
-    let header = fields_of c.next_record.new.record in
-    let took = rw c.if-not-found.false at (c.in_ok-found.ensures.takes all gives) in
-    let layout = rw c.as_slice.ensures at c.in_ok-layout.ensures.ok in
-    let rows = c.in_ok-rows.ensures.loads header took.0 layout.1 took.1 in
-    let p = err_from_is_err_and c.from_residual-in_err-order_by_key.result c.from_residual-in_err-order_by_key.ensures.1 in
-    rw (p.1, p.2) (λ other.
-    ap (load reading table) took.2 ∙ rows_pass reading table header took.0 c.in_ok-rows.rows.items layout.0 rows
-    ∙ c.in_err-order_by_key.ensures.fault (λ e. other (inr e)))
+    ap (load reading table) took.2 ∙ rows_pass reading table header took.0 (rows_read (length table.columns) c.in_ok-read.read) layout.0 rows
+    ∙ (rw c.len.ensures at (c.in_err-rows.ensures.fault (λ e. other (inr e)))))
 
 pub returns-clause-loads : goal.returns-clause-loads
 returns-clause-loads g c all gives =
@@ -54,8 +53,8 @@ returns-clause-loads g c all gives =
     let header = fields_of c.next_record.new.record in
     let took = rw c.if-not-found.false at (c.in_ok-found.ensures.takes all gives) in
     let layout = rw c.as_slice.ensures at c.in_ok-layout.ensures.ok in
-    let rows = c.in_ok-rows.ensures.loads header took.0 layout.1 took.1 in
-    ap (load reading table) took.2 ∙ rows_pass reading table header took.0 c.in_ok-rows.rows.items layout.0 rows ∙ c.in_ok-order_by_key.ensures.ok
+    let rows = c.in_ok-read.ensures.loads header took.0 layout.1 took.1 in
+    ap (load reading table) took.2 ∙ rows_pass reading table header took.0 (rows_read (length table.columns) c.in_ok-read.read) layout.0 rows ∙ (rw c.len.ensures at c.in_ok-rows.ensures.ok)
 
 pub returns-in_err-found-clause-records : goal.returns-in_err-found-clause-records
 returns-in_err-found-clause-records g c =
@@ -73,62 +72,61 @@ returns-in_err-layout-clause-records g c =
     rw (p.1, p.2)
     (header ∷ [], λ other. header_fails reading table header [] c.in_err-layout.field-0.0 (rw c.as_slice.ensures at (c.in_err-layout.ensures.fault (λ e. other (inr e)))))
 
+pub returns-in_err-read-clause-records : goal.returns-in_err-read-clause-records
+returns-in_err-read-clause-records g c =
+    let table = c.args.table.now in
+    let header = fields_of c.next_record.new.record in
+    let layout = rw c.as_slice.ensures at c.in_ok-layout.ensures.ok in
+    let some = c.in_err-read.ensures.records header layout.1 in
+    let p = err_from_is_err_and c.from_residual-in_err-read.result c.from_residual-in_err-read.ensures.1 in
+    rw (p.1, p.2) (header ∷ some.0, λ other. rows_fail reading table header some.0 c.in_err-read.field-0.0 layout.0 (some.1 other))
+
 pub returns-in_err-rows-clause-records : goal.returns-in_err-rows-clause-records
 returns-in_err-rows-clause-records g c =
     let table = c.args.table.now in
     let header = fields_of c.next_record.new.record in
     let layout = rw c.as_slice.ensures at c.in_ok-layout.ensures.ok in
-    let some = c.in_err-rows.ensures.records header layout.1 in
+    let some = c.in_ok-read.ensures.records header layout.1 in
     let p = err_from_is_err_and c.from_residual-in_err-rows.result c.from_residual-in_err-rows.ensures.1 in
-    rw (p.1, p.2) (header ∷ some.0, λ other. rows_fail reading table header some.0 c.in_err-rows.field-0.0 layout.0 (some.1 other))
-
-pub returns-in_err-order_by_key-clause-records : goal.returns-in_err-order_by_key-clause-records
-returns-in_err-order_by_key-clause-records g c =
-    let table = c.args.table.now in
-    let header = fields_of c.next_record.new.record in
-    let layout = rw c.as_slice.ensures at c.in_ok-layout.ensures.ok in
-    let some = c.in_ok-rows.ensures.records header layout.1 in
-    let p = err_from_is_err_and c.from_residual-in_err-order_by_key.result c.from_residual-in_err-order_by_key.ensures.1 in
     rw (p.1, p.2)
-    (header ∷ some.0, λ other. rows_pass reading table header some.0 c.in_ok-rows.rows.items layout.0 some.1 ∙ c.in_err-order_by_key.ensures.fault (λ e. other (inr e)))
+    (header ∷ some.0, λ other. rows_pass reading table header some.0 (rows_read (length table.columns) c.in_ok-read.read) layout.0 some.1 ∙ (rw c.len.ensures at (c.in_err-rows.ensures.fault (λ e. other (inr e)))))
 
 pub returns-clause-records : goal.returns-clause-records
 returns-clause-records g c =
     let table = c.args.table.now in
     let header = fields_of c.next_record.new.record in
     let layout = rw c.as_slice.ensures at c.in_ok-layout.ensures.ok in
-    let some = c.in_ok-rows.ensures.records header layout.1 in
-    (header ∷ some.0, rows_pass reading table header some.0 c.in_ok-rows.rows.items layout.0 some.1 ∙ c.in_ok-order_by_key.ensures.ok)
+    let some = c.in_ok-read.ensures.records header layout.1 in
+    (header ∷ some.0, rows_pass reading table header some.0 (rows_read (length table.columns) c.in_ok-read.read) layout.0 some.1 ∙ (rw c.len.ensures at c.in_ok-rows.ensures.ok))
 
 pub returns-clause-rows : goal.returns-clause-rows
 returns-clause-rows g c =
     let table = c.args.table.now in
     let header = fields_of c.next_record.new.record in
     let layout = rw c.as_slice.ensures at c.in_ok-layout.ensures.ok in
-    let some = c.in_ok-rows.ensures.records header layout.1 in
-    table_rows table (header ∷ some.0) _ (rows_pass reading table header some.0 c.in_ok-rows.rows.items layout.0 some.1 ∙ c.in_ok-order_by_key.ensures.ok)
+    let some = c.in_ok-read.ensures.records header layout.1 in
+    table_rows table (header ∷ some.0) _ (rows_pass reading table header some.0 (rows_read (length table.columns) c.in_ok-read.read) layout.0 some.1 ∙ (rw c.len.ensures at c.in_ok-rows.ensures.ok))
 
 pub build-requires : goal.build-requires
 build-requires g c =
     let table = c.args.table.now in
     let header = fields_of c.next_record.new.record in
     let layout = rw c.as_slice.ensures at c.in_ok-layout.ensures.ok in
-    let some = c.in_ok-rows.ensures.records header layout.1 in
-    subst (AreRows takes table) (sym c.as_slice-2.ensures.value)
-    (table_rows table (header ∷ some.0) c.order_by_key.new.rows.items (rows_pass reading table header some.0 c.in_ok-rows.rows.items layout.0 some.1 ∙ c.in_ok-order_by_key.ensures.ok))
+    let some = c.in_ok-read.ensures.records header layout.1 in
+    (table_rows table (header ∷ some.0) c.in_ok-rows.rows (rows_pass reading table header some.0 (rows_read (length table.columns) c.in_ok-read.read) layout.0 some.1 ∙ (rw c.len.ensures at c.in_ok-rows.ensures.ok)))
 
 pub invariant_of-result : goal.invariant_of-result
 invariant_of-result g c =
     let table = c.args.table.now in
     let header = fields_of c.next_record.new.record in
     let layout = rw c.as_slice.ensures at c.in_ok-layout.ensures.ok in
-    let some = c.in_ok-rows.ensures.records header layout.1 in (
+    let some = c.in_ok-read.ensures.records header layout.1 in (
       record {
         definition = table;
         is_lawful = c.requires.lawful;
-        are_rows = table_rows table (header ∷ some.0) _ (rows_pass reading table header some.0 c.in_ok-rows.rows.items layout.0 some.1 ∙ c.in_ok-order_by_key.ensures.ok);
+        are_rows = table_rows table (header ∷ some.0) _ (rows_pass reading table header some.0 (rows_read (length table.columns) c.in_ok-read.read) layout.0 some.1 ∙ (rw c.len.ensures at c.in_ok-rows.ensures.ok));
       },
-      subst (λ rows. AreIndexes g.I.EnvelopeIndex.indexed rows c.in_ok-indexes.indexes.own.items c.in_ok-indexes.indexes.bare) c.as_slice-2.ensures.value c.in_ok-indexes.ensures,
+      c.in_ok-indexes.ensures,
     )
 
 pub returns-in_err-indexes-clause-loads : goal.returns-in_err-indexes-clause-loads
@@ -147,12 +145,15 @@ returns-in_err-found-clause-before g c all gives =
     let p = err_from_is_err_and c.from_residual.result c.from_residual.ensures.1 in
     rw (p.1, p.2) (λ failed. inl none)
 
-pub returns-in_err-rows-clause-before : goal.returns-in_err-rows-clause-before
-returns-in_err-rows-clause-before g c all gives =
+pub returns-in_err-read-clause-before : goal.returns-in_err-read-clause-before
+returns-in_err-read-clause-before g c all gives =
     let table = c.args.table.now in
     let header = fields_of c.next_record.new.record in
     let took = rw c.if-not-found.false at (c.in_ok-found.ensures.takes all gives) in
     let layout = rw c.as_slice.ensures at c.in_ok-layout.ensures.ok in
-    let p = err_from_is_err_and c.from_residual-in_err-rows.result c.from_residual-in_err-rows.ensures.1 in
+    let p = err_from_is_err_and c.from_residual-in_err-read.result c.from_residual-in_err-read.ensures.1 in
     let places : asked c.read_rows.new.records - 1 - 1 ≡ asked c.read_rows.new.records - 2 = omega arith in
-    rw (p.1, p.2, took.2) (λ failed. inr (layout.0, rw places (c.in_err-rows.ensures.before header took.0 layout.1 took.1 failed)))
+    rw (p.1, p.2, took.2) (λ failed. inr (layout.0, rw places (c.in_err-read.ensures.before header took.0 layout.1 took.1 failed)))
+
+pub rows_by_key-requires : goal.rows_by_key-requires
+rows_by_key-requires g c = rw c.len.ensures c.in_ok-read.ensures.width

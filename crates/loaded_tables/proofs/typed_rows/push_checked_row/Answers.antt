@@ -2,7 +2,7 @@ use Rattle.std.proofs.Common.{◌∙◌, ◌≡◌, ◌≢◌, arith, length}
 use Rattle.csv.specs.Records.{fields_of}
 use Rattle.loaded_tables.proofs.RowLemmas.{late_row, plain_row, unequal_row}
 use Rattle.loaded_tables.specs.GeometryFields.{reading}
-use Rattle.loaded_tables.proofs.typed_rows.checked_row.Goals as goal
+use Rattle.loaded_tables.proofs.typed_rows.push_checked_row.Goals as goal
 
 pub returns-then-len-layout-clause-row : goal.returns-then-len-layout-clause-row
 returns-then-len-layout-clause-row c header is other =
@@ -20,4 +20,4 @@ pub returns-clause-row : goal.returns-clause-row
 returns-clause-row c header is =
     let fields = fields_of c.args.record.now in
     let same : length fields ≡ length header = omega (arith, is.width) in
-    rw (plain_row reading c.args.table.now header c.args.number fields same c.if-number-gt-ROW_LIMIT.false) (c.row_of.ensures.row header (c.as_slice.ensures.value ∙ is.places))
+    rw (plain_row reading c.args.table.now header c.args.number fields same c.if-number-gt-ROW_LIMIT.false) (c.push_row.ensures.row header (c.as_slice.ensures.value ∙ is.places))
