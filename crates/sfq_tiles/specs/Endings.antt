@@ -4,8 +4,20 @@ use Rattle.std.specs.Io.KnownBytes.{Appends}
 use Rattle.integers.specs.Counts.{one_more}
 use Rattle.sinks.specs.Sinks.{AppendsFront}
 use Rattle.failures.specs.Failures.{failure_line, failure_status}
+use Rattle.failures.specs.declared.failure.Failure.TheVariants as failed
 use Rattle.sfq_tiles.specs.declared.endings.Ending.{Ending}
 use Rattle.sfq_tiles.specs.declared.endings.Ending.TheVariants as e
+use Rattle.sfq_tiles.specs.declared.parts.Mistake.{Mistake}
+use Rattle.sfq_tiles.specs.declared.parts.Mistake.TheVariants as m
+
+-- the ending where memory ran out
+abbrev pub memory_ending : Ending
+memory_ending = e.Failed failed.OutOfMemory
+
+-- the ending of a mistake
+abbrev pub ending_of : Mistake → Ending
+ending_of m.Memory = memory_ending
+ending_of (m.Said text) = e.Mistaken text
 
 -- the line of a word of the command line that is wrong
 abbrev pub mistake_line : List ℕ → List ℕ

@@ -28,6 +28,11 @@ pub enum Ending<'a> {
 }
 
 impl<'a> From<Mistake> for Ending<'a> {
+    ghost use Rattle.std.specs.Prelude.{◌≡◌};
+    ghost use Rattle.sfq_tiles.specs.Endings.{ending_of};
+
+    ghost from_gives = { λ mistake ending. ending ≡ ending_of mistake };
+
     fn from(mistake: Mistake) -> Self {
         match mistake {
             Mistake::Memory => Ending::Failed(Failure::OutOfMemory),
@@ -37,18 +42,33 @@ impl<'a> From<Mistake> for Ending<'a> {
 }
 
 impl<'a> From<Failure<'a>> for Ending<'a> {
+    ghost use Rattle.std.specs.Prelude.{◌≡◌};
+    ghost use Rattle.sfq_tiles.specs.declared.endings.Ending.TheVariants as ended;
+
+    ghost from_gives = { λ failure ending. ending ≡ ended.Failed failure };
+
     fn from(failure: Failure<'a>) -> Self {
         Ending::Failed(failure)
     }
 }
 
 impl<'a, T: Drop> From<AllocFailed<T>> for Ending<'a> {
+    ghost use Rattle.std.specs.Prelude.{◌≡◌};
+    ghost use Rattle.sfq_tiles.specs.Endings.{memory_ending};
+
+    ghost from_gives = { λ _ ending. ending ≡ memory_ending };
+
     fn from(_error: AllocFailed<T>) -> Self {
         Ending::Failed(Failure::OutOfMemory)
     }
 }
 
 impl<'a> From<AllocError> for Ending<'a> {
+    ghost use Rattle.std.specs.Prelude.{◌≡◌};
+    ghost use Rattle.sfq_tiles.specs.Endings.{memory_ending};
+
+    ghost from_gives = { λ _ ending. ending ≡ memory_ending };
+
     fn from(_error: AllocError) -> Self {
         Ending::Failed(Failure::OutOfMemory)
     }

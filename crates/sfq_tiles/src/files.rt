@@ -1,6 +1,8 @@
 //! The files of tiles and of stretches.
 
-ghost use Rattle.std.specs.Prelude.{None};
+ghost use Rattle.std.specs.Prelude.{◌≡◌, None, OnErr, OnOk};
+ghost use Rattle.std.specs.Io.KnownBytes.{Appends};
+ghost use Rattle.sinks.specs.Sinks.{AppendsFront};
 
 use bounded_readers::write_again;
 use itoa::Buffer;
@@ -26,6 +28,8 @@ pub struct CellFiles<'r, 'w> {
     buffers: Vec<Vec<u8>>,
     // Whether no line of an earlier file comes any more once one of a later file has come.
     is_sequence: bool,
+    // How often a put failed.
+    failures: u64,
 }
 
 impl<'r, 'w> CellFiles<'r, 'w> {
@@ -39,6 +43,7 @@ impl<'r, 'w> CellFiles<'r, 'w> {
             first: 0,
             buffers: Vec::new(rt.alloc()),
             is_sequence: false,
+            failures: 0,
         }
     }
 
@@ -52,6 +57,7 @@ impl<'r, 'w> CellFiles<'r, 'w> {
             first: 1,
             buffers: Vec::new(rt.alloc()),
             is_sequence: true,
+            failures: 0,
         }
     }
 
@@ -82,7 +88,9 @@ impl<'r, 'w> CellFiles<'r, 'w> {
     }
 
     /// Makes the folders up to that of a cell, and a buffer for each.
-    fn make_folders(&mut self, cell: usize) -> Result<(), SinkFault> {
+    fn make_folders(&mut self, cell: usize) -> Result<(), SinkFault>
+        ensures { self.new.failures ≡ self.old.failures }
+    {
         for place in self.buffers.len()..cell.saturating_add(1) {
             if self.is_sequence && place > 0 {
                 self.close(place - 1)?;
@@ -100,7 +108,9 @@ impl<'r, 'w> CellFiles<'r, 'w> {
     }
 
     /// Writes what is kept for a cell to which nothing comes any more, and gives the memory back.
-    fn close(&mut self, cell: usize) -> Result<(), SinkFault> {
+    fn close(&mut self, cell: usize) -> Result<(), SinkFault>
+        ensures { self.new.failures ≡ self.old.failures }
+    {
         self.write_out(cell)?;
         if let Some(buffer) = self.buffers.as_mut_slice().get_mut(cell) {
             *buffer = Vec::new(self.rt.alloc());
@@ -109,7 +119,9 @@ impl<'r, 'w> CellFiles<'r, 'w> {
     }
 
     /// Writes what is kept for a cell.
-    fn write_out(&mut self, cell: usize) -> Result<(), SinkFault> {
+    fn write_out(&mut self, cell: usize) -> Result<(), SinkFault>
+        ensures { self.new.failures ≡ self.old.failures }
+    {
         if let Some(buffer) = self.buffers.as_slice().get(cell) {
             if !buffer.is_empty() {
                 self.append(cell, buffer.as_slice())?;
@@ -119,6 +131,23 @@ impl<'r, 'w> CellFiles<'r, 'w> {
             buffer.clear();
         }
         Ok(())
+    }
+
+    /// Keeps a line of a cell, and writes what is kept for the cell where the buffer is full.
+    fn put_line(&mut self, cell: usize, line: &[u8]) -> Result<(), SinkFault>
+        ensures { self.new.failures ≡ self.old.failures }
+    {
+        self.make_folders(cell)?;
+        if self.kept(cell).saturating_add(line.len()) > BUFFER_BYTES {
+            self.write_out(cell)?;
+        }
+        if line.len() > BUFFER_BYTES {
+            return self.append(cell, line);
+        }
+        let Some(buffer) = self.buffers.as_mut_slice().get_mut(cell) else {
+            return Err(SinkFault);
+        };
+        buffer.extend_from_slice(line).map_err(|_| SinkFault)
     }
 
     /// Writes all that is kept.
@@ -141,32 +170,28 @@ impl<'r, 'w> CellFiles<'r, 'w> {
 impl CellTexts for CellFiles<'_, '_> {
     ghost texts = { λ _ _. None };
 
+    ghost failures = { λ files. files.failures };
+
     fn put(&mut self, cell: usize, line: &[u8]) -> Result<(), SinkFault> {
-        self.make_folders(cell)?;
-        if self.kept(cell).saturating_add(line.len()) > BUFFER_BYTES {
-            self.write_out(cell)?;
-        }
-        if line.len() > BUFFER_BYTES {
-            return self.append(cell, line);
-        }
-        let Some(buffer) = self.buffers.as_mut_slice().get_mut(cell) else {
+        if self.put_line(cell, line).is_err() {
+            self.failures = self.failures.saturating_add(1);
             return Err(SinkFault);
-        };
-        buffer.extend_from_slice(line).map_err(|_| SinkFault)
+        }
+        Ok(())
     }
 }
 
-/// Writes all bytes to a file.
-pub fn write_whole<W: Write>(file: &mut W, bytes: &[u8]) -> Result<(), SinkFault> {
-    let mut rest = bytes;
-    for _ in 0..=bytes.len() {
-        if rest.is_empty() {
-            return Ok(());
-        }
-        match write_again(file, rest) {
-            Ok(0) | Err(_) => return Err(SinkFault),
-            Ok(count) => rest = rest.get(count..).unwrap_or(&[]),
+/// Writes all bytes to a file. After an error a beginning of them has been written.
+pub fn write_whole<W: Write>(file: &mut W, bytes: &[u8]) -> Result<(), SinkFault>
+    ensures ok { OnOk result (Appends (W.contents file.old) (W.contents file.new) bytes.now) }
+    ensures front { OnErr result (AppendsFront (W.contents file.old) (W.contents file.new) bytes.now) }
+{
+    let mut at = 0;
+    while at < bytes.len() {
+        match write_again(file, &bytes[at..]) {
+            Ok(count) if count > 0 => at += count,
+            _ => return Err(SinkFault),
         }
     }
-    Err(SinkFault)
+    Ok(())
 }

@@ -18,12 +18,22 @@ pub enum Mistake {
 }
 
 impl<T: Drop> From<AllocFailed<T>> for Mistake {
+    ghost use Rattle.std.specs.Prelude.{◌≡◌};
+    ghost use Rattle.sfq_tiles.specs.declared.parts.Mistake.TheVariants as mistake;
+
+    ghost from_gives = { λ _ m. m ≡ mistake.Memory };
+
     fn from(_error: AllocFailed<T>) -> Mistake {
         Mistake::Memory
     }
 }
 
 impl From<AllocError> for Mistake {
+    ghost use Rattle.std.specs.Prelude.{◌≡◌};
+    ghost use Rattle.sfq_tiles.specs.declared.parts.Mistake.TheVariants as mistake;
+
+    ghost from_gives = { λ _ m. m ≡ mistake.Memory };
+
     fn from(_error: AllocError) -> Mistake {
         Mistake::Memory
     }

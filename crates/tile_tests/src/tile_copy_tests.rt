@@ -20,16 +20,24 @@ const ROWS: &[u8] =
 #[derive(Drop)]
 struct Texts {
     texts: Vec<Vec<u8>>,
+    failures: u64,
 }
 
 impl CellTexts for Texts {
     ghost texts = { λ _ _. None };
 
+    ghost failures = { λ texts. texts.failures };
+
     fn put(&mut self, cell: usize, line: &[u8]) -> Result<(), SinkFault> {
-        match self.texts.get_mut(cell) {
-            Some(text) => text.extend_from_slice(line).or(Err(SinkFault)),
-            None => Err(SinkFault),
+        let is_put = match self.texts.get_mut(cell) {
+            Some(text) => text.extend_from_slice(line).is_ok(),
+            None => false,
+        };
+        if !is_put {
+            self.failures = self.failures.saturating_add(1);
+            return Err(SinkFault);
         }
+        Ok(())
     }
 }
 
@@ -48,7 +56,7 @@ fn empty_texts(alloc: Global, count: usize) -> Result<Texts, Fail> {
     for _ in 0..count {
         texts.push(Vec::new(alloc))?;
     }
-    Ok(Texts { texts })
+    Ok(Texts { texts, failures: 0 })
 }
 
 #[test]

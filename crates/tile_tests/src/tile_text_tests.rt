@@ -25,16 +25,24 @@ const ROWS: &[u8] =
 #[derive(Drop)]
 struct Texts {
     texts: Vec<Vec<u8>>,
+    failures: u64,
 }
 
 impl CellTexts for Texts {
     ghost texts = { λ _ _. None };
 
+    ghost failures = { λ texts. texts.failures };
+
     fn put(&mut self, cell: usize, line: &[u8]) -> Result<(), SinkFault> {
-        match self.texts.get_mut(cell) {
-            Some(text) => text.extend_from_slice(line).or(Err(SinkFault)),
-            None => Err(SinkFault),
+        let is_put = match self.texts.get_mut(cell) {
+            Some(text) => text.extend_from_slice(line).is_ok(),
+            None => false,
+        };
+        if !is_put {
+            self.failures = self.failures.saturating_add(1);
+            return Err(SinkFault);
         }
+        Ok(())
     }
 }
 
@@ -112,6 +120,7 @@ fn faults_end_the_pass(rt: HostRuntime) -> Result<(), Fail> {
     let mut one = empty_texts(rt.alloc(), 1)?;
     let full = write_stretches(rt.alloc(), &part(&schema)?, 2, ROWS, &mut one);
     assert!(rt; matches!(full, Err(CopyFault::Sink)));
+    assert_eq!(rt; one.failures, 1);
     let mut other = empty_texts(rt.alloc(), 1)?;
     let lacking = b"id,name\n1,a\n".as_slice();
     let missing = write_stretches(rt.alloc(), &part(&schema)?, 2, lacking, &mut other);
@@ -119,6 +128,7 @@ fn faults_end_the_pass(rt: HostRuntime) -> Result<(), Fail> {
     let long = b"id,name,geom\n1,a,,\n".as_slice();
     let unequal = write_stretches(rt.alloc(), &part(&schema)?, 2, long, &mut other);
     assert!(rt; matches!(unequal, Err(CopyFault::Load(LoadFault::ReadFailed))));
+    assert_eq!(rt; other.failures, 0);
     Ok(())
 }
 
@@ -147,7 +157,7 @@ fn empty_texts(alloc: Global, count: usize) -> Result<Texts, Fail> {
     for _ in 0..count {
         texts.push(Vec::new(alloc))?;
     }
-    Ok(Texts { texts })
+    Ok(Texts { texts, failures: 0 })
 }
 
 /// The counts of a pass that was done to its end.

@@ -1,4 +1,5 @@
 pub mod CopyLemmas
+pub mod FaultLemmas
 pub mod PlaceLemmas
 pub mod ReadBack
 pub mod RowLemmas

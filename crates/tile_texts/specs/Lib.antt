@@ -1,4 +1,5 @@
 pub mod Copies
+pub mod Faults
 pub mod Lines
 pub mod ReadBack
 pub mod Stretches

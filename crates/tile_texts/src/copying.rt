@@ -1,11 +1,13 @@
 //! The second pass over a table that is split into tiles: each record is written to each cell that it is copied to.
 
-ghost use Rattle.std.specs.Prelude.{◌≡◌, ◌+◌, ◌++◌, ◌==◌, ◌<◌, ◌^◌, if◌then◌else◌, [], ℕ, IfOk, List, OnOk, count_by, length, map, nat_lt, replicate, slice_index, vec_len};
+ghost use Rattle.std.specs.Prelude.{◌≡◌, ◌+◌, ◌++◌, ◌==◌, ◌<◌, ◌^◌, if◌then◌else◌, [], ℕ, IfErr, IfOk, List, OnOk, count_by, length, map, nat_lt, replicate, slice_index, vec_len};
 ghost use Rattle.std.specs.List.{All};
 ghost use Rattle.csv.specs.Records.{fields_of, partial_of};
+ghost use Rattle.loaded_tables.specs.Outcomes.{IsFailure};
 ghost use Rattle.loaded_tables.specs.Reading.{IsSteady};
 ghost use Rattle.table_model.specs.Loading.{Record};
 ghost use Rattle.tile_texts.specs.Copies.{AreAdded, AreAll, AreRecordsOfTable, AreWritten, copied_fields, geometry_in, is_copied_to, meets_cell, tiles, tiles_of};
+ghost use Rattle.tile_texts.specs.Faults.{IsCopyFault, IsTableFault};
 ghost use Rattle.tile_texts.specs.Lines.{cell_row, envelope_row, line_of, marked_line, names_of};
 ghost use Rattle.tile_texts.specs.Texts.{Grow, gets_of, in_cell};
 
@@ -24,7 +26,8 @@ use table_model::faults::LoadFault;
 use tile_cells::{Cells, Marks};
 
 /// Writes the records of a table to the cells that they are copied to, by the geometry in a column. Each cell's text begins with the
-/// header. It returns how many records each cell has. After an error nothing is known of the texts.
+/// header. It returns how many records each cell has. After an error nothing is known of the texts. The fault is `Sink` only where
+/// a put failed, and else that of the header, `ReadFailed` or `OutOfMemory`.
 pub fn write_tiles<R: Read + Drop, T: CellTexts>(
     alloc: Global,
     part: &Part<'_>,
@@ -39,6 +42,9 @@ pub fn write_tiles<R: Read + Drop, T: CellTexts>(
         (names_of part.now.table.now.columns part.now.columns.now ++ map (λ mark. mark.now) part.now.marks)
         (tiles_of cells.now part.now.table.now.columns column part.now.columns.now records) counts.items) }
     ensures size { IfOk result (λ counts. vec_len counts ≡ length cells.now + 1) }
+    ensures same { OnOk result (T.failures texts.new ≡ T.failures texts.old) }
+    ensures fault { IfErr result (IsCopyFault (IsTableFault (R.remaining reader) part.now.table.now.columns)
+        (T.failures texts.old) (T.failures texts.new)) }
 {
     let mut reader = record_reader(alloc, reader);
     let layout = read_layout(alloc, part.table, &mut reader)?;
@@ -68,6 +74,8 @@ fn put_headers<T: CellTexts>(
     ensures texts { OnOk result (Grow (T.texts texts.old) (T.texts texts.new)
         (λ cell. if nat_lt cell cells then line_of (fields_of header.now) else [])) }
     ensures counts { IfOk result (λ counts. counts.items ≡ replicate cells 0) }
+    ensures same { OnOk result (T.failures texts.new ≡ T.failures texts.old) }
+    ensures fault { IfErr result (IsCopyFault IsFailure (T.failures texts.old) (T.failures texts.new)) }
 {
     let mut text = Vec::new(alloc);
     let mut counts = Vec::new(alloc);
@@ -91,9 +99,11 @@ fn copy_records<R: Read + Drop, T: CellTexts>(
 ) -> Result<(), CopyFault>
     requires steady { IsSteady reader.old }
     requires counts { counts.old.items ≡ replicate (length cells.now + 1) 0 }
-    ensures { OnOk result ((read : List Record) × AreAll R.remaining reader.old layout.now.width read
+    ensures added { OnOk result ((read : List Record) × AreAll R.remaining reader.old layout.now.width read
         × AreAdded (T.texts texts.old) (T.texts texts.new)
         (tiles cells.now layout.now.places.items column columns.now read) counts.new.items) }
+    ensures same { OnOk result (T.failures texts.new ≡ T.failures texts.old) }
+    ensures fault { IfErr result (IsCopyFault IsFailure (T.failures texts.old) (T.failures texts.new)) }
 {
     let mut fields = ByteRecord::new(alloc);
     for _place in 0..u64::MAX {
@@ -134,6 +144,8 @@ fn copy_record<T: CellTexts>(
     ensures counted { OnOk result ((cell : ℕ) → slice_index counts.new.items cell
         ≡ slice_index counts.old.items cell
         + (if is_copied_to cells.now (geometry_in places.now column (fields_of fields.now)) cell then 1 else 0)) }
+    ensures same { OnOk result (T.failures texts.new ≡ T.failures texts.old) }
+    ensures fault { IfErr result (IsCopyFault IsFailure (T.failures texts.old) (T.failures texts.new)) }
 {
     match envelope_in(alloc, field_in(places, fields, column))? {
         Some(envelope) => copy_to_cells(
@@ -161,6 +173,8 @@ fn copy_to_cells<T: CellTexts>(
     ensures counts { vec_len counts.new ≡ vec_len counts.old }
     ensures counted { OnOk result ((cell : ℕ) → slice_index counts.new.items cell
         ≡ slice_index counts.old.items cell + (if meets_cell cells.now envelope.now cell then 1 else 0)) }
+    ensures same { OnOk result (T.failures texts.new ≡ T.failures texts.old) }
+    ensures fault { IfErr result (IsCopyFault IsFailure (T.failures texts.old) (T.failures texts.new)) }
 {
     let mut met = Vec::new(alloc);
     cells.meeting(*envelope, &mut met)?;
@@ -190,9 +204,11 @@ fn put_rows<T: CellTexts>(
     texts: &mut T,
 ) -> Result<(), CopyFault>
     requires { All (λ number. number < length cells.now + 1) numbers.now }
-    ensures { OnOk result (Grow (T.texts texts.old) (T.texts texts.new)
+    ensures texts { OnOk result (Grow (T.texts texts.old) (T.texts texts.new)
         (gets_of (marked_line cells.now envelope.now (copied_fields places.now columns.now (fields_of fields.now)))
         numbers.now)) }
+    ensures same { OnOk result (T.failures texts.new ≡ T.failures texts.old) }
+    ensures fault { IfErr result (IsCopyFault IsFailure (T.failures texts.old) (T.failures texts.new)) }
 {
     let mut text = Vec::new(alloc);
     let mut line = ByteRecord::new(alloc);
@@ -214,8 +230,10 @@ fn put_row<T: CellTexts>(
 ) -> Result<(), CopyFault>
     requires within { number < length cells.now + 1 }
     requires ended { partial_of line.old ≡ [] }
-    ensures { OnOk result (Grow (T.texts texts.old) (T.texts texts.new)
+    ensures texts { OnOk result (Grow (T.texts texts.old) (T.texts texts.new)
         (in_cell number (marked_line cells.now envelope.now (fields_of line.old) number))) }
+    ensures same { OnOk result (T.failures texts.new ≡ T.failures texts.old) }
+    ensures fault { IfErr result (IsCopyFault IsFailure (T.failures texts.old) (T.failures texts.new)) }
 {
     let marks = Marks::of(&cells.cell(number), envelope);
     push_marks(&marks, line)?;

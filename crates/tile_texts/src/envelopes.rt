@@ -1,7 +1,8 @@
 //! The envelope of the geometry that a field spells.
 
-ghost use Rattle.std.specs.Prelude.{◌≡◌, IfOk, option_map};
+ghost use Rattle.std.specs.Prelude.{◌≡◌, IfErr, IfOk, option_map};
 ghost use Rattle.geometry_model.specs.Envelopes.{envelope};
+ghost use Rattle.tile_texts.specs.Faults.{IsReadFault};
 ghost use Rattle.tile_texts.specs.Lines.{geometry_of};
 
 use crate::faults::CopyFault;
@@ -16,7 +17,8 @@ pub(crate) fn envelope_in(
     alloc: Global,
     field: &[u8],
 ) -> Result<Option<Option<Envelope>>, CopyFault>
-    ensures { IfOk result (λ found. found ≡ option_map envelope (geometry_of field.now)) }
+    ensures found { IfOk result (λ found. found ≡ option_map envelope (geometry_of field.now)) }
+    ensures fault { IfErr result IsReadFault }
 {
     if field.is_empty() {
         return Ok(None);

@@ -1,9 +1,11 @@
 //! The lines that are written.
 
-ghost use Rattle.std.specs.Prelude.{◌≡◌, ◌++◌, ◌∷◌, [], OnOk, map};
+ghost use Rattle.std.specs.Prelude.{◌≡◌, ◌++◌, ◌∷◌, [], IfErr, OnOk, map};
 ghost use Rattle.csv.specs.Records.{fields_of, partial_of};
+ghost use Rattle.loaded_tables.specs.Outcomes.{IsFailure};
 ghost use Rattle.tile_laws.specs.Cells.{mark};
 ghost use Rattle.tile_texts.specs.Copies.{copied_fields};
+ghost use Rattle.tile_texts.specs.Faults.{IsCopyFault};
 ghost use Rattle.tile_texts.specs.Lines.{field_in, line_of, mark_text, name_at, names_of};
 ghost use Rattle.tile_texts.specs.Texts.{Grow, in_cell};
 
@@ -107,8 +109,10 @@ pub(crate) fn put_record<T: CellTexts>(
     line: &ByteRecord,
     texts: &mut T,
 ) -> Result<(), CopyFault>
-    ensures { OnOk result
+    ensures texts { OnOk result
         (Grow (T.texts texts.old) (T.texts texts.new) (in_cell cell (line_of (fields_of line.now)))) }
+    ensures same { OnOk result (T.failures texts.new ≡ T.failures texts.old) }
+    ensures fault { IfErr result (IsCopyFault IsFailure (T.failures texts.old) (T.failures texts.new)) }
 {
     text.clear();
     push_line(text, line)?;

@@ -1,10 +1,12 @@
 //! The records of a table, read again.
 
-ghost use Rattle.std.specs.Prelude.{◌≡◌, IfOk, List, None, OnOk, true, length};
+ghost use Rattle.std.specs.Prelude.{◌≡◌, IfErr, IfOk, List, None, OnOk, true, length};
 ghost use Rattle.csv.specs.Records.{fields_of};
 ghost use Rattle.loaded_tables.specs.Layouts.{IsLayout};
+ghost use Rattle.loaded_tables.specs.Outcomes.{IsFailure};
 ghost use Rattle.loaded_tables.specs.Reading.{IsSteady, StillGives, TakesFirst};
 ghost use Rattle.table_model.specs.Loading.{Record, header_fault};
+ghost use Rattle.tile_texts.specs.Faults.{IsOfHeader};
 
 use csv::{ByteRecord, Reader};
 use loaded_tables::{Layout, TableDef, fault_of, layout_of};
@@ -21,6 +23,7 @@ fn read_next<R: Read + Drop>(
     ensures steady { OnOk result (IsSteady reader.new) }
     ensures takes { (rest : List Record) → StillGives R.remaining reader.old rest
         → IfOk result (λ found. TakesFirst R.remaining reader.new rest found (fields_of fields.new)) }
+    ensures fails { IfErr result IsFailure }
 {
     match reader.read_byte_record(fields) {
         Ok(found) => Ok(found),
@@ -40,6 +43,7 @@ pub(crate) fn read_layout<R: Read + Drop>(
         × (header_fault table.now.columns header ≡ None)
         × ((rest : List Record) → StillGives R.remaining reader.old rest
         → TakesFirst R.remaining reader.new rest true header)) }
+    ensures fault { IfErr result (IsOfHeader R.remaining reader.old table.now.columns) }
 {
     let mut header = ByteRecord::new(alloc);
     let found = read_next(reader, &mut header)?;
@@ -59,6 +63,7 @@ pub(crate) fn read_record<R: Read + Drop>(
     ensures steady { OnOk result (IsSteady reader.new) }
     ensures takes { (rest : List Record) → StillGives R.remaining reader.old rest
         → IfOk result (λ found. TakesFirst R.remaining reader.new rest found (fields_of fields.new)) }
+    ensures fails { IfErr result IsFailure }
     ensures width { IfOk result (λ found. found ≡ true → length (fields_of fields.new) ≡ layout.now.width) }
 {
     let found = read_next(reader, fields)?;

@@ -1,10 +1,12 @@
 //! The second pass over a table that is split into stretches: each record is written to its stretch.
 
-ghost use Rattle.std.specs.Prelude.{◌≡◌, ◌+◌, ◌++◌, ◌∷◌, ◌<◌, ◌≤◌, [], ℕ, IfOk, List, OnOk, length, map, vec_len};
+ghost use Rattle.std.specs.Prelude.{◌≡◌, ◌+◌, ◌++◌, ◌∷◌, ◌<◌, ◌≤◌, [], ℕ, IfErr, IfOk, List, OnOk, length, map, vec_len};
 ghost use Rattle.csv.specs.Records.{fields_of, partial_of};
+ghost use Rattle.loaded_tables.specs.Outcomes.{IsFailure};
 ghost use Rattle.loaded_tables.specs.Reading.{IsSteady};
 ghost use Rattle.table_model.specs.Loading.{Record};
 ghost use Rattle.tile_texts.specs.Copies.{AreAll, AreRecordsOfTable, AreWritten, copied_fields, size_of, stretches, stretches_of};
+ghost use Rattle.tile_texts.specs.Faults.{IsCopyFault, IsTableFault};
 ghost use Rattle.tile_texts.specs.Lines.{line_of, names_of};
 ghost use Rattle.tile_texts.specs.Texts.{Grow, in_cell};
 
@@ -20,7 +22,8 @@ use std::io::Read;
 use table_model::faults::LoadFault;
 
 /// Writes the records of a table in stretches of at most `most`, or of one where `most` is 0, each a text of its own with the header.
-/// It returns how many records each has; there is at least one stretch. After an error nothing is known of the texts.
+/// It returns how many records each has; there is at least one stretch. After an error nothing is known of the texts. The fault is
+/// `Sink` only where a put failed, and else that of the header, `ReadFailed` or `OutOfMemory`.
 pub fn write_stretches<R: Read + Drop, T: CellTexts>(
     alloc: Global,
     part: &Part<'_>,
@@ -34,6 +37,9 @@ pub fn write_stretches<R: Read + Drop, T: CellTexts>(
         (names_of part.now.table.now.columns part.now.columns.now)
         (stretches_of (size_of most) part.now.table.now.columns part.now.columns.now records) counts.items) }
     ensures some { IfOk result (λ counts. 0 < vec_len counts) }
+    ensures same { OnOk result (T.failures texts.new ≡ T.failures texts.old) }
+    ensures fault { IfErr result (IsCopyFault (IsTableFault (R.remaining reader) part.now.table.now.columns)
+        (T.failures texts.old) (T.failures texts.new)) }
 {
     let mut reader = record_reader(alloc, reader);
     let layout = read_layout(alloc, part.table, &mut reader)?;
@@ -70,9 +76,11 @@ fn copy_stretches<R: Read + Drop, T: CellTexts>(
 ) -> Result<Vec<usize>, CopyFault>
     requires steady { IsSteady reader.old }
     requires size { 0 < size }
-    ensures { IfOk result (λ counts. (read : List Record) × AreAll R.remaining reader.old layout.now.width read
+    ensures written { IfOk result (λ counts. (read : List Record) × AreAll R.remaining reader.old layout.now.width read
         × AreWritten (T.texts texts.old) (T.texts texts.new) (fields_of header.now)
         (map (map (copied_fields layout.now.places.items columns.now)) (stretches size read)) counts.items) }
+    ensures same { OnOk result (T.failures texts.new ≡ T.failures texts.old) }
+    ensures fault { IfErr result (IsCopyFault IsFailure (T.failures texts.old) (T.failures texts.new)) }
 {
     let mut text = Vec::new(alloc);
     put_record(&mut text, 0, header, texts)?;
@@ -106,6 +114,8 @@ fn begin_if_full<T: CellTexts>(
         × Grow (T.texts texts.old) (T.texts texts.new) (λ _. [])) }
     ensures begins { size ≤ rows → IfOk result (λ left. (left ≡ 0) × (counts.new.items ≡ counts.old.items ++ rows ∷ [])
         × Grow (T.texts texts.old) (T.texts texts.new) (in_cell (length counts.old.items + 1) (line_of (fields_of header.now)))) }
+    ensures same { OnOk result (T.failures texts.new ≡ T.failures texts.old) }
+    ensures fault { IfErr result (IsCopyFault IsFailure (T.failures texts.old) (T.failures texts.new)) }
 {
     if rows < size {
         return Ok(rows);

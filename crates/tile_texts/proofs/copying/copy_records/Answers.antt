@@ -1,4 +1,4 @@
-use Rattle.std.proofs.Common.{◌≡◌, ◌++◌, ◌∷◌, [], arith, length, refl, rules}
+use Rattle.std.proofs.Common.{◌≡◌, ◌∙◌, ◌++◌, ◌∷◌, [], arith, length, refl, rules}
 use Rattle.std.proofs.lemmas.List.{length_push}
 use Rattle.csv.specs.Records.{fields_of}
 use Rattle.tile_texts.proofs.CopyLemmas.{added_more, added_none, read_end, read_more, read_none, room}
@@ -7,6 +7,7 @@ use Rattle.tile_texts.proofs.copying.copy_records.Goals as goal
 pub loop-place-init : goal.loop-place-init
 loop-place-init g c = record {
   steady = c.requires.steady;
+  same = refl;
   read = (
     [],
     refl,
@@ -15,8 +16,8 @@ loop-place-init g c = record {
   );
 }
 
-pub returns-then-not-branch : goal.returns-then-not-branch
-returns-then-not-branch g c =
+pub returns-then-not-branch-clause-added : goal.returns-then-not-branch-clause-added
+returns-then-not-branch-clause-added g c =
     let m = c.loop-place.invariant.read in
     (m.0, read_end g.R.Read.remaining c.args.reader.now c.loop-place.reader c.args.layout.now.width m.0 m.2 (λ rest gives. rw c.if-not-branch.true at (c.in_ok-read_record.ensures.takes rest gives)), m.3)
 
@@ -36,6 +37,7 @@ loop-place-preserved g c =
     let more = length_push m.0 fields in
     record {
       steady = c.in_ok-read_record.ensures.steady;
+      same = c.in_ok-copy_record.ensures.same ∙ c.loop-place.invariant.same;
       read = (
         m.0 ++ fields ∷ [],
         omega (arith, m.1, more),

@@ -37,4 +37,4 @@ returns-clause-texts g c =
     let line = marked_line boxes e copied in
     grow_same (g.T.CellTexts.texts c.args.texts.now) (g.T.CellTexts.texts c.put_rows.new.texts) (gets_of line c.as_slice.result.now) (envelope_row boxes e copied)
     (λ k. ap (λ (met : List ℕ). gets_of line met k) (c.as_slice.ensures.value ∙ c.in_ok-meeting.ensures.exact) ∙ met_get_row boxes e copied k)
-    c.in_ok-put_rows.ensures
+    c.in_ok-put_rows.ensures.texts

@@ -6,11 +6,11 @@ use Rattle.tile_texts.specs.Lines.{line_of, mark_fields, mark_text}
 use Rattle.tile_texts.specs.Texts.{Grow, in_cell}
 use Rattle.tile_texts.proofs.copying.put_row.Goals as goal
 
-pub returns : goal.returns
-returns g c =
+pub returns-clause-texts : goal.returns-clause-texts
+returns-clause-texts g c =
     let e = c.args.envelope.now in
     let marks = ap₂ (λ w s. mark_text w ∷ mark_text s ∷ []) c.of-marks.ensures.west c.of-marks.ensures.south in
     let here = ap (λ (o : Option Cell). mark_fields (unwrap_or o None) e) (sym c.cell.ensures) in
     let fields = c.in_ok-push_marks.ensures ∙ ap (λ (l : Record). fields_of c.args.line.now ++ l) (marks ∙ here) in
     subst (λ (l : Record). OnOk c.put_record.result (Grow (g.T.CellTexts.texts c.args.texts.now) (g.T.CellTexts.texts c.put_record.new.texts) (in_cell c.args.number (line_of l))))
-    fields c.put_record.ensures
+    fields c.put_record.ensures.texts

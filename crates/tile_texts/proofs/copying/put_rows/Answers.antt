@@ -1,4 +1,4 @@
-use Rattle.std.proofs.Common.{get_or, map, refl, subst}
+use Rattle.std.proofs.Common.{◌∙◌, get_or, map, refl, subst}
 use Rattle.csv.specs.Records.{fields_of}
 use Rattle.table_model.specs.Loading.{Record}
 use Rattle.tile_texts.specs.Lines.{field_in, marked_line}
@@ -11,6 +11,9 @@ loop-number-preserved g c =
     let row = marked_line c.args.cells.now c.args.envelope.now in
     let copied = map (field_in c.args.places.now (fields_of c.args.fields.now)) c.args.columns.now in
     let texts = g.T.CellTexts.texts in
-    grow_more (texts c.args.texts.now) (texts c.loop-number.texts) (texts c.put_row.new.texts) (row copied) c.args.numbers.now c.loop-number.number-index (get_or c.args.numbers.now c.loop-number.number-index 0) 0
-    c.loop-number-test.true refl c.loop-number.invariant
-    (subst (λ (l : Record). Grow (texts c.loop-number.texts) (texts c.put_row.new.texts) (in_cell (get_or c.args.numbers.now c.loop-number.number-index 0) (row l (get_or c.args.numbers.now c.loop-number.number-index 0)))) c.in_ok-copied_fields.ensures.fields c.in_ok-put_row.ensures)
+    record {
+      texts = grow_more (texts c.args.texts.now) (texts c.loop-number.texts) (texts c.put_row.new.texts) (row copied) c.args.numbers.now c.loop-number.number-index (get_or c.args.numbers.now c.loop-number.number-index 0) 0
+          c.loop-number-test.true refl c.loop-number.invariant.texts
+          (subst (λ (l : Record). Grow (texts c.loop-number.texts) (texts c.put_row.new.texts) (in_cell (get_or c.args.numbers.now c.loop-number.number-index 0) (row l (get_or c.args.numbers.now c.loop-number.number-index 0)))) c.in_ok-copied_fields.ensures.fields c.in_ok-put_row.ensures.texts);
+      same = c.in_ok-put_row.ensures.same ∙ c.loop-number.invariant.same;
+    }

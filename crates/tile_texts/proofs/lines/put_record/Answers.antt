@@ -3,8 +3,8 @@ use Rattle.tile_texts.specs.Lines.{line_of}
 use Rattle.tile_texts.specs.Texts.{Grow, in_cell}
 use Rattle.tile_texts.proofs.lines.put_record.Goals as goal
 
-pub returns : goal.returns
+pub returns-clause-texts : goal.returns-clause-texts
 unfolding line_of
-returns g c =
+returns-clause-texts g c =
     subst (λ (l : List ℕ). Grow (g.T.CellTexts.texts c.args.texts.now) (g.T.CellTexts.texts c.put.new.self) (in_cell c.args.cell l))
-    (c.as_slice.ensures.value ∙ c.in_ok-push_line.ensures) c.in_ok-put.ensures
+    (c.as_slice.ensures.value ∙ c.in_ok-push_line.ensures) c.in_ok-put.ensures.texts

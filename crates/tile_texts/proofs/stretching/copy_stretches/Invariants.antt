@@ -1,4 +1,4 @@
-use Rattle.std.proofs.Common.{◌<◌, ◌≤◌, List, length}
+use Rattle.std.proofs.Common.{◌≡◌, ◌<◌, ◌≤◌, List, length}
 use Rattle.csv.specs.Records.{fields_of}
 use Rattle.loaded_tables.specs.Reading.{IsSteady}
 use Rattle.table_model.specs.Loading.{Record}
@@ -6,10 +6,11 @@ use Rattle.tile_texts.specs.Copies.{WereRead, copied_fields}
 use Rattle.tile_texts.specs.Stretches.{AreFilled}
 use Rattle.tile_texts.proofs.stretching.copy_stretches.Given as goal
 
--- the records that were read are in stretches, the last of which has `rows` of them
+-- the records that were read are in stretches, the last of which has `rows` of them, and no put has failed
 abbrev pub invariant-loop-place : goal.invariant-loop-place
 invariant-loop-place g l = record {
   steady : IsSteady l.reader;
+  same : g.T.CellTexts.failures l.texts ≡ g.T.CellTexts.failures l.fn.texts;
   few : l.rows ≤ l.size;
   some : 0 < length l.counts.items → 0 < l.rows;
   read : (read : List Record) × WereRead g.R.Read.remaining l.fn.reader l.reader l.layout.width read
