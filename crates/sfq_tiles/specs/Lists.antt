@@ -1,5 +1,5 @@
 -- The list of what was made, which the program prints.
-use Rattle.std.specs.Prelude.{ℕ, List, [], ◌∷◌, ◌++◌, ◌+◌, map, length, codes, decimal, Some, None, slice_get, unwrap_or}
+use Rattle.std.specs.Prelude.{ℕ, ℤ, List, ◌++◌, ◌+◌, map, length, codes, decimal, Some, None, slice_get, unwrap_or}
 use Rattle.std.specs.List.{concat, flat_map, range_with_len, slice_index_or}
 use Rattle.std.specs.Fmt.{signed_decimal}
 use Rattle.geometry_model.specs.Envelopes.{Envelope}
@@ -14,10 +14,14 @@ stretch_line name number rows = name ++ codes "," ++ decimal number ++ codes ","
 abbrev pub stretches_text : List ℕ → List ℕ → List ℕ
 stretches_text name counts = flat_map (λ place. stretch_line name (place + 1) (slice_index_or counts place 0)) (range_with_len 0 (length counts))
 
+-- two coordinates, each as a field that isn't the first
+abbrev pub span_text : ℤ → ℤ → List ℕ
+span_text least greatest = codes "," ++ signed_decimal least ++ codes "," ++ signed_decimal greatest
+
 -- the sides of a cell; of that of the empty geometries they are empty
 abbrev pub sides_text : Cell → List ℕ
 sides_text None = codes ",,,,"
-sides_text (Some box) = concat (map (λ side. codes "," ++ signed_decimal side) (box.least_x ∷ box.greatest_x ∷ box.least_y ∷ box.greatest_y ∷ []))
+sides_text (Some box) = span_text box.least_x box.greatest_x ++ span_text box.least_y box.greatest_y
 
 -- how many rows of each part are in the tile of a number
 abbrev pub rows_text : List Written → ℕ → List ℕ

@@ -1,14 +1,14 @@
 //! The list of tiles or of stretches, which the program prints.
 
-ghost use Rattle.std.specs.Prelude.{◌≡◌, ◌+◌, ◌++◌, ◌∷◌, ◌≤◌, ◌<◌, [], codes, decimal, length, map, OnOk};
+ghost use Rattle.std.specs.Prelude.{◌≡◌, ◌+◌, ◌++◌, ◌∷◌, ◌≤◌, ◌<◌, [], codes, decimal, length, map, OnErr, OnOk};
 ghost use Rattle.std.specs.List.{concat, flat_map, range_with_len, slice_index_or};
-ghost use Rattle.std.specs.Fmt.{signed_decimal};
 ghost use Rattle.std.specs.Io.KnownBytes.{Appends};
-ghost use Rattle.sfq_tiles.specs.Lists.{rows_text, sides_text, stretch_line, stretches_list, stretches_text, tile_line, tiles_header, tiles_text};
+ghost use Rattle.sinks.specs.Sinks.{AppendsFront, CountsFailure};
+ghost use Rattle.sfq_tiles.specs.Lists.{rows_text, sides_text, span_text, stretch_line, stretches_list, stretches_text, tile_line, tiles_header, tiles_text};
 
 use itoa::Buffer;
 use rtree::Envelope;
-use sinks::{Sink, SinkFault, put_all};
+use sinks::{Sink, SinkFault, put_all, put_parts};
 use tile_cells::Cells;
 
 /// A part that was written.
@@ -20,9 +20,14 @@ pub struct Written<'a> {
     pub counts: Vec<usize>,
 }
 
-/// Lists the stretches of some parts, with how many rows each has.
+/// Lists the stretches of some parts, with how many rows each has. It stops at the first failed put: a beginning of the list has
+/// been put by then, and one failure more is counted.
 pub fn list_stretches<S: Sink>(parts: &[Written<'_>], out: &mut S) -> Result<(), SinkFault>
-    ensures { OnOk result (Appends (S.taken out.old) (S.taken out.new) (stretches_list parts.now)) }
+    ensures ok { OnOk result (Appends (S.taken out.old) (S.taken out.new)
+        (stretches_list parts.now)) }
+    ensures front { OnErr result (AppendsFront (S.taken out.old) (S.taken out.new)
+        (stretches_list parts.now)) }
+    ensures failures { CountsFailure (S.failures out.old) (S.failures out.new) result }
 {
     put_all(out, b"part,tile,rows\n")?;
     put_all_stretches(parts, out)
@@ -30,8 +35,11 @@ pub fn list_stretches<S: Sink>(parts: &[Written<'_>], out: &mut S) -> Result<(),
 
 /// Writes the lines of the stretches of some parts.
 fn put_all_stretches<S: Sink>(parts: &[Written<'_>], out: &mut S) -> Result<(), SinkFault>
-    ensures { OnOk result (Appends (S.taken out.old) (S.taken out.new)
+    ensures ok { OnOk result (Appends (S.taken out.old) (S.taken out.new)
         (concat (map (λ part. stretches_text part.name.now part.counts.items) parts.now))) }
+    ensures front { OnErr result (AppendsFront (S.taken out.old) (S.taken out.new)
+        (concat (map (λ part. stretches_text part.name.now part.counts.items) parts.now))) }
+    ensures failures { CountsFailure (S.failures out.old) (S.failures out.new) result }
 {
     for part in parts {
         put_stretches(part.name, part.counts.as_slice(), out)?;
@@ -41,7 +49,11 @@ fn put_all_stretches<S: Sink>(parts: &[Written<'_>], out: &mut S) -> Result<(), 
 
 /// Writes the lines of the stretches of a part, by number from 1.
 fn put_stretches<S: Sink>(name: &str, counts: &[usize], out: &mut S) -> Result<(), SinkFault>
-    ensures { OnOk result (Appends (S.taken out.old) (S.taken out.new) (stretches_text name.now counts.now)) }
+    ensures ok { OnOk result (Appends (S.taken out.old) (S.taken out.new)
+        (stretches_text name.now counts.now)) }
+    ensures front { OnErr result (AppendsFront (S.taken out.old) (S.taken out.new)
+        (stretches_text name.now counts.now)) }
+    ensures failures { CountsFailure (S.failures out.old) (S.failures out.new) result }
 {
     for place in 0..counts.len() {
         put_stretch(name, place + 1, rows_in(counts, place), out)?;
@@ -56,32 +68,50 @@ fn put_stretch<S: Sink>(
     rows: usize,
     out: &mut S,
 ) -> Result<(), SinkFault>
-    ensures { OnOk result (Appends (S.taken out.old) (S.taken out.new) (stretch_line name.now number rows)) }
+    ensures ok { OnOk result (Appends (S.taken out.old) (S.taken out.new)
+        (stretch_line name.now number rows)) }
+    ensures front { OnErr result (AppendsFront (S.taken out.old) (S.taken out.new)
+        (stretch_line name.now number rows)) }
+    ensures failures { CountsFailure (S.failures out.old) (S.failures out.new) result }
 {
-    put_all(out, name.as_bytes())?;
-    put_field(number, out)?;
-    put_field(rows, out)?;
-    put_all(out, b"\n")
+    let mut number_digits = Buffer::new();
+    let mut rows_digits = Buffer::new();
+    let parts = [
+        name.as_bytes(),
+        b",",
+        number_digits.format(number).as_bytes(),
+        b",",
+        rows_digits.format(rows).as_bytes(),
+        b"\n",
+    ];
+    put_parts(out, &parts)
 }
 
 /// Writes a number as a field that isn't the first.
 fn put_field<S: Sink>(number: usize, out: &mut S) -> Result<(), SinkFault>
-    ensures { OnOk result (Appends (S.taken out.old) (S.taken out.new) (codes "," ++ decimal number)) }
+    ensures ok { OnOk result (Appends (S.taken out.old) (S.taken out.new)
+        (codes "," ++ decimal number)) }
+    ensures front { OnErr result (AppendsFront (S.taken out.old) (S.taken out.new)
+        (codes "," ++ decimal number)) }
+    ensures failures { CountsFailure (S.failures out.old) (S.failures out.new) result }
 {
     let mut digits = Buffer::new();
-    put_all(out, b",")?;
-    put_all(out, digits.format(number).as_bytes())
+    let parts = [b",", digits.format(number).as_bytes()];
+    put_parts(out, &parts)
 }
 
 /// Lists the tiles of some parts with their boxes, and how many rows of each part each has, by number; tile 0 is that of the empty
-/// geometries.
+/// geometries. It stops at the first failed put, as the list of stretches does.
 pub fn list_tiles<S: Sink>(
     parts: &[Written<'_>],
     cells: &Cells,
     out: &mut S,
 ) -> Result<(), SinkFault>
-    ensures { OnOk result (Appends (S.taken out.old) (S.taken out.new)
+    ensures ok { OnOk result (Appends (S.taken out.old) (S.taken out.new)
         (tiles_text parts.now cells.now)) }
+    ensures front { OnErr result (AppendsFront (S.taken out.old) (S.taken out.new)
+        (tiles_text parts.now cells.now)) }
+    ensures failures { CountsFailure (S.failures out.old) (S.failures out.new) result }
 {
     put_header(parts, out)?;
     put_tiles(parts, cells, out)
@@ -89,8 +119,11 @@ pub fn list_tiles<S: Sink>(
 
 /// Writes the header of the list of tiles.
 fn put_header<S: Sink>(parts: &[Written<'_>], out: &mut S) -> Result<(), SinkFault>
-    ensures { OnOk result (Appends (S.taken out.old) (S.taken out.new)
+    ensures ok { OnOk result (Appends (S.taken out.old) (S.taken out.new)
         (tiles_header parts.now)) }
+    ensures front { OnErr result (AppendsFront (S.taken out.old) (S.taken out.new)
+        (tiles_header parts.now)) }
+    ensures failures { CountsFailure (S.failures out.old) (S.failures out.new) result }
 {
     put_all(out, b"tile,least_x,greatest_x,least_y,greatest_y")?;
     put_names(parts, out)?;
@@ -99,8 +132,11 @@ fn put_header<S: Sink>(parts: &[Written<'_>], out: &mut S) -> Result<(), SinkFau
 
 /// Writes the names of parts, each as a field that isn't the first.
 fn put_names<S: Sink>(parts: &[Written<'_>], out: &mut S) -> Result<(), SinkFault>
-    ensures { OnOk result (Appends (S.taken out.old) (S.taken out.new)
+    ensures ok { OnOk result (Appends (S.taken out.old) (S.taken out.new)
         (concat (map (λ part. codes "," ++ part.name.now) parts.now))) }
+    ensures front { OnErr result (AppendsFront (S.taken out.old) (S.taken out.new)
+        (concat (map (λ part. codes "," ++ part.name.now) parts.now))) }
+    ensures failures { CountsFailure (S.failures out.old) (S.failures out.new) result }
 {
     for part in parts {
         put_name(part.name, out)?;
@@ -110,16 +146,22 @@ fn put_names<S: Sink>(parts: &[Written<'_>], out: &mut S) -> Result<(), SinkFaul
 
 /// Writes a name as a field that isn't the first.
 fn put_name<S: Sink>(name: &str, out: &mut S) -> Result<(), SinkFault>
-    ensures { OnOk result (Appends (S.taken out.old) (S.taken out.new) (codes "," ++ name.now)) }
+    ensures ok { OnOk result (Appends (S.taken out.old) (S.taken out.new) (codes "," ++ name.now)) }
+    ensures front { OnErr result (AppendsFront (S.taken out.old) (S.taken out.new)
+        (codes "," ++ name.now)) }
+    ensures failures { CountsFailure (S.failures out.old) (S.failures out.new) result }
 {
-    put_all(out, b",")?;
-    put_all(out, name.as_bytes())
+    let parts = [b",", name.as_bytes()];
+    put_parts(out, &parts)
 }
 
 /// Writes the lines of all tiles.
 fn put_tiles<S: Sink>(parts: &[Written<'_>], cells: &Cells, out: &mut S) -> Result<(), SinkFault>
-    ensures { OnOk result (Appends (S.taken out.old) (S.taken out.new)
+    ensures ok { OnOk result (Appends (S.taken out.old) (S.taken out.new)
         (flat_map (tile_line cells.now parts.now) (range_with_len 0 (length cells.now + 1)))) }
+    ensures front { OnErr result (AppendsFront (S.taken out.old) (S.taken out.new)
+        (flat_map (tile_line cells.now parts.now) (range_with_len 0 (length cells.now + 1)))) }
+    ensures failures { CountsFailure (S.failures out.old) (S.failures out.new) result }
 {
     for number in 0..cells.boxes().len() + 1 {
         put_tile(parts, cells, number, out)?;
@@ -135,8 +177,11 @@ fn put_tile<S: Sink>(
     out: &mut S,
 ) -> Result<(), SinkFault>
     requires { number ≤ length cells.now }
-    ensures { OnOk result (Appends (S.taken out.old) (S.taken out.new)
+    ensures ok { OnOk result (Appends (S.taken out.old) (S.taken out.new)
         (tile_line cells.now parts.now number)) }
+    ensures front { OnErr result (AppendsFront (S.taken out.old) (S.taken out.new)
+        (tile_line cells.now parts.now number)) }
+    ensures failures { CountsFailure (S.failures out.old) (S.failures out.new) result }
 {
     let mut digits = Buffer::new();
     put_all(out, digits.format(number).as_bytes())?;
@@ -147,8 +192,11 @@ fn put_tile<S: Sink>(
 
 /// Writes how many rows of each part are in a tile.
 fn put_rows<S: Sink>(parts: &[Written<'_>], number: usize, out: &mut S) -> Result<(), SinkFault>
-    ensures { OnOk result (Appends (S.taken out.old) (S.taken out.new)
+    ensures ok { OnOk result (Appends (S.taken out.old) (S.taken out.new)
         (rows_text parts.now number)) }
+    ensures front { OnErr result (AppendsFront (S.taken out.old) (S.taken out.new)
+        (rows_text parts.now number)) }
+    ensures failures { CountsFailure (S.failures out.old) (S.failures out.new) result }
 {
     for part in parts {
         put_field(rows_in(part.counts.as_slice(), number), out)?;
@@ -168,22 +216,33 @@ fn rows_in(counts: &[usize], number: usize) -> usize
 
 /// Writes the sides of a cell; of that of the empty geometries four empty fields.
 fn put_sides<S: Sink>(cell: &Option<Envelope>, out: &mut S) -> Result<(), SinkFault>
-    ensures { OnOk result (Appends (S.taken out.old) (S.taken out.new) (sides_text cell.now)) }
+    ensures ok { OnOk result (Appends (S.taken out.old) (S.taken out.new) (sides_text cell.now)) }
+    ensures front { OnErr result (AppendsFront (S.taken out.old) (S.taken out.new)
+        (sides_text cell.now)) }
+    ensures failures { CountsFailure (S.failures out.old) (S.failures out.new) result }
 {
     let Some(sides) = cell else {
         return put_all(out, b",,,,");
     };
-    put_side(sides.least_x(), out)?;
-    put_side(sides.greatest_x(), out)?;
-    put_side(sides.least_y(), out)?;
-    put_side(sides.greatest_y(), out)
+    put_span(sides.least_x(), sides.greatest_x(), out)?;
+    put_span(sides.least_y(), sides.greatest_y(), out)
 }
 
-/// Writes a coordinate as a field that isn't the first.
-fn put_side<S: Sink>(side: i32, out: &mut S) -> Result<(), SinkFault>
-    ensures { OnOk result (Appends (S.taken out.old) (S.taken out.new) (codes "," ++ signed_decimal side)) }
+/// Writes two coordinates as fields that aren't the first.
+fn put_span<S: Sink>(least: i32, greatest: i32, out: &mut S) -> Result<(), SinkFault>
+    ensures ok { OnOk result (Appends (S.taken out.old) (S.taken out.new)
+        (span_text least greatest)) }
+    ensures front { OnErr result (AppendsFront (S.taken out.old) (S.taken out.new)
+        (span_text least greatest)) }
+    ensures failures { CountsFailure (S.failures out.old) (S.failures out.new) result }
 {
-    let mut digits = Buffer::new();
-    put_all(out, b",")?;
-    put_all(out, digits.format(side).as_bytes())
+    let mut least_digits = Buffer::new();
+    let mut greatest_digits = Buffer::new();
+    let parts = [
+        b",",
+        least_digits.format(least).as_bytes(),
+        b",",
+        greatest_digits.format(greatest).as_bytes(),
+    ];
+    put_parts(out, &parts)
 }
