@@ -1,5 +1,5 @@
 -- The part and the table that were found, and no others.
-use Rattle.std.proofs.Common.{◌≡◌, Bool, true, false, ℕ, List, Option, None, Some, ◌↔◌, IsTrue, slice_get, subst, sym}
+use Rattle.std.proofs.Common.{◌≡◌, Bool, false, ℕ, List, Option, None, Some, ◌↔◌, IsTrue, slice_get, subst, sym}
 use Rattle.loaded_tables.specs.GeometryFields.{ShapeValue}
 use Rattle.sfq_tiles.specs.MadeTables.{IsMade, IsMadeAt}
 use Rattle.sfq_tiles.specs.declared.parts.NamedPart.{NamedPart}
