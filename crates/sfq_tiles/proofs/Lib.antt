@@ -1,3 +1,4 @@
 mod FileLemmas
 mod ListLemmas
 mod PlaceLemmas
+mod TextLemmas

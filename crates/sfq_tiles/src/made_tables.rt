@@ -1,6 +1,6 @@
 //! Whether the tables of a schema are those of the parts.
 
-ghost use Rattle.std.specs.Prelude.{◌≡◌, ◌<◌, ◌^◌, Some, slice_get, string_bytes, true};
+ghost use Rattle.std.specs.Prelude.{◌≡◌, ◌↔◌, ◌<◌, ◌^◌, IsTrue, Some, slice_get, string_bytes};
 ghost use Rattle.sfq_tiles.specs.MadeTables.{AreCopied, AreMade, HasColumns, HasKey, HasMarks, IsCopied, IsMade, IsMadeAt, mark_column};
 ghost use Rattle.table_model.specs.declared.definitions.ColumnType.TheVariants as column;
 
@@ -10,7 +10,7 @@ use sqlite_items::{self as items};
 
 /// Whether two columns have one type.
 fn same_type(a: &ColumnType, b: &ColumnType) -> bool
-    ensures { result ≡ true → a.now ≡ b.now }
+    ensures { IsTrue result ↔ (a.now ≡ b.now) }
 {
     match a {
         ColumnType::Integer => matches!(b, ColumnType::Integer),
@@ -24,7 +24,7 @@ fn same_type(a: &ColumnType, b: &ColumnType) -> bool
 
 /// Whether two columns have one name, one type, and both NOT NULL or neither.
 fn same_column(a: &ColumnDef, b: &ColumnDef) -> bool
-    ensures { result ≡ true → a.now ≡ b.now }
+    ensures { IsTrue result ↔ (a.now ≡ b.now) }
 {
     a.name.bytes() == b.name.bytes()
         && same_type(&a.column_type, &b.column_type)
@@ -34,7 +34,7 @@ fn same_column(a: &ColumnDef, b: &ColumnDef) -> bool
 /// Whether the column at a place of a table is that at a place of another.
 #[tactic(auto, unfolding(crate::specs::MadeTables::IsCopied))]
 fn is_copied(source: &[ColumnDef], place: usize, made: &[ColumnDef], turn: usize) -> bool
-    ensures { result ≡ true → IsCopied source.now place made.now turn }
+    ensures { IsTrue result ↔ IsCopied source.now place made.now turn }
 {
     match items::at(source, place) {
         Some(column) => match items::at(made, turn) {
@@ -48,7 +48,7 @@ fn is_copied(source: &[ColumnDef], place: usize, made: &[ColumnDef], turn: usize
 /// Whether the columns of a table begin with those at some places of another.
 #[tactic(auto, unfolding(crate::specs::MadeTables::AreCopied))]
 fn are_copied(source: &[ColumnDef], places: &[usize], made: &[ColumnDef]) -> bool
-    ensures { result ≡ true → AreCopied source.now places.now made.now }
+    ensures { IsTrue result ↔ AreCopied source.now places.now made.now }
 {
     for turn in 0..places.len() {
         if !is_copied(source, places[turn], made, turn) {
@@ -60,7 +60,7 @@ fn are_copied(source: &[ColumnDef], places: &[usize], made: &[ColumnDef]) -> boo
 
 /// Whether the column at a place is a mark of this name: INTEGER NOT NULL.
 fn is_mark(made: &[ColumnDef], place: usize, name: &[u8]) -> bool
-    ensures { result ≡ true → slice_get made.now place ≡ Some (mark_column name.now) }
+    ensures { IsTrue result ↔ (slice_get made.now place ≡ Some (mark_column name.now)) }
 {
     match items::at(made, place) {
         Some(column) => {
@@ -72,7 +72,7 @@ fn is_mark(made: &[ColumnDef], place: usize, name: &[u8]) -> bool
 
 /// Whether a column is one of whole numbers.
 fn is_integer(column_type: &ColumnType) -> bool
-    ensures { result ≡ true → column_type.now ≡ column.Integer }
+    ensures { IsTrue result ↔ (column_type.now ≡ column.Integer) }
 {
     matches!(column_type, ColumnType::Integer)
 }
@@ -81,7 +81,8 @@ fn is_integer(column_type: &ColumnType) -> bool
 #[tactic(auto, unfolding(crate::specs::MadeTables::HasMarks))]
 fn has_marks(part: &NamedPart<'_, '_>, made: &[ColumnDef], count: usize) -> bool
     requires { count < 2 ^ 63 }
-    ensures { result ≡ true → HasMarks part.now.column (string_bytes part.now.west) (string_bytes part.now.south) made.now count }
+    ensures { IsTrue result
+        ↔ HasMarks part.now.column (string_bytes part.now.west) (string_bytes part.now.south) made.now count }
 {
     if part.column.is_none() {
         return made.len() == count;
@@ -94,7 +95,7 @@ fn has_marks(part: &NamedPart<'_, '_>, made: &[ColumnDef], count: usize) -> bool
 /// Whether the columns of a table are those that are copied of a part, and then its marks.
 #[tactic(auto, unfolding(crate::specs::MadeTables::HasColumns))]
 fn has_columns(part: &NamedPart<'_, '_>, made: &[ColumnDef]) -> bool
-    ensures { result ≡ true → HasColumns part.now made.now }
+    ensures { IsTrue result ↔ HasColumns part.now made.now }
 {
     let places = part.columns.as_slice();
     are_copied(part.table.columns.as_slice(), places, made) && has_marks(part, made, places.len())
@@ -102,7 +103,7 @@ fn has_columns(part: &NamedPart<'_, '_>, made: &[ColumnDef]) -> bool
 
 /// Whether the key of a table is that of the table of a part.
 fn has_key(part: &NamedPart<'_, '_>, key: usize) -> bool
-    ensures { result ≡ true → HasKey part.now key }
+    ensures { IsTrue result ↔ HasKey part.now key }
 {
     match part.columns.as_slice().get(key) {
         Some(place) => *place == part.table.key,
@@ -113,7 +114,7 @@ fn has_key(part: &NamedPart<'_, '_>, key: usize) -> bool
 /// Whether a table is that of a part.
 #[tactic(auto, unfolding(crate::specs::MadeTables::IsMade))]
 fn is_made(part: &NamedPart<'_, '_>, made: &TableDef) -> bool
-    ensures { result ≡ true → IsMade part.now made.now }
+    ensures { IsTrue result ↔ IsMade part.now made.now }
 {
     made.name.bytes() == part.name.as_bytes()
         && has_columns(part, made.columns.as_slice())
@@ -122,7 +123,7 @@ fn is_made(part: &NamedPart<'_, '_>, made: &TableDef) -> bool
 
 /// Whether the table at a place is that of the part there.
 fn is_made_at(parts: &[NamedPart<'_, '_>], tables: &[TableDef], place: usize) -> bool
-    ensures { result ≡ true → IsMadeAt parts.now tables.now place }
+    ensures { IsTrue result ↔ IsMadeAt parts.now tables.now place }
 {
     match items::at(parts, place) {
         Some(part) => match items::at(tables, place) {
@@ -136,7 +137,7 @@ fn is_made_at(parts: &[NamedPart<'_, '_>], tables: &[TableDef], place: usize) ->
 /// Whether tables are those of the parts, in their order.
 #[tactic(auto, unfolding(crate::specs::MadeTables::AreMade))]
 pub fn are_made(parts: &[NamedPart<'_, '_>], tables: &[TableDef]) -> bool
-    ensures { result ≡ true → AreMade parts.now tables.now }
+    ensures { IsTrue result ↔ AreMade parts.now tables.now }
 {
     if tables.len() != parts.len() {
         return false;

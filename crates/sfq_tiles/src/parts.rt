@@ -1,6 +1,7 @@
 //! The parts that the words name, and the tables and columns that they mean.
 
-ghost use Rattle.std.specs.Prelude.{◌≤◌, OkIff};
+ghost use Rattle.sfq_tiles.specs.declared.parts.Mistake.TheVariants as mistake;
+ghost use Rattle.std.specs.Prelude.{◌≢◌, ◌≤◌, IfErr, OkIff};
 ghost use Rattle.std.specs.Str.Parse.{IsNumeral, digits_value, without_leading_plus};
 
 use loaded_tables::{ColumnType, Schema, TableDef};
@@ -60,10 +61,11 @@ pub struct NamedPart<'w, 's> {
 
 /// The number of rows that a word gives: 1 to 100,000.
 pub fn read_rows(word: &str) -> Result<usize, Mistake>
-    ensures { OkIff result (IsNumeral 10 (without_leading_plus word.now)
+    ensures number { OkIff result (IsNumeral 10 (without_leading_plus word.now)
         × (1 ≤ digits_value 10 (without_leading_plus word.now))
         × (digits_value 10 (without_leading_plus word.now) ≤ 100000))
         (digits_value 10 (without_leading_plus word.now)) }
+    ensures said { IfErr result (λ said. said ≢ mistake.Memory) }
 {
     match word.parse::<usize>() {
         Ok(rows) if rows >= 1 && rows <= 100_000 => Ok(rows),
