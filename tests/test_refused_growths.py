@@ -13,7 +13,7 @@ TESTS = f"{ROOT}/crates/fault_tests/out/fault_tests_tests"
 SWEEPS = {
     "growth_tests::queries_with_null": 150,
     "growth_tests::equal_empties": 50,
-    "growth_tests::points_joined_with_squares": 500,
+    "growth_tests::points_joined_with_squares": 300,
     "relate_tests::texts_to_a_matrix": 30,
     "schema_tests::schemas_and_their_faults": 25,
 }
