@@ -33,7 +33,7 @@ class Pages(unittest.TestCase):
     def test_each_code_of_the_document_has_a_page_and_no_other(self):
         codes = set(re.findall(r"`sfq: [^`]*?\b([SLQWV]\d+)\b", read(f"{ROOT}/docs/FAULTS.md")))
         self.assertEqual(set(fault_pages.pages()), codes)
-        listed = re.findall(r"^    FaultCode::([A-Z]\d+),$", read(f"{ROOT}/crates/fault_pages/src/fault_codes.rt"), re.M)
+        listed = re.findall(r"^    FaultCode::([A-Z]\d+),$", read(f"{ROOT}/crates/text_commands/src/fault_codes.rt"), re.M)
         self.assertEqual(sorted(listed), sorted(codes))
         self.assertEqual(len(codes), 41)
 

@@ -1,7 +1,7 @@
 #!/usr/bin/env python3
 """Writes the pages of `sfq fault` from the tables of docs/FAULTS.md.
 
-    python3 tools/fault_pages.py           writes them into crates/fault_pages/src
+    python3 tools/fault_pages.py           writes them into crates/text_commands/src
     python3 tools/fault_pages.py --check   says whether they are those of the document
 
 A page has the document's sentences without Markdown, and each first example as a command that runs. The examples of the
@@ -19,7 +19,7 @@ import printed
 import repository
 
 DOCUMENT = f"{repository.ROOT}/docs/FAULTS.md"
-SOURCE = f"{repository.ROOT}/crates/fault_pages/src"
+SOURCE = f"{repository.ROOT}/crates/text_commands/src"
 WIDTH = 78
 
 # What each letter of a code is about, with its status; the files of its pages; and sentences of the document that hold of all
@@ -167,8 +167,8 @@ def source_of(letter, texts):
     """Returns the file of the pages of one letter."""
     parts = [
         f"//! The pages of {letter}1 to {list(texts)[-1]}. `tools/fault_pages.py` writes them from the tables of docs/FAULTS.md.\n",
-        "ghost use Rattle.fault_pages.specs.FaultPages.{IsPageOf};\n"
-        "ghost use Rattle.fault_pages.specs.declared.fault_codes.FaultCode.TheVariants as c;\n",
+        "ghost use Rattle.text_commands.specs.FaultPages.{IsPageOf};\n"
+        "ghost use Rattle.text_commands.specs.declared.fault_codes.FaultCode.TheVariants as c;\n",
     ]
     for code, text in texts.items():
         literal = text.replace("\\", "\\\\").replace('"', '\\"')

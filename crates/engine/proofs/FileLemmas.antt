@@ -7,7 +7,7 @@ use Rattle.std.proofs.lemmas.List.{length-take, take_all}
 use denote.Ref.{Bor}
 use Rattle.engine.specs.Commands.{IsFaultOf, IsUnread, Opens, ReadsSchema, check_outcome, check_text, schema_failure}
 use Rattle.text_commands.specs.Ends.{failed_writes}
-use Rattle.word_texts.specs.GivenTexts.{IsTextOf}
+use Rattle.text_commands.specs.GivenTexts.{IsTextOf}
 use Rattle.failures.specs.declared.failure.Failure.{Failure}
 use Rattle.failures.specs.declared.failure.Failure.TheVariants as f
 use Rattle.failures.specs.declared.run_fault.Fault.{Fault}

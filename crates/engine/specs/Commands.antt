@@ -32,7 +32,7 @@ use Rattle.table_model.specs.declared.faults.SchemaFault.TheVariants as s
 use Rattle.text_commands.specs.Ends.{End, Serves, Then, Writes, failed_writes}
 use Rattle.text_commands.specs.Reasons.{ExplainsCells, ExplainsValidity}
 use Rattle.text_commands.specs.TextCommands.{ExplainsFault, OverWord, RelatesFile, RelatesWords}
-use Rattle.word_texts.specs.GivenTexts.{IsTextOf, ReadsQuery}
+use Rattle.text_commands.specs.GivenTexts.{IsTextOf, ReadsQuery}
 
 -- ---- check
 

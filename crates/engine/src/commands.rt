@@ -26,9 +26,8 @@ use table_model::faults::{LoadFault, SchemaFault};
 use table_model::texts::same_name;
 use table_model::tokens::TEXT_LIMIT;
 use text_commands::{
-    failed, serve_fault, serve_pairs, serve_relate, serve_verdict, serve_witnesses,
+    failed, query_text, serve_fault, serve_pairs, serve_relate, serve_verdict, serve_witnesses,
 };
-use word_texts::query_text;
 
 /// The type of the index of each geometry column under a query with two references, which may search it for each row.
 type ColumnIndex = CurveTree;

@@ -10,5 +10,4 @@ pub use commands::{serve, serve_observed};
 pub use failures::{Failure, Fault, GeometryWord, fault_line, status};
 pub use observers::{RowObserver, Unobserved};
 pub use query_runs::{run, run_observed};
-pub use text_commands::failed;
-pub use text_relation::relate_texts;
+pub use text_commands::{failed, relate_texts};

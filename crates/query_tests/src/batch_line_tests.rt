@@ -1,12 +1,10 @@
 //! Runs over pairs of geometries, pages of faults, and texts that words give.
 
 use failures::Failure;
-use fault_pages::page_of;
-use pair_runs::{Pairs, relate_pairs};
 use sinks::MemorySink;
 use std::test::Fail;
 use table_model::faults::{LoadFault, QueryFault};
-use word_texts::{geometry_text, query_text};
+use text_commands::{Pairs, geometry_text, page_of, query_text, relate_pairs};
 
 const SQUARE: &str = "POLYGON((0 0,4 0,4 4,0 4,0 0))";
 

@@ -14,7 +14,7 @@ use Rattle.geometry_model.specs.TextReading.{read_text}
 use Rattle.geometry_model.specs.declared.geometry_faults.GeometryFault.{GeometryFault}
 use Rattle.sinks.specs.Sinks.{AppendsFront, CountsFailure}
 use Rattle.table_model.specs.RunOutcomes.{MatrixOf}
-use Rattle.text_relation.specs.Relations.{IsFailureOf, and_then, or_refused, relation}
+use Rattle.text_commands.specs.Relations.{IsFailureOf, and_then, or_refused, relation}
 
 -- what a call wrote that stops at the first failed put
 pub writes : {A E : Type 0} (r : Result A E) (old new : Option (List ℕ)) (before after : ℕ) (text : List ℕ) → OnOk r (Appends old new text)

@@ -1,3 +1,9 @@
 pub mod Ends
 pub mod Reasons
 pub mod TextCommands
+pub mod Relations
+pub mod GivenTexts
+pub mod Pairs
+pub mod TextWitnesses
+pub mod TextVerdicts
+pub mod FaultPages

@@ -7,15 +7,15 @@ use Rattle.reasons.specs.WitnessTexts.{witnesses_text}
 use Rattle.table_model.specs.RunOutcomes.{MatrixOf}
 use Rattle.text_commands.specs.Ends.{End, PutsText, Then}
 use Rattle.text_commands.specs.TextCommands.{OverTexts, OverWord}
-use Rattle.text_reasons.specs.TextVerdicts.{spelled_geometry}
-use Rattle.text_reasons.specs.TextWitnesses.{ShowsTexts}
-use Rattle.text_relation.specs.Relations.{IsFailureOf, relation}
+use Rattle.text_commands.specs.TextVerdicts.{spelled_geometry}
+use Rattle.text_commands.specs.TextWitnesses.{ShowsTexts}
+use Rattle.text_commands.specs.Relations.{IsFailureOf, relation}
 use Rattle.verdicts.specs.VerdictTexts.{verdict_text}
 use Rattle.verdicts.specs.Verdicts.{IsVerdictOf}
 use Rattle.verdicts.specs.declared.verdict.Verdict.{Verdict}
 use Rattle.witnesses.specs.Shown.{witness_at}
 use Rattle.witnesses.specs.declared.witness.Witnesses.{Witnesses}
-use Rattle.word_texts.specs.GivenTexts.{ReadsGeometry}
+use Rattle.text_commands.specs.GivenTexts.{ReadsGeometry}
 
 -- showing the cells of the matrix of two texts ends so: witnesses of the cells are found, and their nine lines written; or the
 -- refusal of `relate` ends it, or running out of memory

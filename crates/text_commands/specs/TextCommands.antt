@@ -5,19 +5,19 @@ use Rattle.std.specs.Io.KnownBytes.{Appends, Keeps}
 use denote.Ref.{Bor}
 use Rattle.failures.specs.declared.failure.Failure.{Failure}
 use Rattle.failures.specs.declared.failure.Failure.TheVariants as f
-use Rattle.fault_pages.specs.FaultPages.{IsCode, IsPageOf}
-use Rattle.fault_pages.specs.declared.fault_codes.FaultCode.{FaultCode}
+use Rattle.text_commands.specs.FaultPages.{IsCode, IsPageOf}
+use Rattle.text_commands.specs.declared.fault_codes.FaultCode.{FaultCode}
 use Rattle.geometry_model.specs.Dimensions.{Matrix}
 use Rattle.geometry_model.specs.Patterns.{matrix_text}
-use Rattle.pair_runs.specs.Pairs.{AreRead, CountsWrites, RelatesPairs}
-use Rattle.pair_runs.specs.declared.runs.Pairs.{Pairs}
-use Rattle.pair_runs.specs.declared.runs.Pairs.TheVariants as pairs
+use Rattle.text_commands.specs.Pairs.{AreRead, CountsWrites, RelatesPairs}
+use Rattle.text_commands.specs.declared.runs.Pairs.{Pairs}
+use Rattle.text_commands.specs.declared.runs.Pairs.TheVariants as pairs
 use Rattle.sinks.specs.Sinks.{AppendsFront}
 use Rattle.table_model.specs.Loading.{Record}
 use Rattle.table_model.specs.RunOutcomes.{ByEveryMatrix, MatrixOf}
 use Rattle.text_commands.specs.Ends.{Answers, End, Then, failed_writes}
-use Rattle.text_relation.specs.Relations.{and_then, relation}
-use Rattle.word_texts.specs.GivenTexts.{Gives, IsUnreadable, ReadsGeometry}
+use Rattle.text_commands.specs.Relations.{and_then, relation}
+use Rattle.text_commands.specs.GivenTexts.{Gives, IsUnreadable, ReadsGeometry}
 
 -- ---- words
 

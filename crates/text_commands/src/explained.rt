@@ -7,15 +7,14 @@ ghost use Rattle.reasons.specs.WitnessTexts.{witnesses_text};
 ghost use Rattle.witnesses.specs.Shown.{witness_at};
 
 use crate::served::failed;
+use crate::{geometry_text, reason_of_text, witnesses_of_texts};
 use failures::Failure;
 use reasons::put_witnesses;
 use sinks::Sink;
 use std::alloc::Global;
 use std::io::Read;
-use text_reasons::{reason_of_text, witnesses_of_texts};
 use verdicts::{Verdict, put_verdict};
 use witnesses::witness::Witnesses;
-use word_texts::geometry_text;
 
 /// Writes what shows each cell of the matrix of the geometries that two words give: nine lines in the order of the matrix. A
 /// word is well-known text, or `@` and the path of a file that has it; both texts are there before one is read as a geometry.

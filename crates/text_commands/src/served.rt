@@ -5,14 +5,11 @@ ghost use Rattle.failures.specs.Failures.{failure_line, failure_status};
 ghost use Rattle.text_commands.specs.Ends.{Serves, Writes};
 ghost use Rattle.text_commands.specs.TextCommands.{ExplainsFault, RelateEnds, RelatesFile, RelatesReader, RelatesWords, end_of};
 
+use crate::{Pairs, geometry_text, page_of, relate_pairs, relate_texts};
 use failures::{Failure, fault_line, status};
-use fault_pages::page_of;
-use pair_runs::{Pairs, relate_pairs};
 use sinks::{Sink, put_all, put_parts};
 use std::alloc::Global;
 use std::io::Read;
-use text_relation::relate_texts;
-use word_texts::geometry_text;
 
 /// Writes the nine characters of the matrix of the geometries that two words give, and a line feed. A word is well-known text,
 /// or `@` and the path of a file that has it; both texts are there before one is read as a geometry. It returns the status: 0,

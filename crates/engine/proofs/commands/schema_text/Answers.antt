@@ -1,7 +1,7 @@
 -- What was read up to the limit is the beginning of what the reader beneath gives.
 use Rattle.std.proofs.Common.{◌≡◌, ◌++◌, ℕ, List, IfSome, subst}
 use Rattle.std.specs.Io.Take.{take_remaining}
-use Rattle.word_texts.proofs.TakenBytes.{taken-from}
+use Rattle.text_commands.proofs.TakenBytes.{taken-from}
 use Rattle.engine.specs.declared.commands.TheConstants.{SCHEMA_BYTES}
 use Rattle.engine.proofs.commands.schema_text.Goals as goal
 

@@ -1,0 +1,14 @@
+use Rattle.std.proofs.Common.{◌≡◌, List, Option, [], ℕ}
+use Rattle.text_commands.specs.Pairs.{Begins}
+use Rattle.text_commands.proofs.PairLemmas.{Midway}
+use Rattle.loaded_tables.specs.Reading.{IsSteady}
+use Rattle.text_commands.proofs.runs.relate_all.Given as goal
+
+-- the lines of the records so far were written
+abbrev pub invariant-loop-place : goal.invariant-loop-place
+invariant-loop-place g l = record {
+  steady : IsSteady l.records;
+  midway : (known : Option (List ℕ)) → Begins g.R.Read.remaining known l.fn.records []
+      → Midway g.R.Read.remaining known l.records l.place l.some_refused (g.S.Sink.taken l.fn.sink) (g.S.Sink.taken l.sink);
+  failures : g.S.Sink.failures l.sink ≡ g.S.Sink.failures l.fn.sink;
+}

@@ -1,0 +1,140 @@
+//! The text of a geometry and of a query, as a word gives it.
+
+ghost use Rattle.std.specs.Prelude.{◌≡◌, ◌≤◌, ◌<◌, length, codes, Err, Ok, IfErr, IfOk, IfSome};
+ghost use Rattle.std.specs.String.{string_bytes};
+ghost use Rattle.text_commands.specs.GivenTexts.{Gives, IsTextOf, IsUnread, ReadsGeometry, ReadsQuery};
+
+use failures::Failure;
+use std::alloc::Global;
+use std::io::{ErrorKind, Read};
+use table_model::faults::QueryFault;
+use table_model::tokens::TEXT_LIMIT;
+
+/// How many bytes the file of a geometry may have: 16 MiB.
+pub const GEOMETRY_BYTES: u64 = 16 << 20;
+
+/// How many bytes the file of a query may have.
+const QUERY_BYTES: u64 = TEXT_LIMIT as u64;
+
+/// Why the text of a file isn't there.
+#[derive(Clone, Copy, Debug)]
+enum FileFault {
+    /// Reading failed.
+    Unreadable,
+    /// It has more bytes than it may have.
+    TooLong,
+    /// Memory ran out.
+    OutOfMemory,
+}
+
+/// The text of a geometry that a word gives: that of the file at a path, if the word is `@` and the path, else the word
+/// itself. The failure is `Unreadable` with this name, if the file can't be opened or read, or has more than 16 MiB; or memory
+/// ran out. The opener returns the reader of the file at a path, or None if it can't be opened.
+pub fn geometry_text<R: Read + Drop, F: FnMut(&str) -> Option<R>>(
+    alloc: Global,
+    word: &str,
+    name: &'static str,
+    opener: &mut F,
+) -> Result<Vec<u8>, Failure<'static>>
+    requires { F.IsAlwaysCallable opener.old }
+    ensures callable { F.IsAlwaysCallable opener.new }
+    ensures text { IfOk result (λ text. Gives F.FnMut (ReadsGeometry R.remaining name.now)
+        opener.old word.now (Ok text.items) opener.new) }
+    ensures failure { IfErr result (λ failure. Gives F.FnMut (ReadsGeometry R.remaining name.now)
+        opener.old word.now (Err failure) opener.new) }
+{
+    match word.strip_prefix("@") {
+        Some(path) => geometry_in(alloc, opener(path), name),
+        None => own_text(alloc, word),
+    }
+}
+
+/// The text of a query that a word gives, in the same way. The file may have as many bytes as a query, else the failure is
+/// that of too long a query; and it is `Unreadable` also if the file isn't UTF-8.
+pub fn query_text<R: Read + Drop, F: FnMut(&str) -> Option<R>>(
+    alloc: Global,
+    word: &str,
+    opener: &mut F,
+) -> Result<String, Failure<'static>>
+    requires { F.IsAlwaysCallable opener.old }
+    ensures callable { F.IsAlwaysCallable opener.new }
+    ensures text { IfOk result (λ text. Gives F.FnMut (ReadsQuery R.remaining)
+        opener.old word.now (Ok (string_bytes text)) opener.new) }
+    ensures failure { IfErr result (λ failure. Gives F.FnMut (ReadsQuery R.remaining)
+        opener.old word.now (Err failure) opener.new) }
+{
+    let Some(path) = word.strip_prefix("@") else {
+        return match String::from_str(alloc, word) {
+            Ok(text) => Ok(text),
+            Err(_) => Err(Failure::OutOfMemory),
+        };
+    };
+    query_in(alloc, opener(path))
+}
+
+/// The bytes of a word.
+fn own_text(alloc: Global, word: &str) -> Result<Vec<u8>, Failure<'static>>
+    ensures text { IfOk result (λ text. text.items ≡ word.now) }
+    ensures failure { IfErr result (λ failure. failure ≡ Failure.OutOfMemory) }
+{
+    match Vec::from_slice(alloc, word.as_bytes()) {
+        Ok(text) => Ok(text),
+        Err(_) => Err(Failure::OutOfMemory),
+    }
+}
+
+/// The text of a geometry's file, or why it isn't there. None is a file that can't be opened.
+fn geometry_in<R: Read + Drop>(
+    alloc: Global,
+    file: Option<R>,
+    name: &'static str,
+) -> Result<Vec<u8>, Failure<'static>>
+    ensures text { IfOk result (λ text. ReadsGeometry R.remaining name.now file (Ok text.items)) }
+    ensures failure { IfErr result (λ failure. ReadsGeometry R.remaining name.now file (Err failure)) }
+{
+    let Some(file) = file else {
+        return Err(Failure::Unreadable(name));
+    };
+    match whole_text(alloc, file, GEOMETRY_BYTES) {
+        Ok(text) => Ok(text),
+        Err(FileFault::OutOfMemory) => Err(Failure::OutOfMemory),
+        Err(FileFault::Unreadable | FileFault::TooLong) => Err(Failure::Unreadable(name)),
+    }
+}
+
+/// The text of a query's file, or why it isn't there. None is a file that can't be opened.
+fn query_in<R: Read + Drop>(alloc: Global, file: Option<R>) -> Result<String, Failure<'static>>
+    ensures text { IfOk result (λ text. ReadsQuery R.remaining file (Ok (string_bytes text))) }
+    ensures failure { IfErr result (λ failure. ReadsQuery R.remaining file (Err failure)) }
+{
+    let Some(file) = file else {
+        return Err(Failure::Unreadable("query"));
+    };
+    let text = match whole_text(alloc, file, QUERY_BYTES) {
+        Ok(text) => text,
+        Err(FileFault::OutOfMemory) => return Err(Failure::OutOfMemory),
+        Err(FileFault::Unreadable) => return Err(Failure::Unreadable("query")),
+        Err(FileFault::TooLong) => return Err(Failure::Query(QueryFault::TooLong)),
+    };
+    match String::from_utf8(text) {
+        Ok(text) => Ok(text),
+        Err(_) => Err(Failure::Unreadable("query")),
+    }
+}
+
+/// All bytes of a file that has at most so many.
+fn whole_text<R: Read + Drop>(alloc: Global, file: R, limit: u64) -> Result<Vec<u8>, FileFault>
+    requires { limit ≤ GEOMETRY_BYTES }
+    ensures text { IfOk result (λ text. IsTextOf (R.remaining file) text.items) }
+    ensures within { IfOk result (λ text. length text.items ≤ limit) }
+    ensures too_long { IfErr result (λ fault. fault ≡ FileFault.TooLong
+        → IfSome (R.remaining file) (λ bytes. limit < length bytes)) }
+{
+    let mut text = Vec::new(alloc);
+    match file.take(limit + 1).read_to_end(&mut text) {
+        Ok(_) if text.len() as u64 <= limit => Ok(text),
+        Ok(_) => Err(FileFault::TooLong),
+        Err(error) if error.kind() == ErrorKind::OutOfMemory => Err(FileFault::OutOfMemory),
+        Err(_) => Err(FileFault::Unreadable),
+    }
+}

@@ -1,0 +1,8 @@
+//! Laws of pages.
+
+ghost use Rattle.text_commands.specs.FaultPages.{OnePageEach};
+
+/// Different codes have different pages: a text is the page of one code at most.
+pub fn pages_differ()
+    ensures { OnePageEach }
+{}

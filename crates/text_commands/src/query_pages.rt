@@ -1,0 +1,276 @@
+//! The pages of Q1 to Q12. `tools/fault_pages.py` writes them from the tables of docs/FAULTS.md.
+
+ghost use Rattle.text_commands.specs.FaultPages.{IsPageOf};
+ghost use Rattle.text_commands.specs.declared.fault_codes.FaultCode.TheVariants as c;
+
+/// The page of Q1.
+pub(crate) fn q1() -> &'static str
+    ensures { IsPageOf c.Q1 result.now }
+{
+    "\
+Q1: the query (status 5)
+
+sfq: Q1 at 30
+  means: a byte that begins no token, or a string that isn't closed (at its
+    first quote)
+  example:
+    sfq run schema.sql . \"SELECT id FROM t WHERE name = 'b\"
+  to do: close the string; a quote in a string is doubled
+
+Bytes count from 0. The examples are over the tables t (id, pop, name, geom),
+u (id, pop) and v (id).
+"
+}
+
+/// The page of Q2.
+pub(crate) fn q2() -> &'static str
+    ensures { IsPageOf c.Q2 result.now }
+{
+    "\
+Q2: the query (status 5)
+
+sfq: Q2 at 22
+  means: the query can't go on like this at this byte; if the byte is the
+    query's length, the query ends too soon
+  example:
+    sfq run schema.sql . \"SELECT id FROM t WHERE\"
+  to do: the byte is where to look
+
+sfq: Q2 at 23
+  means: the query has an unknown function at this byte. Conditions have
+    ST_Equals, ST_Disjoint, ST_Intersects, ST_Touches, ST_Crosses, ST_Within,
+    ST_Contains, ST_Overlaps, ST_Relate with its pattern, ST_IsEmpty,
+    ST_AsText and ST_Dimension; the select list has the last three; a geometry
+    may be ST_GeomFromText of one string
+  example:
+    sfq run schema.sql . \"SELECT id FROM t WHERE ST_Distance(geom, geom) < 5\"
+  to do: no function measures or makes a new shape; ST_Relate takes every
+    pattern
+
+sfq: Q2 at 19
+  means: the query goes on with a third table at this byte, or with what else
+    SQL has and this language lacks: ORDER BY, GROUP BY, DISTINCT, outer
+    joins, arithmetic, IN, LIKE
+  example:
+    sfq run schema.sql . \"SELECT id FROM t, u, v\"
+  to do: rows come in the order of the key; sort and group the output
+
+sfq: Q2 at 15
+  means: another item is next to COUNT(*) at this byte, or a sign is after
+    LIMIT
+  example:
+    sfq run schema.sql . \"SELECT COUNT(*), id FROM t\"
+  to do: write COUNT(*) alone; LIMIT takes digits
+
+Bytes count from 0. The examples are over the tables t (id, pop, name, geom),
+u (id, pop) and v (id).
+"
+}
+
+/// The page of Q3.
+pub(crate) fn q3() -> &'static str
+    ensures { IsPageOf c.Q3 result.now }
+{
+    "\
+Q3: the query (status 5)
+
+sfq: Q3 at 15
+  means: the schema has no table of this name
+  example:
+    sfq run schema.sql . \"SELECT id FROM nope\"
+  to do: name a table of the schema
+
+Bytes count from 0. The examples are over the tables t (id, pop, name, geom),
+u (id, pop) and v (id).
+"
+}
+
+/// The page of Q4.
+pub(crate) fn q4() -> &'static str
+    ensures { IsPageOf c.Q4 result.now }
+{
+    "\
+Q4: the query (status 5)
+
+sfq: Q4 at 18
+  means: both tables have the same name here; the byte is that of the second
+  example:
+    sfq run schema.sql . \"SELECT id FROM t, t\"
+  to do: give one an alias: FROM t a, t b
+
+Bytes count from 0. The examples are over the tables t (id, pop, name, geom),
+u (id, pop) and v (id).
+"
+}
+
+/// The page of Q5.
+pub(crate) fn q5() -> &'static str
+    ensures { IsPageOf c.Q5 result.now }
+{
+    "\
+Q5: the query (status 5)
+
+sfq: Q5 at 7
+  means: there is no column of this name, or no table or alias of the name
+    before the point. A table with an alias is known by the alias alone
+  example:
+    sfq run schema.sql . \"SELECT nope FROM t\"
+  to do: write the alias
+
+Bytes count from 0. The examples are over the tables t (id, pop, name, geom),
+u (id, pop) and v (id).
+"
+}
+
+/// The page of Q6.
+pub(crate) fn q6() -> &'static str
+    ensures { IsPageOf c.Q6 result.now }
+{
+    "\
+Q6: the query (status 5)
+
+sfq: Q6 at 7
+  means: both tables have a column of this name, and neither is named before
+    it
+  example:
+    sfq run schema.sql . \"SELECT id FROM t a, t b\"
+  to do: write a.id or b.id
+
+Bytes count from 0. The examples are over the tables t (id, pop, name, geom),
+u (id, pop) and v (id).
+"
+}
+
+/// The page of Q7.
+pub(crate) fn q7() -> &'static str
+    ensures { IsPageOf c.Q7 result.now }
+{
+    "\
+Q7: the query (status 5)
+
+sfq: Q7 at 23
+  means: a number is compared with a text; the byte is where the comparison
+    begins
+  example:
+    sfq run schema.sql . \"SELECT id FROM t WHERE pop = 'x'\"
+  to do: compare numbers with numbers and texts with texts; test for NULL by
+    IS NULL
+
+sfq: Q7 at 23
+  means: a geometry is compared with a number or a text
+  example:
+    sfq run schema.sql . \"SELECT id FROM t WHERE geom = 'POINT(1 1)'\"
+  to do: write ST_Equals(geom, ST_GeomFromText('POINT(1 1)')), or compare
+    spellings by ST_AsText(geom) = 'POINT(1 1)'
+
+sfq: Q7 at 23
+  means: the argument of a function is a column that isn't a geometry; the
+    byte is that of the function
+  example:
+    sfq run schema.sql . \"SELECT id FROM t WHERE ST_Touches(pop, geom)\"
+  to do: name a geometry column, or ST_GeomFromText of a string
+
+Bytes count from 0. The examples are over the tables t (id, pop, name, geom),
+u (id, pop) and v (id).
+"
+}
+
+/// The page of Q8.
+pub(crate) fn q8() -> &'static str
+    ensures { IsPageOf c.Q8 result.now }
+{
+    "\
+Q8: the query (status 5)
+
+sfq: Q8 at 55 W1 at 9
+  means: the text of an ST_GeomFromText is refused: the byte of its string,
+    then why, as for a geometry. There bytes count within the string, without
+    the quotes around it and with a doubled quote as one
+  example:
+    sfq run schema.sql . \\
+      \"SELECT id FROM t WHERE ST_Within(geom, ST_GeomFromText('POINT(1 2'))\"
+  to do: mend the text
+
+sfq: Q8 at 55 V3 0
+  means: the geometry of an ST_GeomFromText isn't valid: the byte of its
+    string, then why, as for a geometry
+  example:
+    sfq run schema.sql . \\
+      \"SELECT id FROM t WHERE ST_Within(geom, ST_GeomFromText('POLYGON((0 0,
+      4 4,4 0,0 4,0 0))'))\"
+  to do: mend the geometry
+
+Bytes count from 0. The examples are over the tables t (id, pop, name, geom),
+u (id, pop) and v (id).
+"
+}
+
+/// The page of Q9.
+pub(crate) fn q9() -> &'static str
+    ensures { IsPageOf c.Q9 result.now }
+{
+    "\
+Q9: the query (status 5)
+
+sfq: Q9 at 45
+  means: the pattern of an ST_Relate isn't nine characters of T, F, *, 0, 1
+    and 2; the byte is that of its string
+  example:
+    sfq run schema.sql . \"SELECT id FROM t WHERE ST_Relate(geom, geom, 'TTT')\"
+  to do: write one character for each of the nine cells, * for any
+
+Bytes count from 0. The examples are over the tables t (id, pop, name, geom),
+u (id, pop) and v (id).
+"
+}
+
+/// The page of Q10.
+pub(crate) fn q10() -> &'static str
+    ensures { IsPageOf c.Q10 result.now }
+{
+    "\
+Q10: the query (status 5)
+
+sfq: Q10 at 87
+  means: the 65th level of parentheses and NOTs begins here
+  to do: nest the condition less deeply
+
+Bytes count from 0. The examples are over the tables t (id, pop, name, geom),
+u (id, pop) and v (id).
+"
+}
+
+/// The page of Q11.
+pub(crate) fn q11() -> &'static str
+    ensures { IsPageOf c.Q11 result.now }
+{
+    "\
+Q11: the query (status 5)
+
+sfq: Q11
+  means: the query is longer than 65,536 bytes
+  to do: shorten it
+
+Bytes count from 0. The examples are over the tables t (id, pop, name, geom),
+u (id, pop) and v (id).
+"
+}
+
+/// The page of Q12.
+pub(crate) fn q12() -> &'static str
+    ensures { IsPageOf c.Q12 result.now }
+{
+    "\
+Q12: the query (status 5)
+
+sfq: Q12 at 29
+  means: a number is less than -9223372036854775808 or greater than
+    9223372036854775807; the byte is its first digit
+  example:
+    sfq run schema.sql . \"SELECT id FROM t WHERE pop = 9223372036854775808\"
+  to do: no field is outside these either, so leave the test out
+
+Bytes count from 0. The examples are over the tables t (id, pop, name, geom),
+u (id, pop) and v (id).
+"
+}

@@ -1,0 +1,89 @@
+//! A run over the pairs of geometries of a CSV text.
+
+ghost use Rattle.std.specs.Prelude.{◌≡◌, ◌||◌, List, Option, [], ℕ};
+ghost use Rattle.text_commands.specs.Pairs.{AreRead, Begins, CountsWrites, Ends, RelatesPairs, pairs_end};
+ghost use Rattle.table_model.specs.Loading.{Record};
+ghost use Rattle.table_model.specs.RunOutcomes.{ByEveryMatrix};
+ghost use Rattle.loaded_tables.specs.Reading.{IsSteady};
+
+use crate::pair_lines::put_pair;
+use crate::pair_records::{broken_off, next_record, record_reader, unequal};
+use csv::{ByteRecord, Reader};
+use failures::Failure;
+use sinks::Sink;
+use std::alloc::Global;
+use std::io::Read;
+
+/// How a run over pairs ended.
+#[derive(Clone, Copy, Debug, PartialEq, Eq)]
+pub enum Pairs {
+    /// Every pair has a matrix.
+    AllRelated,
+    /// At least one pair has a geometry that is refused.
+    SomeRefused,
+}
+
+/// Relates the two geometries of each record of a CSV text, which has no header, and writes a line for each, in order: the nine
+/// characters of their DE-9IM matrix, or why one of them is refused, as `relate` says it. Each line is written before the next
+/// record is read, and nothing of it is kept. The first record that hasn't two fields ends the run with
+/// `UnequalRecord` and its number, from 1, under the name `pairs`; a fault of reading with `ReadFailed`; a failed
+/// write with `WriteFailed`; and running out of memory with `OutOfMemory`. What was written before stays written
+/// (06-103r4, 6.1.15.2; the form of a line: this project's choice).
+pub fn relate_pairs<R: Read + Drop, S: Sink>(
+    alloc: Global,
+    reader: R,
+    sink: &mut S,
+) -> Result<Pairs, Failure<'static>>
+    ensures relates { (records : List Record) × AreRead (R.remaining reader) records
+        × ByEveryMatrix (λ matrix. RelatesPairs matrix records result (S.taken sink.old) (S.taken sink.new)) }
+    ensures failures { CountsWrites result (S.failures sink.old) (S.failures sink.new) }
+{
+    let mut records = record_reader(alloc, reader);
+    relate_all(alloc, &mut records, sink)
+}
+
+/// Relates the pairs that a reader still gives, all of them from the start of its text.
+fn relate_all<R: Read + Drop, S: Sink>(
+    alloc: Global,
+    records: &mut Reader<R>,
+    sink: &mut S,
+) -> Result<Pairs, Failure<'static>>
+    requires { IsSteady records.old }
+    ensures relates { (known : Option (List ℕ)) → Begins R.remaining known records.old []
+        → Ends known result (S.taken sink.old) (S.taken sink.new) }
+    ensures failures { CountsWrites result (S.failures sink.old) (S.failures sink.new) }
+{
+    let mut pair = ByteRecord::new(alloc);
+    let mut some_refused = false;
+    for place in 0..usize::MAX {
+        let found = next_record(records, &mut pair)?;
+        if !found {
+            return Ok(ended(some_refused));
+        }
+        if pair.len() != 2 {
+            return Err(unequal(place + 1));
+        }
+        let refused = put_pair(alloc, &pair, sink)?;
+        some_refused = either(some_refused, refused);
+    }
+    // No text has so many records.
+    Err(broken_off())
+}
+
+/// Whether one of two facts holds.
+fn either(first: bool, second: bool) -> bool
+    ensures { result ≡ (first || second) }
+{
+    first || second
+}
+
+/// How a run ended that went over all pairs.
+fn ended(some_refused: bool) -> Pairs
+    ensures { result ≡ pairs_end some_refused }
+{
+    if some_refused {
+        Pairs::SomeRefused
+    } else {
+        Pairs::AllRelated
+    }
+}

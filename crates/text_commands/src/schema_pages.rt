@@ -1,0 +1,127 @@
+//! The pages of S1 to S6. `tools/fault_pages.py` writes them from the tables of docs/FAULTS.md.
+
+ghost use Rattle.text_commands.specs.FaultPages.{IsPageOf};
+ghost use Rattle.text_commands.specs.declared.fault_codes.FaultCode.TheVariants as c;
+
+/// The page of S1.
+pub(crate) fn s1() -> &'static str
+    ensures { IsPageOf c.S1 result.now }
+{
+    "\
+S1: the schema (status 3)
+
+sfq: S1 at 34
+  means: the text can't go on like this at byte 34: a word or a sign that
+    doesn't belong there, a reserved word as a name, or a byte that begins no
+    token
+  example:
+    echo \"CREATE TABLE t (id INTEGER PRIMARY, pop INT);\" > schema.sql
+    sfq check schema.sql .
+  to do: write a table as CREATE TABLE name (column type, ..), with NOT NULL
+    or PRIMARY KEY after a type; the byte is where to look
+
+sfq: S1 at 45
+  means: the word that begins here isn't a type
+  example:
+    echo \"CREATE TABLE t (id INTEGER PRIMARY KEY, geom CIRCLE)\" > schema.sql
+    sfq check schema.sql .
+  to do: use INTEGER (INT, BIGINT), TEXT, GEOMETRY, POINT, MULTIPOINT,
+    LINESTRING, MULTILINESTRING, POLYGON or MULTIPOLYGON, without a length or
+    a reference system
+
+sfq: S1 at 27
+  means: PRIMARY KEY on a column that isn't INTEGER, at the word PRIMARY
+  example:
+    echo \"CREATE TABLE t (geom POINT PRIMARY KEY)\" > schema.sql
+    sfq check schema.sql .
+  to do: give the table an INTEGER key
+
+Bytes count from 0.
+"
+}
+
+/// The page of S2.
+pub(crate) fn s2() -> &'static str
+    ensures { IsPageOf c.S2 result.now }
+{
+    "\
+S2: the schema (status 3)
+
+sfq: S2 at 47
+  means: a table's or a column's name comes a second time (case doesn't count)
+  example:
+    echo \"CREATE TABLE t (id INTEGER PRIMARY KEY, a INT, A TEXT)\" > schema.sql
+    sfq check schema.sql .
+  to do: rename one of the two
+
+Bytes count from 0.
+"
+}
+
+/// The page of S3.
+pub(crate) fn s3() -> &'static str
+    ensures { IsPageOf c.S3 result.now }
+{
+    "\
+S3: the schema (status 3)
+
+sfq: S3 at 31
+  means: the table that ends at this parenthesis has no key
+  example:
+    echo \"CREATE TABLE t (id INT, pop INT)\" > schema.sql
+    sfq check schema.sql .
+  to do: mark one INTEGER column PRIMARY KEY
+
+Bytes count from 0.
+"
+}
+
+/// The page of S4.
+pub(crate) fn s4() -> &'static str
+    ensures { IsPageOf c.S4 result.now }
+{
+    "\
+S4: the schema (status 3)
+
+sfq: S4 at 46
+  means: a second PRIMARY KEY in one table
+  example:
+    echo \"CREATE TABLE t (id INTEGER PRIMARY KEY, b INT PRIMARY\" \\
+      \"KEY)\" > schema.sql
+    sfq check schema.sql .
+  to do: leave one key
+
+Bytes count from 0.
+"
+}
+
+/// The page of S5.
+pub(crate) fn s5() -> &'static str
+    ensures { IsPageOf c.S5 result.now }
+{
+    "\
+S5: the schema (status 3)
+
+sfq: S5 at 627
+  means: a 17th table or a 33rd column begins at this byte
+  example: 17 tables
+  to do: split the schema or the table
+
+Bytes count from 0.
+"
+}
+
+/// The page of S6.
+pub(crate) fn s6() -> &'static str
+    ensures { IsPageOf c.S6 result.now }
+{
+    "\
+S6: the schema (status 3)
+
+sfq: S6
+  means: the schema is longer than 65,536 bytes
+  to do: shorten it: comments count too
+
+Bytes count from 0.
+"
+}

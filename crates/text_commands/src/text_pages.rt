@@ -1,0 +1,85 @@
+//! The pages of W1 to W4. `tools/fault_pages.py` writes them from the tables of docs/FAULTS.md.
+
+ghost use Rattle.text_commands.specs.FaultPages.{IsPageOf};
+ghost use Rattle.text_commands.specs.declared.fault_codes.FaultCode.TheVariants as c;
+
+/// The page of W1.
+pub(crate) fn w1() -> &'static str
+    ensures { IsPageOf c.W1 result.now }
+{
+    "\
+W1: the text of a geometry (status 5, or 4 in a table's field)
+
+sfq: first W1 at 9
+  means: the text can't go on like this at byte 9; if the byte is the text's
+    length, the text ends too soon
+  example:
+    sfq relate \"POINT(1 2\" \"POINT(0 0)\"
+  to do: close the parenthesis; the byte is where to look
+
+sfq: first W1 at 0
+  means: the word that begins here isn't a type
+  example:
+    sfq relate \"CIRCLE(0 0,1)\" \"POINT(0 0)\"
+  to do: use POINT, MULTIPOINT, LINESTRING, MULTILINESTRING, POLYGON or
+    MULTIPOLYGON
+
+sfq: first W1 at 7
+  means: exponents aren't accepted
+  example:
+    sfq relate \"POINT(1e0 2)\" \"POINT(0 0)\"
+  to do: write 1
+
+Bytes count within the geometry's own text. Bytes count from 0.
+"
+}
+
+/// The page of W2.
+pub(crate) fn w2() -> &'static str
+    ensures { IsPageOf c.W2 result.now }
+{
+    "\
+W2: the text of a geometry (status 5, or 4 in a table's field)
+
+sfq: first W2 at 6
+  means: the number that begins at byte 6 isn't whole
+  example:
+    sfq relate \"POINT(1.5 2)\" \"POINT(0 0)\"
+  to do: scale or round the coordinates to whole numbers; 1.0 and 1. count as
+    1
+
+Bytes count within the geometry's own text. Bytes count from 0.
+"
+}
+
+/// The page of W3.
+pub(crate) fn w3() -> &'static str
+    ensures { IsPageOf c.W3 result.now }
+{
+    "\
+W3: the text of a geometry (status 5, or 4 in a table's field)
+
+sfq: second W3 at 6
+  means: the number that begins at byte 6 is past 10,000,000 either way
+  example:
+    sfq relate \"POINT(0 0)\" \"POINT(10000001 0)\"
+  to do: scale the coordinates to the grid
+
+Bytes count within the geometry's own text. Bytes count from 0.
+"
+}
+
+/// The page of W4.
+pub(crate) fn w4() -> &'static str
+    ensures { IsPageOf c.W4 result.now }
+{
+    "\
+W4: the text of a geometry (status 5, or 4 in a table's field)
+
+sfq: first W4
+  means: more than 10,000 positions, or more than 1,000 elements or rings
+  to do: split the geometry
+
+Bytes count within the geometry's own text. Bytes count from 0.
+"
+}

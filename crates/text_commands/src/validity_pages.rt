@@ -1,0 +1,162 @@
+//! The pages of V1 to V8. `tools/fault_pages.py` writes them from the tables of docs/FAULTS.md.
+
+ghost use Rattle.text_commands.specs.FaultPages.{IsPageOf};
+ghost use Rattle.text_commands.specs.declared.fault_codes.FaultCode.TheVariants as c;
+
+/// The page of V1.
+pub(crate) fn v1() -> &'static str
+    ensures { IsPageOf c.V1 result.now }
+{
+    "\
+V1: a geometry that isn't valid (status 5, or 4 in a table's field)
+
+sfq: first V1 0
+  means: part 0 is too short: after repeated positions are dropped, a line has
+    one position, or a ring fewer than four (the closing one counts)
+  example:
+    sfq relate \"LINESTRING(3 3,3 3)\" \"POINT(0 0)\"
+  to do: give a line two positions that differ, a ring three corners
+
+Parts, rings and elements count from 0, and rings count through all polygons
+of a MULTIPOLYGON.
+"
+}
+
+/// The page of V2.
+pub(crate) fn v2() -> &'static str
+    ensures { IsPageOf c.V2 result.now }
+{
+    "\
+V2: a geometry that isn't valid (status 5, or 4 in a table's field)
+
+sfq: first V2 0
+  means: the last position of ring 0 isn't its first
+  example:
+    sfq relate \"POLYGON((0 0,4 0,4 4,0 4))\" \"POINT(0 0)\"
+  to do: close the ring
+
+Parts, rings and elements count from 0, and rings count through all polygons
+of a MULTIPOLYGON.
+"
+}
+
+/// The page of V3.
+pub(crate) fn v3() -> &'static str
+    ensures { IsPageOf c.V3 result.now }
+{
+    "\
+V3: a geometry that isn't valid (status 5, or 4 in a table's field)
+
+sfq: first V3 0
+  means: ring 0 meets or covers itself
+  example:
+    sfq relate \"POLYGON((0 0,4 4,4 0,0 4,0 0))\" \"POINT(0 0)\"
+  to do: split it where it meets itself
+
+Parts, rings and elements count from 0, and rings count through all polygons
+of a MULTIPOLYGON.
+"
+}
+
+/// The page of V4.
+pub(crate) fn v4() -> &'static str
+    ensures { IsPageOf c.V4 result.now }
+{
+    "\
+V4: a geometry that isn't valid (status 5, or 4 in a table's field)
+
+sfq: first V4 1 2
+  means: rings 1 and 2 of one polygon share a point, even if only one
+  example:
+    sfq relate \\
+      \"POLYGON((0 0,9 0,9 9,0 9,0 0),(1 1,4 1,4 4,1 1),(4 4,7 4,7 7,4 4))\" \\
+      \"POINT(0 0)\"
+  to do: draw the two holes as one, or apart
+
+Parts, rings and elements count from 0, and rings count through all polygons
+of a MULTIPOLYGON.
+"
+}
+
+/// The page of V5.
+pub(crate) fn v5() -> &'static str
+    ensures { IsPageOf c.V5 result.now }
+{
+    "\
+V5: a geometry that isn't valid (status 5, or 4 in a table's field)
+
+sfq: first V5 1
+  means: hole 1 isn't inside the outer ring
+  example:
+    sfq relate \\
+      \"POLYGON((0 0,4 0,4 4,0 4,0 0),(20 20,21 20,21 21,20 20))\" \\
+      \"POINT(0 0)\"
+  to do: draw holes inside the outer ring; write a second area as another
+    polygon of a MULTIPOLYGON
+
+Parts, rings and elements count from 0, and rings count through all polygons
+of a MULTIPOLYGON.
+"
+}
+
+/// The page of V6.
+pub(crate) fn v6() -> &'static str
+    ensures { IsPageOf c.V6 result.now }
+{
+    "\
+V6: a geometry that isn't valid (status 5, or 4 in a table's field)
+
+sfq: first V6 1 2
+  means: of holes 1 and 2 one is inside the other
+  example:
+    sfq relate \\
+      \"POLYGON((0 0,9 0,9 9,0 9,0 0),(1 1,8 1,8 8,1 8,1 1),(2 2,3 2,3 3,2 3,
+      2 2))\" \\
+      \"POINT(0 0)\"
+  to do: write an island within a hole as a polygon of its own, in a
+    MULTIPOLYGON
+
+Parts, rings and elements count from 0, and rings count through all polygons
+of a MULTIPOLYGON.
+"
+}
+
+/// The page of V7.
+pub(crate) fn v7() -> &'static str
+    ensures { IsPageOf c.V7 result.now }
+{
+    "\
+V7: a geometry that isn't valid (status 5, or 4 in a table's field)
+
+sfq: first V7 0 1
+  means: polygons 0 and 1 of a MULTIPOLYGON share a point, even if only one
+  example:
+    sfq relate \\
+      \"MULTIPOLYGON(((0 0,4 0,4 4,0 4,0 0)),((4 4,5 4,5 5,4 4)))\" \\
+      \"POINT(0 0)\"
+  to do: draw the two as one, or apart
+
+Parts, rings and elements count from 0, and rings count through all polygons
+of a MULTIPOLYGON.
+"
+}
+
+/// The page of V8.
+pub(crate) fn v8() -> &'static str
+    ensures { IsPageOf c.V8 result.now }
+{
+    "\
+V8: a geometry that isn't valid (status 5, or 4 in a table's field)
+
+sfq: first V8 0 1
+  means: polygon 0 is inside polygon 1
+  example:
+    sfq relate \\
+      \"MULTIPOLYGON(((1 1,2 1,2 2,1 1)),((0 0,9 0,9 9,0 9,0 0)))\" \\
+      \"POINT(0 0)\"
+  to do: leave the inner one out; a polygon within a hole of the other is fine
+
+Parts, rings and elements count from 0, and rings count through all polygons
+of a MULTIPOLYGON.
+"
+}

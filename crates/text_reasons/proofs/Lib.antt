@@ -1,2 +1,0 @@
-pub mod VerdictLemmas
-pub mod WitnessLemmas

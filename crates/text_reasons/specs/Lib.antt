@@ -1,2 +1,0 @@
-pub mod TextWitnesses
-pub mod TextVerdicts
