@@ -4,7 +4,7 @@ use fraction::GridPoint;
 use rtree::Envelope;
 use std::alloc::Global;
 use std::test::Fail;
-use tile_cells::{Cells, MOST_BOXES, Marks};
+use tiles::{Cells, MOST_BOXES, Marks};
 
 /// The least and the greatest x, then the least and the greatest y.
 type Bounds = (i32, i32, i32, i32);

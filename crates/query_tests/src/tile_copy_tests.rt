@@ -7,8 +7,7 @@ use schema_reader::read_schema;
 use sinks::SinkFault;
 use std::alloc::Global;
 use std::test::Fail;
-use tile_cells::Cells;
-use tile_texts::{CellTexts, Part, write_stretches, write_tiles};
+use tiles::{CellTexts, Cells, Part, write_stretches, write_tiles};
 
 const SCHEMA: &[u8] = b"CREATE TABLE t (id INTEGER PRIMARY KEY, name TEXT, geom LINESTRING);";
 

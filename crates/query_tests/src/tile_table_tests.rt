@@ -5,7 +5,7 @@ use schema_reader::read_schema;
 use std::alloc::{AllocError, Global};
 use std::test::Fail;
 use table_model::faults::LoadFault;
-use tile_tables::{Sampler, Unwatched, check_records, find_fault};
+use tiles::{Sampler, Unwatched, check_records, find_fault};
 
 const SCHEMA: &[u8] = b"CREATE TABLE t (id INTEGER PRIMARY KEY, geom POLYGON);";
 

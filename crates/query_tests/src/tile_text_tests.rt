@@ -9,8 +9,7 @@ use sinks::SinkFault;
 use std::alloc::Global;
 use std::test::Fail;
 use table_model::faults::LoadFault;
-use tile_cells::Cells;
-use tile_texts::{CellTexts, CopyFault, Part, write_stretches, write_tiles};
+use tiles::{CellTexts, Cells, CopyFault, Part, write_stretches, write_tiles};
 
 const SCHEMA: &[u8] = b"CREATE TABLE t (id INTEGER PRIMARY KEY, name TEXT, geom LINESTRING);";
 

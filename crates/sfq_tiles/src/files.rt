@@ -10,7 +10,7 @@ use sinks::SinkFault;
 use std::alloc::{AllocError, Global};
 use std::fs::{self, OpenOptions};
 use std::io::Write;
-use tile_texts::CellTexts;
+use tiles::CellTexts;
 
 /// How many bytes of a file are kept before they are written.
 const BUFFER_BYTES: usize = 49_152;

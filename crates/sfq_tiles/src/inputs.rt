@@ -15,7 +15,7 @@ use std::io::{ErrorKind, Read};
 use table_model::faults::SchemaFault;
 use table_model::tokens::TEXT_LIMIT;
 use table_model::values::Value;
-use tile_tables::{RowWatcher, Sampler, check_records, find_fault};
+use tiles::{RowWatcher, Sampler, check_records, find_fault};
 
 /// How many bytes of a schema's file are read: one more than a schema may have.
 const SCHEMA_BYTES: u64 = TEXT_LIMIT as u64 + 1;

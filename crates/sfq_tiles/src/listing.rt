@@ -9,7 +9,7 @@ ghost use Rattle.sfq_tiles.specs.Lists.{rows_text, sides_text, span_text, stretc
 use itoa::Buffer;
 use rtree::Envelope;
 use sinks::{Sink, SinkFault, put_all, put_parts};
-use tile_cells::Cells;
+use tiles::Cells;
 
 /// A part that was written.
 #[derive(Drop)]

@@ -15,9 +15,7 @@ use loaded_tables::{Schema, TableDef};
 use sinks::Sink;
 use std::alloc::{AllocError, Global};
 use std::fs;
-use tile_cells::Cells;
-use tile_tables::Sampler;
-use tile_texts::{CopyFault, Part, write_stretches, write_tiles};
+use tiles::{Cells, CopyFault, Part, Sampler, write_stretches, write_tiles};
 
 /// Splits the tables that the words name, and returns the status.
 pub fn split<S: Sink, E: Sink>(

@@ -1,4 +1,0 @@
-use Rattle.tile_cells.proofs.cuts.+push_boxes.Given as goal
-
-abbrev pub decreases-push_boxes : goal.decreases-push_boxes
-decreases-push_boxes l = l.cuts

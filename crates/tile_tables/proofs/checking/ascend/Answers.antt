@@ -1,7 +1,0 @@
-use Rattle.std.proofs.Common.{rules}
-use Rattle.std.specs.Prelude.{int_lt}
-use Rattle.std.proofs.lemmas.Fn.{always_returns_same}
-use Rattle.tile_tables.proofs.checking.ascend.Goals as goal
-
-pub returns : goal.returns
-returns c = c.is_sorted_by.ensures.cases (λ a b. int_lt a b) (always_returns_same _ _ _ (λ a r q k. search rules))

@@ -1,5 +1,0 @@
-use Rattle.tile_texts.proofs.StretchLemmas.{stretches_are_whole}
-use Rattle.tile_texts.proofs.written_laws.stretches_are_whole.Goals as goal
-
-pub returns : goal.returns
-returns c = stretches_are_whole

@@ -1,0 +1,16 @@
+pub mod Bounds
+pub mod CutLemmas
+pub mod Insides
+pub mod MedianCuts
+pub mod Medians
+pub mod Powers
+pub mod TreeLemmas
+pub mod CheckLemmas
+pub mod PassLemmas
+pub mod CopyLemmas
+pub mod FaultLemmas
+pub mod PlaceLemmas
+pub mod ReadBack
+pub mod RowLemmas
+pub mod StretchLemmas
+pub mod TextLemmas

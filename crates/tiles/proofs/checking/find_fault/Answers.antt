@@ -1,0 +1,32 @@
+use Rattle.std.proofs.Common.{◌≡◌, inr, length, refl, rules, sym, vec_len}
+use Rattle.std.proofs.lemmas.Result.{err_from_is_err_and}
+use Rattle.loaded_tables.specs.GeometryFields.{reading}
+use Rattle.tiles.proofs.CheckLemmas.{counts, doubles, fails}
+use Rattle.tiles.proofs.checking.find_fault.Goals as goal
+
+pub returns-in_err-keys : goal.returns-in_err-keys
+returns-in_err-keys g c =
+    let found = c.in_err-keys.ensures in
+    let p = err_from_is_err_and c.from_residual.result c.from_residual.ensures.1 in
+    rw (p.1, p.2) (found.0, found.1, λ other. fails reading c.args.table.now found.0 c.in_err-keys.field-0.0 (found.2 other))
+
+pub returns-in_err-number : goal.returns-in_err-number
+returns-in_err-number g c =
+    let found = c.in_ok-keys.ensures in
+    let p = err_from_is_err_and c.from_residual-in_err-number.result c.from_residual-in_err-number.ensures.1 in
+    rw (p.1, p.2) (found.0, found.1, λ other. absurd (other (inr refl)))
+
+pub returns-in-Some : goal.returns-in-Some
+returns-in-Some g c =
+    let found = c.in_ok-keys.ensures in
+    let keys = c.in_ok-keys.keys.items in
+    let some = rw (c.in-Some.is, c.as_slice.ensures.value) at c.in_ok-number.ensures in
+    (found.0, found.1, λ other. doubles reading c.args.table.now found.0 keys c.in-Some.number found.2 (sym some))
+
+pub returns : goal.returns
+returns g c =
+    let found = c.in_ok-keys.ensures in
+    let keys = c.in_ok-keys.keys.items in
+    let none = rw (c.in-None.is, c.as_slice.ensures.value) at c.in_ok-number.ensures in
+    let size : vec_len c.in_ok-keys.keys ≡ length keys = search rules in
+    (found.0, found.1, rw (c.len.ensures, size) (counts reading c.args.table.now found.0 keys found.2 (sym none)))

@@ -1,0 +1,16 @@
+use Rattle.std.proofs.Common.{List}
+use Rattle.loaded_tables.specs.GeometryFields.{reading}
+use Rattle.loaded_tables.specs.Layouts.{IsLayout}
+use Rattle.loaded_tables.specs.Reading.{IsSteady, StillGives}
+use Rattle.table_model.specs.Loading.{Record}
+use Rattle.tiles.proofs.PassLemmas.{AreRead, Midway}
+use Rattle.tiles.specs.Checks.{record_key}
+use Rattle.tiles.proofs.checking.keys_after.Given as goal
+
+abbrev pub invariant-loop-place : goal.invariant-loop-place
+invariant-loop-place g l = record {
+  steady : IsSteady l.reader;
+  midway : (header : Record) (rest : List Record) → IsLayout l.table.columns header l.layout → StillGives g.R.Read.remaining l.fn.reader rest
+      → Midway g.R.Read.remaining l.reader (record_key reading l.table header) rest l.place l.keys.items;
+  read : (header : Record) → IsLayout l.table.columns header l.layout → AreRead (record_key reading l.table header) l.place l.keys.items;
+}

@@ -1,0 +1,11 @@
+pub mod Cuts
+pub mod Lines
+pub mod Trees
+pub mod Checks
+pub mod Passes
+pub mod Copies
+pub mod Faults
+pub mod RecordLines
+pub mod ReadBack
+pub mod Stretches
+pub mod Texts

@@ -1,0 +1,33 @@
+//! The envelope of the geometry that a field spells.
+
+ghost use Rattle.std.specs.Prelude.{◌≡◌, IfErr, IfOk, option_map};
+ghost use Rattle.geometry_model.specs.Envelopes.{envelope};
+ghost use Rattle.tiles.specs.Faults.{IsReadFault};
+ghost use Rattle.tiles.specs.RecordLines.{geometry_of};
+
+use crate::faults::CopyFault;
+use rtree::Envelope;
+use std::alloc::Global;
+use table_model::faults::LoadFault;
+use validity::envelope_of;
+
+/// The envelope of the geometry in a field, if the field isn't empty.
+#[tactic(auto, unfolding(crate::specs::RecordLines::geometry_of))]
+pub(crate) fn envelope_in(
+    alloc: Global,
+    field: &[u8],
+) -> Result<Option<Option<Envelope>>, CopyFault>
+    ensures found { IfOk result (λ found. found ≡ option_map envelope (geometry_of field.now)) }
+    ensures fault { IfErr result IsReadFault }
+{
+    if field.is_empty() {
+        return Ok(None);
+    }
+    match wkt::read(alloc, field) {
+        Ok(geometry) => Ok(Some(envelope_of(&geometry))),
+        Err(fault) => match fault.text_fault() {
+            Some(_) => Err(CopyFault::Load(LoadFault::ReadFailed)),
+            None => Err(CopyFault::Load(LoadFault::OutOfMemory)),
+        },
+    }
+}

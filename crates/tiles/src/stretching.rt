@@ -1,0 +1,126 @@
+//! The second pass over a table that is split into stretches: each record is written to its stretch.
+
+ghost use Rattle.std.specs.Prelude.{◌≡◌, ◌+◌, ◌++◌, ◌∷◌, ◌<◌, ◌≤◌, [], ℕ, IfErr, IfOk, List, OnOk, length, map, vec_len};
+ghost use Rattle.csv.specs.Records.{fields_of, partial_of};
+ghost use Rattle.loaded_tables.specs.Outcomes.{IsFailure};
+ghost use Rattle.loaded_tables.specs.Reading.{IsSteady};
+ghost use Rattle.table_model.specs.Loading.{Record};
+ghost use Rattle.tiles.specs.Copies.{AreAll, AreRecordsOfTable, AreWritten, copied_fields, size_of, stretches, stretches_of};
+ghost use Rattle.tiles.specs.Faults.{IsCopyFault, IsTableFault};
+ghost use Rattle.tiles.specs.RecordLines.{line_of, names_of};
+ghost use Rattle.tiles.specs.Texts.{Grow, in_cell};
+
+use crate::faults::CopyFault;
+use crate::parts::Part;
+use crate::reading::{read_layout, read_record};
+use crate::record_lines::{copied_fields, names, put_record};
+use crate::texts::CellTexts;
+use csv::{ByteRecord, Reader};
+use loaded_tables::{Layout, record_reader};
+use std::alloc::Global;
+use std::io::Read;
+use table_model::faults::LoadFault;
+
+/// Writes the records of a table in stretches of at most `most`, or of one where `most` is 0, each a text of its own with the header.
+/// It returns how many records each has; there is at least one stretch. After an error nothing is known of the texts. The fault is
+/// `Sink` only where a put failed, and else that of the header, `ReadFailed` or `OutOfMemory`.
+pub fn write_stretches<R: Read + Drop, T: CellTexts>(
+    alloc: Global,
+    part: &Part<'_>,
+    most: usize,
+    reader: R,
+    texts: &mut T,
+) -> Result<Vec<usize>, CopyFault>
+    ensures stretches { IfOk result (λ counts. (records : List Record)
+        × AreRecordsOfTable (R.remaining reader) part.now.table.now.columns records
+        × AreWritten (T.texts texts.old) (T.texts texts.new)
+        (names_of part.now.table.now.columns part.now.columns.now)
+        (stretches_of (size_of most) part.now.table.now.columns part.now.columns.now records) counts.items) }
+    ensures some { IfOk result (λ counts. 0 < vec_len counts) }
+    ensures same { OnOk result (T.failures texts.new ≡ T.failures texts.old) }
+    ensures fault { IfErr result (IsCopyFault (IsTableFault (R.remaining reader) part.now.table.now.columns)
+        (T.failures texts.old) (T.failures texts.new)) }
+{
+    let mut reader = record_reader(alloc, reader);
+    let layout = read_layout(alloc, part.table, &mut reader)?;
+    let mut header = ByteRecord::new(alloc);
+    names(part.table.columns.as_slice(), part.columns, &mut header)?;
+    copy_stretches(
+        alloc,
+        part.columns,
+        at_least_one(most),
+        &header,
+        &layout,
+        &mut reader,
+        texts,
+    )
+}
+
+/// How many records a stretch has at most.
+fn at_least_one(most: usize) -> usize
+    ensures size { result ≡ size_of most }
+    ensures some { 0 < result }
+{
+    if most == 0 { 1 } else { most }
+}
+
+/// Writes the records that are left in stretches of so many, each with the header, and returns how many each has.
+fn copy_stretches<R: Read + Drop, T: CellTexts>(
+    alloc: Global,
+    columns: &[usize],
+    size: usize,
+    header: &ByteRecord,
+    layout: &Layout,
+    reader: &mut Reader<R>,
+    texts: &mut T,
+) -> Result<Vec<usize>, CopyFault>
+    requires steady { IsSteady reader.old }
+    requires size { 0 < size }
+    ensures written { IfOk result (λ counts. (read : List Record) × AreAll R.remaining reader.old layout.now.width read
+        × AreWritten (T.texts texts.old) (T.texts texts.new) (fields_of header.now)
+        (map (map (copied_fields layout.now.places.items columns.now)) (stretches size read)) counts.items) }
+    ensures same { OnOk result (T.failures texts.new ≡ T.failures texts.old) }
+    ensures fault { IfErr result (IsCopyFault IsFailure (T.failures texts.old) (T.failures texts.new)) }
+{
+    let mut text = Vec::new(alloc);
+    put_record(&mut text, 0, header, texts)?;
+    let mut line = ByteRecord::new(alloc);
+    let mut fields = ByteRecord::new(alloc);
+    let mut counts = Vec::new(alloc);
+    let mut rows = 0;
+    for _place in 0..u64::MAX {
+        if !read_record(layout, reader, &mut fields)? {
+            counts.push(rows)?;
+            return Ok(counts);
+        }
+        rows = begin_if_full(size, rows, header, &mut text, &mut counts, texts)?;
+        copied_fields(layout.places.as_slice(), &fields, columns, &mut line)?;
+        put_record(&mut text, counts.len(), &line, texts)?;
+        rows += 1;
+    }
+    Err(CopyFault::Load(LoadFault::OutOfMemory))
+}
+
+/// Begins a stretch where the last one is full, and returns how many records the last one has then.
+fn begin_if_full<T: CellTexts>(
+    size: usize,
+    rows: usize,
+    header: &ByteRecord,
+    text: &mut Vec<u8>,
+    counts: &mut Vec<usize>,
+    texts: &mut T,
+) -> Result<usize, CopyFault>
+    ensures goes_on { rows < size → IfOk result (λ left. (left ≡ rows) × (counts.new.items ≡ counts.old.items)
+        × Grow (T.texts texts.old) (T.texts texts.new) (λ _. [])) }
+    ensures begins { size ≤ rows → IfOk result (λ left. (left ≡ 0) × (counts.new.items ≡ counts.old.items ++ rows ∷ [])
+        × Grow (T.texts texts.old) (T.texts texts.new) (in_cell (length counts.old.items + 1) (line_of (fields_of header.now)))) }
+    ensures same { OnOk result (T.failures texts.new ≡ T.failures texts.old) }
+    ensures fault { IfErr result (IsCopyFault IsFailure (T.failures texts.old) (T.failures texts.new)) }
+{
+    if rows < size {
+        return Ok(rows);
+    }
+    counts.push(rows)?;
+    put_record(text, counts.len(), header, texts)?;
+    Ok(0)
+}
