@@ -1,3 +1,4 @@
 mod FilledRows
 mod OrderLemmas
 mod TakenWords
+mod CommandLemmas

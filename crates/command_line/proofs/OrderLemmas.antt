@@ -5,7 +5,7 @@ use Rattle.clap.specs.Simple.{is_simple}
 use Rattle.clap.specs.Words.{Text, first_of, first_value, is_simple_and_free, rows_of}
 use Rattle.clap.specs.declared.error.Error.{Error}
 use Rattle.clap.proofs.OnLiterals.{clap_on_literals}
-use Rattle.command_words.specs.CommandWords.{sfq}
+use Rattle.command_line.specs.CommandWords.{sfq}
 use Rattle.command_line.specs.declared.misuse.Misuse.{Misuse}
 use Rattle.clap.specs.declared.parser.matches.Found.{Found}
 use Rattle.clap.proofs.WalkLemmas.{first_value-rows}

@@ -16,7 +16,7 @@ use Rattle.clap.specs.Takes.{is_given}
 use Rattle.clap.specs.Walk.{Held, Names, Outcome, done, waits, plain, refused, Row, Rule, Step, next, trailing, subcommand, value, Text, Waiting, idle, option, positional, Walk}
 use Rattle.clap.specs.Walk.{after_flag, after_step, answers_to, arg_by_index, finished, first_of, long_or_other, nothing_held, plain_word, rows_after, short_or_plain, subcommand_met, subcommand_or_other, to_positional, walk, walk_from, walked, walked_from, word_met}
 use Rattle.clap.specs.declared.error.kind.ErrorKind.TheVariants.{DisplayHelp, InvalidSubcommand}
-use Rattle.command_words.specs.CommandWords.{check, fault, pairs, relate, run, sfq, why}
+use Rattle.command_line.specs.CommandWords.{check, fault, pairs, relate, run, sfq, why}
 use Rattle.command_line.specs.Orders.{HasCheckWords, HasFaultWords, HasPairsWords, HasRelateWords, HasRunWords, HasWhyWords, HasWords}
 use Rattle.command_line.proofs.FilledRows.{first-filled, is_placed_or_worded, rows-filled}
 

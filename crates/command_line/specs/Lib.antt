@@ -1,2 +1,3 @@
 pub mod Misuses
 pub mod Orders
+pub mod CommandWords

@@ -4,14 +4,14 @@ ghost use Rattle.std.specs.Prelude.{◌≡◌, [], true, codes, IfOk, IfErr, IfS
 ghost use Rattle.std.specs.String.{string_bytes};
 ghost use Rattle.clap.specs.Walk.{texts};
 ghost use Rattle.clap.specs.Words.{rows_of, found_of, first_value, subcommand_rows_of, takes, fault_of, kind_of, HasKind};
-ghost use Rattle.command_words.specs.CommandWords.{sfq};
+ghost use Rattle.command_line.specs.CommandWords.{sfq};
 ghost use Rattle.command_line.specs.Orders.{Orders, OrdersBy, HasWords, HasTextsOf, HasRunWords, HasCheckWords, HasRelateWords, HasWhyWords, HasPairsWords, HasFaultWords, is_set, name_of};
 
 use crate::known_commands::Order;
 use crate::misuse::Misuse;
+use crate::sfq_command;
 use clap::ArgMatches;
 use clap::error::ErrorKind;
-use command_words::sfq_command;
 use std::alloc::{AllocError, Global};
 
 /// Reads the words of a command line, the program's name first, with `clap`. Ok has the command and its words, which no step

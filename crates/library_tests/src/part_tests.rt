@@ -2,7 +2,7 @@
 
 use crate::rows::segment;
 use crate::shapes::valid;
-use command_words::sfq_command;
+use command_line::sfq_command;
 use edge_boxes::{EdgeBoxes, is_not_simple, share};
 use engine::relate_texts;
 use geometries::{Larger, Polygons, Shape};

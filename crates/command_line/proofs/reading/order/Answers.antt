@@ -3,7 +3,7 @@ use Rattle.std.proofs.Common.{◌≡◌, ◌∙◌, [], ap, sym, subst}
 use Rattle.clap.specs.Words.{App, HasKind, fault_of, is_simple_and_free, subcommand_of, subcommand_rows_of, takes}
 use Rattle.clap.specs.Simple.{is_simple}
 use Rattle.clap.specs.Walk.{texts}
-use Rattle.command_words.specs.CommandWords.{sfq}
+use Rattle.command_line.specs.CommandWords.{sfq}
 use Rattle.command_line.specs.Orders.{HasWords}
 use Rattle.command_line.proofs.OrderLemmas.{misuse-keeps, sfq-free, sfq-simple}
 use Rattle.command_line.proofs.TakenWords.{has-order}

@@ -2,8 +2,8 @@ use Rattle.std.proofs.Common.{◌≡◌, ◌∙◌, ap, codes}
 use Rattle.std.proofs.lemmas.Result.{IfOk-weaker}
 use Rattle.clap.specs.Simple.{app_of_fields}
 use Rattle.clap.specs.Words.{app_of, new_app}
-use Rattle.command_words.proofs.CommandLemmas.{word-added}
-use Rattle.command_words.proofs.why_command.Goals as goal
+use Rattle.command_line.proofs.CommandLemmas.{word-added}
+use Rattle.command_line.proofs.command_words.why_command.Goals as goal
 
 pub returns : goal.returns
 returns c =

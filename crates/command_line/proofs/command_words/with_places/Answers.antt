@@ -1,7 +1,7 @@
 use Rattle.std.proofs.Common.{refl}
 use Rattle.std.proofs.lemmas.Result.{IfOk-weaker}
-use Rattle.command_words.proofs.CommandLemmas.{word-added}
-use Rattle.command_words.proofs.with_places.Goals as goal
+use Rattle.command_line.proofs.CommandLemmas.{word-added}
+use Rattle.command_line.proofs.command_words.with_places.Goals as goal
 
 pub returns : goal.returns
 returns c =

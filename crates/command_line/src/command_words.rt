@@ -1,10 +1,9 @@
 //! The commands of `sfq` with their words and help texts, for `clap`. The crate `command_line` reads the words of a command
 //! line with them.
-#![tactic(auto)]
 
 ghost use Rattle.std.specs.Prelude.{◌≡◌, false, codes, IfOk, IsOkAnd};
 ghost use Rattle.clap.specs.Words.{app_of, rule_of, with_rule, AddsSubcommand};
-ghost use Rattle.command_words.specs.CommandWords.{flag, optional_word, required_word, bare_sfq, check, fault, pairs, relate, run, sfq, why};
+ghost use Rattle.command_line.specs.CommandWords.{flag, optional_word, required_word, bare_sfq, check, fault, pairs, relate, run, sfq, why};
 
 use clap::{Arg, ArgAction, Command};
 use std::alloc::{AllocError, Global};

@@ -1,8 +1,8 @@
 use Rattle.std.proofs.Common.{refl}
 use Rattle.std.proofs.lemmas.Result.{IfOk-weaker}
-use Rattle.command_words.specs.CommandWords.{check, fault, pairs, relate, run, why}
-use Rattle.command_words.proofs.CommandLemmas.{subcommand-added}
-use Rattle.command_words.proofs.sfq_command.Goals as goal
+use Rattle.command_line.specs.CommandWords.{check, fault, pairs, relate, run, why}
+use Rattle.command_line.proofs.CommandLemmas.{subcommand-added}
+use Rattle.command_line.proofs.command_words.sfq_command.Goals as goal
 
 pub returns : goal.returns
 returns c =

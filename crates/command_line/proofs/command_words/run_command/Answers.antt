@@ -2,9 +2,9 @@ use Rattle.std.proofs.Common.{◌≡◌, ◌∙◌, ap, codes}
 use Rattle.std.proofs.lemmas.Result.{IfOk-weaker}
 use Rattle.clap.specs.Simple.{app_of_fields}
 use Rattle.clap.specs.Words.{App, app_of, new_app, with_rule}
-use Rattle.command_words.specs.CommandWords.{required_word}
-use Rattle.command_words.proofs.CommandLemmas.{word-added}
-use Rattle.command_words.proofs.run_command.Goals as goal
+use Rattle.command_line.specs.CommandWords.{required_word}
+use Rattle.command_line.proofs.CommandLemmas.{word-added}
+use Rattle.command_line.proofs.command_words.run_command.Goals as goal
 
 pub returns : goal.returns
 returns c =
