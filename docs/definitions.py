@@ -96,7 +96,7 @@ PAGE = [
      "The records of the answer, their text, and what a run gives in place of an answer.",
      [(T, "AnswerTexts", "Writing name_of column_name reference_header column_header"),
       (T, "RunOutcomes", "RecordText counted_text answer_text after"),
-      ("answer_records", "RecordTexts", ""),
+      ("query_runs", "RecordTexts", ""),
       ("query_runs", "Runs", "rows_text bound_text rows_of_choices choice_text count_text planned_work planned_text"
        " answer_work query_work loaded_work work_outcome IsReached RefusesTable none_reached Counts IsOfTables"
        " PutsFront ReturnsQuery CountsQuery"),

@@ -41,7 +41,7 @@ use Rattle.feature_table.specs.Outcomes.{IsFailure, is_of_reading}
 use Rattle.feature_table.specs.Tables.{EarlierLoad}
 use Rattle.failures.specs.Faults.{load_wants_memory, memory_or, of_put, of_query, of_table, wants_memory}
 use Rattle.query_runs.specs.Runs.{Counts, IsOfTables, IsReached, RefusesTable, Runs, answer_work, bound_text, choice_text, count_text, loaded_work, none_reached, planned_text, planned_work, query_work, rows_of_choices, rows_text, work_outcome}
-use Rattle.answer_records.specs.RecordTexts.{record_text}
+use Rattle.query_runs.specs.RecordTexts.{record_text}
 use Rattle.failures.specs.declared.run_fault.Fault.{Fault}
 use Rattle.failures.specs.declared.run_fault.Fault.TheVariants as faults
 use Rattle.records.specs.declared.put_fault.PutFault.{PutFault}

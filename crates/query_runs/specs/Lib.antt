@@ -1,2 +1,4 @@
 pub mod Puts
 pub mod Runs
+pub mod RecordTexts
+pub mod AnswerFields

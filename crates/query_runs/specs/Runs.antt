@@ -28,7 +28,7 @@ use Rattle.table_model.specs.declared.queries.Explain.{Explain}
 use Rattle.table_model.specs.declared.queries.Explain.TheVariants as explains
 use Rattle.feature_table.specs.Outcomes.{is_of_reading}
 use Rattle.feature_table.specs.Tables.{EarlierLoad}
-use Rattle.answer_records.specs.RecordTexts.{record_text}
+use Rattle.query_runs.specs.RecordTexts.{record_text}
 use Rattle.failures.specs.declared.run_fault.Fault.{Fault}
 use Rattle.failures.specs.declared.run_fault.Fault.TheVariants as faults
 

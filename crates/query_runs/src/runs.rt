@@ -5,7 +5,7 @@ ghost use Rattle.csv.specs.Records.{fields_of};
 ghost use Rattle.std.specs.List.{concat};
 ghost use Rattle.query_runs.specs.Puts.{PutsText};
 ghost use Rattle.query_runs.specs.Runs.{ReturnsQuery, CountsOver, CountsQuery, IsOfTables, RunsOver, bound_text, choice_text, count_after, count_text, planned_text, planned_work, rows_of_choices, rows_text};
-ghost use Rattle.answer_records.specs.RecordTexts.{record_text};
+ghost use Rattle.query_runs.specs.RecordTexts.{record_text};
 ghost use Rattle.executor.specs.FoundPairs.{HasReferences, IsPlace, pair_rows};
 ghost use Rattle.executor.specs.Streams.{to_come, work_at_end};
 ghost use Rattle.feature_table.specs.Tables.{EachRecordsOf, records_in};
@@ -22,7 +22,7 @@ ghost use Rattle.table_model.specs.QueryReading.{query_of};
 ghost use Rattle.table_model.specs.RunOutcomes.{ByEveryMatrix, kept_count};
 ghost use Rattle.table_model.specs.Work as spec;
 
-use answer_records::{header_record, row_record};
+use crate::{header_record, row_record};
 use csv::ByteRecord;
 use executor::{RowPair, Rows, Work};
 use explain::{analyze, explain};

@@ -1,7 +1,6 @@
 //! The steps of a load and of a run, each called by itself.
 
 use crate::tables::{POINTS_SCHEMA, database_of, points_up_to};
-use answer_records::{header_record, row_record};
 use csv::ByteRecord;
 use de9im::Work;
 use engine::{Unobserved, run_observed};
@@ -10,6 +9,7 @@ use filters::passes;
 use loaded_tables::{next_record, order_by_key};
 use planner::choose_by_counts;
 use query_binder::{Bound, bind};
+use query_runs::{header_record, row_record};
 use rtree::RTree;
 use spatial_sql::{Query, read_query, read_schema};
 use std::alloc::{AllocError, Global};

@@ -1,7 +1,7 @@
 -- What comes of a run over texts.
 use Rattle.std.proofs.Common.{◌≡◌, ◌∙◌, ◌++◌, [], Bor, Err, IfOk, List, Ok, Option, Result, Some, ap, inr, map, sym, ℕ}
 use Rattle.std.proofs.lemmas.Simd.{map-map}
-use Rattle.answer_records.specs.RecordTexts.{record_text}
+use Rattle.query_runs.specs.RecordTexts.{record_text}
 use Rattle.failures.specs.declared.failure.Failure.{Failure}
 use Rattle.failures.specs.declared.run_fault.Fault.{Fault}
 use Rattle.feature_table.specs.Tables.{records_in}

@@ -2,7 +2,7 @@
 use Rattle.std.specs.Str.{IsUtf8}
 use Rattle.std.specs.Prelude.{◌≡◌, ◌≢◌, ◌⊎◌, ℕ, List, [], ◌∷◌, drop, length, map, slice_get, take, Option, Some, Ok, Err}
 use denote.Ref.{Bor}
-use Rattle.answer_records.specs.RecordTexts.{record_text}
+use Rattle.query_runs.specs.RecordTexts.{record_text}
 use Rattle.failures.specs.Failures.{failure_line}
 use Rattle.failures.specs.declared.failure.Failure.{Failure}
 use Rattle.failures.specs.declared.failure.Failure.TheVariants as f

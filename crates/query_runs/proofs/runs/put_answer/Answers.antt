@@ -6,7 +6,7 @@ use Rattle.executor.specs.Streams.{to_come}
 use Rattle.table_model.specs.AnswerTexts.{header}
 use Rattle.table_model.specs.GeometryColumns.{geometry_writing}
 use Rattle.query_runs.specs.Runs.{count_text}
-use Rattle.answer_records.specs.RecordTexts.{record_text}
+use Rattle.query_runs.specs.RecordTexts.{record_text}
 use Rattle.query_runs.proofs.PutLemmas.{first-begun, put-none, put-same, put-then}
 use Rattle.query_runs.proofs.RunLemmas.{counted-text, listed-text}
 use Rattle.query_runs.proofs.runs.put_answer.Goals as goal

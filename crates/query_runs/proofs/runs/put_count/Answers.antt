@@ -1,6 +1,6 @@
 -- The header, or a front of it, is a front of the text; the record of the number comes after it, but under LIMIT 0.
 use Rattle.std.proofs.Common.{ap, ◌≢◌, ◌∷◌, ◌++◌, ◌∙◌, [], Some, codes, rules}
-use Rattle.answer_records.specs.RecordTexts.{record_text}
+use Rattle.query_runs.specs.RecordTexts.{record_text}
 use Rattle.query_runs.proofs.PutLemmas.{first-begun, put-same, put-then}
 use Rattle.query_runs.proofs.RunLemmas.{number-text}
 use Rattle.query_runs.proofs.runs.put_count.Goals as goal

@@ -11,7 +11,7 @@ use Rattle.records.specs.declared.put_fault.PutFault.TheVariants as put
 use Rattle.std.specs.Prelude.{Err}
 use Rattle.table_model.specs.Meanings.{Table}
 use Rattle.query_runs.specs.Runs.{choice_text}
-use Rattle.answer_records.specs.RecordTexts.{record_text}
+use Rattle.query_runs.specs.RecordTexts.{record_text}
 use Rattle.query_runs.proofs.PutLemmas.{put-begun}
 use Rattle.query_runs.proofs.RecordLemmas.{but-all, but-front, but-next, but-none, next-front, none_left}
 use Rattle.query_runs.proofs.runs.put_records.Goals as goal

@@ -1,5 +1,5 @@
 use Rattle.std.proofs.Common.{rules}
-use Rattle.answer_records.proofs.record_fields.function_header.Goals as goal
+use Rattle.query_runs.proofs.record_fields.function_header.Goals as goal
 
 pub returns : goal.returns
 returns c = search rules

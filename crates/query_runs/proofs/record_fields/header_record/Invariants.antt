@@ -2,7 +2,7 @@ use Rattle.std.proofs.Common.{◌≡◌, [], map, take}
 use Rattle.csv.specs.Records.{fields_of, partial_of}
 use Rattle.table_model.specs.AnswerTexts.{item_header}
 use Rattle.table_model.specs.GeometryColumns.{geometry_writing}
-use Rattle.answer_records.proofs.record_fields.header_record.Given as goal
+use Rattle.query_runs.proofs.record_fields.header_record.Given as goal
 
 -- the fields of the items before this one
 abbrev pub invariant-loop-item : goal.invariant-loop-item

@@ -8,7 +8,7 @@ ghost use Rattle.table_model.specs.AnswerTexts.{column_name, column_header, fiel
 ghost use Rattle.table_model.specs.GeometryColumns.{geometry_writing};
 ghost use Rattle.table_model.specs.Truths.{dimension, field_at};
 ghost use Rattle.feature_table.specs.Cells.{shown};
-ghost use Rattle.answer_records.specs.AnswerFields.{dimension_text, emptiness_text};
+ghost use Rattle.query_runs.specs.AnswerFields.{dimension_text, emptiness_text};
 
 use csv::ByteRecord;
 use feature_table::{Field, Geometry, Row, TableDef};

@@ -1,2 +1,0 @@
-pub mod RecordTexts
-pub mod AnswerFields
