@@ -6,8 +6,8 @@ use Rattle.geometry_model.specs.Geometries.{Geometry}
 use Rattle.geometry_model.specs.WellKnownText.{geometry_of, written_positions}
 use Rattle.geometry_model.specs.declared.text_faults.TextFault.{TextFault}
 use Rattle.geometry_model.specs.declared.text_faults.TextFault.TheVariants.{TooLong}
-use Rattle.position_arrays.specs.ArrayLaws.{ArraysAreAsTexts}
-use Rattle.position_arrays.specs.Written.{first_past_limit, geometry_in_arrays, is_within_counts, taken, within_or}
+use Rattle.library_calls.specs.ArrayLaws.{ArraysAreAsTexts}
+use Rattle.library_calls.specs.Written.{first_past_limit, geometry_in_arrays, is_within_counts, taken, within_or}
 use Rattle.text_laws.specs.ReadingLaws.{ReadIsSpelled}
 use Rattle.validity.proofs.Faults.{no_fault_valid}
 use Rattle.library_calls.specs.Arrays.{IsTaken}

@@ -1,3 +1,9 @@
 pub mod ArrayFacts
 pub mod MeetingFacts
 pub mod Spelling
+pub mod AsTexts
+pub mod Parts
+pub mod Tested
+pub mod WrittenFacts
+pub mod BoxWords
+pub mod ValidParts

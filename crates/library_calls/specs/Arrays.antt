@@ -8,7 +8,7 @@ use Rattle.geometry_model.specs.Validity.{IsValid}
 use Rattle.geometry_model.specs.WellKnownText.{Writes, geometry_of}
 use Rattle.geometry_model.specs.declared.geometry_faults.GeometryFault.{GeometryFault}
 use Rattle.geometry_model.specs.declared.shapes.GeometryType.{GeometryType}
-use Rattle.position_arrays.specs.Written.{fitting_type, geometry_in_arrays, written_as}
+use Rattle.library_calls.specs.Written.{fitting_type, geometry_in_arrays, written_as}
 use Rattle.library_calls.specs.Refusals.{fault_in_numbers, status_of_text, unknown}
 use Rattle.library_calls.specs.Texts.{IsSpelled}
 use Rattle.library_calls.specs.declared.faults.Fault.{Fault}

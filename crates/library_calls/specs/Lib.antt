@@ -6,3 +6,6 @@ pub mod Numbers
 pub mod Refusals
 pub mod Relations
 pub mod Texts
+pub mod ArrayLaws
+pub mod Written
+pub mod Keeping

@@ -4,12 +4,12 @@ ghost use Rattle.std.specs.Prelude.{◌≡◌, IfErr, IfOk, length, true};
 ghost use Rattle.library_calls.specs.Arrays.{IsTaken};
 ghost use Rattle.library_calls.specs.Refusals.{IsRefusalOf};
 ghost use Rattle.library_calls.specs.declared.faults.Refusal.TheVariants as refusal;
-ghost use Rattle.position_arrays.specs.Written.{fits, geometry_in_arrays, written_as};
+ghost use Rattle.library_calls.specs.Written.{fits, geometry_in_arrays, written_as};
 
+use crate::array_laws::arrays_are_as_texts;
 use crate::faults::Refusal;
+use crate::{Coordinates, read_arrays};
 use geometry_model::GeometryType;
-use position_arrays::array_laws::arrays_are_as_texts;
-use position_arrays::{Coordinates, read_arrays};
 use std::alloc::Global;
 use text_laws::reading::read_is_spelled;
 use validity::Valid;

@@ -1,22 +1,40 @@
 //! What the C library does, over texts and over valid geometries: their matrix, the relations by number, and faults in numbers
 //! (06-103r4, 6.1 and 7.2; the numbers: this project's choice). The crate `sfq_c` exports those over texts.
+//!
+//! Geometries from arrays of whole coordinates, as programs hold them: the same geometries, and the same faults, as those of texts
+//! with these numbers (06-103r4, 6.1 and 8.2; the arrays and the limits: this project's choice).
+//!
+//! Valid geometries that a caller in C keeps, each behind one pointer (06-103r4, 6.1; how they are kept: this project's choice).
 #![tactic(auto)]
 
+pub mod array_laws;
 pub mod arrays;
+mod building;
+pub mod checking;
+pub mod coordinates;
 pub mod explained;
 pub mod faults;
 pub mod kept;
+pub mod kept_geometry;
 pub mod meeting;
+mod parts;
 pub mod patterns;
 pub mod relations;
+pub mod sizes;
+pub mod slot;
 pub mod texts;
 
 pub use arrays::read_positions;
+pub use checking::read_arrays;
+pub use coordinates::Coordinates;
 pub use explained::{hand_out, write_reason, write_why};
 pub use faults::{Fault, Refusal};
 pub use kept::{
     dimension_of, write_envelope, write_holds, write_matches, write_matrix, write_place, write_text,
 };
+pub use kept_geometry::KeptGeometry;
 pub use patterns::pattern_in;
 pub use relations::{Relation, all_hold, holds, relation_of};
+pub use sizes::fitting_type;
+pub use slot::Slot;
 pub use texts::{matrix_of, read_one, read_two};

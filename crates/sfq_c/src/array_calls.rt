@@ -3,13 +3,13 @@
 ghost use Rattle.std.specs.Prelude.{◌≡◌, ◌≢◌, ◌⊎◌, ◌↔◌, IfErr, IfOk, IfSome, is_some, length, None, true};
 ghost use Rattle.library_calls.specs.Arrays.{AreRefused, IsMade, IsTaken, status_of_arrays};
 ghost use Rattle.library_calls.specs.Refusals.{IsRefusalOf, first_refused, ok, out_of_memory};
-ghost use Rattle.position_arrays.specs.Written.{fits, geometry_in_arrays, written_as};
+ghost use Rattle.library_calls.specs.Written.{fits, geometry_in_arrays, written_as};
 
 use geometry_model::GeometryType;
-use kept_geometries::{KeptGeometry, Slot};
-use library_calls::{Fault, Refusal, read_positions};
-use position_arrays::array_laws::arrays_are_as_texts;
-use position_arrays::{Coordinates, fitting_type};
+use library_calls::array_laws::arrays_are_as_texts;
+use library_calls::{
+    Coordinates, Fault, KeptGeometry, Refusal, Slot, fitting_type, read_positions,
+};
 use std::alloc::Global;
 
 /// Keeps a valid geometry of a type, by its number in well-known binary, of these positions and parts: how many positions each line

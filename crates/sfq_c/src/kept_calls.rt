@@ -11,10 +11,9 @@ ghost use Rattle.library_calls.specs.Numbers.{dimension};
 ghost use Rattle.library_calls.specs.Refusals.{IsRefusalOf, first_refused, none_there, ok, out_of_memory, status_of_text};
 ghost use Rattle.library_calls.specs.Texts.{IsRefusedFor, IsSpelled};
 
-use kept_geometries::{KeptGeometry, Slot};
 use library_calls::{
-    Fault, Refusal, dimension_of, read_one, write_envelope, write_holds, write_matches,
-    write_matrix, write_place, write_text,
+    Fault, KeptGeometry, Refusal, Slot, dimension_of, read_one, write_envelope, write_holds,
+    write_matches, write_matrix, write_place, write_text,
 };
 use std::alloc::Global;
 use validity::Valid;

@@ -5,8 +5,7 @@ ghost use Rattle.library_calls.specs.Explained.{AreWitnessLines, HandsOut, IsUnr
 ghost use Rattle.library_calls.specs.Refusals.{first_refused, ok, out_of_memory};
 
 use crate::kept_calls::put_back;
-use kept_geometries::{KeptGeometry, Slot};
-use library_calls::{Fault, write_reason, write_why};
+use library_calls::{Fault, KeptGeometry, Slot, write_reason, write_why};
 use std::alloc::Global;
 
 /// Hands out nine lines that show the cells of the DE-9IM matrix of two kept geometries, as the command `why` prints them: their

@@ -1,5 +1,5 @@
 use Rattle.std.proofs.Common.{sym, ◌∙◌}
-use Rattle.position_arrays.specs.Written.{written_as}
+use Rattle.library_calls.specs.Written.{written_as}
 use Rattle.library_calls.proofs.ArrayFacts.{is_taken}
 use Rattle.library_calls.proofs.arrays.read_positions.Goals as goal
 

@@ -6,8 +6,8 @@ use Rattle.library_calls.specs.Refusals.{IsRefusalOf, fault_after, first_refused
 use Rattle.library_calls.specs.declared.faults.Fault.{Fault}
 use Rattle.library_calls.specs.declared.faults.Refusal.{Refusal}
 use Rattle.library_calls.specs.declared.faults.Refusal.TheVariants as refusal
-use Rattle.position_arrays.specs.ArrayLaws.{ArraysAreAsTexts}
-use Rattle.position_arrays.specs.Written.{geometry_in_arrays, written_as}
+use Rattle.library_calls.specs.ArrayLaws.{ArraysAreAsTexts}
+use Rattle.library_calls.specs.Written.{geometry_in_arrays, written_as}
 use Rattle.sfq_c.proofs.array_calls.sfq_proved_read_positions.Goals as goal
 
 array_refused : ArraysAreAsTexts → (w : Geometry) (r : Refusal) (old : Fault) → IsRefusalOf (geometry_in_arrays w) r → status_of r ≡ first_refused → IsRefusedArray w (fault_after r old)

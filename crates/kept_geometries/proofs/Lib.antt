@@ -1,2 +1,0 @@
-pub mod BoxWords
-pub mod ValidParts

@@ -1,4 +1,0 @@
-pub mod AsTexts
-pub mod Parts
-pub mod Tested
-pub mod WrittenFacts

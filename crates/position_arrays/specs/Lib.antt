@@ -1,2 +1,0 @@
-pub mod ArrayLaws
-pub mod Written

@@ -1,9 +1,0 @@
-//! The law of geometries in arrays: they are those of the texts with the same numbers.
-
-ghost use Rattle.position_arrays.specs.ArrayLaws.{ArraysAreAsTexts};
-
-/// What arrays write is the same valid geometry, or has the same first fault, as each text that writes the same numbers
-/// (06-103r4, 7.2 and 6.1).
-pub fn arrays_are_as_texts()
-    ensures { ArraysAreAsTexts }
-{}
