@@ -5,3 +5,16 @@ pub mod OrderLemmas
 mod KeptLemmas
 mod MemoryLemmas
 mod IterationLemmas
+pub mod CandidateLemmas
+mod IdleLemmas
+mod IdlePairLemmas
+mod KeyLemmas
+mod PartnerLemmas
+pub mod PlaceLemmas
+mod ProbeLemmas
+mod RowLemmas
+pub mod ScanLemmas
+mod TurnLemmas
+mod ValueLemmas
+pub mod WalkLemmas
+pub mod WalkStateLemmas

@@ -1,12 +1,29 @@
 //! Runs plans of bound queries: whichever lawful plan is taken, the rows are those that the query means.
+//!
+//! The candidates of a plan: the rows, or the pairs of rows, that its accesses give, and the walk over them.
 #![tactic(auto)]
 
+mod asked_envelopes;
+mod envelopes;
 pub mod execution;
 mod found_pairs;
+mod keys;
 mod orders;
+pub mod partners;
+pub mod places;
+pub mod referenced_tables;
+pub mod row_pairs;
+pub mod rows_by_value;
 mod stages;
 pub mod streams;
+mod value_order;
+pub mod walk_progress;
+pub mod walks;
 
-pub use candidates::{RowPair, Work};
 pub use execution::execute;
+pub use filters::Work;
+pub use referenced_tables::{Tables, tables_of};
+pub use row_pairs::RowPair;
 pub use streams::Rows;
+pub use walk_progress::{Progress, WalkState};
+pub use walks::Walk;
