@@ -21,9 +21,9 @@ pub mod walk_progress;
 pub mod walks;
 
 pub use execution::execute;
-pub use filters::Work;
 pub use referenced_tables::{Tables, tables_of};
 pub use row_pairs::RowPair;
+pub use spatial_sql::Work;
 pub use streams::Rows;
 pub use walk_progress::{Progress, WalkState};
 pub use walks::Walk;

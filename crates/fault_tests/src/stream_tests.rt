@@ -8,9 +8,8 @@ use de9im::Work;
 use executor::Rows;
 use feature_table::{Database, Schema};
 use planner::choose;
-use query_binder::Bound;
 use rtree::ListIndex;
-use spatial_sql::{Query, bind, read_query, read_schema};
+use spatial_sql::{Bound, Query, bind, read_query, read_schema};
 use std::alloc::{AllocError, Global};
 use std::test::Fail;
 

@@ -1,8 +1,8 @@
 //! What names and conditions of a query are bound to, with places counted by hand.
 
 use geometry_model::Predicate;
-use query_binder::{Bound, bind};
-use spatial_sql::{read_query, read_schema};
+use spatial_sql::query_binding::bind;
+use spatial_sql::{Bound, read_query, read_schema};
 use std::alloc::Global;
 use std::test::Fail;
 use table_model::conditions::{ColumnPlace, Cond, GeometryArgument, Item, Operand, Reference};

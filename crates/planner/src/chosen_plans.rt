@@ -7,8 +7,8 @@ ghost use Rattle.table_model.specs.declared.conditions.Reference.{Reference as P
 
 use crate::choosing::choose_by_counts;
 use feature_table::{Database, Table};
-use query_binder::Bound;
 use rtree::EnvelopeIndex;
+use spatial_sql::Bound;
 use std::alloc::{AllocError, Global};
 use table_model::conditions::Reference;
 use table_model::plans::Plan;

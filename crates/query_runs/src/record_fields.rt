@@ -14,7 +14,7 @@ use csv::ByteRecord;
 use feature_table::{Field, Geometry, Row, TableDef};
 use geometry_model::Kind;
 use itoa::Buffer;
-use query_binder::Bound;
+use spatial_sql::Bound;
 use std::alloc::{AllocError, Global};
 use table_model::conditions::{ColumnPlace, Item, Reference};
 use wkt::{MemorySink, print};

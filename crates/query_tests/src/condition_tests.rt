@@ -5,9 +5,8 @@ ghost use Rattle.table_model.specs.BoundQueries.{IsBound, geometry_fits};
 use crate::tables::{POINTS_SCHEMA, database_of, points_up_to};
 use de9im::Work;
 use feature_table::Database;
-use query_binder::Bound;
 use rtree::RTree;
-use spatial_sql::{Query, Truth, bind, read_query, read_schema, value};
+use spatial_sql::{Bound, Query, Truth, bind, read_query, read_schema, value};
 use std::alloc::Global;
 use std::test::Fail;
 

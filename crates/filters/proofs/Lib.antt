@@ -1,3 +1,0 @@
-pub mod FilterLemmas
-mod IdleRowLemmas
-mod SoughtValueLemmas

@@ -1,3 +1,0 @@
-pub mod FilterOrder
-pub mod IdleRows
-pub mod SoughtValues

@@ -1,3 +1,0 @@
-pub mod ConditionFacts
-pub mod Outcomes
-pub mod PatternTexts

@@ -1,0 +1,58 @@
+//! The truth of spatial predicates.
+
+ghost use Rattle.std.specs.Prelude.{◌≡◌, ◌≤◌, ◌+◌, IfOk, IsOk, OnErr, OnOk};
+ghost use Rattle.std.specs.Option.{option_copied};
+ghost use Rattle.geometry_model.specs.Geometries.{kind};
+ghost use Rattle.geometry_model.specs.Predicates as predicates;
+ghost use Rattle.integers.specs.Counts.{one_more};
+ghost use Rattle.table_model.specs.RunOutcomes.{ByEveryMatrix, kept_count};
+ghost use Rattle.table_model.specs.Truths as spec;
+ghost use Rattle.spatial_sql.specs.Evaluation.{computed_of};
+
+use crate::logic::truth_of;
+use de9im::{Predicate, Work, holds, relate};
+use std::alloc::{AllocError, Global};
+use table_model::values::Truth;
+use validity::Valid;
+
+/// Whether a predicate holds of two geometries, by their matrix, which is computed once (06-103r4, 6.1.15.3).
+fn related(
+    alloc: Global,
+    predicate: Predicate,
+    first: &Valid,
+    second: &Valid,
+    work: &mut Work,
+) -> Result<Truth, AllocError>
+    ensures truth { ByEveryMatrix (λ matrix. IfOk result (λ t. t ≡ spec.truth_of
+        (predicates.holds predicate (kind first.now) (kind second.now) (matrix first.now second.now)))) }
+    ensures counted { OnOk result (work.new ≡ one_more work.old) }
+    ensures refused { OnErr result (work.new ≡ work.old) }
+{
+    let matrix = relate(alloc, first, second, work)?;
+    let first_kind = first.geometry().kind();
+    let second_kind = second.geometry().kind();
+    Ok(truth_of(holds(predicate, first_kind, second_kind, &matrix)))
+}
+
+/// The truth of a predicate of two arguments' geometries. With a NULL it is unknown, and no matrix is computed. Only the
+/// matrix takes memory. After a refusal the work is not less than before (06-103r4, 6.1.15.3).
+pub(crate) fn relation(
+    alloc: Global,
+    predicate: Predicate,
+    first: Option<&Valid>,
+    second: Option<&Valid>,
+    work: &mut Work,
+) -> Result<Truth, AllocError>
+    ensures truth { ByEveryMatrix (λ matrix. IfOk result
+        (λ t. t ≡ spec.related matrix predicate (option_copied first.entry) (option_copied second.entry))) }
+    ensures counted { OnOk result (kept_count work.new
+        ≡ kept_count (work.old + computed_of (option_copied first.entry) (option_copied second.entry))) }
+    ensures kept { kept_count work.old ≤ kept_count work.new }
+    ensures no_memory { computed_of (option_copied first.entry) (option_copied second.entry) ≡ 0
+        → IsOk result }
+{
+    match (first, second) {
+        (Some(first), Some(second)) => related(alloc, predicate, first, second, work),
+        _ => Ok(Truth::Unknown),
+    }
+}

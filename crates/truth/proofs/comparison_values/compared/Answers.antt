@@ -1,5 +1,0 @@
-use Rattle.std.proofs.Common.{rules}
-use Rattle.truth.proofs.comparison_values.compared.Goals as goal
-
-pub returns : goal.returns
-returns c = search rules

@@ -1,5 +1,0 @@
-use Rattle.std.proofs.Common.{rules}
-use Rattle.truth.proofs.sides.operand_side.Goals as goal
-
-pub returns-in-Null-clause-no_memory : goal.returns-in-Null-clause-no_memory
-returns-in-Null-clause-no_memory c = search rules
