@@ -9,7 +9,7 @@ use Rattle.failures.specs.declared.failure.Failure.TheVariants as f
 use Rattle.failures.specs.declared.run_fault.Fault.{Fault}
 use Rattle.failures.specs.declared.run_fault.Fault.TheVariants as faults
 use Rattle.feature_table.specs.Tables.{EachRecordsOf, EarlierLoad}
-use Rattle.loaded_tables.specs.Outcomes.{IsFailure}
+use Rattle.feature_table.specs.Outcomes.{IsFailure}
 use Rattle.query_runs.specs.Runs.{Runs, RunsOver}
 use Rattle.record_reasons.specs.LineEnds.{FindsLineEnd}
 use Rattle.record_reasons.specs.NoteTexts.{note_line}

@@ -5,7 +5,7 @@ ghost use Rattle.std.specs.String.{string_bytes};
 ghost use Rattle.std.specs.Io.KnownBytes.{Appends};
 ghost use Rattle.engine.specs.Commands.{ChecksFiles, ChecksTables, ExplainsFiles, FindsReason, IsFaultOf, IsNamed, IsUnread, LooksAgain, MayExplain, NotesTable, NotesTables, Opens, OpensTables, ReadsSchema, RunsFiles, RunsQuery, RunsTables, ServesOrder, ServesReasons, ServesTables, check_text, table_names, table_paths};
 ghost use Rattle.engine.specs.Commands as spec;
-ghost use Rattle.loaded_tables.specs.Outcomes.{IsFailure};
+ghost use Rattle.feature_table.specs.Outcomes.{IsFailure};
 ghost use Rattle.query_runs.specs.Runs.{IsOfTables};
 ghost use Rattle.sinks.specs.Sinks.{AppendsFront, CountsFailure};
 ghost use Rattle.text_commands.specs.Ends.{Serves};

@@ -4,11 +4,11 @@ use Rattle.std.proofs.lemmas.List.{append-nil, append_assoc, drop_more, get_or-m
 use Rattle.std.proofs.lemmas.List.FromFn.{get_or-enumerate_from, length-enumerate_from}
 use Rattle.std.proofs.lemmas.Slice.Zip.{get_or-zip}
 use Rattle.std.specs.List.{enumerate_from, zip}
-use Rattle.loaded_tables.proofs.EachLemmas.{Passed, passed_all, passed_fault, passed_front, passed_more}
-use Rattle.loaded_tables.proofs.LoadingLemmas.{at_place, drop_front}
-use Rattle.loaded_tables.specs.Outcomes.{IsFailure, LoadsTable}
-use Rattle.loaded_tables.proofs.ReaderRecords.{each-append, each-more, fill, length-each}
-use Rattle.loaded_tables.specs.Tables.{AreOfRecords, AreRecordsOf, EachRecordsOf, EarlierLoad, records_in, tables_in}
+use Rattle.feature_table.proofs.EachLemmas.{Passed, passed_all, passed_fault, passed_front, passed_more}
+use Rattle.feature_table.proofs.LoadingLemmas.{at_place, drop_front}
+use Rattle.feature_table.specs.Outcomes.{IsFailure, LoadsTable}
+use Rattle.feature_table.proofs.ReaderRecords.{each-append, each-more, fill, length-each}
+use Rattle.feature_table.specs.Tables.{AreOfRecords, AreRecordsOf, EachRecordsOf, EarlierLoad, records_in, tables_in}
 use Rattle.table_model.specs.Databases.{at_table, load_tables, loaded_tables}
 use Rattle.table_model.specs.Loading.{GeometryReader, Record, load}
 use Rattle.table_model.specs.Meanings.{Table}

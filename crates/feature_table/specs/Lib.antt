@@ -1,5 +1,13 @@
 pub mod Cells
+pub mod Layouts
+pub mod RowReading
+pub mod Tables
 pub mod GeometryFields
 pub mod Indexes
+pub mod FlatRows
+pub mod KeyPlaces
 pub mod Outcomes
-pub mod Tables
+pub mod Reading
+pub mod ReadRows
+pub mod Records
+pub mod Values

@@ -2,15 +2,15 @@
 
 ghost use Rattle.std.specs.Prelude.{◌≡◌, ◌<◌, ℕ, IfErr, IfOk, List, Some, length, map, slice_get};
 ghost use Rattle.std.specs.List.{slice_index_or};
-ghost use Rattle.loaded_tables.specs.GeometryFields.{ShapeValue, reading, takes};
-ghost use Rattle.loaded_tables.specs.Outcomes.{LoadsTable};
-ghost use Rattle.loaded_tables.specs.Tables.{AreOfRecords, AreRecordsOf, EarlierLoad, records_in, table_in, tables_in};
+ghost use Rattle.feature_table.specs.GeometryFields.{ShapeValue, reading, takes};
+ghost use Rattle.feature_table.specs.Outcomes.{LoadsTable};
+ghost use Rattle.feature_table.specs.Tables.{AreOfRecords, AreRecordsOf, EarlierLoad, records_in, table_in, tables_in};
 ghost use Rattle.table_model.specs.Databases.{at_table};
 ghost use Rattle.table_model.specs.FeatureTables.{IsDatabase};
 ghost use Rattle.table_model.specs.Loading.{Record, load};
 ghost use Rattle.table_model.specs.declared.definitions.TableDef.{TableDef as Definition};
 
-use loaded_tables::{Schema, Table, TableDef};
+use crate::{Schema, Table, TableDef};
 use rtree::EnvelopeIndex;
 use std::alloc::Global;
 use std::io::Read;
@@ -26,7 +26,7 @@ pub struct Database<'s, I: EnvelopeIndex> {
 }
 
 impl<'s, I: EnvelopeIndex> Model for Database<'s, I> {
-    ghost use Rattle.loaded_tables.specs.GeometryFields.{GeometryValue, ShapeValue, takes};
+    ghost use Rattle.feature_table.specs.GeometryFields.{GeometryValue, ShapeValue, takes};
     ghost use Rattle.table_model.specs.Databases.{Database};
     ghost use Rattle.table_model.specs.FeatureTables.{IsDatabase};
 

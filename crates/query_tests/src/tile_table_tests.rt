@@ -1,6 +1,6 @@
 //! Tables that are checked before they are split, their faults, and the corners that are sampled.
 
-use loaded_tables::Schema;
+use feature_table::Schema;
 use schema_reader::read_schema;
 use std::alloc::{AllocError, Global};
 use std::test::Fail;

@@ -2,8 +2,8 @@
 
 ghost use Rattle.std.specs.Prelude.{None};
 
+use feature_table::Schema;
 use fraction::GridPoint;
-use loaded_tables::Schema;
 use schema_reader::read_schema;
 use sinks::SinkFault;
 use std::alloc::Global;

@@ -1,8 +1,8 @@
 -- Records of which no field holds a line end.
 use Rattle.std.proofs.Common.{◌≡◌, ◌∙◌, ◌+◌, ◌++◌, ◌<◌, ◌≤◌, ℕ, zero, suc, List, [], ◌∷◌, Option, Some, ap, append-nil, arith, length, subst}
 use Rattle.std.specs.Prelude.{slice_get}
-use Rattle.loaded_tables.specs.Records.{records_in}
-use Rattle.loaded_tables.specs.declared.records.Records.{Records}
+use Rattle.feature_table.specs.Records.{records_in}
+use Rattle.feature_table.specs.declared.records.Records.{Records}
 use Rattle.record_reasons.proofs.KeyLemmas.{back}
 use Rattle.record_reasons.proofs.ReasonLemmas.{some-is}
 use Rattle.record_reasons.proofs.SeenLemmas.{begins, last, read-more}

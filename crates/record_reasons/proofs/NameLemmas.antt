@@ -3,8 +3,8 @@ use Rattle.std.proofs.Common.{◌≡◌, ◌∙◌, ◌+◌, ◌≤◌, ℕ, Boo
 use Rattle.std.proofs.lemmas.Bool.Decides.{nat_tests}
 use Rattle.std.proofs.lemmas.List.{take_all}
 use Rattle.std.specs.List.{count_by, position, position_or_len}
-use Rattle.loaded_tables.proofs.HeaderLemmas.{IsFound}
-use Rattle.loaded_tables.proofs.OrderLemmas.{count-cons}
+use Rattle.feature_table.proofs.HeaderLemmas.{IsFound}
+use Rattle.feature_table.proofs.OrderLemmas.{count-cons}
 
 -- where no element passes, the search ends at the length
 ends : {X : Type 0} (p : X → Bool) (xs : List X) → count_by p xs ≡ 0 → position_or_len p xs ≡ length xs

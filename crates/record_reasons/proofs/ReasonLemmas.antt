@@ -1,7 +1,7 @@
 -- A reason in what was read, or none there.
 use Rattle.std.proofs.Common.{◌≡◌, ◌∙◌, ◌++◌, ℕ, zero, suc, List, [], ◌∷◌, Option, Some, None, Result, Ok, Err, IfOk, IfSome, IfNone, ap, refl, subst, sym}
 use Rattle.std.specs.Prelude.{slice_get}
-use Rattle.loaded_tables.specs.Records.{records_in}
+use Rattle.feature_table.specs.Records.{records_in}
 use Rattle.record_reasons.specs.Reasons.{Finds, HasNoRecordReason, HasReason, IsFilledReason, IsGeometryReason, IsOfColumn, record_number}
 use Rattle.record_reasons.specs.SeenRecords.{AreSeen, IsAbsent}
 use Rattle.record_reasons.specs.declared.reason.Reason.{Reason}

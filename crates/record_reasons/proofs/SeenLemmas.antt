@@ -1,8 +1,8 @@
 -- Records that are read one after another.
 use Rattle.std.proofs.Common.{◌≡◌, ◌∙◌, ◌++◌, ◌≤◌, Bool, true, false, ℕ, zero, suc, List, [], ◌∷◌, Option, None, Some, Result, Ok, Err, IfOk, true≢false, ap, append-nil, arith, length, append_assoc, refl, sym}
 use Rattle.std.specs.Prelude.{slice_get}
-use Rattle.loaded_tables.specs.Records.{Gives, GivesFirst, records_in}
-use Rattle.loaded_tables.specs.declared.records.Records.{Records}
+use Rattle.feature_table.specs.Records.{Gives, GivesFirst, records_in}
+use Rattle.feature_table.specs.declared.records.Records.{Records}
 use Rattle.table_model.specs.Loading.{Record}
 use Rattle.record_reasons.specs.SeenRecords.{BeginWith, GivesNext, GivesNone, HasRead, IsAbsent, Takes}
 

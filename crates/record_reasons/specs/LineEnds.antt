@@ -1,7 +1,7 @@
 -- Fields that hold a line end.
 use Rattle.std.specs.Prelude.{◌≡◌, ◌+◌, ◌<◌, ◌≤◌, ◌||◌, ℕ, Bool, List, [], Option, None, Some, false, true, length, nat_eq, slice_get}
 use Rattle.std.specs.List.{list_any, slice_index_or}
-use Rattle.loaded_tables.specs.Records.{records_in}
+use Rattle.feature_table.specs.Records.{records_in}
 use Rattle.record_reasons.specs.SeenRecords.{BeginWith}
 use Rattle.record_reasons.specs.declared.line_ends.LineEnd.{LineEnd}
 use Rattle.table_model.specs.Loading.{Record, row_limit}

@@ -1,7 +1,7 @@
 -- Records that were read from the beginning of a CSV text.
 use Rattle.std.specs.Prelude.{◌≡◌, ◌++◌, ℕ, Bool, true, false, List, [], ◌∷◌, Option, None, Some, slice_get}
-use Rattle.loaded_tables.specs.Records.{Gives, records_in}
-use Rattle.loaded_tables.specs.declared.records.Records.{Records}
+use Rattle.feature_table.specs.Records.{Gives, records_in}
+use Rattle.feature_table.specs.declared.records.Records.{Records}
 use Rattle.table_model.specs.Loading.{Record}
 
 -- if the bytes are known, the records that csv reads from them begin with these

@@ -8,7 +8,7 @@ ghost use Rattle.table_model.specs.Texts as spec;
 use crate::named_fields::field_at;
 use crate::reason::Reason;
 use csv::ByteRecord;
-use loaded_tables::{ColumnDef, TableDef};
+use feature_table::{ColumnDef, TableDef};
 use table_model::texts::same_name;
 
 /// The first column whose name a header lacks.

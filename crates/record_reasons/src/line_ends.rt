@@ -2,14 +2,14 @@
 
 ghost use Rattle.std.specs.Prelude.{◌≡◌, IfErr, IfNone, IfOk, IfSome};
 ghost use Rattle.csv.specs.Records.{fields_of};
-ghost use Rattle.loaded_tables.specs.Outcomes.{IsFailure};
+ghost use Rattle.feature_table.specs.Outcomes.{IsFailure};
 ghost use Rattle.record_reasons.specs.LineEnds.{FindsLineEnd, IsFirstField, NoFieldHolds};
 ghost use Rattle.record_reasons.specs.LineEnds as spec;
 
 use crate::named_fields::field_at;
 use crate::seen_records::take_record;
 use csv::ByteRecord;
-use loaded_tables::Records;
+use feature_table::Records;
 use std::alloc::Global;
 use std::io::Read;
 use table_model::definitions::ROW_LIMIT;

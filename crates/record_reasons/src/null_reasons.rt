@@ -8,7 +8,7 @@ ghost use Rattle.table_model.specs.Loading as spec;
 use crate::named_fields::field_named;
 use crate::reason::Reason;
 use csv::ByteRecord;
-use loaded_tables::{ColumnDef, TableDef};
+use feature_table::{ColumnDef, TableDef};
 
 /// The first column that takes no null, and whose field is empty.
 pub(crate) fn null_field<'s>(

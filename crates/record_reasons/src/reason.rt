@@ -2,7 +2,7 @@
 
 ghost use Rattle.std.specs.Prelude.{◌≡◌, IfErr, IfNone, IfOk, IfSome};
 ghost use Rattle.csv.specs.Records.{fields_of};
-ghost use Rattle.loaded_tables.specs.Outcomes.{IsFailure};
+ghost use Rattle.feature_table.specs.Outcomes.{IsFailure};
 ghost use Rattle.record_reasons.specs.Reasons.{Finds, HasNoReason, HasNoRecordReason, HasReason, IsOfColumn, IsOfLengths, IsReasonOf, IsRecordReason};
 ghost use Rattle.record_reasons.specs.Reasons as spec;
 
@@ -14,8 +14,8 @@ use crate::same_keys::same_key;
 use crate::seen_records::{seen_header, seen_record};
 use csv::ByteRecord;
 use fault_places::Place;
+use feature_table::TableDef;
 use geometry_model::{GeometryType, TextFault, ValidityFault};
-use loaded_tables::TableDef;
 use std::alloc::Global;
 use std::io::Read;
 use table_model::definitions::ROW_LIMIT;

@@ -2,7 +2,7 @@
 
 ghost use Rattle.std.specs.Prelude.{◌≡◌, ◌+◌, ◌<◌, ◌≤◌, IfErr, IfNone, IfOk, IfSome, None, Some, ℕ, length, slice_get};
 ghost use Rattle.csv.specs.Records.{fields_of};
-ghost use Rattle.loaded_tables.specs.Outcomes.{IsFailure};
+ghost use Rattle.feature_table.specs.Outcomes.{IsFailure};
 ghost use Rattle.record_reasons.specs.Reasons.{HasNoKeyReason, IsKeyReason, key_under};
 ghost use Rattle.record_reasons.specs.SeenKeys.{AreKeys};
 ghost use Rattle.record_reasons.specs.SeenRecords.{IsAbsent};
@@ -12,7 +12,7 @@ use crate::named_fields::field_named;
 use crate::reason::Reason;
 use crate::seen_records::take_record;
 use csv::ByteRecord;
-use loaded_tables::{Records, TableDef, integer_of};
+use feature_table::{Records, TableDef, integer_of};
 use sqlite_items as items;
 use std::alloc::Global;
 use std::io::Read;

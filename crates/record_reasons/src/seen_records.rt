@@ -2,13 +2,13 @@
 
 ghost use Rattle.std.specs.Prelude.{◌≡◌, ◌+◌, ◌<◌, ◌≤◌, IfErr, IfNone, IfOk, IfSome, OnOk};
 ghost use Rattle.csv.specs.Records.{fields_of};
-ghost use Rattle.loaded_tables.specs.Outcomes.{IsFailure};
-ghost use Rattle.loaded_tables.specs.Records.{IsReady, asked, record_limit};
+ghost use Rattle.feature_table.specs.Outcomes.{IsFailure};
+ghost use Rattle.feature_table.specs.Records.{IsReady, asked, record_limit};
 ghost use Rattle.record_reasons.specs.SeenRecords.{AreSeen, IsAbsent, Takes};
 ghost use Rattle.table_model.specs.Loading.{row_limit};
 
 use csv::ByteRecord;
-use loaded_tables::{Records, next_record};
+use feature_table::{Records, next_record};
 use std::alloc::Global;
 use std::io::Read;
 use table_model::faults::LoadFault;

@@ -1,7 +1,7 @@
 -- The tables of the schema that is written: those of the parts.
 use Rattle.std.specs.Prelude.{◌≡◌, ◌<◌, ◌+◌, ℕ, true, List, Option, Some, None, length, slice_get, string_bytes}
 use Rattle.std.specs.List.{slice_index_or}
-use Rattle.loaded_tables.specs.GeometryFields.{ShapeValue}
+use Rattle.feature_table.specs.GeometryFields.{ShapeValue}
 use Rattle.sfq_tiles.specs.declared.parts.NamedPart.{NamedPart}
 use Rattle.table_model.specs.declared.definitions.ColumnDef.{ColumnDef}
 use Rattle.table_model.specs.declared.definitions.ColumnType.TheVariants as type

@@ -2,7 +2,7 @@
 use Rattle.std.specs.Prelude.{◌≢◌, ℕ, nat_lt, Bool, List, [], ◌++◌, ◌==◌, if◌then◌else◌, map, length, codes, Option, Some, None, slice_get, string_bytes}
 use Rattle.std.specs.List.{concat, flat_map, range_with_len, slice_index_or}
 use Rattle.geometry_model.specs.declared.shapes.GeometryType.TheVariants as shapes
-use Rattle.loaded_tables.specs.GeometryFields.{ShapeValue}
+use Rattle.feature_table.specs.GeometryFields.{ShapeValue}
 use Rattle.sfq_tiles.specs.MadeTables.{AreMade}
 use Rattle.sfq_tiles.specs.declared.parts.Mistake.{Mistake}
 use Rattle.sfq_tiles.specs.declared.parts.Mistake.TheVariants as mistake

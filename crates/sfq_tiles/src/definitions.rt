@@ -1,7 +1,7 @@
 //! The schema of the tiles.
 
 ghost use Rattle.std.specs.Prelude.{◌≡◌, ◌++◌, List, IfErr, IfOk, OnOk, codes, string_bytes};
-ghost use Rattle.loaded_tables.specs.GeometryFields.{ShapeValue};
+ghost use Rattle.feature_table.specs.GeometryFields.{ShapeValue};
 ghost use Rattle.sfq_tiles.specs.MadeTables.{AreMade};
 ghost use Rattle.sfq_tiles.specs.SchemaTexts.{IsRefused, column_text, columns_text, copied_text, mark_text, marks_text, separator, shape_text, table_text, text_if, text_of, type_text};
 ghost use Rattle.table_model.specs.GeometryColumns.{shape_named};
@@ -10,8 +10,8 @@ ghost use Rattle.table_model.specs.declared.definitions.TableDef.{TableDef};
 
 use crate::made_tables::are_made;
 use crate::parts::{Mistake, NamedPart};
+use feature_table::{ColumnDef, ColumnShape, ColumnType, TableDef};
 use geometry_model::GeometryType;
-use loaded_tables::{ColumnDef, ColumnShape, ColumnType, TableDef};
 use schema_reader::read_schema;
 use sqlite_items::{self as items};
 use std::alloc::{AllocError, Global};

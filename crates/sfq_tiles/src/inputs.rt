@@ -7,7 +7,7 @@ use crate::endings::Ending;
 use crate::parts::NamedPart;
 use bounded_readers::{BoundedReader, PatientReader};
 use failures::Failure;
-use loaded_tables::{Geometry, Schema, TableDef};
+use feature_table::{Geometry, Schema, TableDef};
 use schema_reader::read_schema;
 use std::alloc::{AllocError, Global};
 use std::fs::{self, File};

@@ -5,7 +5,7 @@ ghost use Rattle.sfq_tiles.specs.MadeTables.{AreCopied, AreMade, HasColumns, Has
 ghost use Rattle.table_model.specs.declared.definitions.ColumnType.TheVariants as column;
 
 use crate::parts::NamedPart;
-use loaded_tables::{ColumnDef, ColumnType, TableDef};
+use feature_table::{ColumnDef, ColumnType, TableDef};
 use sqlite_items::{self as items};
 
 /// Whether two columns have one type.

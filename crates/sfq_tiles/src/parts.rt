@@ -4,7 +4,7 @@ ghost use Rattle.sfq_tiles.specs.declared.parts.Mistake.TheVariants as mistake;
 ghost use Rattle.std.specs.Prelude.{◌≢◌, ◌≤◌, IfErr, OkIff};
 ghost use Rattle.std.specs.Str.Parse.{IsNumeral, digits_value, without_leading_plus};
 
-use loaded_tables::{ColumnType, Schema, TableDef};
+use feature_table::{ColumnType, Schema, TableDef};
 use std::alloc::{AllocError, AllocFailed, Global};
 use table_model::definitions::COLUMN_LIMIT;
 use table_model::texts::same_name;

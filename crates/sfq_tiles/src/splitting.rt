@@ -11,7 +11,7 @@ use crate::listing::{Written, list_stretches, list_tiles};
 use crate::parts::{NamedPart, read_parts, read_rows};
 use crate::words::Words;
 use failures::Failure;
-use loaded_tables::{Schema, TableDef};
+use feature_table::{Schema, TableDef};
 use sinks::Sink;
 use std::alloc::{AllocError, Global};
 use std::fs;

@@ -18,8 +18,8 @@ use Rattle.sinks.specs.Sinks.{AppendsFront}
 use Rattle.sinks.proofs.SinkLemmas.{Appends-none, Appends-then, AppendsFront-more, AppendsFront-then, AppendsFront-whole}
 use Rattle.table_model.specs.Loading.{Record}
 use Rattle.table_model.specs.RunOutcomes.{ByEveryMatrix, MatrixOf}
-use Rattle.loaded_tables.specs.Reading.{StillGives, TakesFirst}
-use Rattle.loaded_tables.specs.Records.{records_in}
+use Rattle.feature_table.specs.Reading.{StillGives, TakesFirst}
+use Rattle.feature_table.specs.Records.{records_in}
 use Rattle.text_commands.specs.Relations.{IsFailureOf, relation}
 use Rattle.geometry_model.specs.Dimensions.{Matrix}
 

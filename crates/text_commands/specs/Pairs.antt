@@ -17,8 +17,8 @@ use Rattle.sinks.specs.Sinks.{AppendsFront}
 use Rattle.table_model.specs.Loading.{Record}
 use Rattle.table_model.specs.RunOutcomes.{ByEveryMatrix, MatrixOf}
 use Rattle.table_model.specs.declared.faults.LoadFault.TheVariants as l
-use Rattle.loaded_tables.specs.Reading.{StillGives}
-use Rattle.loaded_tables.specs.Records.{records_in}
+use Rattle.feature_table.specs.Reading.{StillGives}
+use Rattle.feature_table.specs.Records.{records_in}
 use Rattle.text_commands.specs.Relations.{relation}
 
 -- ---- records

@@ -4,8 +4,8 @@ ghost use Rattle.std.specs.Prelude.{◌≡◌, IfErr, IfOk, List, OnOk, Some, �
 ghost use Rattle.csv.specs.Records.{fields_of};
 ghost use Rattle.text_commands.specs.Pairs.{IsReadFailure, IsUnequal, field};
 ghost use Rattle.table_model.specs.Loading.{Record};
-ghost use Rattle.loaded_tables.specs.Reading.{IsSteady, StillGives, TakesFirst};
-ghost use Rattle.loaded_tables.specs.Records.{records_in};
+ghost use Rattle.feature_table.specs.Reading.{IsSteady, StillGives, TakesFirst};
+ghost use Rattle.feature_table.specs.Records.{records_in};
 
 use csv::{ByteRecord, Error, Reader, ReaderBuilder};
 use failures::Failure;

@@ -4,7 +4,7 @@ ghost use Rattle.std.specs.Prelude.{◌≡◌, ◌||◌, List, Option, [], ℕ};
 ghost use Rattle.text_commands.specs.Pairs.{AreRead, Begins, CountsWrites, Ends, RelatesPairs, pairs_end};
 ghost use Rattle.table_model.specs.Loading.{Record};
 ghost use Rattle.table_model.specs.RunOutcomes.{ByEveryMatrix};
-ghost use Rattle.loaded_tables.specs.Reading.{IsSteady};
+ghost use Rattle.feature_table.specs.Reading.{IsSteady};
 
 use crate::pair_lines::put_pair;
 use crate::pair_records::{broken_off, next_record, record_reader, unequal};

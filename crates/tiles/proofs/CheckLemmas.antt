@@ -8,10 +8,10 @@ use Rattle.std.proofs.lemmas.Bool.Decides.{Decides-int_eq, nat_tests}
 use Rattle.std.proofs.lemmas.Cmp.{int_eq_equiv}
 use Rattle.std.proofs.lemmas.Map.Keys.{IsDistinct-IsPermutation}
 use Rattle.std.proofs.lemmas.Map.Made.{AllPairs-from_IsDistinct, IsDistinct-from_AllPairs}
-use Rattle.loaded_tables.proofs.AscentLemmas.{Ascend, no_double}
-use Rattle.loaded_tables.proofs.LoadLemmas.{no_header}
-use Rattle.loaded_tables.specs.Outcomes.{IsFailure, Loads}
-use Rattle.loaded_tables.specs.Tables.{AreRecordsOf, records_in}
+use Rattle.feature_table.proofs.AscentLemmas.{Ascend, no_double}
+use Rattle.feature_table.proofs.LoadLemmas.{no_header}
+use Rattle.feature_table.specs.Outcomes.{IsFailure, Loads}
+use Rattle.feature_table.specs.Tables.{AreRecordsOf, records_in}
 use Rattle.table_laws.proofs.Doubles.{none_is_double}
 use Rattle.table_model.specs.Definitions.{lawful}
 use Rattle.table_model.specs.Loading.{GeometryReader, Record, and_then, by_key, double_key, header_fault, key_of, keyed_rows, load, row_of, rows_of, unless}

@@ -10,10 +10,10 @@ use Rattle.std.proofs.lemmas.List.Sums.{count_by-le-length, length-filter, sum_b
 use Rattle.std.proofs.lemmas.Option.{slice_get-get_or, slice_get_past}
 use Rattle.csv.specs.declared.reader.Reader.{Reader}
 use Rattle.geometry_model.specs.Envelopes.{Envelope}
-use Rattle.loaded_tables.specs.Layouts.{IsLayout}
-use Rattle.loaded_tables.specs.declared.headers.Layout.{Layout}
-use Rattle.loaded_tables.specs.Reading.{StillGives, TakesFirst}
-use Rattle.loaded_tables.specs.Tables.{AreRecordsOf, records_in}
+use Rattle.feature_table.specs.Layouts.{IsLayout}
+use Rattle.feature_table.specs.declared.headers.Layout.{Layout}
+use Rattle.feature_table.specs.Reading.{StillGives, TakesFirst}
+use Rattle.feature_table.specs.Tables.{AreRecordsOf, records_in}
 use Rattle.table_model.specs.Loading.{Record, header_fault}
 use Rattle.table_model.specs.declared.definitions.ColumnDef.{ColumnDef}
 use Rattle.table_model.specs.declared.faults.LoadFault.{LoadFault}

@@ -2,11 +2,11 @@
 use Rattle.std.proofs.Common.{◌≡◌, ◌≢◌, ◌⊎◌, ◌∷◌, inl, inr, ℕ, List, Option, None, Some, Result, Ok, Err, IfErr, [], ◌∙◌, ap, refl, subst, sym, true}
 use Rattle.std.specs.Prelude.{IsErrAnd}
 use Rattle.csv.specs.declared.reader.Reader.{Reader}
-use Rattle.loaded_tables.proofs.FailureLemmas.{failure_or_not}
-use Rattle.loaded_tables.specs.Outcomes.{IsFailure}
-use Rattle.loaded_tables.specs.Reading.{StillGives, TakesFirst}
-use Rattle.loaded_tables.specs.declared.headers.Layout.{Layout}
-use Rattle.loaded_tables.specs.Tables.{records_in}
+use Rattle.feature_table.proofs.FailureLemmas.{failure_or_not}
+use Rattle.feature_table.specs.Outcomes.{IsFailure}
+use Rattle.feature_table.specs.Reading.{StillGives, TakesFirst}
+use Rattle.feature_table.specs.declared.headers.Layout.{Layout}
+use Rattle.feature_table.specs.Tables.{records_in}
 use Rattle.table_model.specs.Loading.{Record, header_fault}
 use Rattle.table_model.specs.declared.definitions.ColumnDef.{ColumnDef}
 use Rattle.table_model.specs.declared.faults.LoadFault.{LoadFault}

@@ -4,9 +4,9 @@ use Rattle.std.proofs.lemmas.List.{append_assoc, get_or-map, length-append, leng
 use Rattle.std.proofs.lemmas.List.FromFn.{get_or-enumerate_from, length-enumerate_from}
 use Rattle.std.specs.List.{enumerate_from}
 use Rattle.csv.specs.declared.reader.Reader.{Reader}
-use Rattle.loaded_tables.proofs.EachLemmas.{Passed, passed_all, passed_fault, passed_more}
-use Rattle.loaded_tables.proofs.LoadingLemmas.{at_place, drop_front}
-use Rattle.loaded_tables.specs.Reading.{StillGives}
+use Rattle.feature_table.proofs.EachLemmas.{Passed, passed_all, passed_fault, passed_more}
+use Rattle.feature_table.proofs.LoadingLemmas.{at_place, drop_front}
+use Rattle.feature_table.specs.Reading.{StillGives}
 use Rattle.table_model.specs.Loading.{Record, each}
 use Rattle.table_model.specs.declared.faults.LoadFault.{LoadFault}
 use Rattle.table_model.specs.declared.faults.LoadFault.TheVariants as fault

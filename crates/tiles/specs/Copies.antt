@@ -4,8 +4,8 @@ use Rattle.std.specs.List.{flat_map, range_with_len}
 use Rattle.csv.specs.declared.reader.Reader.{Reader}
 use Rattle.geometry_model.specs.Envelopes.{Envelope, envelope, meets}
 use Rattle.geometry_model.specs.Geometries.{Geometry}
-use Rattle.loaded_tables.specs.Reading.{StillGives}
-use Rattle.loaded_tables.specs.Tables.{AreRecordsOf}
+use Rattle.feature_table.specs.Reading.{StillGives}
+use Rattle.feature_table.specs.Tables.{AreRecordsOf}
 use Rattle.table_model.specs.Loading.{Record, header_fault}
 use Rattle.table_model.specs.declared.definitions.ColumnDef.{ColumnDef}
 use Rattle.tile_laws.specs.Cells.{Cell, cells_of, is_copied}

@@ -2,9 +2,9 @@
 use Rattle.std.specs.Prelude.{◌≡◌, ◌⊎◌, ◌∷◌, ℕ, List, Option, Some}
 use Rattle.csv.specs.declared.reader.Reader.{Reader}
 use Rattle.integers.specs.Counts.{one_more}
-use Rattle.loaded_tables.specs.Outcomes.{IsFailure}
-use Rattle.loaded_tables.specs.Reading.{StillGives}
-use Rattle.loaded_tables.specs.Tables.{AreRecordsOf}
+use Rattle.feature_table.specs.Outcomes.{IsFailure}
+use Rattle.feature_table.specs.Reading.{StillGives}
+use Rattle.feature_table.specs.Tables.{AreRecordsOf}
 use Rattle.table_model.specs.Loading.{Record, header_fault}
 use Rattle.table_model.specs.declared.definitions.ColumnDef.{ColumnDef}
 use Rattle.table_model.specs.declared.faults.LoadFault.{LoadFault}

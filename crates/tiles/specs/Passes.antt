@@ -1,9 +1,9 @@
 -- What one pass over the records of a table returns.
 use Rattle.std.specs.Prelude.{◌≡◌, ◌∷◌, ⊤, ℕ, ℤ, List, [], Option, Some, None, Result, Ok, Err}
 use Rattle.csv.specs.declared.reader.Reader.{Reader}
-use Rattle.loaded_tables.specs.Outcomes.{IsFailure, Loads}
-use Rattle.loaded_tables.specs.Reading.{StillGives}
-use Rattle.loaded_tables.specs.Tables.{AreRecordsOf}
+use Rattle.feature_table.specs.Outcomes.{IsFailure, Loads}
+use Rattle.feature_table.specs.Reading.{StillGives}
+use Rattle.feature_table.specs.Tables.{AreRecordsOf}
 use Rattle.table_model.specs.Loading.{Record, and_then}
 use Rattle.table_model.specs.declared.faults.LoadFault.{LoadFault}
 use Rattle.table_model.specs.declared.faults.LoadFault.TheVariants as fault

@@ -1,7 +1,7 @@
 -- What is written is read back.
 use Rattle.std.specs.Prelude.{◌≡◌, ◌≢◌, ℕ, List, [], ◌∷◌, All, Some, slice_get}
 use Rattle.csv.specs.Reading.{strip_bom}
-use Rattle.loaded_tables.specs.Tables.{records_in}
+use Rattle.feature_table.specs.Tables.{records_in}
 use Rattle.table_model.specs.Loading.{Record}
 use Rattle.tiles.specs.Copies.{table_at}
 

@@ -3,8 +3,8 @@
 ghost use Rattle.std.specs.Prelude.{◌≡◌, ◌+◌, ◌++◌, ◌==◌, ◌<◌, ◌^◌, if◌then◌else◌, [], ℕ, IfErr, IfOk, List, OnOk, count_by, length, map, nat_lt, replicate, slice_index, vec_len};
 ghost use Rattle.std.specs.List.{All};
 ghost use Rattle.csv.specs.Records.{fields_of, partial_of};
-ghost use Rattle.loaded_tables.specs.Outcomes.{IsFailure};
-ghost use Rattle.loaded_tables.specs.Reading.{IsSteady};
+ghost use Rattle.feature_table.specs.Outcomes.{IsFailure};
+ghost use Rattle.feature_table.specs.Reading.{IsSteady};
 ghost use Rattle.table_model.specs.Loading.{Record};
 ghost use Rattle.tiles.specs.Copies.{AreAdded, AreAll, AreRecordsOfTable, AreWritten, copied_fields, geometry_in, is_copied_to, meets_cell, tiles, tiles_of};
 ghost use Rattle.tiles.specs.Faults.{IsCopyFault, IsTableFault};
@@ -19,7 +19,7 @@ use crate::record_lines::{copied_fields, field_in, marked_names, push_marks, put
 use crate::texts::CellTexts;
 use crate::{Cells, Marks};
 use csv::{ByteRecord, Reader};
-use loaded_tables::{Layout, record_reader};
+use feature_table::{Layout, record_reader};
 use rtree::Envelope;
 use std::alloc::Global;
 use std::io::Read;

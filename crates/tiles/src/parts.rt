@@ -1,6 +1,6 @@
 //! What of a table is copied.
 
-use loaded_tables::TableDef;
+use feature_table::TableDef;
 
 /// What of a table is copied.
 #[derive(Drop)]

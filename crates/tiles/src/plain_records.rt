@@ -2,12 +2,12 @@
 
 ghost use Rattle.std.specs.Prelude.{IfErr, IfOk, List, OnOk};
 ghost use Rattle.csv.specs.Records.{fields_of};
-ghost use Rattle.loaded_tables.specs.Outcomes.{IsFailure};
-ghost use Rattle.loaded_tables.specs.Reading.{IsSteady, StillGives, TakesFirst};
+ghost use Rattle.feature_table.specs.Outcomes.{IsFailure};
+ghost use Rattle.feature_table.specs.Reading.{IsSteady, StillGives, TakesFirst};
 ghost use Rattle.table_model.specs.Loading.{Record};
 
 use csv::{ByteRecord, Reader};
-use loaded_tables::fault_of;
+use feature_table::fault_of;
 use std::io::Read;
 use table_model::faults::LoadFault;
 

@@ -2,14 +2,14 @@
 
 ghost use Rattle.std.specs.Prelude.{◌≡◌, IfErr, IfOk, List, None, OnOk, true, length};
 ghost use Rattle.csv.specs.Records.{fields_of};
-ghost use Rattle.loaded_tables.specs.Layouts.{IsLayout};
-ghost use Rattle.loaded_tables.specs.Outcomes.{IsFailure};
-ghost use Rattle.loaded_tables.specs.Reading.{IsSteady, StillGives, TakesFirst};
+ghost use Rattle.feature_table.specs.Layouts.{IsLayout};
+ghost use Rattle.feature_table.specs.Outcomes.{IsFailure};
+ghost use Rattle.feature_table.specs.Reading.{IsSteady, StillGives, TakesFirst};
 ghost use Rattle.table_model.specs.Loading.{Record, header_fault};
 ghost use Rattle.tiles.specs.Faults.{IsOfHeader};
 
 use csv::{ByteRecord, Reader};
-use loaded_tables::{Layout, TableDef, fault_of, layout_of};
+use feature_table::{Layout, TableDef, fault_of, layout_of};
 use std::alloc::Global;
 use std::io::Read;
 use table_model::faults::LoadFault;

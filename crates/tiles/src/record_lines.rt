@@ -2,7 +2,7 @@
 
 ghost use Rattle.std.specs.Prelude.{◌≡◌, ◌++◌, ◌∷◌, [], IfErr, OnOk, map};
 ghost use Rattle.csv.specs.Records.{fields_of, partial_of};
-ghost use Rattle.loaded_tables.specs.Outcomes.{IsFailure};
+ghost use Rattle.feature_table.specs.Outcomes.{IsFailure};
 ghost use Rattle.tile_laws.specs.Cells.{mark};
 ghost use Rattle.tiles.specs.Copies.{copied_fields};
 ghost use Rattle.tiles.specs.Faults.{IsCopyFault};
@@ -14,7 +14,7 @@ use crate::faults::CopyFault;
 use crate::parts::Part;
 use crate::texts::CellTexts;
 use csv::ByteRecord;
-use loaded_tables::{ColumnDef, field_at};
+use feature_table::{ColumnDef, field_at};
 use records::push_line;
 use sqlite_items::{self as items};
 use std::alloc::AllocError;

@@ -1,8 +1,8 @@
 //! A sample of the least corners of the geometries in a column.
 
 use crate::watching::RowWatcher;
+use feature_table::Geometry;
 use fraction::GridPoint;
-use loaded_tables::Geometry;
 use rtree::Envelope;
 use sqlite_items::{self as items};
 use std::alloc::{AllocError, Global};

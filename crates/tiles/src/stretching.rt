@@ -2,8 +2,8 @@
 
 ghost use Rattle.std.specs.Prelude.{◌≡◌, ◌+◌, ◌++◌, ◌∷◌, ◌<◌, ◌≤◌, [], ℕ, IfErr, IfOk, List, OnOk, length, map, vec_len};
 ghost use Rattle.csv.specs.Records.{fields_of, partial_of};
-ghost use Rattle.loaded_tables.specs.Outcomes.{IsFailure};
-ghost use Rattle.loaded_tables.specs.Reading.{IsSteady};
+ghost use Rattle.feature_table.specs.Outcomes.{IsFailure};
+ghost use Rattle.feature_table.specs.Reading.{IsSteady};
 ghost use Rattle.table_model.specs.Loading.{Record};
 ghost use Rattle.tiles.specs.Copies.{AreAll, AreRecordsOfTable, AreWritten, copied_fields, size_of, stretches, stretches_of};
 ghost use Rattle.tiles.specs.Faults.{IsCopyFault, IsTableFault};
@@ -16,7 +16,7 @@ use crate::reading::{read_layout, read_record};
 use crate::record_lines::{copied_fields, names, put_record};
 use crate::texts::CellTexts;
 use csv::{ByteRecord, Reader};
-use loaded_tables::{Layout, record_reader};
+use feature_table::{Layout, record_reader};
 use std::alloc::Global;
 use std::io::Read;
 use table_model::faults::LoadFault;

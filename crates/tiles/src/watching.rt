@@ -1,6 +1,6 @@
 //! What looks at each row of a table while it is checked.
 
-use loaded_tables::Geometry;
+use feature_table::Geometry;
 use std::alloc::AllocError;
 use table_model::values::Value;
 

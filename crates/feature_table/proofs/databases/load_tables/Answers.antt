@@ -9,7 +9,7 @@ use Rattle.std.specs.Iterator.Adapters.{enumerate_source}
 use Rattle.std.specs.Result.{is_ok}
 use Rattle.std.specs.Vec.Iter.{into_iter_items, into_iter_len}
 use Rattle.feature_table.proofs.DatabaseLemmas.{all_loaded, fault_loaded, known_at, loaded_more, no_definition, reader_at}
-use Rattle.loaded_tables.specs.GeometryFields.{reading}
+use Rattle.feature_table.specs.GeometryFields.{reading}
 use Rattle.table_model.specs.declared.faults.LoadFault.TheVariants as fault
 use Rattle.feature_table.proofs.databases.load_tables.Goals as goal
 

@@ -1,6 +1,6 @@
 use Rattle.std.proofs.Common.{◌≡◌, length, map, vec_len}
 use Rattle.feature_table.proofs.DatabaseLemmas.{HaveLoaded}
-use Rattle.loaded_tables.specs.GeometryFields.{reading}
+use Rattle.feature_table.specs.GeometryFields.{reading}
 use Rattle.feature_table.proofs.databases.load_tables.Given as goal
 
 abbrev pub invariant-loop-place : goal.invariant-loop-place

@@ -1,7 +1,7 @@
 -- Each turn reads one record more, of which no field holds one.
 use Rattle.std.proofs.Common.{◌+◌, ◌++◌, ◌≤◌, [], ◌∷◌, arith, length, length-append, refl}
 use Rattle.csv.specs.Records.{fields_of}
-use Rattle.loaded_tables.specs.Records.{records_in}
+use Rattle.feature_table.specs.Records.{records_in}
 use Rattle.record_reasons.proofs.LineLemmas.{first-there, none-after, none-more, none-within}
 use Rattle.record_reasons.proofs.ReasonLemmas.{none-is-so}
 use Rattle.record_reasons.proofs.SeenLemmas.{none-left, read-more, taken}

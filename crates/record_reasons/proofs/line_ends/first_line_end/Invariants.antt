@@ -1,6 +1,6 @@
 -- As many records were read as there were turns, and none holds one.
 use Rattle.std.proofs.Common.{◌≡◌, List, length}
-use Rattle.loaded_tables.specs.Records.{IsReady, asked}
+use Rattle.feature_table.specs.Records.{IsReady, asked}
 use Rattle.record_reasons.proofs.LineLemmas.{NoneHolds}
 use Rattle.record_reasons.specs.SeenRecords.{HasRead}
 use Rattle.table_model.specs.Loading.{Record}

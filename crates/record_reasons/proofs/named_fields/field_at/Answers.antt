@@ -1,6 +1,6 @@
 use Rattle.std.proofs.Common.{◌∙◌, [], ap, unwrap_or}
 use Rattle.csv.specs.Records.{fields_of}
-use Rattle.loaded_tables.proofs.HeaderLemmas.{field_at-get, lent}
+use Rattle.feature_table.proofs.HeaderLemmas.{field_at-get, lent}
 use Rattle.record_reasons.proofs.named_fields.field_at.Goals as goal
 
 pub returns : goal.returns

@@ -1,7 +1,7 @@
 -- The first field of the header that has the name.
 use Rattle.std.proofs.Common.{[], ◌∙◌, ◌<◌, ◌≤◌, None, ap, arith, get_or, length, refl, sym}
 use Rattle.csv.specs.Records.{fields_of}
-use Rattle.loaded_tables.proofs.HeaderLemmas.{found_kept, found_next}
+use Rattle.feature_table.proofs.HeaderLemmas.{found_kept, found_next}
 use Rattle.table_model.specs.Texts.{same_name}
 use Rattle.record_reasons.proofs.NameLemmas.{no-place}
 use Rattle.record_reasons.proofs.named_fields.field_named.Goals as goal

@@ -1,7 +1,7 @@
 -- No field of the header before this place has the name.
 use Rattle.std.proofs.Common.{None}
 use Rattle.csv.specs.Records.{fields_of}
-use Rattle.loaded_tables.proofs.HeaderLemmas.{IsFound}
+use Rattle.feature_table.proofs.HeaderLemmas.{IsFound}
 use Rattle.table_model.specs.Texts.{same_name}
 use Rattle.record_reasons.proofs.named_fields.field_named.Given as goal
 

@@ -2,7 +2,7 @@
 use Rattle.std.proofs.Common.{◌≡◌, ◌∙◌, ◌++◌, [], ◌∷◌, ap, arith, length-append, refl, subst, sym}
 use Rattle.csv.specs.Records.{fields_of}
 use Rattle.csv.specs.contracts.record.ByteRecord.{the_view}
-use Rattle.loaded_tables.specs.Records.{records_in}
+use Rattle.feature_table.specs.Records.{records_in}
 use Rattle.record_reasons.proofs.KeyLemmas.{map-more}
 use Rattle.record_reasons.proofs.SeenLemmas.{absent, begins, none-left, read-more, taken}
 use Rattle.record_reasons.specs.Reasons.{key_under}

@@ -2,7 +2,7 @@
 use Rattle.std.proofs.Common.{◌≡◌, ◌+◌, List, ◌∷◌, length, map}
 use Rattle.csv.specs.Records.{fields_of}
 use Rattle.csv.specs.contracts.record.ByteRecord.{the_view}
-use Rattle.loaded_tables.specs.Records.{IsReady, asked}
+use Rattle.feature_table.specs.Records.{IsReady, asked}
 use Rattle.record_reasons.specs.Reasons.{key_under}
 use Rattle.record_reasons.specs.SeenRecords.{HasRead}
 use Rattle.table_model.specs.Loading.{Record}

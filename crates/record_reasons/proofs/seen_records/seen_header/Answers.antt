@@ -1,7 +1,7 @@
 -- The header is the first record.
 use Rattle.std.proofs.Common.{[], ◌∷◌, refl}
 use Rattle.csv.specs.Records.{fields_of}
-use Rattle.loaded_tables.specs.Records.{records_in}
+use Rattle.feature_table.specs.Records.{records_in}
 use Rattle.record_reasons.proofs.SeenLemmas.{begins, first-read, taken}
 use Rattle.record_reasons.proofs.seen_records.seen_header.Goals as goal
 

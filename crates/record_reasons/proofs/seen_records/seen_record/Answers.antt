@@ -2,7 +2,7 @@
 use Rattle.std.proofs.Common.{◌≡◌, ◌∙◌, ◌+◌, ◌++◌, [], ◌∷◌, Some, ap, arith, length-append, refl, subst, sym}
 use Rattle.std.specs.Prelude.{slice_get}
 use Rattle.csv.specs.Records.{fields_of}
-use Rattle.loaded_tables.specs.Records.{records_in}
+use Rattle.feature_table.specs.Records.{records_in}
 use Rattle.record_reasons.proofs.SeenLemmas.{absent, begins, earlier, last, none-left, read-more, taken}
 use Rattle.record_reasons.proofs.seen_records.seen_record.Goals as goal
 

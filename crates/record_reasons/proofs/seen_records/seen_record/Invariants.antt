@@ -3,7 +3,7 @@ use Rattle.std.proofs.Common.{◌≡◌, ◌+◌, ◌<◌, List, Some, length}
 use Rattle.std.specs.Prelude.{slice_get}
 use Rattle.csv.specs.Records.{fields_of}
 use Rattle.csv.specs.contracts.record.ByteRecord.{the_view}
-use Rattle.loaded_tables.specs.Records.{IsReady, asked}
+use Rattle.feature_table.specs.Records.{IsReady, asked}
 use Rattle.record_reasons.specs.SeenRecords.{HasRead}
 use Rattle.table_model.specs.Loading.{Record}
 use Rattle.record_reasons.proofs.seen_records.seen_record.Given as goal

@@ -1,6 +1,6 @@
 -- The part and the table that were found, and no others.
 use Rattle.std.proofs.Common.{◌≡◌, Bool, false, ℕ, List, Option, None, Some, ◌↔◌, IsTrue, slice_get, subst, sym}
-use Rattle.loaded_tables.specs.GeometryFields.{ShapeValue}
+use Rattle.feature_table.specs.GeometryFields.{ShapeValue}
 use Rattle.sfq_tiles.specs.MadeTables.{IsMade, IsMadeAt}
 use Rattle.sfq_tiles.specs.declared.parts.NamedPart.{NamedPart}
 use Rattle.table_model.specs.declared.definitions.TableDef.{TableDef}

@@ -1,5 +1,5 @@
 use Rattle.csv.specs.Records.{fields_of}
-use Rattle.loaded_tables.proofs.ReadingLemmas.{taken}
+use Rattle.feature_table.proofs.ReadingLemmas.{taken}
 use Rattle.text_commands.proofs.pair_records.next_record.Goals as goal
 
 pub returns-in-Ok-clause-takes : goal.returns-in-Ok-clause-takes

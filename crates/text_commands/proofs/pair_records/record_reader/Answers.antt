@@ -1,6 +1,6 @@
 use Rattle.std.proofs.Common.{◌∙◌, ap, option_map}
 use Rattle.csv.specs.Reading.{strip_bom}
-use Rattle.loaded_tables.proofs.ReadingLemmas.{at_start}
+use Rattle.feature_table.proofs.ReadingLemmas.{at_start}
 use Rattle.text_commands.proofs.pair_records.record_reader.Goals as goal
 
 pub returns-clause-gives : goal.returns-clause-gives

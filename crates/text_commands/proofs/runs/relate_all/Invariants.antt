@@ -1,7 +1,7 @@
 use Rattle.std.proofs.Common.{◌≡◌, List, Option, [], ℕ}
 use Rattle.text_commands.specs.Pairs.{Begins}
 use Rattle.text_commands.proofs.PairLemmas.{Midway}
-use Rattle.loaded_tables.specs.Reading.{IsSteady}
+use Rattle.feature_table.specs.Reading.{IsSteady}
 use Rattle.text_commands.proofs.runs.relate_all.Given as goal
 
 -- the lines of the records so far were written

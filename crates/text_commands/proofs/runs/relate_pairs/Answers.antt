@@ -1,6 +1,6 @@
 -- At the start a reader gives all records of its text.
 use Rattle.std.proofs.Common.{refl}
-use Rattle.loaded_tables.specs.Records.{records_in}
+use Rattle.feature_table.specs.Records.{records_in}
 use Rattle.text_commands.proofs.runs.relate_pairs.Goals as goal
 
 pub returns-clause-relates : goal.returns-clause-relates

@@ -1,5 +1,5 @@
 use Rattle.std.proofs.lemmas.Result.{err_from_is_err_and}
-use Rattle.loaded_tables.specs.GeometryFields.{reading}
+use Rattle.feature_table.specs.GeometryFields.{reading}
 use Rattle.tiles.proofs.CheckLemmas.{seen_to_differ}
 use Rattle.tiles.proofs.checking.check_records.Goals as goal
 

@@ -1,6 +1,6 @@
 use Rattle.std.proofs.Common.{◌≡◌, inr, length, refl, rules, sym, vec_len}
 use Rattle.std.proofs.lemmas.Result.{err_from_is_err_and}
-use Rattle.loaded_tables.specs.GeometryFields.{reading}
+use Rattle.feature_table.specs.GeometryFields.{reading}
 use Rattle.tiles.proofs.CheckLemmas.{counts, doubles, fails}
 use Rattle.tiles.proofs.checking.find_fault.Goals as goal
 

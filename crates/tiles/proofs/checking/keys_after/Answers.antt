@@ -3,8 +3,8 @@ use mir.Facts.{to_z-of_z}
 use Rattle.std.specs.Int.{w64}
 use Rattle.std.specs.Prelude.{FitsSigned}
 use Rattle.std.proofs.lemmas.Result.{err_from_is_err_and}
-use Rattle.loaded_tables.proofs.FailureLemmas.{of_fault}
-use Rattle.loaded_tables.specs.GeometryFields.{reading}
+use Rattle.feature_table.proofs.FailureLemmas.{of_fault}
+use Rattle.feature_table.specs.GeometryFields.{reading}
 use Rattle.tiles.proofs.PassLemmas.{answer_end, answer_fault, midway_more, read_end, read_fault, read_more}
 use Rattle.tiles.specs.Checks.{record_key, record_keys}
 use Rattle.tiles.proofs.checking.keys_after.Goals as goal

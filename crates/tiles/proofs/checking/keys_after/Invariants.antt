@@ -1,7 +1,7 @@
 use Rattle.std.proofs.Common.{List}
-use Rattle.loaded_tables.specs.GeometryFields.{reading}
-use Rattle.loaded_tables.specs.Layouts.{IsLayout}
-use Rattle.loaded_tables.specs.Reading.{IsSteady, StillGives}
+use Rattle.feature_table.specs.GeometryFields.{reading}
+use Rattle.feature_table.specs.Layouts.{IsLayout}
+use Rattle.feature_table.specs.Reading.{IsSteady, StillGives}
 use Rattle.table_model.specs.Loading.{Record}
 use Rattle.tiles.proofs.PassLemmas.{AreRead, Midway}
 use Rattle.tiles.specs.Checks.{record_key}

@@ -1,7 +1,7 @@
 use Rattle.std.proofs.Common.{[], ◌∙◌, ◌∷◌, ap, inr}
 use Rattle.std.proofs.lemmas.Result.{err_from_is_err_and}
 use Rattle.csv.specs.Records.{fields_of}
-use Rattle.loaded_tables.specs.GeometryFields.{reading}
+use Rattle.feature_table.specs.GeometryFields.{reading}
 use Rattle.table_model.specs.declared.faults.LoadFault.TheVariants as fault
 use Rattle.tiles.proofs.CheckLemmas.{header_fails, header_passes, no_records, fault_of_known, of_known}
 use Rattle.tiles.specs.Checks.{keys_of_table}

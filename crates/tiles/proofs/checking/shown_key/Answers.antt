@@ -3,7 +3,7 @@ use Rattle.std.proofs.lemmas.Result.{err_from_is_err_and}
 use Rattle.std.proofs.lemmas.Int.{to_z-of_z}
 use mir.Syntax.{w64}
 use Rattle.csv.specs.Records.{fields_of}
-use Rattle.loaded_tables.specs.GeometryFields.{reading}
+use Rattle.feature_table.specs.GeometryFields.{reading}
 use Rattle.table_model.specs.Loading.{key_of}
 use Rattle.tiles.proofs.CheckLemmas.{equal, unequal}
 use Rattle.tiles.proofs.checking.shown_key.Goals as goal

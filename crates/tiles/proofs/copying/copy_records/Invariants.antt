@@ -1,5 +1,5 @@
 use Rattle.std.proofs.Common.{◌≡◌, List, length}
-use Rattle.loaded_tables.specs.Reading.{IsSteady}
+use Rattle.feature_table.specs.Reading.{IsSteady}
 use Rattle.table_model.specs.Loading.{Record}
 use Rattle.tiles.specs.Copies.{AreAdded, WereRead, tiles}
 use Rattle.tiles.proofs.copying.copy_records.Given as goal

@@ -1,6 +1,6 @@
 use Rattle.std.proofs.Common.{◌≡◌, ◌<◌, ◌≤◌, List, length}
 use Rattle.csv.specs.Records.{fields_of}
-use Rattle.loaded_tables.specs.Reading.{IsSteady}
+use Rattle.feature_table.specs.Reading.{IsSteady}
 use Rattle.table_model.specs.Loading.{Record}
 use Rattle.tiles.specs.Copies.{WereRead, copied_fields}
 use Rattle.tiles.specs.Stretches.{AreFilled}

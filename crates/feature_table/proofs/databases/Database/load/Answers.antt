@@ -3,9 +3,9 @@ use Rattle.std.proofs.Common.{◌≡◌, arith, length, map}
 use Rattle.std.proofs.lemmas.List.{length-map}
 use Rattle.std.proofs.lemmas.Result.{err_from_is_err_and}
 use Rattle.feature_table.proofs.DatabaseLemmas.{loads_texts}
-use Rattle.loaded_tables.proofs.GeometryFieldLemmas.{tables_database}
-use Rattle.loaded_tables.proofs.ReaderRecords.{length-each}
-use Rattle.loaded_tables.specs.GeometryFields.{reading}
+use Rattle.feature_table.proofs.GeometryFieldLemmas.{tables_database}
+use Rattle.feature_table.proofs.ReaderRecords.{length-each}
+use Rattle.feature_table.specs.GeometryFields.{reading}
 use Rattle.feature_table.proofs.databases.Database.load.Goals as goal
 
 pub invariant_of-result : goal.invariant_of-result

@@ -1,0 +1,63 @@
+-- The values that cells name: more texts and geometries behind the others leave them as they were.
+use Rattle.std.proofs.Common.{◌≡◌, ◌∙◌, ◌*◌, ◌++◌, ◌∷◌, ◌<◌, ℕ, zero, suc, [], List, ap, ap₂, arith, drop, length, length-append, map, refl, sym, take}
+use Rattle.std.proofs.lemmas.List.{drop-map, map-append, take-map}
+use Rattle.std.proofs.lemmas.List.Elements.{All-head, All-tail, All-weaker}
+use Rattle.std.specs.List.{All}
+use Rattle.std.specs.Prelude.{slice_get}
+use Rattle.feature_table.specs.FlatRows.{row_at}
+use Rattle.feature_table.specs.GeometryFields.{GeometryValue}
+use Rattle.feature_table.specs.Values.{IsBehind, IsKept, value_in, values_in}
+use Rattle.feature_table.specs.declared.values.Cell.{Cell}
+use Rattle.feature_table.specs.declared.values.Cell.TheVariants as cell
+use Rattle.table_model.specs.declared.values.Value.{Value}
+
+-- what is at a place below the length stays there
+get_behind : {X : Type 0} (old more : List X) (k : ℕ) → k < length old → slice_get (old ++ more) k ≡ slice_get old k
+get_behind [] more k h = absurd (omega (arith, h))
+get_behind (x ∷ old) more zero h = refl
+get_behind (x ∷ old) more (suc k) h = get_behind old more k (omega (arith, h))
+
+below_behind : {X : Type 0} (old new : List X) (k : ℕ) → IsBehind old new → k < length old → k < length new
+below_behind old new k b h = let size = ap length b.1 ∙ length-append old b.0 in omega (arith, h, size)
+
+-- a kept cell is kept, and names the value that it named
+kept_more : (texts texts-2 : List (List ℕ)) (geometries geometries-2 : List GeometryValue) (c : Cell) → IsBehind texts texts-2 → IsBehind geometries geometries-2
+    → IsKept texts geometries c → IsKept texts-2 geometries-2 c
+kept_more texts texts-2 geometries geometries-2 cell.Null t g h = tt
+kept_more texts texts-2 geometries geometries-2 (cell.Integer n) t g h = tt
+kept_more texts texts-2 geometries geometries-2 (cell.Text k) t g h = below_behind texts texts-2 k t h
+kept_more texts texts-2 geometries geometries-2 (cell.Geometry k) t g h = below_behind geometries geometries-2 k g h
+
+value_more : (texts texts-2 : List (List ℕ)) (geometries geometries-2 : List GeometryValue) (c : Cell) → IsBehind texts texts-2 → IsBehind geometries geometries-2
+    → IsKept texts geometries c → value_in texts-2 geometries-2 c ≡ value_in texts geometries c
+value_more texts texts-2 geometries geometries-2 cell.Null t g h = refl
+value_more texts texts-2 geometries geometries-2 (cell.Integer n) t g h = refl
+value_more texts texts-2 geometries geometries-2 (cell.Text k) t g h = rw (t.1, get_behind texts t.0 k h) refl
+value_more texts texts-2 geometries geometries-2 (cell.Geometry k) t g h = rw (g.1, get_behind geometries g.0 k h) refl
+
+-- so it is for each of several
+pub all_kept : (texts texts-2 : List (List ℕ)) (geometries geometries-2 : List GeometryValue) (cells : List Cell) → IsBehind texts texts-2 → IsBehind geometries geometries-2
+    → All (IsKept texts geometries) cells → All (IsKept texts-2 geometries-2) cells
+all_kept texts texts-2 geometries geometries-2 cells t g h =
+    All-weaker (IsKept texts geometries) (IsKept texts-2 geometries-2) (λ c kept. kept_more texts texts-2 geometries geometries-2 c t g kept) cells h
+
+pub values_more : (texts texts-2 : List (List ℕ)) (geometries geometries-2 : List GeometryValue) (cells : List Cell) → IsBehind texts texts-2
+    → IsBehind geometries geometries-2 → All (IsKept texts geometries) cells → values_in texts-2 geometries-2 cells ≡ values_in texts geometries cells
+values_more texts texts-2 geometries geometries-2 [] t g h = refl
+values_more texts texts-2 geometries geometries-2 (c ∷ cells) t g h =
+    ap₂ (λ (v : Value GeometryValue) (vs : List (Value GeometryValue)). v ∷ vs)
+    (value_more texts texts-2 geometries geometries-2 c t g (All-head (IsKept texts geometries) c cells h))
+    (values_more texts texts-2 geometries geometries-2 cells t g (All-tail (IsKept texts geometries) c cells h))
+
+-- a cell that names a value, behind the others, is this value behind theirs
+pub values_pushed : (texts texts-2 : List (List ℕ)) (geometries geometries-2 : List GeometryValue) (cells : List Cell) (c : Cell) (v : Value GeometryValue)
+    → IsBehind texts texts-2 → IsBehind geometries geometries-2 → All (IsKept texts geometries) cells → value_in texts-2 geometries-2 c ≡ v
+    → values_in texts-2 geometries-2 (cells ++ c ∷ []) ≡ values_in texts geometries cells ++ v ∷ []
+values_pushed texts texts-2 geometries geometries-2 cells c v t g h is =
+    map-append (value_in texts-2 geometries-2) cells (c ∷ [])
+    ∙ ap₂ (λ (vs : List (Value GeometryValue)) (x : Value GeometryValue). vs ++ x ∷ []) (values_more texts texts-2 geometries geometries-2 cells t g h) is
+
+-- the values of the cells of a row are the row of the values
+pub row_in_cells : {X Y : Type 0} (f : X → Y) (width place : ℕ) (cells : List X) → map f (row_at width cells place) ≡ row_at width (map f cells) place
+row_in_cells f width place cells =
+    sym (take-map f width (drop (place * width) cells)) ∙ ap (take width) (sym (drop-map f (place * width) cells))

@@ -1,0 +1,129 @@
+//! Tables of typed rows.
+
+ghost use Rattle.std.specs.Prelude.{◌≡◌, ◌-◌, ◌∷◌, ◌<◌, ◌≤◌, ℕ, IfErr, IfOk, IsTrue, List, [], Some, length, slice_get, true};
+ghost use Rattle.feature_table.specs.Outcomes.{Loads, is_of_reading};
+ghost use Rattle.feature_table.specs.Records.{Gives, IsReady, asked, read_failed, record_limit};
+ghost use Rattle.feature_table.specs.GeometryFields.{reading, takes};
+ghost use Rattle.feature_table.specs.Indexes.{column_envelopes};
+ghost use Rattle.feature_table.specs.Tables.{IsOfRecords, IsOfSomeRecords, IsTable, NoFaultBefore, table_in};
+ghost use Rattle.table_model.specs.Definitions.{lawful};
+ghost use Rattle.table_model.specs.FeatureTables.{AreRows};
+ghost use Rattle.table_model.specs.Loading as spec;
+
+use crate::flat_rows::FlatRows;
+use crate::headers::layout_of;
+use crate::indexes::Indexes;
+use crate::keys::rows_by_key;
+use crate::loading::read_rows;
+use crate::records::{Records, next_record};
+use crate::schemas::TableDef;
+use crate::values::Row;
+use csv::ByteRecord;
+use rtree::EnvelopeIndex;
+use std::alloc::Global;
+use std::io::Read;
+use std::marker::Model;
+use table_model::faults::LoadFault;
+
+/// A table: the rows of a lawful definition, by ascending key, with an index of each geometry column (06-104r4,
+/// feature tables). Contracts see it as the list of its rows.
+#[derive(Drop)]
+pub struct Table<I: EnvelopeIndex> {
+    rows: FlatRows,
+    indexes: Indexes<I>,
+}
+
+impl<I: EnvelopeIndex> Model for Table<I> {
+    ghost use Rattle.table_model.specs.Meanings as plain;
+    ghost use Rattle.feature_table.specs.GeometryFields.{GeometryValue, takes};
+    ghost use Rattle.feature_table.specs.Indexes.{ListColumns};
+    ghost use Rattle.feature_table.specs.Tables.{IsTable};
+
+    ghost Value = { plain.Table GeometryValue };
+
+    ghost view = { λ t. t.rows };
+
+    ghost invariant = { λ t.
+        IsTable takes t.rows × ListColumns I.indexed t.rows t.indexes };
+}
+
+impl<I: EnvelopeIndex + Drop> Table<I> {
+    /// Loads the table of a lawful definition from the CSV text that a reader gives. The error is the first fault: of the
+    /// header, then of the records in order, then a repeated key; `ReadFailed` comes where reading failed, and `OutOfMemory` may
+    /// come in place of any result. Whatever the reader is, there are records whose table or fault this is. It is
+    /// `Table::load_from` over the records of the reader, so at most 100,002 of them are read, with the header
+    /// (06-104r4, feature tables).
+    pub fn load<R: Read + Drop>(
+        alloc: Global,
+        table: &TableDef,
+        reader: R,
+    ) -> Result<Table<I>, LoadFault>
+        requires { IsTrue (lawful (table.now ∷ [])) }
+        ensures loads { (text : List ℕ) → R.remaining reader ≡ Some text
+            → Loads (λ t. t) result (table_in reading table.now text) }
+        ensures records { IsOfRecords reading table.now (R.remaining reader) (λ t. t) result }
+        ensures rows { IfOk result (AreRows takes table.now) }
+    {
+        let mut records = Records::new(alloc, reader);
+        Table::load_from(alloc, table, &mut records)
+    }
+
+    /// Loads the table of a lawful definition from records of which none was read yet. The result is that of `Table::load`. It
+    /// asks for at most 100,002 records, with the header. It returns `ReadFailed` only if `csv` returned an error of reading and
+    /// no record before has a fault.
+    pub fn load_from<R: Read + Drop>(
+        alloc: Global,
+        table: &TableDef,
+        records: &mut Records<R>,
+    ) -> Result<Table<I>, LoadFault>
+        requires lawful { IsTrue (lawful (table.now ∷ [])) }
+        requires ready { IsReady records.old }
+        requires none { asked records.old ≡ 0 }
+        ensures taken { asked records.new ≤ record_limit }
+        ensures read_failed { IfErr result (λ f. is_of_reading f ≡ true → read_failed records.new ≡ true) }
+        ensures loads { (all : List spec.Record) → Gives R.remaining records.old all
+            → Loads (λ t. t) result (spec.load reading table.now all) }
+        ensures records { IsOfSomeRecords reading table.now (λ t. t) result }
+        ensures before { (all : List spec.Record) → Gives R.remaining records.old all
+            → IfErr result
+            (λ f. is_of_reading f ≡ true → NoFaultBefore reading table.now all (asked records.new - 1)) }
+        ensures rows { IfOk result (AreRows takes table.now) }
+    {
+        let mut header = ByteRecord::new(alloc);
+        let found = next_record(records, &mut header)?;
+        // Without a header record, the header has no fields, so it lacks the first column.
+        if !found {
+            return Err(LoadFault::MissingColumn);
+        }
+        let layout = layout_of(alloc, table.columns.as_slice(), &header)?;
+        let read = read_rows(alloc, table, &layout, records)?;
+        let rows = rows_by_key(alloc, read, table.columns.len(), table.key)?;
+        let indexes = Indexes::build(alloc, table, &rows)?;
+        Ok(Table { rows, indexes })
+    }
+
+    /// How many rows there are: at most 100,000. They strictly ascend by key, and each value fits its column (06-104r4,
+    /// feature tables).
+    pub fn rows(&self) -> usize
+        ensures count { result ≡ length self.now }
+        ensures table { IsTable takes self.now }
+    {
+        self.rows.len()
+    }
+
+    /// Lends the row at a place.
+    pub fn row(&self, i: usize) -> Row<'_>
+        requires { i < length self.now }
+        ensures { slice_get self.now i ≡ Some result }
+    {
+        self.rows.row(i)
+    }
+
+    /// Lends the index of a column: it lists the envelope of the column's geometry in each row. NULL and an empty geometry have
+    /// none, and in a column that isn't one of geometries no row has one (06-103r4, 6.1.2.2: Envelope).
+    pub fn index(&self, column: usize) -> &I
+        ensures { I.indexed result.now ≡ column_envelopes column self.now }
+    {
+        self.indexes.get(column)
+    }
+}

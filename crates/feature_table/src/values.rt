@@ -1,0 +1,181 @@
+//! The values of rows, one after another: a cell for each, with the texts and geometries beside.
+
+ghost use Rattle.std.specs.Prelude.{◌≡◌, ◌++◌, ◌∷◌, ◌<◌, [], IfOk, OnOk, Some, length, option_map, slice_get};
+ghost use Rattle.feature_table.specs.Cells.{shown};
+ghost use Rattle.feature_table.specs.FlatRows.{IsWithin, row_at};
+ghost use Rattle.feature_table.specs.Values.{IsBehind, IsKept, value_in};
+
+use crate::cells::Field;
+use crate::geometry_fields::Geometry;
+use std::alloc::{AllocError, Global};
+use std::marker::Model;
+use table_model::texts::OwnedText;
+use table_model::values::Value;
+
+/// A value of a table: what isn't of one word is kept beside it, at a place.
+#[derive(Clone, Copy)]
+pub(crate) enum Cell {
+    /// No value.
+    Null,
+    /// A whole number.
+    Integer(i64),
+    /// The place of a text.
+    Text(usize),
+    /// The place of a geometry.
+    Geometry(usize),
+}
+
+/// The field that a cell names.
+fn field_of<'a>(texts: &'a [OwnedText], geometries: &'a [Geometry], cell: Cell) -> Field<'a>
+    ensures { shown result ≡ value_in texts.entry.now geometries.entry.now cell }
+{
+    match cell {
+        Cell::Null => Field::Null,
+        Cell::Integer(number) => Field::Int(number),
+        Cell::Text(place) => match texts.get(place) {
+            Some(text) => Field::Text(text.as_str()),
+            None => Field::Null,
+        },
+        Cell::Geometry(place) => match geometries.get(place) {
+            Some(geometry) => Field::Geom(geometry),
+            None => Field::Null,
+        },
+    }
+}
+
+/// Keeps the text or geometry of a value behind the others, and returns the value's cell.
+fn cell_of(
+    texts: &mut Vec<OwnedText>,
+    geometries: &mut Vec<Geometry>,
+    value: Value<Geometry>,
+) -> Result<Cell, AllocError>
+    ensures texts { IsBehind texts.old.items texts.new.items }
+    ensures geometries { IsBehind geometries.old.items geometries.new.items }
+    ensures kept { IfOk result (IsKept texts.new.items geometries.new.items) }
+    ensures value { IfOk result (λ cell. value_in texts.new.items geometries.new.items cell ≡ value) }
+{
+    match value {
+        Value::Null => Ok(Cell::Null),
+        Value::Integer(number) => Ok(Cell::Integer(number)),
+        Value::Text(text) => {
+            let place = texts.len();
+            texts.push(text)?;
+            Ok(Cell::Text(place))
+        }
+        Value::Geometry(geometry) => {
+            let place = geometries.len();
+            geometries.push(geometry)?;
+            Ok(Cell::Geometry(place))
+        }
+    }
+}
+
+/// The cells of the row at a place, of rows of this width.
+fn cells_at(cells: &[Cell], width: usize, place: usize) -> &[Cell]
+    requires { IsWithin width cells.now place }
+    ensures { result.now ≡ row_at width cells.now place }
+{
+    let start = place * width;
+    &cells[start..start + width]
+}
+
+/// Values one after another: a cell for each, its texts and geometries beside. Contracts see the list of the values.
+#[derive(Drop)]
+pub(crate) struct Values {
+    cells: Vec<Cell>,
+    texts: Vec<OwnedText>,
+    geometries: Vec<Geometry>,
+}
+
+impl Model for Values {
+    ghost use Rattle.std.specs.List.{All};
+    ghost use Rattle.table_model.specs.Meanings as plain;
+    ghost use Rattle.feature_table.specs.GeometryFields.{GeometryValue};
+    ghost use Rattle.feature_table.specs.Values.{IsKept, values_in};
+
+    ghost Value = { plain.Row GeometryValue };
+
+    ghost view = { λ v. values_in v.texts.items v.geometries.items v.cells.items };
+
+    ghost invariant = { λ v. All (IsKept v.texts.items v.geometries.items) v.cells.items };
+}
+
+impl Values {
+    /// No values.
+    pub(crate) fn new(alloc: Global) -> Values
+        ensures { result ≡ [] }
+    {
+        Values {
+            cells: Vec::new(alloc),
+            texts: Vec::new(alloc),
+            geometries: Vec::new(alloc),
+        }
+    }
+
+    /// Appends a value.
+    pub(crate) fn push(&mut self, value: Value<Geometry>) -> Result<(), AllocError>
+        ensures { OnOk result (self.new ≡ self.old ++ value ∷ []) }
+    {
+        let cell = cell_of(&mut self.texts, &mut self.geometries, value)?;
+        self.cells.push(cell)?;
+        Ok(())
+    }
+
+    /// Lends the row at a place, of rows of this width.
+    pub(crate) fn row(&self, width: usize, place: usize) -> Row<'_>
+        requires { IsWithin width self.now place }
+        ensures { result ≡ row_at width self.now place }
+    {
+        Row {
+            cells: cells_at(self.cells.as_slice(), width, place),
+            texts: self.texts.as_slice(),
+            geometries: self.geometries.as_slice(),
+        }
+    }
+}
+
+/// A row of a table, which contracts see as the list of its values (06-104r4, feature tables).
+#[derive(Drop)]
+pub struct Row<'a> {
+    cells: &'a [Cell],
+    /// The texts and geometries that cells name.
+    texts: &'a [OwnedText],
+    geometries: &'a [Geometry],
+}
+
+impl<'a> Model for Row<'a> {
+    ghost use Rattle.table_model.specs.Meanings as plain;
+    ghost use Rattle.feature_table.specs.GeometryFields.{GeometryValue};
+    ghost use Rattle.feature_table.specs.Values.{values_in};
+
+    ghost Value = { plain.Row GeometryValue };
+
+    ghost view = { λ r. values_in r.texts.now r.geometries.now r.cells.now };
+}
+
+impl<'a> Row<'a> {
+    /// How many fields the row has: as many as its table has columns.
+    pub fn len(&self) -> usize
+        ensures { result ≡ length self.now }
+    {
+        self.cells.len()
+    }
+
+    /// Lends the field of the column at a place.
+    pub fn field(&self, column: usize) -> Field<'a>
+        requires { column < length self.now }
+        ensures { slice_get self.now column ≡ Some (shown result) }
+    {
+        field_of(self.texts, self.geometries, self.cells[column])
+    }
+
+    /// Lends the field of the column at a place, if there is one.
+    pub(crate) fn get(&self, column: usize) -> Option<Field<'a>>
+        ensures { option_map shown result ≡ slice_get self.now column }
+    {
+        match self.cells.get(column) {
+            Some(cell) => Some(field_of(self.texts, self.geometries, *cell)),
+            None => None,
+        }
+    }
+}

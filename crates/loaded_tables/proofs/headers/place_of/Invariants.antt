@@ -1,7 +1,0 @@
-use Rattle.csv.specs.Records.{fields_of}
-use Rattle.table_model.specs.Texts.{same_name}
-use Rattle.loaded_tables.proofs.HeaderLemmas.{IsFound}
-use Rattle.loaded_tables.proofs.headers.place_of.Given as goal
-
-abbrev pub invariant-loop-place : goal.invariant-loop-place
-invariant-loop-place l = IsFound (same_name l.name) (fields_of l.header) l.place l.found

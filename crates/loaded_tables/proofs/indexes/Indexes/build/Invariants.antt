@@ -1,9 +1,0 @@
-use Rattle.std.proofs.Common.{◌≡◌, length}
-use Rattle.loaded_tables.proofs.IndexLemmas.{EachKept, IsKept}
-use Rattle.loaded_tables.proofs.indexes.Indexes.build.Given as goal
-
-abbrev pub invariant-loop-place : goal.invariant-loop-place
-invariant-loop-place g l = record {
-  count : length l.own.items ≡ l.place;
-  kept : EachKept (IsKept g.I.EnvelopeIndex.indexed l.fn.table l.fn.rows) l.own.items;
-}

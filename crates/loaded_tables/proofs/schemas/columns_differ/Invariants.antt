@@ -1,6 +1,0 @@
-use Rattle.std.proofs.Common.{◌≡◌, drop, map}
-use Rattle.table_model.specs.Definitions.{names_differ}
-use Rattle.loaded_tables.proofs.schemas.columns_differ.Given as goal
-
-abbrev pub invariant-loop-place : goal.invariant-loop-place
-invariant-loop-place l = names_differ (map (λ c. c.name) (drop l.place l.columns)) ≡ names_differ (map (λ c. c.name) l.columns)

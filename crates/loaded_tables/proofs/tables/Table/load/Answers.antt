@@ -1,7 +1,0 @@
-use Rattle.loaded_tables.proofs.ReaderRecords.{of_reader}
-use Rattle.loaded_tables.specs.GeometryFields.{reading}
-use Rattle.loaded_tables.proofs.tables.Table.load.Goals as goal
-
-pub returns-clause-records : goal.returns-clause-records
-returns-clause-records g c =
-    of_reader reading c.args.table.now _ _ _ (λ text known. c.load_from.ensures.loads _ (c.new-records.ensures.gives text known)) c.load_from.ensures.records
