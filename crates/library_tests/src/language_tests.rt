@@ -1,6 +1,6 @@
 //! The trees of queries as they are read, with places counted by hand.
 
-use query_reader::{Argument, read_query};
+use sql_text::{Argument, read_query};
 use std::test::Fail;
 use table_model::queries::{Explain, WrittenCond, WrittenPredicate};
 

@@ -9,7 +9,7 @@ use geometries::{Larger, Polygons, Shape};
 use geometry_model::ValidityFault;
 use matrices::find_matrix;
 use orient::Segment;
-use sql_tokens::lex::lex;
+use sql_text::lex::lex;
 use std::alloc::{AllocError, Global};
 use std::test::Fail;
 use table_model::references::References;

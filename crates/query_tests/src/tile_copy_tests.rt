@@ -3,8 +3,8 @@
 ghost use Rattle.std.specs.Prelude.{None};
 
 use fraction::GridPoint;
-use schema_reader::read_schema;
 use sinks::SinkFault;
+use sql_text::read_schema;
 use std::alloc::Global;
 use std::test::Fail;
 use tiles::{CellTexts, Cells, Part, write_stretches, write_tiles};

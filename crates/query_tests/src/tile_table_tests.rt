@@ -1,7 +1,7 @@
 //! Tables that are checked before they are split, their faults, and the corners that are sampled.
 
 use feature_table::Schema;
-use schema_reader::read_schema;
+use sql_text::read_schema;
 use std::alloc::{AllocError, Global};
 use std::test::Fail;
 use table_model::faults::LoadFault;

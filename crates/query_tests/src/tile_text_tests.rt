@@ -4,8 +4,8 @@ ghost use Rattle.std.specs.Prelude.{None};
 
 use feature_table::Schema;
 use fraction::GridPoint;
-use schema_reader::read_schema;
 use sinks::SinkFault;
+use sql_text::read_schema;
 use std::alloc::Global;
 use std::test::Fail;
 use table_model::faults::LoadFault;

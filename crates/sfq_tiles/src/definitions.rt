@@ -12,7 +12,7 @@ use crate::made_tables::are_made;
 use crate::parts::{Mistake, NamedPart};
 use feature_table::{ColumnDef, ColumnShape, ColumnType, TableDef};
 use geometry_model::GeometryType;
-use schema_reader::read_schema;
+use sql_text::read_schema;
 use sqlite_items::{self as items};
 use std::alloc::{AllocError, Global};
 use table_model::faults::SchemaFault;

@@ -8,7 +8,7 @@ use crate::parts::NamedPart;
 use bounded_readers::{BoundedReader, PatientReader};
 use failures::Failure;
 use feature_table::{Geometry, Schema, TableDef};
-use schema_reader::read_schema;
+use sql_text::read_schema;
 use std::alloc::{AllocError, Global};
 use std::fs::{self, File};
 use std::io::{ErrorKind, Read};

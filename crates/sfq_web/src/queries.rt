@@ -10,8 +10,8 @@ use failures::{Failure, Fault, fault_line};
 use feature_table::Schema;
 use query_runs::run;
 use rtree::CurveTree;
-use schema_reader::read_schema;
 use sinks::MemorySink;
+use sql_text::read_schema;
 use std::alloc::{AllocError, Global};
 use table_model::faults::SchemaFault;
 

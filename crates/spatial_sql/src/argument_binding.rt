@@ -10,7 +10,7 @@ use crate::columns::bound_column;
 use crate::query_binder::Argument;
 use crate::scope::Scope;
 use crate::strings::unquoted;
-use query_reader::Argument as WrittenArgument;
+use sql_text::Argument as WrittenArgument;
 use sqlite_items::Boxed;
 use std::alloc::Global;
 use table_model::conditions::{ColumnPlace, GeometryArgument};

@@ -8,8 +8,8 @@ ghost use Rattle.table_model.specs.Outcomes.{Gives};
 
 use crate::Bound;
 use feature_table::Database;
-use query_reader::Query;
 use rtree::EnvelopeIndex;
+use sql_text::Query;
 use std::alloc::Global;
 use table_model::faults::QueryFault;
 

@@ -20,7 +20,7 @@ use crate::patterns::bound_pattern;
 use crate::query_binder::Cond;
 use crate::scope::Scope;
 use geometry_model::Predicate;
-use query_reader::Argument as WrittenArgument;
+use sql_text::Argument as WrittenArgument;
 use sqlite_items::{Boxed, Items};
 use std::alloc::Global;
 use table_model::conditions::Comparison;

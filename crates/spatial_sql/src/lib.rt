@@ -37,7 +37,6 @@ pub use de9im::Work;
 pub use idle_rows::gives_none;
 pub use passing_rows::passes;
 pub use query_binder::{Argument, Bound, ColumnShape, Cond, TableDef};
-pub use query_reader::{Query, QueryFault, read_query};
-pub use schema_reader::{SchemaFault, read_schema};
 pub use sought_values::{equal_column, sought_value};
+pub use sql_text::{Query, QueryFault, SchemaFault, read_query, read_schema};
 pub use table_model::values::Truth;

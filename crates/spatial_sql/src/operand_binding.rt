@@ -9,7 +9,7 @@ use crate::columns::bound_column;
 use crate::query_binder::Argument;
 use crate::scope::Scope;
 use crate::strings::unquoted;
-use query_reader::Argument as WrittenArgument;
+use sql_text::Argument as WrittenArgument;
 use std::alloc::Global;
 use table_model::conditions::Operand;
 use table_model::faults::QueryFault;

@@ -13,7 +13,7 @@ use crate::item_binding::{bound_items, counts};
 use crate::query_binder::{Bound, Cond, TableDef};
 use crate::reference_binding::bound_references;
 use crate::scope::Scope;
-use query_reader::Query;
+use sql_text::Query;
 use sqlite_items::Items;
 use std::alloc::Global;
 use table_model::faults::QueryFault;

@@ -1,5 +1,0 @@
-use Rattle.query_reader.proofs.PredicateNames.{predicate_is}
-use Rattle.query_reader.proofs.predicates.predicate.Goals as goal
-
-pub returns : goal.returns
-returns c = rw (predicate_is c.args.tokens.now) c.predicate_by_name.ensures

@@ -1,5 +1,0 @@
-use Rattle.query_reader.proofs.QueryParts.{query_is}
-use Rattle.query_reader.proofs.select_reader.query.Goals as goal
-
-pub returns : goal.returns
-returns c = rw (query_is c.args.tokens.now) c.query_by_parts.ensures

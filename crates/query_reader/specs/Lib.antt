@@ -1,3 +1,0 @@
-pub mod Predicates
-pub mod Queries
-pub mod Steps

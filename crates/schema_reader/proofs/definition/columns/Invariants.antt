@@ -1,8 +1,0 @@
-use Rattle.std.proofs.Common.{◌≡◌, ◌-◌}
-use Rattle.table_model.specs.SchemaReading as spec
-use Rattle.schema_reader.proofs.definition.columns.Given as goal
-use Rattle.table_model.specs.GeometryColumns.{shape_named}
-
-abbrev pub invariant-loop-turn : goal.invariant-loop-turn
-invariant-loop-turn l =
-    spec.columns shape_named l.fn.tokens ≡ spec.columns_from shape_named (l._turn-end - l._turn) l.columns l.key l.tokens

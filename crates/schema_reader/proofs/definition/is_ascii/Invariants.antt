@@ -1,6 +1,0 @@
-use Rattle.std.proofs.Common.{◌≡◌, drop}
-use Rattle.table_model.specs.SchemaReading as spec
-use Rattle.schema_reader.proofs.definition.is_ascii.Given as goal
-
-abbrev pub invariant-loop-byte : goal.invariant-loop-byte
-invariant-loop-byte l = spec.is_ascii (drop l.byte-index l.bytes) ≡ spec.is_ascii l.bytes

@@ -1,5 +1,0 @@
-use Rattle.schema_reader.proofs.Ascii.{IsUtf8-from_is_ascii}
-use Rattle.schema_reader.proofs.definition.owned_word.Goals as goal
-
-pub unreachable-requires : goal.unreachable-requires
-unreachable-requires c = c.in-Err.ensures.cases.0 (IsUtf8-from_is_ascii _ c.requires)

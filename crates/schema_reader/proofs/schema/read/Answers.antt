@@ -1,7 +1,0 @@
-use Rattle.table_model.specs.SchemaReading as spec
-use Rattle.grammar_laws.proofs.LawfulSchemas.{lawful-from_schema}
-use Rattle.schema_reader.proofs.schema.read.Goals as goal
-use Rattle.table_model.specs.GeometryColumns.{shape_named}
-
-pub of-requires : goal.of-requires
-of-requires c = lawful-from_schema shape_named _ _ _ c.in_ok-tables.ensures

@@ -1,0 +1,7 @@
+pub mod Counts
+pub mod Lexing
+pub mod TokenSlices
+pub mod Ascii
+pub mod Passing
+pub mod PredicateNames
+pub mod QueryParts

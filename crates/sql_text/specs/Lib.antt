@@ -1,0 +1,5 @@
+pub mod Comparands
+pub mod Outcomes
+pub mod Predicates
+pub mod Queries
+pub mod Steps
