@@ -5,10 +5,10 @@ use Rattle.geometry_model.specs.Geometries.{Geometry}
 use Rattle.geometry_model.specs.TextReading.{read_text}
 use Rattle.geometry_model.specs.declared.geometry_faults.GeometryFault.TheVariants as either
 use Rattle.geometry_model.specs.declared.text_faults.TextFault.{TextFault}
-use Rattle.reasons.specs.WitnessTexts.{witnesses_text}
-use Rattle.verdicts.specs.VerdictTexts.{verdict_text}
-use Rattle.verdicts.specs.Verdicts.{IsVerdictOf}
-use Rattle.verdicts.specs.declared.verdict.Verdict.{Verdict}
+use Rattle.witnesses.specs.WitnessTexts.{witnesses_text}
+use Rattle.witnesses.specs.VerdictTexts.{verdict_text}
+use Rattle.witnesses.specs.Verdicts.{IsVerdictOf}
+use Rattle.witnesses.specs.declared.verdict.Verdict.{Verdict}
 use Rattle.witnesses.specs.Shown.{ShowsAll, shown_matrix, witness_at}
 use Rattle.witnesses.specs.declared.witness.Witnesses.{Witnesses}
 use Rattle.library_calls.specs.Kept.{status_of_room}

@@ -5,21 +5,19 @@ ghost use Rattle.library_calls.specs.Explained.{AreWitnessLines, HandsOut, IsUnr
 ghost use Rattle.library_calls.specs.Kept.{status_of_room};
 ghost use Rattle.library_calls.specs.Refusals.{first_refused, ok, out_of_memory};
 ghost use Rattle.library_calls.specs.declared.faults.Refusal.TheVariants as refusal;
-ghost use Rattle.reasons.specs.WitnessTexts.{witnesses_text};
+ghost use Rattle.witnesses.specs.WitnessTexts.{witnesses_text};
 ghost use Rattle.sinks.specs.MemorySinks.{memory_bytes};
-ghost use Rattle.verdicts.specs.VerdictTexts.{verdict_text};
+ghost use Rattle.witnesses.specs.VerdictTexts.{verdict_text};
 ghost use Rattle.witnesses.specs.Shown.{witness_at};
 
 use crate::faults::{Fault, Refusal};
 use crate::kept::write_front;
 use geometry_model::GeometryFault;
-use reasons::put_witnesses;
 use sinks::MemorySink;
 use std::alloc::{AllocError, Global};
 use validity::Valid;
-use verdicts::{Verdict, put_verdict, verdict_of};
-use witnesses::find_witnesses;
 use witnesses::witness::Witnesses;
+use witnesses::{Verdict, find_witnesses, put_verdict, put_witnesses, verdict_of};
 
 /// Hands out nine lines that show the cells of the DE-9IM matrix of two geometries, in its order: their length, and the text at the
 /// front of the room; status 5 where the room is too small (06-103r4, 6.1.15.2; the witnesses and the words: this project's choice).

@@ -4,7 +4,7 @@ use Rattle.std.specs.Fmt.{signed_decimal}
 use Rattle.geometry_model.specs.declared.geometry_faults.GeometryFault.TheVariants as g
 use Rattle.geometry_model.specs.declared.shapes.GeometryType.{GeometryType}
 use Rattle.geometry_model.specs.declared.shapes.GeometryType.TheVariants as shapes
-use Rattle.reasons.specs.FaultTexts.{reason_text}
+use Rattle.witnesses.specs.FaultTexts.{reason_text}
 use Rattle.record_reasons.specs.declared.reason.Reason.{Reason}
 use Rattle.record_reasons.specs.declared.reason.Reason.TheVariants as reasons
 use Rattle.table_model.specs.FaultLines.{geometry_text}

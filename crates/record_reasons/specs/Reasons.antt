@@ -1,8 +1,8 @@
 -- What is wrong where a table isn't loaded.
 use Rattle.std.specs.Prelude.{◌≡◌, ◌≢◌, ◌+◌, ◌<◌, ◌≤◌, ℕ, ℤ, Bool, List, [], Option, None, Some, Err, false, true, count_by, length, slice_get}
 use Rattle.std.specs.Str.{IsUtf8}
-use Rattle.fault_places.specs.Places.{IsPlaceOf}
-use Rattle.fault_places.specs.declared.places.Place.{Place}
+use Rattle.witnesses.specs.FaultPlaces.{IsPlaceOf}
+use Rattle.witnesses.specs.declared.places.Place.{Place}
 use Rattle.geometry_model.specs.Geometries.{Geometry, type_of}
 use Rattle.geometry_model.specs.TextReading.{read_text}
 use Rattle.geometry_model.specs.Validity.{HasFault}

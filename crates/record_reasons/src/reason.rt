@@ -13,13 +13,13 @@ use crate::null_reasons::null_field;
 use crate::same_keys::same_key;
 use crate::seen_records::{seen_header, seen_record};
 use csv::ByteRecord;
-use fault_places::Place;
 use feature_table::TableDef;
 use geometry_model::{GeometryType, TextFault, ValidityFault};
 use std::alloc::Global;
 use std::io::Read;
 use table_model::definitions::ROW_LIMIT;
 use table_model::faults::LoadFault;
+use witnesses::Place;
 
 /// What is wrong where a table isn't loaded. Names of columns are lent, as the schema spells them.
 #[derive(Debug, Drop)]

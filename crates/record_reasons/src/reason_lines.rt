@@ -3,18 +3,17 @@
 ghost use Rattle.std.specs.Prelude.{◌≡◌, ◌++◌, codes, OnErr, OnOk};
 ghost use Rattle.std.specs.Io.KnownBytes.{Appends};
 ghost use Rattle.sinks.specs.Sinks.{AppendsFront, CountsFailure};
-ghost use Rattle.reasons.specs.FaultTexts.{reason_text};
+ghost use Rattle.witnesses.specs.FaultTexts.{reason_text};
 ghost use Rattle.record_reasons.specs.ReasonTexts.{reason_line, type_word};
 ghost use Rattle.geometry_model.specs.declared.geometry_faults.GeometryFault.TheVariants as g;
 ghost use Rattle.table_model.specs.FaultLines.{geometry_text};
 ghost use Rattle.record_reasons.specs.declared.reason.Reason.TheVariants as kinds;
 
 use crate::reason::Reason;
-use fault_places::Place;
 use geometry_model::{GeometryType, TextFault, ValidityFault};
 use itoa::Buffer;
-use reasons::put_reason;
 use sinks::{Sink, SinkFault, put_parts};
+use witnesses::{Place, put_reason};
 
 /// Writes the line of a reason: `sfq: column pop isn't in the header`, `sfq: column pop is in the header more than once`,
 /// `sfq: the record has 2 fields, the header 3`, `sfq: column pop is empty`, `sfq: column pop: "1.5" isn't a whole number of 64 bits`,

@@ -3,16 +3,16 @@ use Rattle.std.specs.Prelude.{◌≡◌, ℕ, List, codes, Option, IfErr, IfOk, 
 use Rattle.std.specs.Fn.{Mut}
 use denote.Ref.{Bor}
 use Rattle.failures.specs.declared.failure.Failure.{Failure}
-use Rattle.reasons.specs.WitnessTexts.{witnesses_text}
+use Rattle.witnesses.specs.WitnessTexts.{witnesses_text}
 use Rattle.table_model.specs.RunOutcomes.{MatrixOf}
 use Rattle.text_commands.specs.Ends.{End, PutsText, Then}
 use Rattle.text_commands.specs.TextCommands.{OverTexts, OverWord}
 use Rattle.text_commands.specs.TextVerdicts.{spelled_geometry}
 use Rattle.text_commands.specs.TextWitnesses.{ShowsTexts}
 use Rattle.text_commands.specs.Relations.{IsFailureOf, relation}
-use Rattle.verdicts.specs.VerdictTexts.{verdict_text}
-use Rattle.verdicts.specs.Verdicts.{IsVerdictOf}
-use Rattle.verdicts.specs.declared.verdict.Verdict.{Verdict}
+use Rattle.witnesses.specs.VerdictTexts.{verdict_text}
+use Rattle.witnesses.specs.Verdicts.{IsVerdictOf}
+use Rattle.witnesses.specs.declared.verdict.Verdict.{Verdict}
 use Rattle.witnesses.specs.Shown.{witness_at}
 use Rattle.witnesses.specs.declared.witness.Witnesses.{Witnesses}
 use Rattle.text_commands.specs.GivenTexts.{ReadsGeometry}

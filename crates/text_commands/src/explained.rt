@@ -2,19 +2,18 @@
 
 ghost use Rattle.text_commands.specs.Ends.{PutsText, Serves};
 ghost use Rattle.text_commands.specs.Reasons.{ExplainsCells, ExplainsValidity, ShowsCells, ShowsVerdict};
-ghost use Rattle.verdicts.specs.VerdictTexts.{verdict_text};
-ghost use Rattle.reasons.specs.WitnessTexts.{witnesses_text};
+ghost use Rattle.witnesses.specs.VerdictTexts.{verdict_text};
+ghost use Rattle.witnesses.specs.WitnessTexts.{witnesses_text};
 ghost use Rattle.witnesses.specs.Shown.{witness_at};
 
 use crate::served::failed;
 use crate::{geometry_text, reason_of_text, witnesses_of_texts};
 use failures::Failure;
-use reasons::put_witnesses;
 use sinks::Sink;
 use std::alloc::Global;
 use std::io::Read;
-use verdicts::{Verdict, put_verdict};
 use witnesses::witness::Witnesses;
+use witnesses::{Verdict, put_verdict, put_witnesses};
 
 /// Writes what shows each cell of the matrix of the geometries that two words give: nine lines in the order of the matrix. A
 /// word is well-known text, or `@` and the path of a file that has it; both texts are there before one is read as a geometry.

@@ -3,12 +3,12 @@
 ghost use Rattle.std.specs.Prelude.{IfErr, IfOk};
 ghost use Rattle.text_commands.specs.TextVerdicts.{spelled_geometry};
 ghost use Rattle.text_commands.specs.Relations.{IsFailureOf};
-ghost use Rattle.verdicts.specs.Verdicts.{IsVerdictOf};
+ghost use Rattle.witnesses.specs.Verdicts.{IsVerdictOf};
 
 use crate::text_failure;
 use failures::{Failure, GeometryWord};
 use std::alloc::Global;
-use verdicts::{Verdict, verdict_of};
+use witnesses::{Verdict, verdict_of};
 
 /// Whether the geometry that a text spells is valid, and if not, its first fault and a place of it. `Refused` is the failure
 /// if the text spells no geometry; it is called the first text then. `OutOfMemory` may come in place of any result

@@ -1,3 +1,12 @@
 pub mod Heights
 pub mod FarPoints
 pub mod Shown
+pub mod Places
+pub mod Numbers
+pub mod FaultPlaces
+pub mod PointTexts
+pub mod FractionLaws
+pub mod WitnessTexts
+pub mod FaultTexts
+pub mod VerdictTexts
+pub mod Verdicts

@@ -1,6 +1,6 @@
 -- The parts joined are the text.
 use Rattle.std.proofs.Common.{codes}
-use Rattle.reasons.proofs.TextLemmas.{three_parts}
+use Rattle.witnesses.proofs.TextLemmas.{three_parts}
 use Rattle.record_reasons.proofs.PartLemmas.{put-same}
 use Rattle.record_reasons.proofs.reason_lines.put_column.Goals as goal
 

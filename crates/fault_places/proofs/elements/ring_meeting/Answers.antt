@@ -1,8 +1,0 @@
-use Rattle.std.proofs.Common.{refl, length}
-use Rattle.std.proofs.lemmas.Option.{slice_get_read}
-use Rattle.fault_places.proofs.MeetingFacts.{next_one}
-use Rattle.fault_places.proofs.elements.ring_meeting.Goals as goal
-
-pub loop-other-preserved : goal.loop-other-preserved
-loop-other-preserved c = next_one c.args.ring.now c.args.others.now c.loop-other.other-index c.other-item.result
-    (slice_get_read c.args.others.now (length c.args.others.now) c.loop-other.other-index c.other-item.result refl c.loop-other-test.true c.other-item.is) c.in_default.ensures.none c.loop-other.invariant

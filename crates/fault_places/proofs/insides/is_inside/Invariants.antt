@@ -1,8 +1,0 @@
-use Rattle.std.proofs.Common.{◌≡◌, take}
-use Rattle.geometry_model.specs.Points.{point_at}
-use Rattle.fault_places.proofs.InsideFacts.{odd_rings}
-use Rattle.fault_places.proofs.insides.is_inside.Given as goal
-
--- the parity of the edges of the rings before this one
-abbrev pub invariant-loop-ring : goal.invariant-loop-ring
-invariant-loop-ring l = l.is_odd ≡ odd_rings (point_at l.at) (take l.ring-index l.rings)

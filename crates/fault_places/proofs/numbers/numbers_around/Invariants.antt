@@ -1,8 +1,0 @@
-use Rattle.std.proofs.Common.{◌≡◌, ◌≤◌}
-use Rattle.geometry_model.specs.Geometries.{elements}
-use Rattle.fault_places.proofs.RingNumbers.{count_before, NotBefore}
-use Rattle.fault_places.proofs.numbers.numbers_around.Given as goal
-
--- the number is no ring's of a polygon before this one
-abbrev pub invariant-loop-element : goal.invariant-loop-element
-invariant-loop-element l = record { starts : l.first ≡ count_before (elements l.geometry) l.element; low : l.first ≤ l.number; before : NotBefore l.geometry l.number l.element }

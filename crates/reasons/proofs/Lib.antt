@@ -1,4 +1,0 @@
-pub mod DivisorLemmas
-pub mod FractionLemmas
-pub mod TextLemmas
-pub mod FaultTextLemmas

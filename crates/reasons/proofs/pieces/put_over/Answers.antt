@@ -1,8 +1,0 @@
--- The parts joined are the text.
-use Rattle.sinks.proofs.PartLemmas.{front-same}
-use Rattle.reasons.proofs.TextLemmas.{over_parts}
-use Rattle.reasons.proofs.pieces.put_over.Goals as goal
-
-pub returns-clause-front : goal.returns-clause-front
-returns-clause-front g c =
-    front-same c.put_parts.result _ _ _ _ (rw (c.as_bytes.ensures.value, c.as_bytes-2.ensures.value) (over_parts c.args.first.now c.args.second.now)) c.put_parts.ensures.front

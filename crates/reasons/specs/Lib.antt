@@ -1,4 +1,0 @@
-pub mod PointTexts
-pub mod FractionLaws
-pub mod WitnessTexts
-pub mod FaultTexts

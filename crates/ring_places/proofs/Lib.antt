@@ -1,2 +1,0 @@
-pub mod SharedFacts
-pub mod ClashFacts

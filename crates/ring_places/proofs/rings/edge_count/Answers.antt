@@ -1,7 +1,0 @@
-use Rattle.std.proofs.Common.{◌-◌, ◌∙◌, sym, ap, List, length}
-use Rattle.geometry_model.specs.Points.{Position}
-use Rattle.ring_places.proofs.ClashFacts.{edge_count}
-use Rattle.ring_places.proofs.rings.edge_count.Goals as goal
-
-pub returns-else-count-eq0 : goal.returns-else-count-eq0
-returns-else-count-eq0 c = ap (λ (ps : List Position). length ps - 1) c.positions-count.ensures.positions ∙ sym (edge_count c.args.line.now)

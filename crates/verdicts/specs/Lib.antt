@@ -1,2 +1,0 @@
-pub mod VerdictTexts
-pub mod Verdicts

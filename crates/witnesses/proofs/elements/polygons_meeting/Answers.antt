@@ -1,0 +1,8 @@
+use Rattle.std.proofs.Common.{refl, length}
+use Rattle.std.proofs.lemmas.Option.{slice_get_read}
+use Rattle.witnesses.proofs.MeetingFacts.{next_of_polygon}
+use Rattle.witnesses.proofs.elements.polygons_meeting.Goals as goal
+
+pub loop-ring-preserved : goal.loop-ring-preserved
+loop-ring-preserved c = next_of_polygon c.args.polygon.now c.args.other.now c.loop-ring.ring-index c.ring-item.result
+    (slice_get_read c.args.polygon.now (length c.args.polygon.now) c.loop-ring.ring-index c.ring-item.result refl c.loop-ring-test.true c.ring-item.is) c.in_default.ensures.none c.loop-ring.invariant

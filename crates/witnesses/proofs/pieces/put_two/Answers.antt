@@ -1,0 +1,9 @@
+-- The parts joined are the text.
+use Rattle.std.proofs.Common.{codes}
+use Rattle.sinks.proofs.PartLemmas.{front-same}
+use Rattle.witnesses.proofs.TextLemmas.{three_parts}
+use Rattle.witnesses.proofs.pieces.put_two.Goals as goal
+
+pub returns-clause-front : goal.returns-clause-front
+returns-clause-front g c =
+    front-same c.put_parts.result _ _ _ _ (rw (c.as_bytes.ensures.value, c.as_bytes-2.ensures.value) (three_parts c.args.first.now (codes " ") c.args.second.now)) c.put_parts.ensures.front
