@@ -5,8 +5,8 @@ ghost use Rattle.std.specs.Prelude.{◌≡◌};
 ghost use Rattle.std.specs.List.{list_any};
 ghost use Rattle.geometry_model.specs.Labels.{is_pair, is_side_pair, labelled_cell, matrix_of_labels};
 
+use crate::MatrixCells;
 use geometry_model::{Dimension, Location};
-use matrices::MatrixCells;
 use side_labels::{Label, Labels, SideLabels};
 
 /// The cells of the matrix that labels show: for each two parts the greatest dimension of what has this label, where a node has

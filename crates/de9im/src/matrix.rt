@@ -1,7 +1,7 @@
 //! The matrix of two geometries.
 
+use crate::MatrixCells;
 use geometry_model::{Dimension, Location};
-use matrices::MatrixCells;
 use std::marker::Model;
 
 /// The DE-9IM matrix of two geometries: the dimension of what each part of the first has in common with each part of the

@@ -4,9 +4,9 @@ ghost use Rattle.std.specs.Prelude.{◌≡◌};
 ghost use Rattle.geometry_model.specs.Patterns.{takes, matches};
 ghost use Rattle.geometry_model.specs.declared.relations.Pattern.{Pattern};
 
+use crate::MatrixCells;
 use crate::matrix::Matrix;
 use geometry_model::{Dimension, Pattern, PatternCharacter};
-use matrices::MatrixCells;
 
 /// A pattern of the DE-9IM matrix, as what matches matrices (06-103r4, 6.1.15.2). Only [`Pattern`] implements it.
 pub trait MatrixPattern {

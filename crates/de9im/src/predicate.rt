@@ -5,10 +5,10 @@ ghost use Rattle.geometry_model.specs.Patterns.{takes};
 ghost use Rattle.geometry_model.specs.Predicates.{like, crosses, overlaps, holds};
 ghost use Rattle.geometry_model.specs.declared.relations.PatternCharacter.TheVariants as characters;
 
+use crate::MatrixCells;
 use crate::matrix::Matrix;
 use crate::pattern::matches_cells;
 use geometry_model::{Dimension, Kind, Predicate};
-use matrices::MatrixCells;
 
 /// Whether the predicate holds of two geometries of these kinds whose DE-9IM matrix this is (06-103r4, 6.1.15.3; the
 /// patterns of each predicate: this project's choice). It takes no memory.

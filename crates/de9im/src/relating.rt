@@ -4,9 +4,9 @@ ghost use Rattle.std.specs.Prelude.{◌≡◌, IfOk, OnOk, OnErr};
 ghost use Rattle.geometry_model.specs.Dimensions.{IsMatrix};
 ghost use Rattle.integers.specs.Counts.{one_more};
 
+use crate::find_matrix;
 use crate::matrix::Matrix;
 use crate::work::Work;
-use matrices::find_matrix;
 use std::alloc::{AllocError, Global};
 use validity::Valid;
 

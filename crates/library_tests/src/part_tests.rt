@@ -3,11 +3,11 @@
 use crate::rows::segment;
 use crate::shapes::valid;
 use command_line::sfq_command;
+use de9im::find_matrix;
 use edge_boxes::{EdgeBoxes, is_not_simple, share};
 use engine::relate_texts;
 use geometries::{Larger, Polygons, Shape};
 use geometry_model::ValidityFault;
-use matrices::find_matrix;
 use orient::Segment;
 use sql_text::lex::lex;
 use std::alloc::{AllocError, Global};

@@ -6,8 +6,8 @@ ghost use Rattle.geometry_model.specs.Patterns.{pattern_of_text};
 ghost use Rattle.table_model.specs.GeometryColumns as geometries;
 
 use crate::strings::unquoted;
+use de9im::PatternText;
 use geometry_model::Pattern;
-use matrix_patterns::PatternText;
 use std::alloc::Global;
 use table_model::faults::QueryFault;
 use table_model::queries::Name;

@@ -1,6 +1,6 @@
 -- Nine bytes that write characters are a pattern, and other bytes aren't.
 use Rattle.std.proofs.Common.{sym, ◌∙◌, arith}
-use Rattle.matrix_patterns.proofs.PatternFacts.{pattern_of_text-none, pattern_of_text-nine}
+use Rattle.de9im.proofs.PatternFacts.{pattern_of_text-none, pattern_of_text-nine}
 use Rattle.library_calls.proofs.patterns.pattern_in.Goals as goal
 
 pub returns-in_ok-character-in-len9-9 : goal.returns-in_ok-character-in-len9-9

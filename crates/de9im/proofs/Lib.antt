@@ -1,0 +1,14 @@
+pub mod PatternFacts
+pub mod Growth
+pub mod EndsShown
+pub mod OddEnds
+pub mod GapCells
+pub mod EdgePoints
+pub mod Passes
+pub mod OffEdges
+pub mod ListedPositions
+pub mod Rest
+pub mod Apart
+pub mod OutsideEdges
+pub mod OutsidePositions
+pub mod PointsAndArea

@@ -1,0 +1,116 @@
+-- Points and an area: all edges are the area's, and lie in the points' exterior.
+use Rattle.std.proofs.Common.{◌≡◌, ◌≢◌, refl, sym, ap, ◌∙◌, subst, []}
+use Rattle.std.specs.List.{All, Contains}
+use Rattle.std.proofs.lemmas.List.Elements.{All-nil, All-weaker, All-contains_itself}
+use Rattle.geometry_model.specs.Points.{Position}
+use Rattle.geometry_model.specs.Geometries.{Edge, Geometry, kind, edges, listed}
+use Rattle.geometry_model.specs.Dimensions.{Matrix, transposed}
+use Rattle.geometry_model.specs.Labels.{labelled_matrix}
+use Rattle.geometry_model.specs.Validity.{IsValid}
+use Rattle.geometry_model.specs.declared.shapes.Kind.{Kind}
+use Rattle.geometry_model.specs.declared.shapes.Kind.TheVariants as kinds
+use Rattle.geometry_model.specs.declared.point_sets.Location.{Location}
+use Rattle.geometry_model.specs.declared.point_sets.Location.TheVariants.{Interior, Boundary, Exterior}
+use Rattle.geometry_model.specs.declared.point_sets.Dimension.{Dimension}
+use Rattle.geometry_model.specs.declared.point_sets.Dimension.TheVariants.{One, Two}
+use Rattle.matrix_laws.proofs.Closing.{valid_rings_are_closed}
+use Rattle.matrix_laws.proofs.Turned.{labelled_is_transposed}
+use Rattle.matrix_laws.specs.Cells.{Shows, IsPartOf, IsSound, Covers, CoversPosition}
+use Rattle.matrix_laws.proofs.Growing.{still_shown}
+use Rattle.matrix_laws.proofs.CellTheorems.{covering_is_whole, covers_turned}
+use Rattle.cover_laws.specs.Gaps.{of_own_edges}
+use Rattle.cover_laws.specs.Covering.{ShowsOff, ShowsEnds}
+use Rattle.de9im.specs.Raising.{Grows, HasSides, of_area}
+use Rattle.de9im.proofs.Apart.{apart_is_there, apart_covers}
+use Rattle.de9im.proofs.Passes.{turned_shows}
+
+-- points have no edges, and areas list no positions
+no_edges : (g : Geometry) → kind g ≡ kinds.Point → edges g ≡ []
+no_edges (Geometry.Point o) k = refl
+no_edges (Geometry.MultiPoint ps) k = refl
+no_edges (Geometry.LineString l) k = absurd (let z : kinds.Line ≡ kinds.Point = k in cc)
+no_edges (Geometry.MultiLineString ls) k = absurd (let z : kinds.Line ≡ kinds.Point = k in cc)
+no_edges (Geometry.Polygon rs) k = absurd (let z : kinds.Area ≡ kinds.Point = k in cc)
+no_edges (Geometry.MultiPolygon es) k = absurd (let z : kinds.Area ≡ kinds.Point = k in cc)
+
+none_listed : (g : Geometry) → kind g ≡ kinds.Area → listed g ≡ []
+none_listed (Geometry.Point o) k = absurd (let z : kinds.Point ≡ kinds.Area = k in cc)
+none_listed (Geometry.MultiPoint ps) k = absurd (let z : kinds.Point ≡ kinds.Area = k in cc)
+none_listed (Geometry.LineString l) k = refl
+none_listed (Geometry.MultiLineString ls) k = refl
+none_listed (Geometry.Polygon rs) k = refl
+none_listed (Geometry.MultiPolygon es) k = refl
+
+-- what the area shows beside the points is there, by an edge that isn't upright
+area_is_there : (a b : Geometry) → kind a ≡ kinds.Point → HasSides b → IsValid a → IsValid b → IsSound a b of_area
+area_is_there a b points sides va vb = go
+  where
+    e : Edge
+    e = sides.edge.1
+
+    wide : e.start.x ≢ e.end.x
+    wide = sides.edge.4
+
+    shown : ShowsOff b (labelled_matrix b a) e Exterior
+    shown = apart_is_there b a e (no_edges a points) (sides.edge.0, sides.edge.2, sides.edge.3) (λ same. wide (ap (λ (p : Position). p.x) same)) vb va
+
+    there : (l k : Location) (d : Dimension) → Shows (labelled_matrix b a) l k d → Shows (labelled_matrix a b) k l d
+    there l k d s = subst (λ (m : Matrix). Shows m k l d) (sym (labelled_is_transposed b a)) (turned_shows (labelled_matrix b a) l k d s)
+
+    go : IsSound a b of_area
+    go Interior Interior = refl
+    go Interior Boundary = refl
+    go Interior Exterior = refl
+    go Boundary Interior = refl
+    go Boundary Boundary = refl
+    go Boundary Exterior = refl
+    go Exterior Interior = there Interior Exterior Two (shown.inner sides.is_area wide)
+    go Exterior Boundary = there Boundary Exterior One (subst (λ (k : Kind). Shows (labelled_matrix b a) (of_own_edges k) Exterior One) sides.is_area shown.piece)
+    go Exterior Exterior = refl
+
+-- a matrix that shows it, and the listed points, covers each edge of the area
+turned_twice : (m : Matrix) → transposed (transposed m) ≡ m
+turned_twice m = refl
+
+area_is_covered : (a b : Geometry) (n : Matrix) → kind a ≡ kinds.Point → kind b ≡ kinds.Area → IsPartOf of_area n → All (CoversPosition a b n) (listed a) → All (Covers a b n) (edges b)
+area_is_covered a b n points area part positions = All-weaker (Contains (edges b)) (Covers a b n) covered (edges b) (All-contains_itself (edges b))
+  where
+    t : Matrix
+    t = transposed n
+
+    shows : (l : Location) (d : Dimension) → Shows of_area Exterior l d → Shows t l Exterior d
+    shows l d s = turned_shows n Exterior l d (still_shown of_area n part Exterior l d s)
+
+    off : (e : Edge) → ShowsOff b t e Exterior
+    off e = record {
+      piece = subst (λ (k : Kind). Shows t (of_own_edges k) Exterior One) (sym area) (shows Boundary One refl);
+      outer = λ _. shows Exterior Two refl;
+      inner = λ _ _. shows Interior Two refl;
+    }
+
+    ends : ShowsEnds b a t
+    ends = record {
+      of_first = λ k. absurd (let z : kinds.Area ≡ kinds.Line = sym area ∙ k in cc);
+      of_second = λ k. absurd (let z : kinds.Point ≡ kinds.Line = sym points ∙ k in cc);
+      positions = All-weaker (CoversPosition a b n) (CoversPosition b a t) (covers_turned a b n).1 (listed a) positions;
+    }
+
+    covered : (e : Edge) → Contains (edges b) e → Covers a b n e
+    covered e own = subst (λ (m : Matrix). Covers a b m e) (turned_twice n) ((covers_turned b a t).0 e (apart_covers b a e t (no_edges a points) own ends (off e)))
+
+-- so it is the label matrix
+pub points_give : (a b : Geometry) (m n : Matrix) → kind a ≡ kinds.Point → HasSides b → IsValid a → IsValid b → m ≡ of_area → Grows a b m n → All (CoversPosition a b n) (listed a) → n ≡ labelled_matrix a b
+points_give a b m n points sides va vb start grows positions = covering_is_whole a b (valid_rings_are_closed a va) (valid_rings_are_closed b vb) n
+    (subst (All (Covers a b n)) (sym (no_edges a points)) (All-nil (Covers a b n)))
+    (area_is_covered a b n points sides.is_area grown.grown positions)
+    positions
+    (subst (All (CoversPosition a b n)) (sym (none_listed b sides.is_area)) (All-nil (CoversPosition a b n)))
+    (still_shown of_area n grown.grown Exterior Exterior Two refl)
+    (grown.sound va vb (area_is_there a b points sides va vb))
+  where
+    grown : Grows a b of_area n
+    grown = subst (λ (o : Matrix). Grows a b o n) start grows
+
+-- and turned, that of the geometries the other way round
+pub turned_gives : (a b : Geometry) (m n : Matrix) → m ≡ labelled_matrix b a → n ≡ transposed m → n ≡ labelled_matrix a b
+turned_gives a b m n e t = t ∙ ap transposed e ∙ sym (labelled_is_transposed b a)

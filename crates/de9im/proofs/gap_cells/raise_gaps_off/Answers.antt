@@ -1,0 +1,26 @@
+use Rattle.std.proofs.Common.{◌≡◌, ◌-◌, ◌+◌, sym, ap, take, arith}
+use Rattle.std.proofs.lemmas.List.{take_all}
+use Rattle.std.proofs.lemmas.List.Elements.{All-same}
+use Rattle.geometry_model.specs.Pieces.{stretches}
+use Rattle.de9im.specs.Raising.{ShowsGapOff}
+use Rattle.de9im.proofs.Growth.{grows_through}
+use Rattle.de9im.proofs.GapCells.{gap_at, gap_off_grows, gaps_off_more}
+use Rattle.de9im.proofs.gap_cells.raise_gaps_off.Goals as goal
+
+pub loop-place-preserved : goal.loop-place-preserved
+loop-place-preserved c =
+    let before : c.loop-place.place ≡ (c.loop-place.place - 1) + 1 = omega (arith, c.loop-place.auto.place, c.loop-place-test.true) in
+    let p = c.index-stops-place.result in
+    let q = c.index-stops-place-in-loop-place.result in
+    record {
+      grows = grows_through c.args.first.now c.args.second.now c.args.matrix.now c.loop-place.matrix c.raise_off_at.new.matrix c.loop-place.invariant.grows
+          (gap_off_grows c.args.first.now c.args.second.now c.args.edge.now p q c.mediant-middle.result c.loop-place.matrix c.raise_off_at.new.matrix c.requires.own c.requires.length
+          (gap_at c.args.edge.now c.args.second.now c.args.stops.now (c.loop-place.place - 1) c.loop-place.place p q before c.loop-place-test.true c.index-stops-place.is c.index-stops-place-in-loop-place.is c.requires.gaps)
+          c.mediant-middle.ensures.exact c.raise_off_at.ensures);
+      shows = gaps_off_more c.args.first.now c.args.second.now c.args.edge.now c.args.stops.now (c.loop-place.place - 1) c.loop-place.place p q c.mediant-middle.result c.loop-place.matrix c.raise_off_at.new.matrix
+          before c.loop-place-test.true c.index-stops-place.is c.index-stops-place-in-loop-place.is c.requires.gaps c.mediant-middle.ensures.exact c.raise_off_at.ensures c.loop-place.invariant.shows;
+    }
+
+pub returns-clause-shows : goal.returns-clause-shows
+returns-clause-shows c = All-same (λ k. ShowsGapOff c.args.first.now c.args.second.now c.loop-place.matrix c.args.edge.now k.lesser k.greater) (stretches c.args.stops.now) (stretches (take c.loop-place.place c.args.stops.now))
+    (ap stretches (sym (take_all c.loop-place.place c.args.stops.now c.loop-place-test.false))) c.loop-place.invariant.shows

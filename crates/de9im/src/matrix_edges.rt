@@ -1,0 +1,235 @@
+//! Raises the cells of a matrix by the edges of a geometry.
+
+ghost use Rattle.std.specs.Prelude.{◌≡◌, [], All, Contains, OnOk};
+ghost use Rattle.geometry_model.specs.Geometries.{kind, edges};
+ghost use Rattle.geometry_model.specs.Locations.{locate};
+ghost use Rattle.geometry_model.specs.Dimensions.{cell};
+ghost use Rattle.geometry_model.specs.Validity.{IsValid};
+ghost use Rattle.geometry_model.specs.declared.point_sets.Dimension.TheVariants.{Zero};
+ghost use Rattle.validity.specs.ValidGeometries.{HasLength};
+ghost use Rattle.matrix_laws.specs.Cells.{at_most, Shows, Covers};
+ghost use Rattle.cover_laws.specs.Gaps.{of_own_edges};
+ghost use Rattle.cover_laws.specs.Covering.{ShowsEnds};
+ghost use Rattle.merged_edges.specs.Merging.{AreMerged};
+ghost use Rattle.de9im.specs.Raising.{Grows, IsOnBoth};
+
+use crate::MatrixCells;
+use crate::fullness::{is_full_along, is_full_off, is_full_on, of_own_edges};
+use crate::gap_cells::{raise_gaps, raise_gaps_off, raise_off};
+use crate::matrix_positions::raise_point;
+use crate::outside_edges::{raise_edges_near, raise_edges_off_near, small_envelope};
+use edge_gaps::Gaps;
+use fraction::RatPoint;
+use geometry_model::{Dimension, Kind, Location};
+use merged_edges::MergedEdges;
+use orient::Segment;
+use std::alloc::{AllocError, Global};
+use validity::Valid;
+
+/// Once an edge has met others this often, these are merged, if that pays.
+const MANY_MEETINGS: usize = 64;
+
+/// It pays once all edges so far have met others as often as there are edges in this part of them: a sixteenth.
+const FAIR_PART: usize = 16;
+
+/// Whether the matrix shows a common point of the two parts in which almost all points of each geometry's own edges lie.
+fn shows_meeting(first: &Valid, second: &Valid, matrix: &MatrixCells) -> bool
+    ensures { result ≡ at_most Zero
+        (cell matrix.now (of_own_edges (kind first.now)) (of_own_edges (kind second.now))) }
+{
+    matrix.shows(
+        of_own_edges(first.kind()),
+        of_own_edges(second.kind()),
+        Dimension::Zero,
+    )
+}
+
+/// Raises cells by points that edges of both geometries share, until no further one can raise a cell. The odd ends of lines
+/// have to be shown before.
+fn raise_shared(first: &Valid, second: &Valid, shared: &[RatPoint], matrix: &mut MatrixCells)
+    requires ends { ShowsEnds first.now second.now matrix.old }
+    requires shared { All (IsOnBoth first.now second.now) shared.now }
+    ensures grows { Grows first.now second.now matrix.old matrix.new }
+    ensures shows { All (λ p. Shows matrix.new (locate first.now p) (locate second.now p) Zero) shared.now }
+{
+    for p in shared {
+        if shows_meeting(first, second, matrix) {
+            return;
+        }
+        raise_point(first, second, p, matrix);
+    }
+}
+
+/// Whether an edge has met so many edges of the second geometry that it pays to merge these.
+fn has_met_many(second: &Valid, gaps: &Gaps) -> bool {
+    gaps.named() > MANY_MEETINGS && gaps.all_named() >= second.segments().len() / FAIR_PART
+}
+
+/// Merges the second geometry's edges, if an edge of the first one has met many of them. Edges of two areas aren't merged: those
+/// of one area don't lie on each other.
+fn merge_if_many(
+    first: &Valid,
+    second: &Valid,
+    gaps: &Gaps,
+    merged: &mut MergedEdges,
+) -> Result<(), AllocError>
+    requires { AreMerged (edges second.now) merged.old }
+    ensures { OnOk result (AreMerged (edges second.now) merged.new) }
+{
+    let are_areas = first.kind() == Kind::Area && second.kind() == Kind::Area;
+    if are_areas || !has_met_many(second, gaps) || !merged.is_empty() {
+        return Ok(());
+    }
+    merged.merge(second.segments())
+}
+
+/// Raises cells by an edge of the first geometry. It fails only when memory runs out.
+pub(crate) fn raise_edge(
+    first: &Valid,
+    second: &Valid,
+    edge: &Segment,
+    gaps: &mut Gaps,
+    merged: &mut MergedEdges,
+    matrix: &mut MatrixCells,
+) -> Result<(), AllocError>
+    requires first_valid { IsValid first.now }
+    requires second_valid { IsValid second.now }
+    requires own { Contains (edges first.now) edge.now }
+    requires length { HasLength edge.now }
+    requires ends { ShowsEnds first.now second.now matrix.old }
+    requires merged { AreMerged (edges second.now) merged.old }
+    ensures grows { OnOk result (Grows first.now second.now matrix.old matrix.new) }
+    ensures covers { OnOk result (Covers first.now second.now matrix.new edge.now) }
+    ensures merged { OnOk result (AreMerged (edges second.now) merged.new) }
+{
+    if is_full_off(first, second, matrix)
+        && shows_meeting(first, second, matrix)
+        && !Gaps::may_share_stretch(edge, second.segments(), second.boxes())
+    {
+        return Ok(());
+    }
+    if is_full_along(first, second, edge, matrix) && merged.holds(edge) {
+        return Ok(());
+    }
+    gaps.find(edge, second.segments(), second.boxes())?;
+    merge_if_many(first, second, gaps, merged)?;
+    raise_shared(first, second, gaps.shared(), matrix);
+    let is_held = merged.holds(edge);
+    raise_gaps(first, second, edge, gaps.stops(), is_held, matrix);
+    Ok(())
+}
+
+/// Raises cells by the edges of the first geometry where the second one has no edges, until no further one can raise a cell. All
+/// of each edge is in the second's exterior, but for a listed position.
+fn raise_apart(first: &Valid, second: &Valid, matrix: &mut MatrixCells)
+    requires none { edges second.now ≡ [] }
+    requires lengths { All HasLength (edges first.now) }
+    requires ends { ShowsEnds first.now second.now matrix.old }
+    ensures grows { Grows first.now second.now matrix.old matrix.new }
+    ensures covers { All (Covers first.now second.now matrix.new) (edges first.now) }
+{
+    for edge in first.segments() {
+        if is_full_off(first, second, matrix) {
+            return;
+        }
+        raise_off(first, edge, Location::Exterior, matrix);
+    }
+}
+
+/// Raises cells by the edges of the first geometry, until no further one can raise a cell. It fails only when memory runs out.
+pub(crate) fn raise_edges(
+    alloc: Global,
+    first: &Valid,
+    second: &Valid,
+    gaps: &mut Gaps,
+    matrix: &mut MatrixCells,
+) -> Result<(), AllocError>
+    requires first_valid { IsValid first.now }
+    requires second_valid { IsValid second.now }
+    requires lengths { All HasLength (edges first.now) }
+    requires ends { ShowsEnds first.now second.now matrix.old }
+    ensures grows { OnOk result (Grows first.now second.now matrix.old matrix.new) }
+    ensures covers { OnOk result (All (Covers first.now second.now matrix.new) (edges first.now)) }
+{
+    if second.segments().is_empty() {
+        raise_apart(first, second, matrix);
+        return Ok(());
+    }
+    if let Some(around) = small_envelope(first, second) {
+        return raise_edges_near(alloc, first, second, &around, gaps, matrix);
+    }
+    let mut merged = MergedEdges::new(alloc);
+    for edge in first.segments() {
+        if is_full_off(first, second, matrix) && is_full_on(first, second, matrix) {
+            return Ok(());
+        }
+        raise_edge(first, second, edge, gaps, &mut merged, matrix)?;
+    }
+    Ok(())
+}
+
+/// Raises cells by what of an edge of the first geometry lies off the second's edges. It fails only when memory runs out.
+pub(crate) fn raise_edge_off(
+    first: &Valid,
+    second: &Valid,
+    edge: &Segment,
+    gaps: &mut Gaps,
+    merged: &mut MergedEdges,
+    matrix: &mut MatrixCells,
+) -> Result<(), AllocError>
+    requires first_valid { IsValid first.now }
+    requires second_valid { IsValid second.now }
+    requires own { Contains (edges first.now) edge.now }
+    requires length { HasLength edge.now }
+    requires ends { ShowsEnds first.now second.now matrix.old }
+    requires covered { All (Covers first.now second.now matrix.old) (edges second.now) }
+    requires merged { AreMerged (edges second.now) merged.old }
+    ensures grows { OnOk result (Grows first.now second.now matrix.old matrix.new) }
+    ensures covers { OnOk result (Covers first.now second.now matrix.new edge.now) }
+    ensures merged { OnOk result (AreMerged (edges second.now) merged.new) }
+{
+    if merged.holds(edge) {
+        return Ok(());
+    }
+    gaps.find(edge, second.segments(), second.boxes())?;
+    merge_if_many(first, second, gaps, merged)?;
+    if merged.holds(edge) {
+        return Ok(());
+    }
+    raise_gaps_off(first, second, edge, gaps.stops(), matrix);
+    Ok(())
+}
+
+/// Raises cells by the edges of the first geometry once the matrix covers those of the second. It then shows what both share, so
+/// only gaps off the second's edges can raise a cell. It stops when none can any more, and fails only when memory runs out.
+pub(crate) fn raise_edges_off(
+    alloc: Global,
+    first: &Valid,
+    second: &Valid,
+    gaps: &mut Gaps,
+    matrix: &mut MatrixCells,
+) -> Result<(), AllocError>
+    requires first_valid { IsValid first.now }
+    requires second_valid { IsValid second.now }
+    requires lengths { All HasLength (edges first.now) }
+    requires ends { ShowsEnds first.now second.now matrix.old }
+    requires covered { All (Covers first.now second.now matrix.old) (edges second.now) }
+    ensures grows { OnOk result (Grows first.now second.now matrix.old matrix.new) }
+    ensures covers { OnOk result (All (Covers first.now second.now matrix.new) (edges first.now)) }
+{
+    if second.segments().is_empty() {
+        raise_apart(first, second, matrix);
+        return Ok(());
+    }
+    if let Some(around) = small_envelope(first, second) {
+        return raise_edges_off_near(alloc, first, second, &around, gaps, matrix);
+    }
+    let mut merged = MergedEdges::new(alloc);
+    for edge in first.segments() {
+        if is_full_off(first, second, matrix) {
+            return Ok(());
+        }
+        raise_edge_off(first, second, edge, gaps, &mut merged, matrix)?;
+    }
+    Ok(())
+}
