@@ -11,8 +11,8 @@ ghost use Rattle.side_labels.specs.Samples.{HasSample};
 
 use crate::location::locate;
 use crate::piece_sides::sides_at;
+use crate::{Label, Labels, SideLabels};
 use fraction::{GridPoint, RatPoint};
-use label_lists::{Label, Labels, SideLabels};
 use noding::node;
 use orient::Segment;
 use std::alloc::{AllocError, Global};

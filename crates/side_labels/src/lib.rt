@@ -1,6 +1,7 @@
 //! Where points lie in a geometry, and the labels of the nodes, the pieces and their sides of two geometries.
 #![tactic(auto)]
 
+pub mod label_lists;
 pub mod labelling;
 pub mod location;
 pub mod piece_sides;

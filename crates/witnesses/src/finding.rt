@@ -21,10 +21,9 @@ use crate::heights::Side;
 use crate::witness::{Witness, Witnesses};
 use fraction::{GridPoint, RatPoint};
 use geometry_model::Location;
-use label_lists::{Label, Labels, SideLabels};
 use noding::{Noded, node};
 use orient::Segment;
-use side_labels::labels;
+use side_labels::{Label, Labels, SideLabels, labels};
 use std::alloc::{AllocError, Global};
 use validity::Valid;
 

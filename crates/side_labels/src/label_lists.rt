@@ -1,11 +1,10 @@
 //! Labels: where the nodes, the pieces and the pieces' sides of two geometries lie in both (06-103r4, 6.1.15.2; labels:
 //! this project's choice). Here are their types; the crate `side_labels` finds them.
-#![tactic(auto)]
 
 ghost use Rattle.std.specs.Prelude.{◌≡◌};
 ghost use Rattle.geometry_model.specs.Labels.{same_location};
 
-pub use geometry_model::Location;
+use geometry_model::Location;
 use std::marker::Model;
 
 /// Where a point lies in the first geometry and in the second (06-103r4, 6.1.15.2; labels: this project's choice).

@@ -1,5 +1,5 @@
 use Rattle.std.proofs.Common.{rules}
-use Rattle.label_lists.proofs.SideLabels.has_pair.Goals as goal
+use Rattle.side_labels.proofs.label_lists.SideLabels.has_pair.Goals as goal
 
 pub returns-then-is_pair : goal.returns-then-is_pair
 returns-then-is_pair c = search rules

@@ -1,5 +1,5 @@
 use Rattle.std.proofs.Common.{rules}
-use Rattle.label_lists.proofs.Labels.nodes.Goals as goal
+use Rattle.side_labels.proofs.label_lists.Labels.sides.Goals as goal
 
 pub returns : goal.returns
 returns c = search rules

@@ -1,5 +1,5 @@
 use Rattle.std.proofs.Common.{rules}
-use Rattle.label_lists.proofs.Label.is_pair.Goals as goal
+use Rattle.side_labels.proofs.label_lists.Label.is_pair.Goals as goal
 
 pub returns-then-same_location : goal.returns-then-same_location
 returns-then-same_location c = search rules
