@@ -7,7 +7,7 @@ use Rattle.std.proofs.lemmas.List.Elements.{All-nil, All-cons}
 use Rattle.std.proofs.lemmas.List.Sums.{sum_by-cons, sum_by-take-drop}
 use Rattle.geometry_model.specs.Points.{Position}
 use Rattle.geometry_model.specs.WellKnownText.{without_repeats}
-use Rattle.geometries.proofs.KeptLines.{first_kept}
+use Rattle.wkt.proofs.KeptLines.{first_kept}
 use Rattle.library_calls.specs.Written.{parts_of, use_up}
 
 -- the sum of sizes with one ahead

@@ -11,8 +11,8 @@ use Rattle.geometry_model.specs.declared.shapes.GeometryType.TheVariants as type
 use Rattle.std.specs.Option.{IfSome}
 use Rattle.geometry_model.specs.declared.text_faults.TextFault.{TextFault}
 use Rattle.geometry_model.specs.declared.text_faults.TextFault.TheVariants.{OutOfRange, TooLong}
-use Rattle.geometries.specs.KeptGeometries.{IsKept}
-use Rattle.geometries.proofs.KeptLines.{Apart, lines_apart}
+use Rattle.wkt.specs.KeptGeometries.{IsKept}
+use Rattle.wkt.proofs.KeptLines.{Apart, lines_apart}
 use Rattle.text_laws.proofs.TextPrinted.{counts_again, rings_kept}
 use Rattle.library_calls.specs.Written.{first_past_limit, fits, is_within_counts, parts_of, taken, use_up, within_or, written_as}
 use Rattle.library_calls.proofs.Parts.{as_many, joined, some_in_each, sum_used}

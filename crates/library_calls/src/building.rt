@@ -3,13 +3,13 @@
 
 ghost use Rattle.std.specs.Prelude.{◌≡◌, ◌≤◌, IfErr, IfOk, drop, length, map, sum, true, vec_len};
 ghost use Rattle.geometry_model.specs.WellKnownText.{geometry_of, position_limit, without_repeats};
-ghost use Rattle.geometries.specs.Shapes.{geometry_in};
+ghost use Rattle.wkt.specs.Shapes.{geometry_in};
 ghost use Rattle.library_calls.specs.Written.{fits, parts_of, written_as};
 
 use fraction::GridPoint;
-use geometries::{Larger, LineString, Polygons, Shape, WktFault};
 use geometry_model::GeometryType;
 use std::alloc::{AllocError, Global};
+use wkt::{Larger, LineString, Polygons, Shape, WktFault};
 
 /// The line or ring through these positions.
 fn line_of(points: Vec<GridPoint>) -> LineString

@@ -1,15 +1,15 @@
 //! Valid geometries from arrays.
 
 ghost use Rattle.std.specs.Prelude.{◌≡◌, Err, IfErr, IfOk, IfSome, Ok, length, true};
-ghost use Rattle.geometries.specs.TextFaults.{text_fault};
+ghost use Rattle.wkt.specs.TextFaults.{text_fault};
 ghost use Rattle.library_calls.specs.Written.{fits, geometry_in_arrays, taken, written_as};
 
 use crate::building::shape_of;
 use crate::coordinates::{Coordinates, grid_points};
-use geometries::{Geometry, WktFault};
 use geometry_model::{GeometryFault, GeometryType};
 use std::alloc::{AllocError, Global};
 use validity::{Valid, check};
+use wkt::{Geometry, WktFault};
 
 /// The most positions of a geometry.
 const POSITION_LIMIT: usize = 10_000;

@@ -1,14 +1,14 @@
 //! Coordinates as they cross from C.
 
 ghost use Rattle.std.specs.Prelude.{◌≡◌, IfErr, IfOk, IfSome, None, Some};
-ghost use Rattle.geometries.specs.TextFaults.{text_fault};
+ghost use Rattle.wkt.specs.TextFaults.{text_fault};
 ghost use Rattle.geometry_model.specs.declared.text_faults.TextFault.TheVariants as fault;
 ghost use Rattle.library_calls.specs.Written.{first_past_limit};
 
 use fraction::GridPoint;
-use geometries::WktFault;
 use std::alloc::Global;
 use std::marker::Model;
+use wkt::WktFault;
 
 /// The two coordinates of a position, in grid steps; they may be past the limit (06-103r4, 6.1.4: X and Y).
 #[repr(C)]

@@ -6,7 +6,6 @@ use command_line::sfq_command;
 use de9im::find_matrix;
 use edge_boxes::{EdgeBoxes, is_not_simple, share};
 use engine::relate_texts;
-use geometries::{Larger, Polygons, Shape};
 use geometry_model::ValidityFault;
 use orient::Segment;
 use sql_text::lex::lex;
@@ -16,7 +15,7 @@ use table_model::references::References;
 use table_model::texts::OwnedText;
 use validity::first_faults::first_fault;
 use validity::outlines::Outline;
-use wkt::read;
+use wkt::{Larger, Polygons, Shape, read};
 
 #[test]
 fn texts_and_references(rt: HostRuntime) -> Result<(), Fail> {

@@ -1,8 +1,8 @@
 -- Fields that have no reason of a fault.
 use Rattle.std.proofs.Common.{◌≡◌, ◌∙◌, List, Some, None, Result, Ok, true, ℕ, true≢false, ap, subst, sym}
-use Rattle.geometries.specs.TextFaults.{text_fault}
-use Rattle.geometries.specs.declared.wkt_fault.WktFault.{WktFault}
-use Rattle.geometries.specs.declared.wkt_fault.WktFault.TheVariants as wkt
+use Rattle.wkt.specs.TextFaults.{text_fault}
+use Rattle.wkt.specs.declared.wkt_fault.WktFault.{WktFault}
+use Rattle.wkt.specs.declared.wkt_fault.WktFault.TheVariants as wkt
 use Rattle.geometry_model.specs.Geometries.{Geometry, type_of}
 use Rattle.geometry_model.specs.Validity.{HasFault}
 use Rattle.geometry_model.specs.WellKnownText.{Spells}

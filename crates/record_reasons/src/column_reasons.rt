@@ -12,13 +12,12 @@ ghost use Rattle.record_reasons.specs.Reasons as spec;
 use crate::reason::Reason;
 use crate::shown_texts::shown_text;
 use feature_table::{ColumnDef, ColumnShape, ColumnType, integer_of};
-use geometries::Geometry;
 use geometry_model::{GeometryFault, GeometryType, TextFault, ValidityFault};
 use std::alloc::Global;
 use std::str;
 use table_model::faults::LoadFault;
 use witnesses::place_of;
-use wkt::read;
+use wkt::{Geometry, read};
 
 /// The reason of a fault in a field of this column; None if the field hasn't the fault. An empty field has none, since it is null. At Err
 /// memory ran out.

@@ -9,7 +9,7 @@ ghost use Rattle.geometry_model.specs.WellKnownText.{Spells};
 ghost use Rattle.geometry_model.specs.declared.geometry_faults.GeometryFault.TheVariants as g;
 ghost use Rattle.geometry_model.specs.declared.text_faults.TextFault.{TextFault};
 ghost use Rattle.validity.specs.CheckFaults.{IsFaultOf, fault_in};
-ghost use Rattle.geometries.specs.TextFaults.{text_fault};
+ghost use Rattle.wkt.specs.TextFaults.{text_fault};
 ghost use Rattle.table_model.specs.RunOutcomes.{ByEveryMatrix, MatrixOf};
 ghost use Rattle.text_commands.specs.Relations.{IsFailureOf, RelatesTexts, geometry_in_word, or_refused, refused_or_memory, relation};
 ghost use Rattle.failures.specs.declared.failure.Failure.TheVariants as f;

@@ -8,8 +8,8 @@ use Rattle.geometry_model.specs.Points.{Position}
 use Rattle.geometry_model.specs.Geometries.{Geometry, Edge, lines, edges, elements, joined_rings, edges_of_line, edges_of_lines}
 use Rattle.geometry_model.specs.Validity.{Element, elements_from}
 use Rattle.geometry_model.specs.FirstFaults.{rings_end}
-use Rattle.geometries.specs.Cuts.{cut_at, AreEnds, start_of}
-use Rattle.geometries.proofs.CutFacts.{cut_more, ends_more}
+use Rattle.wkt.specs.Cuts.{cut_at, AreEnds, start_of}
+use Rattle.wkt.proofs.CutFacts.{cut_more, ends_more}
 use Rattle.validity.specs.Outlines.{IsOutline}
 
 -- the edges of all lines, put together

@@ -7,7 +7,7 @@ use Rattle.geometry_model.specs.declared.shapes.GeometryType.{GeometryType}
 use Rattle.geometry_model.specs.declared.shapes.GeometryType.TheVariants as types
 use Rattle.edge_boxes.specs.BoxLists.{BoxesOf}
 use Rattle.edge_boxes.specs.declared.boxes.EdgeBoxes.{EdgeBoxes}
-use Rattle.geometries.specs.Cuts.{cut_at, AreEnds}
+use Rattle.wkt.specs.Cuts.{cut_at, AreEnds}
 
 -- the runs are the edges of the lines, and the ends are the places where those and the rings of each polygon end (06-103r4, 6.1.7 to 6.1.14)
 pub record IsOutline (g : Geometry) (runs : List (List Edge)) (element_ends ring_ends : List ℕ) : Type 0 where

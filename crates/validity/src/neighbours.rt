@@ -5,11 +5,11 @@ ghost use Rattle.geometry_model.specs.Geometries as spec;
 ghost use Rattle.validity.specs.Neighbours.{near_one, either_envelope, ring_envelopes, element_envelope, element_envelopes};
 
 use crate::outlines::Outline;
-use geometries::LineString;
 use rtree::envelopes::joined;
 use rtree::{Envelope, EnvelopeIndex, RTree};
 use std::alloc::{AllocError, Global};
 use std::marker::Model;
+use wkt::LineString;
 
 /// The envelopes of rings or polygons, by their numbers, and an index of them. Contracts see it as the list of envelopes.
 #[derive(Drop)]

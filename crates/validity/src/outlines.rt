@@ -8,11 +8,11 @@ ghost use Rattle.validity.specs.Outlines.{AreRingsOf, AreLineBoxes, AreElementBo
 
 use crate::runs::{Runs, bounds, part};
 use edge_boxes::EdgeBoxes;
-use geometries::{Geometry, LineString};
 use geometry_model::Kind;
 use orient::Segment;
 use std::alloc::{AllocError, Global};
 use std::marker::Model;
+use wkt::{Geometry, LineString};
 
 /// A geometry with its edges. Contracts see it as that geometry.
 #[derive(Drop)]

@@ -3,14 +3,14 @@
 ghost use Rattle.std.specs.Prelude.{◌≡◌, ◌<◌, ◌++◌, [], ◌∷◌, length, map, slice_get, Some, IfOk, OnOk, All};
 ghost use Rattle.std.specs.List.{flat_map};
 ghost use Rattle.geometry_model.specs.Geometries.{edges_of_line};
-ghost use Rattle.geometries.specs.Cuts.{cut_at, AreEnds, start_of};
+ghost use Rattle.wkt.specs.Cuts.{cut_at, AreEnds, start_of};
 ghost use Rattle.validity.specs.Runs.{HasLength};
 
 use fraction::GridPoint;
-use geometries::LineString;
 use orient::Segment;
 use std::alloc::{AllocError, Global};
 use std::marker::Model;
+use wkt::LineString;
 
 /// The edges of lines or rings. Contracts see them as the list of the lines' lists of edges.
 #[derive(Drop)]
@@ -24,7 +24,7 @@ pub(crate) struct Runs {
 impl Model for Runs {
     ghost use Rattle.std.specs.Prelude.{List, length};
     ghost use Rattle.geometry_model.specs.Geometries.{Edge};
-    ghost use Rattle.geometries.specs.Cuts.{cut_at, AreEnds};
+    ghost use Rattle.wkt.specs.Cuts.{cut_at, AreEnds};
 
     ghost Value = { List (List Edge) };
 

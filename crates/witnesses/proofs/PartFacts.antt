@@ -9,7 +9,7 @@ use Rattle.geometry_model.specs.Crossings.{odd_above}
 use Rattle.geometry_model.specs.Validity.{HasFault, is_short, IsNotClosed, inside, inside_element}
 use Rattle.geometry_model.specs.declared.validity_faults.ValidityFault.TheVariants.{RingNotClosed}
 use Rattle.geometry_model.specs.declared.shapes.Kind.TheVariants as kinds
-use Rattle.geometries.specs.KeptGeometries.{IsKept}
+use Rattle.wkt.specs.KeptGeometries.{IsKept}
 use Rattle.std.specs.Ordering.{int_eq}
 use Rattle.integers.proofs.Tests.{equal_yes}
 use Rattle.geometry_laws.proofs.Scaling.{and_from}

@@ -9,8 +9,8 @@ use crate::parts::first_position;
 use crate::places::Place;
 use crate::{SharedPlace, meeting_place};
 use fraction::GridPoint;
-use geometries::{Geometry, LineString};
 use geometry_model::ValidityFault;
+use wkt::{Geometry, LineString};
 
 /// Where a ring meets the first of some rings that it meets.
 fn ring_meeting(ring: &LineString, others: &[LineString]) -> Option<SharedPlace>

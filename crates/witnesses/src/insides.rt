@@ -6,8 +6,8 @@ ghost use Rattle.geometry_model.specs.Crossings.{odd_above, exactly_one};
 
 use crate::rings::{edge, edge_count};
 use fraction::{GridPoint, RatPoint};
-use geometries::LineString;
 use orient::crosses_up;
+use wkt::LineString;
 
 /// Whether exactly one of the two is true.
 fn differ(a: bool, b: bool) -> bool

@@ -3,7 +3,7 @@
 ghost use Rattle.std.specs.Prelude.{IfSome, IfNone};
 ghost use Rattle.witnesses.specs.Numbers.{AreNumbersAround, IsNumberOfNone};
 
-use geometries::Geometry;
+use wkt::Geometry;
 
 /// The numbers of the rings of a polygon.
 #[derive(Clone, Copy, Debug)]

@@ -9,8 +9,8 @@ ghost use Rattle.witnesses.specs.FaultPlaces.{IsPlaceOf};
 use crate::clash_place;
 use crate::places::Place;
 use fraction::GridPoint;
-use geometries::{Geometry, LineString};
 use geometry_model::{GeometryType, Kind, ValidityFault};
+use wkt::{Geometry, LineString};
 
 /// Whether a part of this geometry has too few positions where it has this number of them.
 fn is_too_short(geometry: &Geometry, count: usize) -> bool

@@ -9,8 +9,8 @@ use crate::elements::{element_inside, elements_meeting};
 use crate::parts::{open_ring, ring_clash, short_part};
 use crate::polygons::{hole_outside, nested_holes, rings_meeting};
 use fraction::GridPoint;
-use geometries::Geometry;
 use geometry_model::ValidityFault;
+use wkt::Geometry;
 
 /// Where a geometry has a fault, and what is wrong there (06-103r4, 6.1.7, 6.1.11 and 6.1.14; which place is shown: this
 /// project's choice).

@@ -10,8 +10,8 @@ use crate::numbers::{RingNumbers, numbers_around};
 use crate::parts::{first_position, ring};
 use crate::places::Place;
 use fraction::GridPoint;
-use geometries::{Geometry, LineString};
 use geometry_model::ValidityFault;
+use wkt::{Geometry, LineString};
 
 /// Whether a number isn't that of a later ring of the polygon that has the ring of a number.
 fn is_no_later_ring(around: RingNumbers, number: usize, later: usize) -> bool

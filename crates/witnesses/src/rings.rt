@@ -8,9 +8,9 @@ ghost use Rattle.geometry_model.specs.Points.{IsPoint};
 ghost use Rattle.witnesses.specs.Places.{IsClashOf, IsMeetingOf, clash_by, ClashesWith, MeetsWith, IsFirstClash, IsFirstClashWith, IsFirstMeeting, IsFirstMeetingWith};
 
 use crate::shared::{SharedPlace, met, share, share_other};
-use geometries::LineString;
 use noding::Meet;
 use orient::Segment;
+use wkt::LineString;
 
 /// How many edges a line has: one fewer than positions (06-103r4, 6.1.7).
 pub fn edge_count(line: &LineString) -> usize

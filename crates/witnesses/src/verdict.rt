@@ -1,7 +1,7 @@
 //! Whether a geometry in well-known text is valid, and where it isn't.
 
 ghost use Rattle.std.specs.Prelude.{◌≡◌, Err, IfErr, IfOk, IfSome};
-ghost use Rattle.geometries.specs.TextFaults.{text_fault};
+ghost use Rattle.wkt.specs.TextFaults.{text_fault};
 ghost use Rattle.geometry_model.specs.TextReading.{read_text};
 ghost use Rattle.witnesses.specs.Verdicts.{IsFirstFaultIn, IsVerdictOf};
 

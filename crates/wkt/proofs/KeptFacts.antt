@@ -6,8 +6,8 @@ use Rattle.geometry_model.specs.Points.{Position}
 use Rattle.geometry_model.specs.Geometries.{Geometry, Point, MultiPoint, LineString, MultiLineString, Polygon, MultiPolygon, joined_rings, edges, edges_of_lines}
 use Rattle.geometry_model.specs.WellKnownText.{Separated, LineText, PolygonText, Body, TaggedText, written_parts, without_repeats, geometry_of}
 use Rattle.text_laws.proofs.TextPrinted.{counts_again, rings_kept}
-use Rattle.geometries.specs.KeptGeometries.{IsKept, IsKeptLine, SpelledIsKept}
-use Rattle.geometries.proofs.KeptLines.{Apart, first_kept, lines_apart}
+use Rattle.wkt.specs.KeptGeometries.{IsKept, IsKeptLine, SpelledIsKept}
+use Rattle.wkt.proofs.KeptLines.{Apart, first_kept, lines_apart}
 
 -- edges
 

@@ -7,3 +7,5 @@ pub mod PlainNumbers
 pub mod Repeats
 pub mod Rooms
 pub mod Wholes
+pub mod CutFacts
+pub mod KeptLines

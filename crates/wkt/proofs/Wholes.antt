@@ -11,11 +11,11 @@ use Rattle.text_laws.proofs.RefusedTexts.{answer_is_given}
 use Rattle.text_laws.proofs.TextComplete.{spelled_is_read}
 use Rattle.text_laws.proofs.TextPrinted.{canonical_text_spells}
 use Rattle.text_laws.proofs.TextSound.{read_is_spelled}
-use Rattle.geometries.specs.KeptGeometries.{IsKept}
+use Rattle.wkt.specs.KeptGeometries.{IsKept}
 use Rattle.wkt.specs.ReadingSteps.{meant}
-use Rattle.geometries.specs.TextFaults.{text_fault}
-use Rattle.geometries.specs.declared.wkt_fault.WktFault.{WktFault}
-use Rattle.geometries.specs.declared.wkt_fault.WktFault.TheVariants as faults
+use Rattle.wkt.specs.TextFaults.{text_fault}
+use Rattle.wkt.specs.declared.wkt_fault.WktFault.{WktFault}
+use Rattle.wkt.specs.declared.wkt_fault.WktFault.TheVariants as faults
 use Rattle.wkt.proofs.KeptFacts.{spelled_is_kept}
 
 -- white space, and the end of the text

@@ -1,3 +1,7 @@
 pub mod PlainText
 pub mod Printing
 pub mod ReadingSteps
+pub mod Cuts
+pub mod KeptGeometries
+pub mod Shapes
+pub mod TextFaults

@@ -11,12 +11,12 @@ use Rattle.geometry_model.specs.WellKnownText.{is_white, same_position, without_
 use Rattle.geometry_model.specs.TextReading.{Input, Reader, ◌>>=◌, ◌>>◌, pure, place, run, refuse, too_long, expect, padded, enclosed, position, point, separated, parts, first}
 use Rattle.geometry_model.specs.TextReading as spec
 use Rattle.geometry_model.specs.declared.text_faults.TextFault.{TextFault}
-use Rattle.geometries.specs.TextFaults.{text_fault}
+use Rattle.wkt.specs.TextFaults.{text_fault}
 use Rattle.wkt.specs.declared.cursor.ByteClass.{ByteClass}
 use Rattle.wkt.specs.declared.cursor.ByteClass.TheVariants as classes
 use Rattle.wkt.specs.declared.list_reader.Room.{Room}
-use Rattle.geometries.specs.declared.wkt_fault.WktFault.{WktFault}
-use Rattle.geometries.specs.declared.wkt_fault.WktFault.TheVariants as faults
+use Rattle.wkt.specs.declared.wkt_fault.WktFault.{WktFault}
+use Rattle.wkt.specs.declared.wkt_fault.WktFault.TheVariants as faults
 
 -- the test of a class of bytes
 abbrev pub of_class : ByteClass → ℕ → Bool

@@ -1,7 +1,7 @@
 //! The law that every geometry that a text spells is a value of the type `Geometry`: the facts that the type keeps leave
 //! none out.
 
-ghost use Rattle.geometries.specs.KeptGeometries.{SpelledIsKept};
+ghost use Rattle.wkt.specs.KeptGeometries.{SpelledIsKept};
 
 /// Each geometry that a text spells is a value of the type `Geometry` (06-103r4, 7.2).
 pub fn spelled_is_kept()

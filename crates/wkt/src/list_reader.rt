@@ -9,8 +9,8 @@ ghost use Rattle.wkt.specs.ReadingSteps as steps;
 
 use crate::cursor::{ByteClass, Cursor};
 use crate::position_reader::{padded_point, padded_position};
+use crate::{LineString, Polygons, WktFault};
 use fraction::GridPoint;
-use geometries::{LineString, Polygons, WktFault};
 use std::alloc::Global;
 
 /// The most positions of a geometry.

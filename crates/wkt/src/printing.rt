@@ -6,11 +6,11 @@ ghost use Rattle.std.specs.Option.{option_to_list};
 ghost use Rattle.std.specs.Io.KnownBytes.{Appends};
 ghost use Rattle.geometry_model.specs.CanonicalText.{canonical_text, line_text, point_text, polygon_text, position_text, tagged_text};
 ghost use Rattle.wkt.specs.Printing.{HoldsText, opening_text};
-ghost use Rattle.geometries.specs.Shapes.{geometry_in, larger_in};
+ghost use Rattle.wkt.specs.Shapes.{geometry_in, larger_in};
 ghost use Rattle.sinks.specs.Sinks.{AppendsFront, CountsFailure};
 
+use crate::{Geometry, Larger, LineString, Polygons, Shape};
 use fraction::GridPoint;
-use geometries::{Geometry, Larger, LineString, Polygons, Shape};
 use itoa::Buffer;
 use sinks::{Sink, SinkFault, put_all, put_parts};
 

@@ -10,13 +10,13 @@ ghost use Rattle.geometry_model.specs.TextRefusals.{IsRefused};
 ghost use Rattle.geometry_model.specs.WellKnownText.{Spells};
 ghost use Rattle.wkt.specs.ReadingSteps.{ReadsAs, ReadsInMemory, IsReadAs, empty_word, meant};
 ghost use Rattle.wkt.specs.ReadingSteps as steps;
-ghost use Rattle.geometries.specs.Shapes.{geometry_in};
-ghost use Rattle.geometries.specs.TextFaults.{text_fault};
+ghost use Rattle.wkt.specs.Shapes.{geometry_in};
+ghost use Rattle.wkt.specs.TextFaults.{text_fault};
 
 use crate::cursor::{ByteClass, Cursor};
 use crate::list_reader::{POSITION_LIMIT, Room, line_positions, points, polygons, rings};
 use crate::position_reader::padded_position;
-use geometries::{Geometry, Larger, LineString, Polygons, Shape, WktFault};
+use crate::{Geometry, Larger, LineString, Polygons, Shape, WktFault};
 use geometry_model::TextFault;
 use std::alloc::Global;
 

@@ -2,8 +2,8 @@
 use Rattle.std.proofs.Common.{◌≡◌, ◌∙◌, ap, sym, subst, Ok, Err, length, arith, rules}
 use Rattle.std.proofs.lemmas.Grind.{common_steps}
 use Rattle.geometry_model.specs.WellKnownText.{geometry_of}
-use Rattle.geometries.specs.KeptGeometries.{IsKept}
-use Rattle.geometries.specs.TextFaults.{text_fault}
+use Rattle.wkt.specs.KeptGeometries.{IsKept}
+use Rattle.wkt.specs.TextFaults.{text_fault}
 use Rattle.library_calls.specs.Written.{first_past_limit, within_or, written_as}
 use Rattle.library_calls.proofs.WrittenFacts.{are_few, far_refused, few_enough, many_parts, many_positions, too_many, written_is_kept}
 use Rattle.library_calls.proofs.checking.take_arrays.Goals.{then-positions-gt-POSITION_LIMIT-via-then-positions-gt-POSITION_LIMIT, then-positions-gt-POSITION_LIMIT-via-else-positions-gt-POSITION_LIMIT+then-lines-gt-PART_LIMIT}

@@ -1,5 +1,5 @@
 -- The fault of reading is that of the text.
-use Rattle.geometries.specs.TextFaults.{text_fault}
+use Rattle.wkt.specs.TextFaults.{text_fault}
 use Rattle.text_commands.proofs.VerdictLemmas.{unread}
 use Rattle.text_commands.proofs.text_verdicts.reason_of_text.Goals as goal
 

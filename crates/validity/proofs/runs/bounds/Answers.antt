@@ -1,6 +1,6 @@
 use Rattle.std.proofs.Common.{◌-◌, arith}
 use Rattle.std.proofs.lemmas.Option.{slice_get-get_or}
-use Rattle.geometries.proofs.CutFacts.{start_is}
+use Rattle.wkt.proofs.CutFacts.{start_is}
 use Rattle.validity.proofs.runs.bounds.Goals as goal
 
 pub returns-else-index-eq0-clause-start : goal.returns-else-index-eq0-clause-start

@@ -1,6 +1,6 @@
 use Rattle.std.proofs.Common.{◌≤◌, length, rules, arith}
 use Rattle.std.proofs.lemmas.Grind.{common_steps}
-use Rattle.geometries.proofs.CutFacts.{part_within, cut_part}
+use Rattle.wkt.proofs.CutFacts.{part_within, cut_part}
 use Rattle.validity.proofs.runs.part.Goals as goal
 
 pub offset_bounds-segments-start : goal.offset_bounds-segments-start

@@ -2,8 +2,8 @@
 use Rattle.std.proofs.Common.{◌≡◌, Ok, Err, rules, arith}
 use Rattle.std.proofs.lemmas.Grind.{common_steps}
 use Rattle.geometry_model.specs.TextReading.{read_text}
-use Rattle.geometries.specs.Shapes.{geometry_in}
-use Rattle.geometries.specs.TextFaults.{text_fault}
+use Rattle.wkt.specs.Shapes.{geometry_in}
+use Rattle.wkt.specs.TextFaults.{text_fault}
 use Rattle.wkt.proofs.Wholes.{found_is, found_spells, found_is_kept, found_alone, found_again, fault_is, fault_is_memory, fault_applies}
 use Rattle.wkt.proofs.reading.read.Goals as goal
 

@@ -2,7 +2,7 @@ use Rattle.std.proofs.Common.{◌≡◌, ◌∙◌, ap, ℕ, List, length, sym, 
 use Rattle.std.specs.List.{flat_map}
 use Rattle.std.proofs.lemmas.List.{length-map}
 use Rattle.geometry_model.specs.Geometries.{Geometry, Edge, elements, edges_of_lines}
-use Rattle.geometries.proofs.CutFacts.{cut_count}
+use Rattle.wkt.proofs.CutFacts.{cut_count}
 use Rattle.validity.proofs.outlines.Outline.element_edges.Goals as goal
 
 pub part-requires-clause-within : goal.part-requires-clause-within

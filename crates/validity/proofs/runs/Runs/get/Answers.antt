@@ -1,7 +1,7 @@
 use Rattle.std.proofs.Common.{◌<◌, ◌∙◌, ap, ap₂, sym, length, subst}
 use Rattle.std.specs.List.{slice_get}
-use Rattle.geometries.specs.Cuts.{cut_at}
-use Rattle.geometries.proofs.CutFacts.{cut_count}
+use Rattle.wkt.specs.Cuts.{cut_at}
+use Rattle.wkt.proofs.CutFacts.{cut_count}
 use Rattle.validity.proofs.runs.Runs.get.Goals as goal
 
 pub part-requires-clause-within : goal.part-requires-clause-within

@@ -1,5 +1,5 @@
 use Rattle.std.proofs.Common.{◌≡◌, ◌∙◌, ap, sym, length, rules}
-use Rattle.geometries.proofs.CutFacts.{cut_count}
+use Rattle.wkt.proofs.CutFacts.{cut_count}
 use Rattle.validity.proofs.runs.Runs.len.Goals as goal
 
 pub returns : goal.returns

@@ -1,6 +1,6 @@
 use Rattle.std.proofs.Common.{◌∙◌, ap, sym}
 use Rattle.std.specs.List.{flat_map}
-use Rattle.geometries.proofs.CutFacts.{cut_joined}
+use Rattle.wkt.proofs.CutFacts.{cut_joined}
 use Rattle.validity.proofs.runs.Runs.segments.Goals as goal
 
 pub returns : goal.returns

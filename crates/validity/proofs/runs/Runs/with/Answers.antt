@@ -1,7 +1,7 @@
 use Rattle.std.proofs.Common.{◌≡◌, ◌∙◌, ◌+◌, ◌++◌, [], ◌∷◌, ap, length, length-append, rules}
 use Rattle.geometry_model.specs.Geometries.{edges_of_line}
-use Rattle.geometries.specs.Cuts.{AreEnds}
-use Rattle.geometries.proofs.CutFacts.{cut_more, ends_more}
+use Rattle.wkt.specs.Cuts.{AreEnds}
+use Rattle.wkt.proofs.CutFacts.{cut_more, ends_more}
 use Rattle.validity.proofs.runs.Runs.with.Goals as goal
 
 pub invariant_of-result : goal.invariant_of-result

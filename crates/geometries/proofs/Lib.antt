@@ -1,2 +1,0 @@
-pub mod CutFacts
-pub mod KeptLines

@@ -1,5 +1,0 @@
-use Rattle.std.proofs.Common.{rules}
-use Rattle.geometries.proofs.geometry.Geometry.is_empty.Goals as goal
-
-pub returns-in-Point : goal.returns-in-Point
-returns-in-Point c = search rules

@@ -1,5 +1,0 @@
-use Rattle.std.proofs.Common.{rules}
-use Rattle.geometries.proofs.geometry.Larger.element.Goals as goal
-
-pub returns-in-MultiPolygon : goal.returns-in-MultiPolygon
-returns-in-MultiPolygon c = search rules

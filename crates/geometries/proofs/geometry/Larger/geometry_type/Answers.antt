@@ -1,5 +1,0 @@
-use Rattle.std.proofs.Common.{rules}
-use Rattle.geometries.proofs.geometry.Larger.geometry_type.Goals as goal
-
-pub returns-in-MultiPoint : goal.returns-in-MultiPoint
-returns-in-MultiPoint c = search rules

@@ -1,4 +1,0 @@
-pub mod Cuts
-pub mod KeptGeometries
-pub mod Shapes
-pub mod TextFaults
