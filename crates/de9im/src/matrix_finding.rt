@@ -8,8 +8,8 @@ use crate::MatrixCells;
 use crate::matrix_edges::{raise_edges, raise_edges_off};
 use crate::matrix_positions::raise_own_ends;
 use crate::points_and_area::{find_beside_area, has_sides};
-use edge_gaps::Gaps;
 use geometry_model::Kind;
+use noding::Gaps;
 use std::alloc::{AllocError, Global};
 use validity::Valid;
 

@@ -2,8 +2,8 @@
 
 use crate::shapes::{self, Line, Numbers, segment, segments};
 use edge_boxes::EdgeBoxes;
-use edge_gaps::Gaps;
 use fraction::RatPoint;
+use noding::Gaps;
 use orient::Segment;
 use std::alloc::Global;
 use std::test::Fail;

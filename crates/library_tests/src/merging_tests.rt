@@ -1,7 +1,7 @@
 //! Edges that are merged along their lines, and edges that they hold or don't.
 
 use crate::shapes::{Line, segment, segments};
-use merged_edges::MergedEdges;
+use noding::MergedEdges;
 use std::test::Fail;
 
 /// Edges, an edge, and whether they hold it.

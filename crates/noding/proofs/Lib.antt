@@ -16,3 +16,7 @@ pub mod Counting
 pub mod Neighbours
 pub mod NodeSteps
 pub mod Exact
+pub mod NearGaps
+pub mod Shared
+pub mod StopFacts
+pub mod Held

@@ -1,6 +1,6 @@
 use Rattle.std.proofs.Common.{List, OnOk, subst}
 use Rattle.geometry_model.specs.Geometries.{Edge}
-use Rattle.merged_edges.specs.Merging.{AreMerged}
+use Rattle.noding.specs.Merging.{AreMerged}
 use Rattle.de9im.proofs.matrix_edges.merge_if_many.Goals as goal
 
 pub returns : goal.returns

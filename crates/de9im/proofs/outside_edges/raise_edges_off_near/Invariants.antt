@@ -2,7 +2,7 @@ use Rattle.std.proofs.Common.{◌≤◌, length, drop}
 use Rattle.std.specs.List.{All}
 use Rattle.geometry_model.specs.Geometries.{edges}
 use Rattle.matrix_laws.specs.Cells.{Covers}
-use Rattle.merged_edges.specs.Merging.{AreMerged}
+use Rattle.noding.specs.Merging.{AreMerged}
 use Rattle.de9im.specs.Raising.{Grows}
 use Rattle.de9im.proofs.outside_edges.raise_edges_off_near.Given as goal
 

@@ -1,3 +1,0 @@
-pub mod NearGaps
-pub mod Shared
-pub mod StopFacts

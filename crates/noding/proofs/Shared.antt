@@ -1,0 +1,131 @@
+-- The points that an edge shares with others, as they are found one edge after the other.
+use Rattle.std.proofs.Common.{◌≡◌, ◌⊎◌, inl, inr, ℕ, suc, ◌+◌, ◌<◌, ◌≤◌, true, false, refl, sym, ap, subst, ◌∙◌, List, [], ◌∷◌, ◌++◌, length, get_or, All, Contains, pos, ◌≤ℤ◌, arith}
+use Rattle.std.proofs.lemmas.List.{get_or_default}
+use Rattle.std.specs.List.{list_any}
+use Rattle.std.proofs.lemmas.List.Folds.{list_any_at}
+use Rattle.std.proofs.lemmas.List.Elements.{All-contains, Contains-append_cases}
+use Rattle.geometry_model.specs.Points.{Point, IsPoint, same_point}
+use Rattle.geometry_model.specs.Geometries.{Edge}
+use Rattle.geometry_model.specs.Sides.{on, on_one_line}
+use Rattle.geometry_model.specs.FirstFaults.{share_point}
+use Rattle.geometry_model.specs.Envelopes.{overlap}
+use Rattle.geometry_laws.proofs.Scaling.{and_parts, and_from}
+use Rattle.validity_laws.proofs.SharedPoints.{shared_point_is_decided}
+use Rattle.fraction.specs.Ranges.{meeting_limit}
+use Rattle.matrix_laws.proofs.MatrixLists.{among_from_contains, any_from_some}
+use Rattle.edge_boxes.specs.RunLaws.{box_of}
+use Rattle.edge_boxes.proofs.OverlappingBoxes.{sharing_boxes_overlap}
+use Rattle.edge_boxes.specs.Sharings.{places_sharing}
+use Rattle.edge_boxes.specs.OneLine.{meet_on_one_line}
+use Rattle.noding.specs.Meetings.{on_both, named, is_common_cut}
+use Rattle.noding.specs.Nodings.{ListsPoint, PutsPointsInOrder}
+use Rattle.noding.specs.declared.answers.Meet.{Meet}
+use Rattle.noding.proofs.NamedCuts.{CutOf}
+use Rattle.noding.proofs.NodeCuts.{cut_is_point, cut_of_both, named_on_both}
+use Rattle.noding.proofs.BreakPoints.{Shares, all_of, any_left, any_right, earlier_or_last, point_kept}
+use Rattle.cover_laws.specs.Gaps.{SharesNoStretch}
+use Rattle.noding.specs.Steps.{IsSharedPoint, ListsCommonCuts, AreSharedSoFar, IsAt, IsAtPlace, AreShared}
+use Rattle.noding.proofs.NearGaps.{IsNearAt, sharing, sharing_is_near}
+
+-- ---- one more edge
+element_is_there : {X : Type 0} (xs : List X) (j : ℕ) (x d : X) → j < length xs → x ≡ get_or xs j x → get_or xs j d ≡ x
+element_is_there xs j x d h is = get_or_default xs j d x h ∙ sym is
+
+pub first_shared : (e : Edge) (others : List Edge) (IsAsked : ℕ → Edge → Type 0) (points : List Point) → points ≡ [] → AreSharedSoFar e others IsAsked 0 points
+first_shared e others IsAsked points none = record { from = from; found = λ k f l. absurd (omega (arith, l)) }
+  where
+    nowhere : (p : Point) → Contains {X = Point} [] p → IsSharedPoint e others p
+    nowhere p c = absurd (omega (arith, c.1))
+
+    from : (p : Point) → Contains points p → IsSharedPoint e others p
+    from p c = nowhere p (subst (λ ps. Contains ps p) none c)
+
+pub shared_more : (e : Edge) (others : List Edge) (IsAsked : ℕ → Edge → Type 0) (n : ℕ) (f : Edge) (m : Meet) (xs ys : List Point) → Contains others f → ((g : Edge) → IsAsked n g → f ≡ g)
+    → Shares e f m → ys ≡ xs ++ named m → AreSharedSoFar e others IsAsked n xs → AreSharedSoFar e others IsAsked (n + 1) ys
+shared_more e others IsAsked n f m xs ys own same s grown h = record { from = from; found = found }
+  where
+    cut : (p : Point) → Contains (named m) p → CutOf e f p
+    cut p c = All-contains (CutOf e f) (named m) p s.cuts c
+
+    both : (p : Point) → Contains (named m) p → (on e p ≡ true) × (on f p ≡ true)
+    both p c = and_parts (on e p) (on f p) (named_on_both e f m s.exact p (cut_is_point (e ∷ f ∷ []) [] p (cut p c)) (among_from_contains (named m) p c))
+
+    behind : Contains (e ∷ others) f
+    behind = (suc own.0, omega (arith, own.1), own.2)
+
+    either : (p : Point) → Contains xs p ⊎ Contains (named m) p → IsSharedPoint e others p
+    either p (inl c) = h.from p c
+    either p (inr c) = record {
+      on_edge = (both p c).0;
+      on_other = any_from_some (λ g. on g p ≡ true) others (record { found = f; among = among_from_contains others f own; has = (both p c).1 });
+      is_cut = cut_of_both (e ∷ others) e f p (0, omega arith, refl) behind (cut p c);
+      limit = All-contains (λ q. q.W ≤ℤ pos meeting_limit) (named m) p s.limit c;
+    }
+
+    from : (p : Point) → Contains ys p → IsSharedPoint e others p
+    from p c = either p (Contains-append_cases xs (named m) p (subst (λ zs. Contains zs p) grown c))
+
+    found : (k : ℕ) (g : Edge) → k < n + 1 → IsAsked k g → ListsCommonCuts e g ys
+    found k g l asked p hp c = go (earlier_or_last k n l)
+      where
+        go : (k < n) ⊎ (k ≡ n) → ListsPoint ys p
+        go (inl b) = subst (λ zs. ListsPoint zs p) (sym grown) (any_left (λ q. same_point q p ≡ true) xs (named m) (h.found k g b asked p hp c))
+        go (inr b) = subst (λ zs. ListsPoint zs p) (sym grown) (any_right (λ q. same_point q p ≡ true) xs (named m)
+            (s.names p hp (subst (λ (x : Edge). is_common_cut e x p ≡ true) (sym (same g (subst (λ i. IsAsked i g) b asked))) c)))
+
+-- an edge whose bounds don't meet those of another shares no point with it
+no_common_cut : (e f : Edge) (p : Point) → overlap (box_of f) (box_of e) ≡ false → IsPoint p → is_common_cut e f p ≡ true → ⊥
+no_common_cut e f p off hp k =
+    let both : (on e p ≡ true) × (on f p ≡ true) = and_parts (on e p) (on f p) (and_parts (on_both e f p) _ k).0 in
+    absurd (let clash : true ≡ false = sym (sharing_boxes_overlap f e (sharing f e p hp both.1 both.0)) ∙ off in cc)
+
+pub shared_no_more : (e : Edge) (others : List Edge) (IsAsked : ℕ → Edge → Type 0) (n : ℕ) (f : Edge) (points : List Point) → overlap (box_of f) (box_of e) ≡ false → ((g : Edge) → IsAsked n g → f ≡ g)
+    → AreSharedSoFar e others IsAsked n points → AreSharedSoFar e others IsAsked (n + 1) points
+shared_no_more e others IsAsked n f points off same h = record { from = h.from; found = found }
+  where
+    found : (k : ℕ) (g : Edge) → k < n + 1 → IsAsked k g → ListsCommonCuts e g points
+    found k g l asked p hp c = go (earlier_or_last k n l)
+      where
+        go : (k < n) ⊎ (k ≡ n) → ListsPoint points p
+        go (inl b) = h.found k g b asked p hp c
+        go (inr b) = absurd (no_common_cut e f p off hp (subst (λ (x : Edge). is_common_cut e x p ≡ true) (sym (same g (subst (λ i. IsAsked i g) b asked))) c))
+
+-- the edge that is read at a place is the one there
+pub one_at : (others : List Edge) (j : ℕ) (f g : Edge) → j < length others → f ≡ get_or others j f → IsAt others j g → f ≡ g
+one_at others j f g lj hf at = sym (element_is_there others j f g lj hf) ∙ at
+
+pub one_at_place : (others : List Edge) (near : List ℕ) (n j : ℕ) (f g : Edge) → n < length near → j ≡ get_or near n j → j < length others → f ≡ get_or others j f → IsAtPlace others near n g → f ≡ g
+one_at_place others near n j f g hn hj lj hf at = one_at others j f g lj hf (subst (λ i. IsAt others i g) (element_is_there near n j 0 hn hj) at)
+
+-- ---- after the last edge
+pub all_shared : (e : Edge) (others : List Edge) (n : ℕ) (points : List Point) → length others ≤ n → AreSharedSoFar e others (IsAt others) n points → AreShared e others points
+all_shared e others n points past h = record { from = h.from; found = λ f c. h.found c.0 f (omega (arith, c.1, past)) c.2 }
+
+pub all_near_shared : (e : Edge) (others : List Edge) (near : List ℕ) (n : ℕ) (points : List Point) → near ≡ places_sharing e 0 others → length near ≤ n
+    → AreSharedSoFar e others (IsAtPlace others near) n points → AreShared e others points
+all_near_shared e others near n points is past h = record { from = h.from; found = found }
+  where
+    found : (f : Edge) → Contains others f → ListsCommonCuts e f points
+    found f c p hp k =
+        let both : (on e p ≡ true) × (on f p ≡ true) = and_parts (on e p) (on f p) (and_parts (on_both e f p) _ k).0 in
+        at (sharing_is_near e others near f p is c hp both.0 both.1)
+      where
+        at : IsNearAt near others f → ListsPoint points p
+        at a = h.found a.index f (omega (arith, a.within, past)) (ap (λ i. get_or others i f) (get_or_default near a.index 0 a.place a.within) ∙ a.applies) p hp k
+
+pub shared_points : (e : Edge) (others : List Edge) (points : List Point) → AreShared e others points → All IsPoint points
+shared_points e others points h = all_of IsPoint points (λ p c. cut_is_point (e ∷ others) [] p (h.from p c).is_cut)
+
+-- put in order, each once
+pub shared_in_order : (e : Edge) (others : List Edge) (points ordered : List Point) → AreShared e others points → PutsPointsInOrder points ordered → AreShared e others ordered
+shared_in_order e others points ordered h o = record {
+  from = λ p c. h.from p (o.from p c);
+  found = λ f c p hp k. point_kept points ordered (shared_points e others points h) o p (h.found f c p hp k);
+}
+
+-- ---- none of the others is on one line with the edge and shares a point with it
+pub none_shares : (e : Edge) (others : List Edge) → list_any (meet_on_one_line e) others ≡ false → SharesNoStretch e others
+none_shares e others none f c one x y hx hy kx lx ky ly =
+    let shares : share_point e f ≡ true = (shared_point_is_decided e f).1 (record { at = x; is_point = hx; on_first = kx; on_second = lx }) in
+    let found = list_any_at (meet_on_one_line e) others c.0 f c.1 (ap (meet_on_one_line e) c.2 ∙ and_from (on_one_line e f) (share_point e f) one shares) in
+    absurd (let clash : true ≡ false = sym found ∙ none in cc)
