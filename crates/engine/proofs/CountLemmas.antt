@@ -3,8 +3,8 @@ use Rattle.std.proofs.Common.{◌≡◌, ◌+◌, ℕ, zero, suc, List, [], ◌�
 use Rattle.std.specs.Prelude.{codes, decimal, slice_get}
 use Rattle.std.specs.Io.KnownBytes.{Appends}
 use Rattle.engine.specs.Commands.{check_text, count_line}
-use Rattle.sinks.specs.Sinks.{AppendsFront}
-use Rattle.sinks.proofs.SinkLemmas.{Appends-then, AppendsFront-more, AppendsFront-then}
+use Rattle.streams.specs.Sinks.{AppendsFront}
+use Rattle.streams.proofs.SinkLemmas.{Appends-then, AppendsFront-more, AppendsFront-then}
 use Rattle.table_model.specs.GeometryColumns.{ColumnShape}
 use Rattle.table_model.specs.SpatialTables.{SpatialSchema, SpatialTable}
 use Rattle.table_model.specs.declared.definitions.TableDef.{TableDef}

@@ -7,21 +7,20 @@ ghost use Rattle.engine.specs.Commands.{ChecksFiles, ChecksTables, ExplainsFiles
 ghost use Rattle.engine.specs.Commands as spec;
 ghost use Rattle.feature_table.specs.Outcomes.{IsFailure};
 ghost use Rattle.query_runs.specs.Runs.{IsOfTables};
-ghost use Rattle.sinks.specs.Sinks.{AppendsFront, CountsFailure};
+ghost use Rattle.streams.specs.Sinks.{AppendsFront, CountsFailure};
 ghost use Rattle.text_commands.specs.Ends.{Serves};
 
 use command_line::Order;
 use failures::{Failure, Fault};
 use feature_table::{Database, Schema};
 use itoa::Buffer;
-use observers::{RowObserver, Unobserved};
 use query_runs::run_by_references;
 use record_reasons::{LineEnd, Reason, first_line_end, put_line_end, put_record_reason, reason_of};
 use rtree::{CurveTree, EnvelopeIndex, RowTree};
-use sinks::{Sink, SinkFault, put_parts};
 use sql_text::read_schema;
 use std::alloc::{AllocError, Global};
 use std::io::{ErrorKind, Read};
+use streams::{RowObserver, Sink, SinkFault, Unobserved, put_parts};
 use table_model::faults::{LoadFault, SchemaFault};
 use table_model::texts::same_name;
 use table_model::tokens::TEXT_LIMIT;

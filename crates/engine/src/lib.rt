@@ -8,6 +8,6 @@ pub mod first_run;
 
 pub use commands::{serve, serve_observed};
 pub use failures::{Failure, Fault, GeometryWord, fault_line, status};
-pub use observers::{RowObserver, Unobserved};
 pub use query_runs::{run, run_observed};
+pub use streams::{RowObserver, Unobserved};
 pub use text_commands::{failed, relate_texts};

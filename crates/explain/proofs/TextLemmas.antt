@@ -2,8 +2,8 @@
 use Rattle.std.proofs.Common.{◌≡◌, ◌≢◌, ℕ, List, [], ◌∷◌, ◌++◌, length, map, codes, slice_index_or, Option, Result, Ok, Err, OnOk, OnErr, refl, ap, append_assoc, append-nil}
 use Rattle.std.specs.List.{concat, join_with_byte}
 use Rattle.std.specs.Io.KnownBytes.{Appends}
-use Rattle.sinks.specs.Sinks.{AppendsFront}
-use Rattle.sinks.proofs.SinkLemmas.{Appends-then, AppendsFront-then, AppendsFront-more}
+use Rattle.streams.specs.Sinks.{AppendsFront}
+use Rattle.streams.proofs.SinkLemmas.{Appends-then, AppendsFront-then, AppendsFront-more}
 use Rattle.table_model.specs.ExplainTexts.{line, access_line, access_lines, conjunct_number, filters_text}
 use Rattle.table_model.specs.declared.conditions.Reference.{Reference}
 use Rattle.table_model.specs.declared.plans.AccessMethod.TheVariants as methods

@@ -2,11 +2,11 @@
 
 ghost use Rattle.std.specs.Prelude.{◌≡◌, ◌++◌, [], map, slice_index_or, codes, OnOk, OnErr};
 ghost use Rattle.std.specs.Io.KnownBytes.{Appends};
-ghost use Rattle.sinks.specs.Sinks.{AppendsFront, CountsFailure};
+ghost use Rattle.streams.specs.Sinks.{AppendsFront, CountsFailure};
 ghost use Rattle.table_model.specs.ExplainTexts.{access_line, access_lines, conjunct_number, method_text};
 
 use itoa::Buffer;
-use sinks::{Sink, SinkFault, put_parts};
+use streams::{Sink, SinkFault, put_parts};
 use table_model::conditions::Reference;
 use table_model::plans::{Access, AccessMethod};
 

@@ -3,12 +3,12 @@
 ghost use Rattle.std.specs.Prelude.{◌≡◌, ◌++◌, map, codes, OnOk, OnErr};
 ghost use Rattle.std.specs.List.{concat};
 ghost use Rattle.std.specs.Io.KnownBytes.{Appends};
-ghost use Rattle.sinks.specs.Sinks.{AppendsFront, CountsFailure};
+ghost use Rattle.streams.specs.Sinks.{AppendsFront, CountsFailure};
 ghost use Rattle.table_model.specs.ExplainTexts.{conjunct_number, filters_text, line};
 
 use crate::access_lines::digits;
 use itoa::Buffer;
-use sinks::{Sink, SinkFault, put_all, put_parts};
+use streams::{Sink, SinkFault, put_all, put_parts};
 
 /// Writes a space and the number of the conjunct at a place.
 fn put_place<S: Sink>(sink: &mut S, place: usize) -> Result<(), SinkFault>

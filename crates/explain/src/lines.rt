@@ -2,11 +2,11 @@
 
 ghost use Rattle.std.specs.Prelude.{◌≡◌, ◌++◌, decimal, codes, Bool, Option, OnOk, OnErr};
 ghost use Rattle.std.specs.Io.KnownBytes.{Appends};
-ghost use Rattle.sinks.specs.Sinks.{AppendsFront, CountsFailure};
+ghost use Rattle.streams.specs.Sinks.{AppendsFront, CountsFailure};
 ghost use Rattle.table_model.specs.ExplainTexts.{line, count_line, limit_line};
 
 use itoa::Buffer;
-use sinks::{Sink, SinkFault, put_all, put_parts};
+use streams::{Sink, SinkFault, put_all, put_parts};
 
 /// Writes the line of a word and a number.
 pub(crate) fn put_number<S: Sink>(sink: &mut S, word: &[u8], number: u64) -> Result<(), SinkFault>

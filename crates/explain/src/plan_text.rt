@@ -2,14 +2,14 @@
 
 ghost use Rattle.std.specs.Prelude.{◌≡◌, ◌++◌, decimal, codes, OnOk, OnErr};
 ghost use Rattle.std.specs.Io.KnownBytes.{Appends};
-ghost use Rattle.sinks.specs.Sinks.{AppendsFront, CountsFailure};
+ghost use Rattle.streams.specs.Sinks.{AppendsFront, CountsFailure};
 ghost use Rattle.table_model.specs.ExplainTexts.{line, access_lines, filters_text, explain_text, analyze_text};
 
 use crate::access_lines::put_accesses;
 use crate::filter_line::put_filters;
 use crate::lines::{put_count, put_limit, put_number};
 use de9im::Work;
-use sinks::{Sink, SinkFault};
+use streams::{Sink, SinkFault};
 use table_model::conditions::Bound;
 use table_model::plans::Plan;
 

@@ -2,9 +2,9 @@
 use Rattle.std.proofs.Common.{Result, Ok, Err, OnOk, OnErr, codes, ◌≡◌, ℕ, List, [], ◌∷◌, ◌++◌, Option, subst, append_assoc, append-nil}
 use Rattle.std.specs.List.{concat}
 use Rattle.std.specs.Io.KnownBytes.{Appends}
-use Rattle.sinks.specs.Sinks.{AppendsFront}
+use Rattle.streams.specs.Sinks.{AppendsFront}
 use Rattle.failures.specs.Failures.{line_after}
-use Rattle.sinks.proofs.SinkLemmas.{Appends-then, AppendsFront-then}
+use Rattle.streams.proofs.SinkLemmas.{Appends-then, AppendsFront-then}
 
 -- the text of parts in which three numbers are
 abbrev joined : (table words number code first between second : List ℕ) → List ℕ

@@ -5,8 +5,8 @@ use Rattle.table_model.specs.declared.faults.QueryFault.TheVariants as query
 use Rattle.table_model.specs.declared.faults.LoadFault.{LoadFault}
 use Rattle.table_model.specs.declared.faults.LoadFault.TheVariants as load
 use Rattle.table_model.specs.declared.faults.TableFault.{TableFault}
-use Rattle.records.specs.declared.put_fault.PutFault.{PutFault}
-use Rattle.records.specs.declared.put_fault.PutFault.TheVariants as put
+use Rattle.streams.specs.declared.put_fault.PutFault.{PutFault}
+use Rattle.streams.specs.declared.put_fault.PutFault.TheVariants as put
 use Rattle.failures.specs.declared.run_fault.Fault.{Fault}
 use Rattle.failures.specs.declared.run_fault.Fault.TheVariants as faults
 

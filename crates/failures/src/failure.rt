@@ -3,14 +3,14 @@
 ghost use Rattle.std.specs.Prelude.{◌≡◌, ◌++◌, decimal, codes, OnOk, OnErr};
 ghost use Rattle.std.specs.Io.KnownBytes.{Appends};
 ghost use Rattle.table_model.specs.FaultLines.{schema_text, load_text, query_text, geometry_text};
-ghost use Rattle.sinks.specs.Sinks.{AppendsFront, CountsFailure};
+ghost use Rattle.streams.specs.Sinks.{AppendsFront, CountsFailure};
 ghost use Rattle.failures.specs.Failures.{failure_text, failure_line, failure_status, text_line, line_after, digits_of, fault_text, word_text, text_with, words_text};
 ghost use Rattle.failures.specs.Failures as spec;
 ghost use Rattle.geometry_model.specs.declared.geometry_faults.GeometryFault.TheVariants as g;
 
 use geometry_model::{GeometryFault, TextFault, ValidityFault};
 use itoa::Buffer;
-use sinks::{Sink, SinkFault, put_parts};
+use streams::{Sink, SinkFault, put_parts};
 use table_model::faults::{LoadFault, QueryFault, SchemaFault};
 
 /// One of the two geometries that `relate` is given: the a and the b of a.Relate(b) (06-103r4, 6.1.15.2).

@@ -1,7 +1,7 @@
 //! Why a run ends without an answer.
 
-use records::PutFault;
 use std::alloc::AllocError;
+use streams::PutFault;
 use table_model::faults::{LoadFault, QueryFault, TableFault};
 use thiserror::Error;
 

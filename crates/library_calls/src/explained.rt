@@ -6,15 +6,15 @@ ghost use Rattle.library_calls.specs.Kept.{status_of_room};
 ghost use Rattle.library_calls.specs.Refusals.{first_refused, ok, out_of_memory};
 ghost use Rattle.library_calls.specs.declared.faults.Refusal.TheVariants as refusal;
 ghost use Rattle.witnesses.specs.WitnessTexts.{witnesses_text};
-ghost use Rattle.sinks.specs.MemorySinks.{memory_bytes};
+ghost use Rattle.streams.specs.MemorySinks.{memory_bytes};
 ghost use Rattle.witnesses.specs.VerdictTexts.{verdict_text};
 ghost use Rattle.witnesses.specs.Shown.{witness_at};
 
 use crate::faults::{Fault, Refusal};
 use crate::kept::write_front;
 use geometry_model::GeometryFault;
-use sinks::MemorySink;
 use std::alloc::{AllocError, Global};
+use streams::MemorySink;
 use validity::Valid;
 use witnesses::witness::Witnesses;
 use witnesses::{Verdict, find_witnesses, put_verdict, put_witnesses, verdict_of};

@@ -9,7 +9,7 @@ ghost use Rattle.library_calls.specs.Kept.{HasMatrix, HasRelation, IsStatusOfPos
 ghost use Rattle.library_calls.specs.Numbers.{dimension, location_number};
 ghost use Rattle.library_calls.specs.Refusals.{none_there, ok, out_of_memory};
 ghost use Rattle.library_calls.specs.Relations.{relation_of};
-ghost use Rattle.sinks.specs.MemorySinks.{memory_bytes};
+ghost use Rattle.streams.specs.MemorySinks.{memory_bytes};
 
 use crate::meeting::intersect;
 use crate::patterns::pattern_in;

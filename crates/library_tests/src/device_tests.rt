@@ -3,10 +3,10 @@
 use command_line::Order;
 use engine::{Failure, GeometryWord, fault_line, serve, status};
 use geometry_model::{GeometryFault, ValidityFault};
-use sinks::MemorySink;
-use sinks::devices::{StopReader, StopSink};
 use std::alloc::{AllocError, Global};
 use std::test::Fail;
+use streams::MemorySink;
+use streams::devices::{StopReader, StopSink};
 
 const SCHEMA: &str = "CREATE TABLE t (id INTEGER PRIMARY KEY, pop INTEGER, name TEXT);";
 

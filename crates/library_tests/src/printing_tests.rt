@@ -1,10 +1,10 @@
 //! What geometries show, and what is printed of them.
 
 use geometry_model::{GeometryType, Kind, TextFault};
-use sinks::MemorySink;
-use sinks::devices::StopSink;
 use std::alloc::{AllocError, Global};
 use std::test::Fail;
+use streams::MemorySink;
+use streams::devices::StopSink;
 use wkt::{WktFault, print, read};
 
 type Shown = (GeometryType, Kind, bool, usize, usize, usize);

@@ -1,10 +1,9 @@
 //! Tests of records that are written to a sink.
 
 use csv::ByteRecord;
-use records::RecordWriter;
-use sinks::MemorySink;
 use std::alloc::{AllocError, Global};
 use std::test::Fail;
+use streams::{MemorySink, RecordWriter};
 
 /// A record of two fields.
 fn record(alloc: Global, first: &[u8], second: &[u8]) -> Result<ByteRecord, AllocError> {

@@ -1,9 +1,9 @@
 //! What sinks take, and which of their calls fail.
 
-use sinks::devices::{StopReader, StopSink, ZeroWriter};
-use sinks::{MemorySink, Sink, SinkFault, StdSink, put_all, put_parts};
 use std::io::{self, BufWriter, Error, ErrorKind, Read, Write};
 use std::test::Fail;
+use streams::devices::{StopReader, StopSink, ZeroWriter};
+use streams::{MemorySink, Sink, SinkFault, StdSink, put_all, put_parts};
 
 /// A writer that counts its calls, of which each is interrupted.
 #[derive(Drop)]

@@ -4,11 +4,11 @@ use Rattle.std.specs.Prelude.{IsErrAnd}
 use Rattle.std.specs.Io.KnownBytes.{Appends}
 use Rattle.query_runs.specs.Puts.{PutsText}
 use Rattle.query_runs.proofs.RunLemmas.{keeps-same}
-use Rattle.records.specs.RecordWriters.{CountsPut}
-use Rattle.records.specs.declared.put_fault.PutFault.{PutFault}
-use Rattle.records.specs.declared.put_fault.PutFault.TheVariants as put
-use Rattle.sinks.specs.Sinks.{AppendsFront}
-use Rattle.sinks.proofs.SinkLemmas.{Appends-then, AppendsFront-kept, AppendsFront-more, AppendsFront-then}
+use Rattle.streams.specs.RecordWriters.{CountsPut}
+use Rattle.streams.specs.declared.put_fault.PutFault.{PutFault}
+use Rattle.streams.specs.declared.put_fault.PutFault.TheVariants as put
+use Rattle.streams.specs.Sinks.{AppendsFront}
+use Rattle.streams.proofs.SinkLemmas.{Appends-then, AppendsFront-kept, AppendsFront-more, AppendsFront-then}
 
 -- memory ran out before anything was put
 pub put-none : {A : Type 0} (r : Result A PutFault) (text : List ℕ) (old : Option (List ℕ)) (before : ℕ) → IsErrAnd r (λ f. f ≡ put.Memory) → PutsText r text old old before before

@@ -4,8 +4,8 @@ use Rattle.std.specs.List.{concat}
 use Rattle.std.specs.Io.KnownBytes.{Appends}
 use Rattle.executor.specs.Streams.{GivesNext, Stream, to_come}
 use Rattle.executor.specs.FoundPairs.{RowPair}
-use Rattle.sinks.specs.Sinks.{AppendsFront}
-use Rattle.sinks.proofs.SinkLemmas.{Appends-none, Appends-then, AppendsFront-more, AppendsFront-then}
+use Rattle.streams.specs.Sinks.{AppendsFront}
+use Rattle.streams.proofs.SinkLemmas.{Appends-none, Appends-then, AppendsFront-more, AppendsFront-then}
 use Rattle.table_model.specs.RunOutcomes.{MatrixOf}
 
 -- all of a text was put but the rest

@@ -8,7 +8,7 @@ use Rattle.std.proofs.lemmas.List.{length-map}
 use Rattle.std.proofs.lemmas.Simd.{map-map}
 use Rattle.grammar_laws.proofs.Filtering.{bound_of_statement, meaning_by_conjuncts}
 use Rattle.geometry_model.specs.Geometries.{Geometry}
-use Rattle.sinks.specs.Sinks.{AppendsFront}
+use Rattle.streams.specs.Sinks.{AppendsFront}
 use Rattle.table_model.proofs.PlaceFacts.{meant_gives_limited}
 use Rattle.table_model.specs.AnswerTexts.{answer, header, record_of}
 use Rattle.table_model.specs.Arguments.{denoted}
@@ -44,8 +44,8 @@ use Rattle.query_runs.specs.Runs.{Counts, IsOfTables, IsReached, RefusesTable, R
 use Rattle.query_runs.specs.RecordTexts.{record_text}
 use Rattle.failures.specs.declared.run_fault.Fault.{Fault}
 use Rattle.failures.specs.declared.run_fault.Fault.TheVariants as faults
-use Rattle.records.specs.declared.put_fault.PutFault.{PutFault}
-use Rattle.records.specs.declared.put_fault.PutFault.TheVariants as put
+use Rattle.streams.specs.declared.put_fault.PutFault.{PutFault}
+use Rattle.streams.specs.declared.put_fault.PutFault.TheVariants as put
 
 -- ---- faults
 

@@ -1,8 +1,8 @@
 //! Runs over pairs of geometries, pages of faults, and texts that words give.
 
 use failures::Failure;
-use sinks::MemorySink;
 use std::test::Fail;
+use streams::MemorySink;
 use table_model::faults::{LoadFault, QueryFault};
 use text_commands::{Pairs, geometry_text, page_of, query_text, relate_pairs};
 

@@ -2,9 +2,9 @@
 
 use command_line::Order;
 use engine::serve;
-use sinks::MemorySink;
 use std::alloc::Global;
 use std::test::Fail;
+use streams::MemorySink;
 use wkt::{WktFault, read};
 
 const SQUARE: &[u8] = b"POLYGON((0 0,4 0,4 4,0 4,0 0))";

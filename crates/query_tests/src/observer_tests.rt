@@ -2,13 +2,12 @@
 
 use command_line::Order;
 use engine::{serve, serve_observed};
-use observers::{Followed, ReadObserver, RowObserver};
-use sinks::MemorySink;
-use sinks::devices::StopReader;
 use std::alloc::{AllocError, Global};
 use std::cell::Cell;
 use std::io::{ErrorKind, Read};
 use std::test::Fail;
+use streams::devices::StopReader;
+use streams::{Followed, MemorySink, ReadObserver, RowObserver};
 
 /// How many bytes came.
 #[derive(Drop)]

@@ -3,10 +3,10 @@
 ghost use Rattle.std.specs.Prelude.{None};
 
 use fraction::GridPoint;
-use sinks::SinkFault;
 use sql_text::read_schema;
 use std::alloc::Global;
 use std::test::Fail;
+use streams::SinkFault;
 use tiles::{CellTexts, Cells, Part, write_stretches, write_tiles};
 
 const SCHEMA: &[u8] = b"CREATE TABLE t (id INTEGER PRIMARY KEY, name TEXT, geom LINESTRING);";

@@ -4,10 +4,10 @@ ghost use Rattle.std.specs.Prelude.{None};
 
 use feature_table::Schema;
 use fraction::GridPoint;
-use sinks::SinkFault;
 use sql_text::read_schema;
 use std::alloc::Global;
 use std::test::Fail;
+use streams::SinkFault;
 use table_model::faults::LoadFault;
 use tiles::{CellTexts, Cells, CopyFault, Part, write_stretches, write_tiles};
 

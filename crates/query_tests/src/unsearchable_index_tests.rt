@@ -3,10 +3,10 @@
 use engine::{Fault, run};
 use feature_table::Schema;
 use rtree::{Envelope, EnvelopeIndex, ListIndex};
-use sinks::MemorySink;
 use spatial_sql::read_schema;
 use std::alloc::{AllocError, Global};
 use std::test::Fail;
+use streams::MemorySink;
 
 const SCHEMA: &[u8] = b"CREATE TABLE big (id INTEGER PRIMARY KEY, geom POINT);";
 

@@ -2,8 +2,8 @@
 use Rattle.std.proofs.Common.{◌≡◌, ℕ, List, [], ◌∷◌, ◌++◌, Option, Result, Ok, Err, OnErr, OnOk, append_assoc, append-nil, subst}
 use Rattle.std.specs.List.{concat}
 use Rattle.std.specs.Io.KnownBytes.{Appends}
-use Rattle.sinks.proofs.SinkLemmas.{AppendsFront-then}
-use Rattle.sinks.specs.Sinks.{AppendsFront}
+use Rattle.streams.proofs.SinkLemmas.{AppendsFront-then}
+use Rattle.streams.specs.Sinks.{AppendsFront}
 
 pub five_parts : (a x b y c : List ℕ) → concat (a ∷ x ∷ b ∷ y ∷ c ∷ []) ≡ a ++ x ++ b ++ y ++ c
 five_parts a x b y c = simp (append_assoc, append-nil)

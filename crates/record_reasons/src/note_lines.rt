@@ -2,12 +2,12 @@
 
 ghost use Rattle.std.specs.Prelude.{◌++◌, codes, OnErr, OnOk};
 ghost use Rattle.std.specs.Io.KnownBytes.{Appends};
-ghost use Rattle.sinks.specs.Sinks.{AppendsFront, CountsFailure};
+ghost use Rattle.streams.specs.Sinks.{AppendsFront, CountsFailure};
 ghost use Rattle.record_reasons.specs.NoteTexts.{note_line};
 
 use crate::line_ends::LineEnd;
 use itoa::Buffer;
-use sinks::{Sink, SinkFault, put_parts};
+use streams::{Sink, SinkFault, put_parts};
 
 /// Writes the line of a field with a line end: `sfq: note: parcels record 12: field 2 holds a line end`, or
 /// `sfq: note: parcels header: field 2 holds a line end` (this project's choice). It takes no memory. At Err the sink failed, and a

@@ -2,7 +2,7 @@
 
 ghost use Rattle.std.specs.Prelude.{◌≡◌, ◌++◌, codes, OnErr, OnOk};
 ghost use Rattle.std.specs.Io.KnownBytes.{Appends};
-ghost use Rattle.sinks.specs.Sinks.{AppendsFront, CountsFailure};
+ghost use Rattle.streams.specs.Sinks.{AppendsFront, CountsFailure};
 ghost use Rattle.witnesses.specs.FaultTexts.{reason_text};
 ghost use Rattle.record_reasons.specs.ReasonTexts.{reason_line, type_word};
 ghost use Rattle.geometry_model.specs.declared.geometry_faults.GeometryFault.TheVariants as g;
@@ -12,7 +12,7 @@ ghost use Rattle.record_reasons.specs.declared.reason.Reason.TheVariants as kind
 use crate::reason::Reason;
 use geometry_model::{GeometryType, TextFault, ValidityFault};
 use itoa::Buffer;
-use sinks::{Sink, SinkFault, put_parts};
+use streams::{Sink, SinkFault, put_parts};
 use witnesses::{Place, put_reason};
 
 /// Writes the line of a reason: `sfq: column pop isn't in the header`, `sfq: column pop is in the header more than once`,

@@ -3,8 +3,8 @@
 use crate::files::Files;
 use command_line::{Order, order};
 use engine::serve;
-use sinks::MemorySink;
 use std::alloc::{AllocError, Global};
+use streams::MemorySink;
 
 /// The path of the schema.
 pub(crate) const SCHEMA: &str = "s";

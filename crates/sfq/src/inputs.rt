@@ -1,8 +1,8 @@
 //! What the commands read: files and standard input, with a bound on the texts of tables and pairs.
 
-use bounded_readers::BoundedReader;
 use std::fs::{self, File};
 use std::io::{self, Read, Stdin};
+use streams::BoundedReader;
 
 /// The path that means standard input, if a word names a file by `@`, and for a file of pairs. A file of this name is `./-`.
 const STANDARD_INPUT: &str = "-";

@@ -7,14 +7,13 @@ mod progress;
 
 use crate::inputs::{CommandReader, Input};
 use crate::progress::Progress;
-use bounded_readers::BoundedReader;
 use command_line::{Misuse, Order, order};
 use engine::{Failure, failed, serve_observed};
-use sinks::{Sink, StdSink, put_all};
 use std::alloc::{AllocError, Global};
 use std::env;
 use std::io::{self, BufWriter, ErrorKind};
 use std::process::ExitCode;
+use streams::{BoundedReader, Sink, StdSink, put_all};
 
 /// The status for words of the command line that aren't an order.
 const MISUSE: u8 = 2;

@@ -2,12 +2,11 @@
 //! The line is removed before anything else is written. Once output has been written to a terminal, no line is shown any more.
 
 use crate::inputs::Input;
-use bounded_readers::{PatientReader, write_again};
-use observers::{Followed, ReadObserver, RowObserver};
 use std::cell::Cell;
 use std::io::{self, Error, ErrorKind, IsTerminal, Write};
 use std::path::Path;
 use std::time::{Duration, Instant};
+use streams::{Followed, PatientReader, ReadObserver, RowObserver, write_again};
 
 /// How many milliseconds pass before a line is shown.
 const PATIENCE_MILLISECONDS: u64 = 500;

@@ -2,8 +2,8 @@
 use Rattle.std.proofs.Common.{◌+◌, ◌-◌, ℕ, List, Option, Result, Ok, Err, drop, length, sym, take}
 use Rattle.std.proofs.lemmas.List.{take-append-drop}
 use Rattle.std.specs.Io.KnownBytes.{Appends, WriteAppends}
-use Rattle.sinks.proofs.SinkLemmas.{put_all-front, put_all-more}
-use Rattle.sinks.specs.Sinks.{AppendsFront}
+use Rattle.streams.proofs.SinkLemmas.{put_all-front, put_all-more}
+use Rattle.streams.specs.Sinks.{AppendsFront}
 
 -- after the bytes before a place, one write of the rest leaves a front of them all
 pub write_front : {E : Type 0} (a b c : Option (List ℕ)) (at : ℕ) (bytes : List ℕ) (r : Result ℕ E) → Appends a b (take at bytes)

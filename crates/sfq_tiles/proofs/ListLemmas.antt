@@ -6,8 +6,8 @@ use Rattle.std.specs.Io.KnownBytes.{Appends}
 use Rattle.std.proofs.lemmas.List.{map-id}
 use Rattle.std.proofs.lemmas.List.Concat.{flat_map-append}
 use Rattle.std.proofs.lemmas.List.FromFn.{map-range_with_len_more}
-use Rattle.sinks.specs.Sinks.{AppendsFront}
-use Rattle.sinks.proofs.SinkLemmas.{Appends-then, AppendsFront-more, AppendsFront-then}
+use Rattle.streams.specs.Sinks.{AppendsFront}
+use Rattle.streams.proofs.SinkLemmas.{Appends-then, AppendsFront-more, AppendsFront-then}
 use Rattle.geometry_model.specs.Envelopes.{Envelope}
 use Rattle.tile_laws.specs.Cells.{Cell}
 use Rattle.sfq_tiles.specs.Lists.{sides_text, span_text, stretch_line}

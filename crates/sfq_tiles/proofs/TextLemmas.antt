@@ -1,7 +1,7 @@
 -- A text that grows by one part after another.
 use Rattle.std.proofs.Common.{◌≡◌, ◌<◌, ◌+◌, ℕ, List, ◌++◌, length, map, take, get_or, cond, Result, Ok, Err, OnOk, is_ok, subst, sym, ◌∙◌, ap, append_assoc, add-one}
 use Rattle.std.specs.List.{concat, flat_map, range_with_len}
-use Rattle.sinks.proofs.PartLemmas.{parts-more}
+use Rattle.streams.proofs.PartLemmas.{parts-more}
 use Rattle.sfq_tiles.proofs.ListLemmas.{one_more}
 
 -- the texts before a number, and then that of the number

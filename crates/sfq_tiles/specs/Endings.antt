@@ -2,7 +2,7 @@
 use Rattle.std.specs.Prelude.{◌≡◌, ◌⊎◌, ◌++◌, ℕ, List, Option, codes}
 use Rattle.std.specs.Io.KnownBytes.{Appends}
 use Rattle.integers.specs.Counts.{one_more}
-use Rattle.sinks.specs.Sinks.{AppendsFront}
+use Rattle.streams.specs.Sinks.{AppendsFront}
 use Rattle.failures.specs.Failures.{failure_line, failure_status}
 use Rattle.failures.specs.declared.failure.Failure.TheVariants as failed
 use Rattle.sfq_tiles.specs.declared.endings.Ending.{Ending}

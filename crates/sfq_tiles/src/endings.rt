@@ -2,13 +2,13 @@
 
 ghost use Rattle.std.specs.Prelude.{◌≡◌, OnErr, OnOk};
 ghost use Rattle.std.specs.Io.KnownBytes.{Appends};
-ghost use Rattle.sinks.specs.Sinks.{AppendsFront, CountsFailure};
+ghost use Rattle.streams.specs.Sinks.{AppendsFront, CountsFailure};
 ghost use Rattle.sfq_tiles.specs.Endings.{Prints, ending_line, ending_status, mistake_line};
 
 use crate::parts::Mistake;
 use failures::{Failure, fault_line, status};
-use sinks::{Sink, SinkFault, put_all, put_parts};
 use std::alloc::{AllocError, AllocFailed};
+use streams::{Sink, SinkFault, put_all, put_parts};
 
 /// The status for words of the command line that aren't right.
 pub const MISUSE: u8 = 2;

@@ -2,14 +2,13 @@
 
 ghost use Rattle.std.specs.Prelude.{◌≡◌, None, OnErr, OnOk};
 ghost use Rattle.std.specs.Io.KnownBytes.{Appends};
-ghost use Rattle.sinks.specs.Sinks.{AppendsFront};
+ghost use Rattle.streams.specs.Sinks.{AppendsFront};
 
-use bounded_readers::write_again;
 use itoa::Buffer;
-use sinks::SinkFault;
 use std::alloc::{AllocError, Global};
 use std::fs::{self, OpenOptions};
 use std::io::Write;
+use streams::{SinkFault, write_again};
 use tiles::CellTexts;
 
 /// How many bytes of a file are kept before they are written.

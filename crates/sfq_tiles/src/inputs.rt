@@ -5,13 +5,13 @@ ghost use Rattle.table_model.specs.Definitions.{lawful};
 
 use crate::endings::Ending;
 use crate::parts::NamedPart;
-use bounded_readers::{BoundedReader, PatientReader};
 use failures::Failure;
 use feature_table::{Geometry, Schema, TableDef};
 use sql_text::read_schema;
 use std::alloc::{AllocError, Global};
 use std::fs::{self, File};
 use std::io::{ErrorKind, Read};
+use streams::{BoundedReader, PatientReader};
 use table_model::faults::SchemaFault;
 use table_model::tokens::TEXT_LIMIT;
 use table_model::values::Value;

@@ -3,12 +3,12 @@
 ghost use Rattle.std.specs.Prelude.{◌≡◌, ◌+◌, ◌++◌, ◌∷◌, ◌≤◌, ◌<◌, [], codes, decimal, length, map, OnErr, OnOk};
 ghost use Rattle.std.specs.List.{concat, flat_map, range_with_len, slice_index_or};
 ghost use Rattle.std.specs.Io.KnownBytes.{Appends};
-ghost use Rattle.sinks.specs.Sinks.{AppendsFront, CountsFailure};
+ghost use Rattle.streams.specs.Sinks.{AppendsFront, CountsFailure};
 ghost use Rattle.sfq_tiles.specs.Lists.{rows_text, sides_text, span_text, stretch_line, stretches_list, stretches_text, tile_line, tiles_header, tiles_text};
 
 use itoa::Buffer;
 use rtree::Envelope;
-use sinks::{Sink, SinkFault, put_all, put_parts};
+use streams::{Sink, SinkFault, put_all, put_parts};
 use tiles::Cells;
 
 /// A part that was written.

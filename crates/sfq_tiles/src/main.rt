@@ -17,10 +17,10 @@ use crate::words::{Words, read_words};
 use clap::Error;
 use clap::error::ErrorKind as Kind;
 use failures::Failure;
-use sinks::{Sink, StdSink, put_all};
 use std::env;
 use std::io::{self, BufWriter, ErrorKind};
 use std::process::ExitCode;
+use streams::{Sink, StdSink, put_all};
 
 /// What is printed of words that aren't UTF-8, which `clap` never sees.
 const NOT_UTF8: &[u8] = b"error: invalid UTF-8 was detected in one or more arguments\n";

@@ -12,9 +12,9 @@ use crate::parts::{NamedPart, read_parts, read_rows};
 use crate::words::Words;
 use failures::Failure;
 use feature_table::{Schema, TableDef};
-use sinks::Sink;
 use std::alloc::{AllocError, Global};
 use std::fs;
+use streams::Sink;
 use tiles::{Cells, CopyFault, Part, Sampler, write_stretches, write_tiles};
 
 /// Splits the tables that the words name, and returns the status.

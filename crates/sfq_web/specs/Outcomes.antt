@@ -10,7 +10,7 @@ use Rattle.failures.specs.declared.run_fault.Fault.{Fault}
 use Rattle.failures.specs.declared.run_fault.Fault.TheVariants as faults
 use Rattle.feature_table.specs.Tables.{records_in}
 use Rattle.query_runs.specs.Runs.{RunsOver}
-use Rattle.sinks.specs.MemorySinks.{memory_bytes}
+use Rattle.streams.specs.MemorySinks.{memory_bytes}
 use Rattle.table_model.specs.GeometryColumns.{shape_named}
 use Rattle.table_model.specs.RunOutcomes.{ByEveryMatrix, outcome}
 use Rattle.table_model.specs.SchemaReading.{schema_of}

@@ -10,9 +10,9 @@ use failures::{Failure, Fault, fault_line};
 use feature_table::Schema;
 use query_runs::run;
 use rtree::CurveTree;
-use sinks::MemorySink;
 use sql_text::read_schema;
 use std::alloc::{AllocError, Global};
+use streams::MemorySink;
 use table_model::faults::SchemaFault;
 
 /// What came of a query.

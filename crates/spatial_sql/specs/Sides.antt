@@ -4,7 +4,7 @@ use Rattle.std.specs.Cmp.Lexicographic.{slice_cmp}
 use Rattle.std.specs.Ordering.{nat_cmp}
 use Rattle.std.specs.declared.cmp.Ordering.{Ordering}
 use Rattle.geometry_model.specs.Geometries.{Geometry}
-use Rattle.sinks.specs.MemorySinks.{memory_bytes}
+use Rattle.streams.specs.MemorySinks.{memory_bytes}
 use Rattle.table_model.specs.declared.values.Value.{Value}
 use Rattle.table_model.specs.declared.values.Value.TheVariants as values
 use Rattle.spatial_sql.specs.declared.sides.Side.{Side}

@@ -4,7 +4,7 @@ ghost use Rattle.std.specs.Prelude.{◌≡◌, IfOk, IsOk, false};
 ghost use Rattle.std.specs.Option.{option_copied};
 ghost use Rattle.feature_table.specs.Cells.{shown};
 ghost use Rattle.geometry_model.specs.CanonicalText.{canonical_text};
-ghost use Rattle.sinks.specs.MemorySinks.{memory_bytes};
+ghost use Rattle.streams.specs.MemorySinks.{memory_bytes};
 ghost use Rattle.table_model.specs.Arguments.{denoted};
 ghost use Rattle.table_model.specs.Truths as spec;
 ghost use Rattle.table_model.specs.Work.{is_as_text};

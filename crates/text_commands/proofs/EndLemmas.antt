@@ -12,7 +12,7 @@ use Rattle.geometry_model.specs.Geometries.{Geometry}
 use Rattle.geometry_model.specs.Labels.{labelled_matrix}
 use Rattle.geometry_model.specs.TextReading.{read_text}
 use Rattle.geometry_model.specs.declared.geometry_faults.GeometryFault.{GeometryFault}
-use Rattle.sinks.specs.Sinks.{AppendsFront, CountsFailure}
+use Rattle.streams.specs.Sinks.{AppendsFront, CountsFailure}
 use Rattle.table_model.specs.RunOutcomes.{MatrixOf}
 use Rattle.text_commands.specs.Relations.{IsFailureOf, and_then, or_refused, relation}
 

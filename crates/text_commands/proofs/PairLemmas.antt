@@ -14,8 +14,8 @@ use Rattle.failures.specs.declared.failure.Failure.{Failure}
 use Rattle.failures.specs.declared.failure.Failure.TheVariants as f
 use Rattle.text_commands.specs.Pairs.{AreRead, Begins, Ends, IsReadFailure, IsUnequal, PutsLine, PutsRefusal, StopsAtLine, field, is_memory, is_pair, is_refused, pair_line, pair_lines, pair_relation, pairs_before, pairs_end, pairs_text, relation_line}
 use Rattle.text_commands.specs.declared.runs.Pairs.{Pairs}
-use Rattle.sinks.specs.Sinks.{AppendsFront}
-use Rattle.sinks.proofs.SinkLemmas.{Appends-none, Appends-then, AppendsFront-more, AppendsFront-then, AppendsFront-whole}
+use Rattle.streams.specs.Sinks.{AppendsFront}
+use Rattle.streams.proofs.SinkLemmas.{Appends-none, Appends-then, AppendsFront-more, AppendsFront-then, AppendsFront-whole}
 use Rattle.table_model.specs.Loading.{Record}
 use Rattle.table_model.specs.RunOutcomes.{ByEveryMatrix, MatrixOf}
 use Rattle.feature_table.specs.Reading.{StillGives, TakesFirst}

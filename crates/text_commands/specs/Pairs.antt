@@ -13,7 +13,7 @@ use Rattle.geometry_model.specs.Dimensions.{Matrix}
 use Rattle.geometry_model.specs.Patterns.{matrix_text}
 use Rattle.text_commands.specs.declared.runs.Pairs.{Pairs}
 use Rattle.text_commands.specs.declared.runs.Pairs.TheVariants as ends
-use Rattle.sinks.specs.Sinks.{AppendsFront}
+use Rattle.streams.specs.Sinks.{AppendsFront}
 use Rattle.table_model.specs.Loading.{Record}
 use Rattle.table_model.specs.RunOutcomes.{ByEveryMatrix, MatrixOf}
 use Rattle.table_model.specs.declared.faults.LoadFault.TheVariants as l

@@ -12,7 +12,7 @@ use Rattle.geometry_model.specs.Patterns.{matrix_text}
 use Rattle.text_commands.specs.Pairs.{AreRead, CountsWrites, RelatesPairs}
 use Rattle.text_commands.specs.declared.runs.Pairs.{Pairs}
 use Rattle.text_commands.specs.declared.runs.Pairs.TheVariants as pairs
-use Rattle.sinks.specs.Sinks.{AppendsFront}
+use Rattle.streams.specs.Sinks.{AppendsFront}
 use Rattle.table_model.specs.Loading.{Record}
 use Rattle.table_model.specs.RunOutcomes.{ByEveryMatrix, MatrixOf}
 use Rattle.text_commands.specs.Ends.{Answers, End, Then, failed_writes}

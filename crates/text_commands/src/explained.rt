@@ -9,9 +9,9 @@ ghost use Rattle.witnesses.specs.Shown.{witness_at};
 use crate::served::failed;
 use crate::{geometry_text, reason_of_text, witnesses_of_texts};
 use failures::Failure;
-use sinks::Sink;
 use std::alloc::Global;
 use std::io::Read;
+use streams::Sink;
 use witnesses::witness::Witnesses;
 use witnesses::{Verdict, put_verdict, put_witnesses};
 

@@ -5,7 +5,7 @@ ghost use Rattle.std.specs.Io.KnownBytes.{Appends};
 ghost use Rattle.csv.specs.Records.{fields_of};
 ghost use Rattle.geometry_model.specs.Patterns.{matrix_text};
 ghost use Rattle.text_commands.specs.Pairs.{CountsWrites, PutsLine, PutsRefusal, StopsAtLine, is_memory};
-ghost use Rattle.sinks.specs.Sinks.{AppendsFront, CountsFailure};
+ghost use Rattle.streams.specs.Sinks.{AppendsFront, CountsFailure};
 ghost use Rattle.table_model.specs.RunOutcomes.{ByEveryMatrix};
 
 use crate::pair_records::field_at;
@@ -13,8 +13,8 @@ use crate::relate_texts;
 use csv::ByteRecord;
 use de9im::Matrix;
 use failures::{Failure, answer_line};
-use sinks::{Sink, SinkFault, put_parts};
 use std::alloc::Global;
+use streams::{Sink, SinkFault, put_parts};
 
 /// Writes the line of a pair, and returns whether one of its geometries is refused.
 pub(crate) fn put_pair<S: Sink>(

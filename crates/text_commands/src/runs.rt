@@ -10,9 +10,9 @@ use crate::pair_lines::put_pair;
 use crate::pair_records::{broken_off, next_record, record_reader, unequal};
 use csv::{ByteRecord, Reader};
 use failures::Failure;
-use sinks::Sink;
 use std::alloc::Global;
 use std::io::Read;
+use streams::Sink;
 
 /// How a run over pairs ended.
 #[derive(Clone, Copy, Debug, PartialEq, Eq)]

@@ -7,9 +7,9 @@ ghost use Rattle.text_commands.specs.TextCommands.{ExplainsFault, RelateEnds, Re
 
 use crate::{Pairs, geometry_text, page_of, relate_pairs, relate_texts};
 use failures::{Failure, fault_line, status};
-use sinks::{Sink, put_all, put_parts};
 use std::alloc::Global;
 use std::io::Read;
+use streams::{Sink, put_all, put_parts};
 
 /// Writes the nine characters of the matrix of the geometries that two words give, and a line feed. A word is well-known text,
 /// or `@` and the path of a file that has it; both texts are there before one is read as a geometry. It returns the status: 0,

@@ -1,7 +1,7 @@
 //! The fault of a second pass.
 
-use sinks::SinkFault;
 use std::alloc::{AllocError, AllocFailed};
+use streams::SinkFault;
 use table_model::faults::LoadFault;
 
 /// Why a second pass wasn't done to its end.

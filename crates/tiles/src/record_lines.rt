@@ -15,9 +15,9 @@ use crate::parts::Part;
 use crate::texts::CellTexts;
 use csv::ByteRecord;
 use feature_table::{ColumnDef, field_at};
-use records::push_line;
 use sqlite_items::{self as items};
 use std::alloc::AllocError;
+use streams::push_line;
 
 /// The name of the column at a place; empty if there is none.
 fn name_at(columns: &[ColumnDef], column: usize) -> &[u8]

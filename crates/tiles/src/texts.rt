@@ -1,10 +1,10 @@
 //! Where the texts of cells go.
 
 ghost use Rattle.std.specs.Prelude.{ℕ, List, Option, OnOk};
-ghost use Rattle.sinks.specs.Sinks.{CountsFailure};
+ghost use Rattle.streams.specs.Sinks.{CountsFailure};
 ghost use Rattle.tiles.specs.Texts.{Grow, in_cell};
 
-use sinks::SinkFault;
+use streams::SinkFault;
 
 /// The texts of several cells, each of which grows at its end.
 pub trait CellTexts {

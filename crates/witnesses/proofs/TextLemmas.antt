@@ -5,8 +5,8 @@ use Rattle.std.specs.Fmt.{signed_decimal}
 use Rattle.std.specs.Prelude.{if◌then◌else◌}
 use Rattle.integers.proofs.Tests.{equal_no}
 use Rattle.std.specs.Io.KnownBytes.{Appends}
-use Rattle.sinks.specs.Sinks.{AppendsFront}
-use Rattle.sinks.proofs.SinkLemmas.{OnErr-holds, AppendsFront-more, AppendsFront-then}
+use Rattle.streams.specs.Sinks.{AppendsFront}
+use Rattle.streams.proofs.SinkLemmas.{OnErr-holds, AppendsFront-more, AppendsFront-then}
 use Rattle.geometry_model.specs.Points.{Point}
 use Rattle.geometry_model.specs.declared.point_sets.Location.{Location}
 use Rattle.witnesses.specs.declared.witness.Witness.{Witness}

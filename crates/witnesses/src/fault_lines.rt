@@ -2,7 +2,7 @@
 
 ghost use Rattle.std.specs.Prelude.{◌≡◌, ◌++◌, codes, decimal, OnOk, OnErr};
 ghost use Rattle.std.specs.Io.KnownBytes.{Appends};
-ghost use Rattle.sinks.specs.Sinks.{AppendsFront, CountsFailure};
+ghost use Rattle.streams.specs.Sinks.{AppendsFront, CountsFailure};
 ghost use Rattle.witnesses.specs.FaultTexts.{fault_front, left_text, meet_text, place_text, reason_text, shared_text};
 ghost use Rattle.witnesses.specs.declared.places.Place.TheVariants as places;
 
@@ -10,7 +10,7 @@ use crate::pieces::{Piece, put_pieces};
 use crate::{Meet, Place, SharedPlace};
 use fraction::GridPoint;
 use geometry_model::ValidityFault;
-use sinks::{Sink, SinkFault, put_all};
+use streams::{Sink, SinkFault, put_all};
 
 /// Writes a fault of validity and where it is, in one line: the code and the numbers of the fault, a colon, and the place.
 /// `V1 0: 1 position left at 3 3`, `V2 0: from 0 0 to 0 4 isn't closed`, `V3 0: 0 0 to 4 4 and 4 0 to 0 4 share 2 2` (or

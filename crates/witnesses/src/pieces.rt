@@ -4,7 +4,7 @@ ghost use Rattle.std.specs.Prelude.{◌≡◌, ◌++◌, codes, decimal, map, po
 ghost use Rattle.std.specs.Fmt.{signed_decimal};
 ghost use Rattle.std.specs.List.{concat};
 ghost use Rattle.std.specs.Io.KnownBytes.{Appends};
-ghost use Rattle.sinks.specs.Sinks.{AppendsFront, CountsFailure};
+ghost use Rattle.streams.specs.Sinks.{AppendsFront, CountsFailure};
 ghost use Rattle.geometry_model.specs.CanonicalText.{position_text};
 ghost use Rattle.witnesses.specs.PointTexts.{fraction_text, piece_text, point_text, quotient_text};
 
@@ -12,7 +12,7 @@ use crate::FacePoint;
 use crate::divisors::{common_divisor, quotient};
 use fraction::{GridPoint, RatPoint};
 use itoa::Buffer;
-use sinks::{Sink, SinkFault, put_all, put_parts};
+use streams::{Sink, SinkFault, put_all, put_parts};
 
 /// A piece of a line.
 #[derive(Clone, Copy)]

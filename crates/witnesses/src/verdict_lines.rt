@@ -2,12 +2,12 @@
 
 ghost use Rattle.std.specs.Prelude.{OnErr, OnOk};
 ghost use Rattle.std.specs.Io.KnownBytes.{Appends};
-ghost use Rattle.sinks.specs.Sinks.{AppendsFront, CountsFailure};
+ghost use Rattle.streams.specs.Sinks.{AppendsFront, CountsFailure};
 ghost use Rattle.witnesses.specs.VerdictTexts.{verdict_text};
 
 use crate::put_reason;
 use crate::verdict::Verdict;
-use sinks::{Sink, SinkFault, put_all};
+use streams::{Sink, SinkFault, put_all};
 
 /// Writes the line of a verdict: `valid`, or the fault and its place, and a line feed (the words: this project's choice). It
 /// takes no memory. At Err the sink failed, and a beginning of the line has been written.

@@ -3,7 +3,7 @@
 ghost use Rattle.std.specs.Prelude.{◌≡◌, ◌++◌, codes, map, OnOk, OnErr};
 ghost use Rattle.std.specs.List.{concat};
 ghost use Rattle.std.specs.Io.KnownBytes.{Appends};
-ghost use Rattle.sinks.specs.Sinks.{AppendsFront, CountsFailure};
+ghost use Rattle.streams.specs.Sinks.{AppendsFront, CountsFailure};
 ghost use Rattle.witnesses.specs.Shown.{witness_at};
 ghost use Rattle.witnesses.specs.WitnessTexts.{cell_text, line_text, location_text, row_text, witnesses_text};
 ghost use Rattle.witnesses.specs.declared.witness.Witness.TheVariants as kinds;
@@ -12,7 +12,7 @@ use crate::pieces::{Piece, put_pieces};
 use crate::witness::{Witness, Witnesses};
 use fraction::RatPoint;
 use geometry_model::Location;
-use sinks::{Sink, SinkFault, put_all, put_parts};
+use streams::{Sink, SinkFault, put_all, put_parts};
 
 /// The three parts of the plane that a geometry makes, in the order of the matrix (06-103r4, 6.1.15.2).
 const LOCATIONS: [Location; 3] = [Location::Interior, Location::Boundary, Location::Exterior];

@@ -2,9 +2,9 @@
 use Rattle.std.proofs.Common.{◌≡◌, ℕ, zero, suc, ◌+◌, ◌<◌, ◌==◌, true, false, List, [], ◌∷◌, ◌++◌, length, map, take, drop, get_or, codes, Option, Some, Result, Ok, Err, OnOk, OnErr, arith, refl, sym, ◌∙◌, ap, ap₂, subst, add-one, append_assoc, append-nil, suc-ne-zero}
 use Rattle.std.proofs.lemmas.Bool.{true≢false}
 use Rattle.std.proofs.lemmas.Bool.Decides.{Decides-eqb}
-use Rattle.sinks.specs.Sinks.{AppendsFront}
-use Rattle.sinks.proofs.PartLemmas.{parts-more, parts-split}
-use Rattle.sinks.proofs.SinkLemmas.{Appends-then, AppendsFront-then, AppendsFront-more}
+use Rattle.streams.specs.Sinks.{AppendsFront}
+use Rattle.streams.proofs.PartLemmas.{parts-more, parts-split}
+use Rattle.streams.proofs.SinkLemmas.{Appends-then, AppendsFront-then, AppendsFront-more}
 use Rattle.std.specs.List.{concat, join_with_byte}
 use Rattle.std.specs.Io.KnownBytes.{Appends}
 use Rattle.geometry_model.specs.Points.{Position}

@@ -23,5 +23,5 @@ pub use line_strings::LineString;
 pub use polygons::Polygons;
 pub use printing::print;
 pub use reading::read;
-pub use sinks::{MemorySink, Sink, SinkFault, StdSink, devices, put_all, put_parts};
+pub use streams::{MemorySink, Sink, SinkFault, StdSink, devices, put_all, put_parts};
 pub use wkt_fault::WktFault;

@@ -7,12 +7,12 @@ ghost use Rattle.std.specs.Io.KnownBytes.{Appends};
 ghost use Rattle.geometry_model.specs.CanonicalText.{canonical_text, line_text, point_text, polygon_text, position_text, tagged_text};
 ghost use Rattle.wkt.specs.Printing.{HoldsText, opening_text};
 ghost use Rattle.wkt.specs.Shapes.{geometry_in, larger_in};
-ghost use Rattle.sinks.specs.Sinks.{AppendsFront, CountsFailure};
+ghost use Rattle.streams.specs.Sinks.{AppendsFront, CountsFailure};
 
 use crate::{Geometry, Larger, LineString, Polygons, Shape};
 use fraction::GridPoint;
 use itoa::Buffer;
-use sinks::{Sink, SinkFault, put_all, put_parts};
+use streams::{Sink, SinkFault, put_all, put_parts};
 
 /// Writes the canonical text of a geometry: the type's name in capitals; ` EMPTY` for an empty one; else the positions, elements,
 /// rings or polygons in parentheses, with commas between, no white space but one space between x and y, numbers in shortest

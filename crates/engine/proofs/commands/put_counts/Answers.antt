@@ -3,7 +3,7 @@ use Rattle.std.proofs.Common.{◌≡◌, ◌∙◌, Some, ap, subst}
 use Rattle.std.specs.Prelude.{slice_get}
 use Rattle.engine.proofs.CountLemmas.{count-front, count-next, line-is}
 use Rattle.engine.proofs.FileLemmas.{there}
-use Rattle.sinks.proofs.SinkLemmas.{OnErr-holds}
+use Rattle.streams.proofs.SinkLemmas.{OnErr-holds}
 use Rattle.std.specs.Fmt.{decimal}
 use Rattle.table_model.specs.SpatialTables.{SpatialSchema}
 use Rattle.engine.proofs.commands.put_counts.Goals as goal

@@ -1,5 +1,5 @@
 -- The name and the method make the line.
-use Rattle.sinks.proofs.PartLemmas.{front-same}
+use Rattle.streams.proofs.PartLemmas.{front-same}
 use Rattle.explain.proofs.TextLemmas.{scan_line, probe_line}
 use Rattle.explain.proofs.access_lines.put_access.Goals as goal
 

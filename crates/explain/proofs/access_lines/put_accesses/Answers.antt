@@ -1,6 +1,6 @@
 -- The line of the outer access, and that of the inner one after it.
 use Rattle.std.proofs.Common.{rules, ◌≢◌, length}
-use Rattle.sinks.proofs.SinkLemmas.{OnErr-holds}
+use Rattle.streams.proofs.SinkLemmas.{OnErr-holds}
 use Rattle.explain.proofs.TextLemmas.{outer_front, inner_front}
 use Rattle.explain.proofs.access_lines.put_accesses.Goals as goal
 

@@ -1,9 +1,9 @@
 -- The word, the numbers with a space before each, and the line feed, one after another.
 use Rattle.std.proofs.Common.{rules, ◌≢◌, ◌++◌, length, map, codes, subst}
 use Rattle.std.specs.List.{concat}
-use Rattle.sinks.specs.Sinks.{AppendsFront}
-use Rattle.sinks.proofs.SinkLemmas.{OnErr-holds, AppendsFront-more, AppendsFront-then}
-use Rattle.sinks.proofs.PartLemmas.{last-put, last-front}
+use Rattle.streams.specs.Sinks.{AppendsFront}
+use Rattle.streams.proofs.SinkLemmas.{OnErr-holds, AppendsFront-more, AppendsFront-then}
+use Rattle.streams.proofs.PartLemmas.{last-put, last-front}
 use Rattle.table_model.specs.ExplainTexts.{conjunct_number}
 use Rattle.explain.proofs.TextLemmas.{filter_line}
 use Rattle.explain.proofs.filter_line.put_filters.Goals as goal

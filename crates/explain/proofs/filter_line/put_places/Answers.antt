@@ -1,8 +1,8 @@
 -- The numbers before this one were put; this one, or a front of it, comes after them.
 use Rattle.std.proofs.Common.{◌++◌, codes, length, ◌<◌, arith, ◌∙◌}
 use Rattle.table_model.specs.ExplainTexts.{conjunct_number}
-use Rattle.sinks.proofs.SinkLemmas.{OnErr-holds}
-use Rattle.sinks.proofs.PartLemmas.{parts-front, parts-put}
+use Rattle.streams.proofs.SinkLemmas.{OnErr-holds}
+use Rattle.streams.proofs.PartLemmas.{parts-front, parts-put}
 use Rattle.explain.proofs.filter_line.put_places.Goals as goal
 
 pub returns-in_err-put_place-clause-front : goal.returns-in_err-put_place-clause-front

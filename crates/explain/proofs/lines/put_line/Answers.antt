@@ -1,5 +1,5 @@
 -- The parts joined are the line.
-use Rattle.sinks.proofs.PartLemmas.{front-same}
+use Rattle.streams.proofs.PartLemmas.{front-same}
 use Rattle.explain.proofs.TextLemmas.{line_parts}
 use Rattle.explain.proofs.lines.put_line.Goals as goal
 

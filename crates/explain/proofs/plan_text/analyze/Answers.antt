@@ -1,7 +1,7 @@
 -- The text of EXPLAIN, and the line of the work after it.
 use Rattle.std.proofs.Common.{codes, decimal}
 use Rattle.table_model.specs.ExplainTexts.{line, explain_text}
-use Rattle.sinks.proofs.SinkLemmas.{OnErr-holds, AppendsFront-more}
+use Rattle.streams.proofs.SinkLemmas.{OnErr-holds, AppendsFront-more}
 use Rattle.explain.proofs.TextLemmas.{then-front}
 use Rattle.explain.proofs.plan_text.analyze.Goals as goal
 

@@ -1,7 +1,7 @@
 -- The lines of a plan, one after another.
 use Rattle.std.proofs.Common.{◌++◌, codes, decimal}
 use Rattle.table_model.specs.ExplainTexts.{line, access_lines, filters_text, count_line, limit_line}
-use Rattle.sinks.proofs.SinkLemmas.{OnErr-holds, Appends-then, AppendsFront-more, AppendsFront-then}
+use Rattle.streams.proofs.SinkLemmas.{OnErr-holds, Appends-then, AppendsFront-more, AppendsFront-then}
 use Rattle.explain.proofs.TextLemmas.{then-ok, then-front}
 use Rattle.explain.proofs.plan_text.explain.Goals as goal
 

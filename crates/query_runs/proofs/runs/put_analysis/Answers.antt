@@ -1,12 +1,12 @@
 -- The number that is put is the work of the plan, whose rows were taken to their end from no work on.
 use Rattle.std.proofs.Common.{◌≡◌, ◌+◌, ◌∙◌, ap, subst, arith}
-use Rattle.sinks.specs.Sinks.{AppendsFront}
+use Rattle.streams.specs.Sinks.{AppendsFront}
 use Rattle.table_model.specs.Arguments.{denoted}
 use Rattle.table_model.specs.ExplainTexts.{analyze_text}
 use Rattle.table_model.specs.RunOutcomes.{kept_count}
 use Rattle.table_model.specs.Work.{work}
 use Rattle.query_runs.proofs.PutLemmas.{put-begun, put-none}
-use Rattle.records.specs.declared.put_fault.PutFault.TheVariants as put
+use Rattle.streams.specs.declared.put_fault.PutFault.TheVariants as put
 use Rattle.query_runs.proofs.runs.put_analysis.Goals as goal
 
 pub returns-in_err-count_observed-clause-text : goal.returns-in_err-count_observed-clause-text

@@ -1,6 +1,6 @@
 -- The count, or the header and then the rows' records; a front of the header is a front of the answer.
 use Rattle.std.proofs.Common.{ap, subst, ◌≡◌, ◌∙◌, true, false, rules}
-use Rattle.sinks.specs.Sinks.{AppendsFront}
+use Rattle.streams.specs.Sinks.{AppendsFront}
 use Rattle.std.specs.Io.KnownBytes.{Appends}
 use Rattle.executor.specs.Streams.{to_come}
 use Rattle.table_model.specs.AnswerTexts.{header}

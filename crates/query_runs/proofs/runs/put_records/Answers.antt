@@ -6,8 +6,8 @@ use Rattle.executor.specs.Streams.{to_come}
 use Rattle.geometry_model.specs.Geometries.{Geometry}
 use Rattle.geometry_model.specs.Labels.{labelled_matrix}
 use Rattle.matrix_laws.proofs.Matrices.{labels_give_matrix}
-use Rattle.records.specs.RecordWriters.{CountsPut}
-use Rattle.records.specs.declared.put_fault.PutFault.TheVariants as put
+use Rattle.streams.specs.RecordWriters.{CountsPut}
+use Rattle.streams.specs.declared.put_fault.PutFault.TheVariants as put
 use Rattle.std.specs.Prelude.{Err}
 use Rattle.table_model.specs.Meanings.{Table}
 use Rattle.query_runs.specs.Runs.{choice_text}

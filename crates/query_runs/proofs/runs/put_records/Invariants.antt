@@ -2,7 +2,7 @@ use Rattle.std.proofs.Common.{◌≡◌, length, map}
 use Rattle.std.specs.List.{concat}
 use Rattle.executor.specs.Streams.{to_come, work_at_end}
 use Rattle.geometry_model.specs.Labels.{labelled_matrix}
-use Rattle.records.specs.RecordWriters.{IsReady}
+use Rattle.streams.specs.RecordWriters.{IsReady}
 use Rattle.table_model.specs.RunOutcomes.{ByEveryMatrix}
 use Rattle.query_runs.specs.Runs.{choice_text}
 use Rattle.query_runs.proofs.RecordLemmas.{PutBut}

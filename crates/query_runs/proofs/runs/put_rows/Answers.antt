@@ -4,7 +4,7 @@ use Rattle.std.specs.Io.KnownBytes.{Appends}
 use Rattle.executor.specs.Streams.{to_come}
 use Rattle.geometry_model.specs.Labels.{labelled_matrix}
 use Rattle.matrix_laws.proofs.Matrices.{labels_give_matrix}
-use Rattle.sinks.specs.Sinks.{AppendsFront}
+use Rattle.streams.specs.Sinks.{AppendsFront}
 use Rattle.table_model.specs.Arguments.{denoted}
 use Rattle.table_model.specs.RunOutcomes.{kept_count}
 use Rattle.table_model.specs.Work.{work}

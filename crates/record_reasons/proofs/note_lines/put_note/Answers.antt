@@ -1,6 +1,6 @@
 -- The parts joined are the text.
 use Rattle.std.proofs.Common.{codes}
-use Rattle.sinks.proofs.PartLemmas.{front-same}
+use Rattle.streams.proofs.PartLemmas.{front-same}
 use Rattle.record_reasons.proofs.PartLemmas.{eight_parts, put-same}
 use Rattle.record_reasons.proofs.note_lines.put_note.Goals as goal
 

@@ -1,6 +1,6 @@
 -- The column and its fault, one after the other.
 use Rattle.std.proofs.Common.{codes, ◌++◌}
-use Rattle.sinks.proofs.SinkLemmas.{AppendsFront-more, OnErr-holds}
+use Rattle.streams.proofs.SinkLemmas.{AppendsFront-more, OnErr-holds}
 use Rattle.witnesses.specs.FaultTexts.{reason_text}
 use Rattle.record_reasons.proofs.PartLemmas.{then-front}
 use Rattle.record_reasons.proofs.reason_lines.put_invalid.Goals as goal

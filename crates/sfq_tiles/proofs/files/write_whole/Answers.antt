@@ -1,6 +1,6 @@
 -- The bytes before `at` were written; what a write more wrote comes after them.
 use Rattle.std.proofs.Common.{arith, length-drop, length-take}
-use Rattle.sinks.proofs.SinkLemmas.{put_all-more}
+use Rattle.streams.proofs.SinkLemmas.{put_all-more}
 use Rattle.sfq_tiles.proofs.FileLemmas.{write_front}
 use Rattle.sfq_tiles.proofs.files.write_whole.Goals as goal
 

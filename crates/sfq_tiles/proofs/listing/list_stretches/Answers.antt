@@ -1,7 +1,7 @@
 -- A front of the header, or of the lines after it.
 use Rattle.std.proofs.Common.{codes, map}
 use Rattle.std.specs.List.{concat}
-use Rattle.sinks.proofs.SinkLemmas.{AppendsFront-more, OnErr-holds}
+use Rattle.streams.proofs.SinkLemmas.{AppendsFront-more, OnErr-holds}
 use Rattle.sfq_tiles.specs.Lists.{stretches_text}
 use Rattle.sfq_tiles.proofs.ListLemmas.{last_front}
 use Rattle.sfq_tiles.proofs.listing.list_stretches.Goals as goal

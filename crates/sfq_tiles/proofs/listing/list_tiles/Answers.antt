@@ -1,7 +1,7 @@
 -- A front of the header, or of the lines after it.
 use Rattle.std.proofs.Common.{◌+◌, length}
 use Rattle.std.specs.List.{flat_map, range_with_len}
-use Rattle.sinks.proofs.SinkLemmas.{AppendsFront-more, OnErr-holds}
+use Rattle.streams.proofs.SinkLemmas.{AppendsFront-more, OnErr-holds}
 use Rattle.sfq_tiles.specs.Lists.{tile_line, tiles_header}
 use Rattle.sfq_tiles.proofs.ListLemmas.{last_front}
 use Rattle.sfq_tiles.proofs.listing.list_tiles.Goals as goal

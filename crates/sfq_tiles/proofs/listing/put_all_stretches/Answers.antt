@@ -1,7 +1,7 @@
 -- The lines of the parts before this one were put; those of this one, or a front of them, come after them.
 use Rattle.std.proofs.Common.{length, ◌<◌, arith, ap, ◌∙◌}
-use Rattle.sinks.proofs.PartLemmas.{text-front, text-put}
-use Rattle.sinks.proofs.SinkLemmas.{OnErr-holds}
+use Rattle.streams.proofs.PartLemmas.{text-front, text-put}
+use Rattle.streams.proofs.SinkLemmas.{OnErr-holds}
 use Rattle.sfq_tiles.specs.Lists.{stretches_text}
 use Rattle.sfq_tiles.proofs.listing.put_all_stretches.Goals as goal
 

@@ -1,8 +1,8 @@
 -- The columns, the names and the line feed, one after another; a front of one of them after those before it.
 use Rattle.std.proofs.Common.{◌++◌, codes, map, refl}
 use Rattle.std.specs.List.{concat}
-use Rattle.sinks.proofs.PartLemmas.{last-put}
-use Rattle.sinks.proofs.SinkLemmas.{Appends-then, AppendsFront-more, AppendsFront-then, OnErr-holds}
+use Rattle.streams.proofs.PartLemmas.{last-put}
+use Rattle.streams.proofs.SinkLemmas.{Appends-then, AppendsFront-more, AppendsFront-then, OnErr-holds}
 use Rattle.sfq_tiles.proofs.ListLemmas.{last_front}
 use Rattle.sfq_tiles.proofs.listing.put_header.Goals as goal
 

@@ -1,7 +1,7 @@
 -- The names before this one were put; this one, or a front of it, comes after them.
 use Rattle.std.proofs.Common.{◌++◌, codes, length, ◌<◌, arith, ap, ◌∙◌}
-use Rattle.sinks.proofs.PartLemmas.{text-front, text-put}
-use Rattle.sinks.proofs.SinkLemmas.{OnErr-holds}
+use Rattle.streams.proofs.PartLemmas.{text-front, text-put}
+use Rattle.streams.proofs.SinkLemmas.{OnErr-holds}
 use Rattle.sfq_tiles.proofs.listing.put_names.Goals as goal
 
 pub loop-part-preserved : goal.loop-part-preserved

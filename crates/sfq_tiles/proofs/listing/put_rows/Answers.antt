@@ -1,8 +1,8 @@
 -- The fields of the parts before this one were put; that of this one, or a front of it, comes after them.
 use Rattle.std.proofs.Common.{◌++◌, codes, decimal, length, ◌<◌, arith, ap, ◌∙◌}
 use Rattle.std.specs.List.{slice_index_or}
-use Rattle.sinks.proofs.PartLemmas.{text-front, text-put}
-use Rattle.sinks.proofs.SinkLemmas.{OnErr-holds}
+use Rattle.streams.proofs.PartLemmas.{text-front, text-put}
+use Rattle.streams.proofs.SinkLemmas.{OnErr-holds}
 use Rattle.sfq_tiles.proofs.listing.put_rows.Goals as goal
 
 pub loop-part-preserved : goal.loop-part-preserved

@@ -2,9 +2,9 @@
 use Rattle.std.proofs.Common.{◌∙◌, refl, subst, w32}
 use Rattle.std.proofs.lemmas.Int.{to_z-of_z}
 use mir.Val.{SFits, of_z, to_z}
-use Rattle.sinks.proofs.PartLemmas.{front-same}
-use Rattle.sinks.proofs.SinkLemmas.{AppendsFront-more, OnErr-holds}
-use Rattle.sinks.specs.Sinks.{AppendsFront}
+use Rattle.streams.proofs.PartLemmas.{front-same}
+use Rattle.streams.proofs.SinkLemmas.{AppendsFront-more, OnErr-holds}
+use Rattle.streams.specs.Sinks.{AppendsFront}
 use Rattle.sfq_tiles.specs.Lists.{span_text}
 use Rattle.sfq_tiles.proofs.ListLemmas.{last_front, last_put, spans}
 use Rattle.sfq_tiles.proofs.listing.put_sides.Goals as goal

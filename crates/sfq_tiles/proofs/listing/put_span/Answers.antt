@@ -2,7 +2,7 @@
 use Rattle.std.proofs.Common.{◌∙◌, ap, w32}
 use Rattle.std.specs.Fmt.{signed_decimal}
 use Rattle.std.proofs.lemmas.Int.{to_z-of_z}
-use Rattle.sinks.proofs.PartLemmas.{front-same}
+use Rattle.streams.proofs.PartLemmas.{front-same}
 use Rattle.sfq_tiles.proofs.ListLemmas.{span_parts}
 use Rattle.sfq_tiles.proofs.listing.put_span.Goals as goal
 

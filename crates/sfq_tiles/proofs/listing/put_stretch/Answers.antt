@@ -1,6 +1,6 @@
 -- The parts joined are the line.
 use Rattle.std.proofs.Common.{◌∙◌}
-use Rattle.sinks.proofs.PartLemmas.{front-same}
+use Rattle.streams.proofs.PartLemmas.{front-same}
 use Rattle.sfq_tiles.proofs.ListLemmas.{stretch_parts}
 use Rattle.sfq_tiles.proofs.listing.put_stretch.Goals as goal
 

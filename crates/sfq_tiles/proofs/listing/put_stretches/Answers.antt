@@ -2,8 +2,8 @@
 use Rattle.std.proofs.Common.{◌<◌, ◌+◌, ◌∙◌, arith, length, subst}
 use Rattle.std.specs.List.{slice_index_or}
 use Rattle.std.specs.Io.KnownBytes.{Appends}
-use Rattle.sinks.proofs.SinkLemmas.{OnErr-holds}
-use Rattle.sinks.specs.Sinks.{AppendsFront}
+use Rattle.streams.proofs.SinkLemmas.{OnErr-holds}
+use Rattle.streams.specs.Sinks.{AppendsFront}
 use Rattle.sfq_tiles.specs.Lists.{stretch_line}
 use Rattle.sfq_tiles.proofs.ListLemmas.{number_front, number_put}
 use Rattle.sfq_tiles.proofs.listing.put_stretches.Goals as goal

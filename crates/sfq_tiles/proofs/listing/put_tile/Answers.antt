@@ -1,8 +1,8 @@
 -- The number, the sides, the rows and the line feed: a front of one of them after those before it.
 use Rattle.std.proofs.Common.{◌≡◌, ◌++◌, Option, None, ap, codes, decimal, rules, slice_get, subst, sym, unwrap_or}
 use Rattle.std.specs.Io.KnownBytes.{Appends}
-use Rattle.sinks.proofs.SinkLemmas.{Appends-then, AppendsFront-more, AppendsFront-then, OnErr-holds}
-use Rattle.sinks.specs.Sinks.{AppendsFront}
+use Rattle.streams.proofs.SinkLemmas.{Appends-then, AppendsFront-more, AppendsFront-then, OnErr-holds}
+use Rattle.streams.specs.Sinks.{AppendsFront}
 use Rattle.tile_laws.specs.Cells.{Cell, cells_of}
 use Rattle.sfq_tiles.specs.Lists.{rows_text, sides_text}
 use Rattle.sfq_tiles.proofs.ListLemmas.{last_front}

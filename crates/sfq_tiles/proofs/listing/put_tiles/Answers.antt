@@ -1,6 +1,6 @@
 -- The lines before this one were put; this one, or a front of it, comes after them.
 use Rattle.std.proofs.Common.{◌<◌, ◌+◌, ◌∙◌, ap, arith, length}
-use Rattle.sinks.proofs.SinkLemmas.{OnErr-holds}
+use Rattle.streams.proofs.SinkLemmas.{OnErr-holds}
 use Rattle.sfq_tiles.specs.Lists.{tile_line}
 use Rattle.sfq_tiles.proofs.ListLemmas.{number_front, number_put}
 use Rattle.sfq_tiles.proofs.listing.put_tiles.Goals as goal

@@ -1,6 +1,6 @@
 -- The readers are over the tables' texts.
 use Rattle.std.proofs.Common.{map}
-use Rattle.sinks.specs.MemorySinks.{memory_bytes}
+use Rattle.streams.specs.MemorySinks.{memory_bytes}
 use Rattle.sfq_web.proofs.RunFacts.{is_refused, is_written, remaining_of}
 use Rattle.sfq_web.proofs.queries.run_over.Goals as goal
 

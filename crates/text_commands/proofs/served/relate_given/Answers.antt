@@ -4,7 +4,7 @@ use Rattle.std.specs.Io.KnownBytes.{Appends}
 use Rattle.text_commands.proofs.EndLemmas.{relate-refused, relate-text}
 use Rattle.text_commands.specs.TextCommands.{relate_text}
 use Rattle.failures.specs.declared.failure.Failure.TheVariants as f
-use Rattle.sinks.specs.Sinks.{AppendsFront}
+use Rattle.streams.specs.Sinks.{AppendsFront}
 use Rattle.text_commands.proofs.served.relate_given.Goals as goal
 
 pub returns-in-Err : goal.returns-in-Err

@@ -3,7 +3,7 @@ use Rattle.std.proofs.Common.{Err, Ok, refl, subst}
 use Rattle.std.specs.Io.KnownBytes.{Appends}
 use Rattle.text_commands.proofs.EndLemmas.{keeps-same}
 use Rattle.failures.specs.declared.failure.Failure.TheVariants as f
-use Rattle.sinks.specs.Sinks.{AppendsFront}
+use Rattle.streams.specs.Sinks.{AppendsFront}
 use Rattle.text_commands.proofs.served.serve_fault.Goals as goal
 
 pub returns-in_default : goal.returns-in_default

@@ -1,5 +1,5 @@
 -- The pieces joined are the text.
-use Rattle.sinks.proofs.PartLemmas.{front-same}
+use Rattle.streams.proofs.PartLemmas.{front-same}
 use Rattle.witnesses.proofs.FaultTextLemmas.{count_parts}
 use Rattle.witnesses.proofs.fault_lines.put_count.Goals as goal
 

@@ -1,6 +1,6 @@
 -- The text of each fault begins with its code.
 use Rattle.std.proofs.Common.{ap, sym}
-use Rattle.sinks.proofs.PartLemmas.{front-same}
+use Rattle.streams.proofs.PartLemmas.{front-same}
 use Rattle.witnesses.specs.FaultTexts.{fault_front}
 use Rattle.witnesses.proofs.fault_lines.put_fault.Goals as goal
 

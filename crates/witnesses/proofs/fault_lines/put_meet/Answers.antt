@@ -1,6 +1,6 @@
 -- The pieces joined are the text.
 use Rattle.std.proofs.Common.{◌∙◌, ap, sym, codes, append-nil}
-use Rattle.sinks.proofs.PartLemmas.{front-same}
+use Rattle.streams.proofs.PartLemmas.{front-same}
 use Rattle.witnesses.specs.FaultTexts.{meet_text}
 use Rattle.witnesses.specs.PointTexts.{point_text}
 use Rattle.witnesses.proofs.TextLemmas.{three_parts}

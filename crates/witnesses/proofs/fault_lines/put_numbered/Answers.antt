@@ -1,6 +1,6 @@
 -- The pieces joined are the text.
 use Rattle.std.proofs.Common.{codes, decimal}
-use Rattle.sinks.proofs.PartLemmas.{front-same}
+use Rattle.streams.proofs.PartLemmas.{front-same}
 use Rattle.witnesses.proofs.TextLemmas.{three_parts}
 use Rattle.witnesses.proofs.fault_lines.put_numbered.Goals as goal
 

@@ -1,6 +1,6 @@
 -- The pieces joined are the text.
 use Rattle.std.proofs.Common.{decimal}
-use Rattle.sinks.proofs.PartLemmas.{front-same}
+use Rattle.streams.proofs.PartLemmas.{front-same}
 use Rattle.witnesses.proofs.FaultTextLemmas.{paired_parts}
 use Rattle.witnesses.proofs.fault_lines.put_paired.Goals as goal
 

@@ -1,6 +1,6 @@
 -- The text of each kind of place.
 use Rattle.std.proofs.Common.{◌∙◌, ap, sym}
-use Rattle.sinks.proofs.PartLemmas.{front-same}
+use Rattle.streams.proofs.PartLemmas.{front-same}
 use Rattle.witnesses.specs.FaultTexts.{place_text}
 use Rattle.witnesses.proofs.FaultTextLemmas.{open_parts}
 use Rattle.witnesses.proofs.fault_lines.put_place.Goals as goal

@@ -1,6 +1,6 @@
 -- The fault, the place and the line feed, one after another.
 use Rattle.std.proofs.Common.{codes}
-use Rattle.sinks.proofs.PartLemmas.{last-put, last-front}
+use Rattle.streams.proofs.PartLemmas.{last-put, last-front}
 use Rattle.witnesses.specs.FaultTexts.{fault_front, place_text}
 use Rattle.witnesses.proofs.FaultTextLemmas.{reason_parts}
 use Rattle.witnesses.proofs.TextLemmas.{first-front, second-front}

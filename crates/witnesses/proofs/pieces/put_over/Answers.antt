@@ -1,5 +1,5 @@
 -- The parts joined are the text.
-use Rattle.sinks.proofs.PartLemmas.{front-same}
+use Rattle.streams.proofs.PartLemmas.{front-same}
 use Rattle.witnesses.proofs.TextLemmas.{over_parts}
 use Rattle.witnesses.proofs.pieces.put_over.Goals as goal
 

@@ -1,7 +1,7 @@
 -- The pieces before this one were put; this one, or a beginning of it, comes after them.
 use Rattle.std.proofs.Common.{length, ◌<◌, arith, ◌∙◌, ap}
-use Rattle.sinks.proofs.SinkLemmas.{OnErr-holds}
-use Rattle.sinks.proofs.PartLemmas.{text-front, text-put}
+use Rattle.streams.proofs.SinkLemmas.{OnErr-holds}
+use Rattle.streams.proofs.PartLemmas.{text-front, text-put}
 use Rattle.witnesses.specs.PointTexts.{piece_text}
 use Rattle.witnesses.proofs.pieces.put_pieces.Goals as goal
 

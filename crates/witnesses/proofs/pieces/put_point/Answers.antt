@@ -3,7 +3,7 @@ use Rattle.std.proofs.Common.{codes}
 use Rattle.std.proofs.lemmas.Int.{to_z-of_z}
 use mir.Syntax.{w128}
 use mir.Val.{to_z, of_z}
-use Rattle.sinks.proofs.PartLemmas.{last-put, last-front}
+use Rattle.streams.proofs.PartLemmas.{last-put, last-front}
 use Rattle.witnesses.specs.PointTexts.{fraction_text}
 use Rattle.witnesses.proofs.TextLemmas.{first-front, second-front, point_parts}
 use Rattle.witnesses.proofs.pieces.put_point.Goals as goal

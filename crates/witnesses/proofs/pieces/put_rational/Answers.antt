@@ -2,7 +2,7 @@
 use Rattle.std.proofs.Common.{◌∙◌, w64}
 use Rattle.std.proofs.lemmas.Int.{to_z-of_z}
 use mir.Syntax.{w128}
-use Rattle.sinks.proofs.PartLemmas.{front-same}
+use Rattle.streams.proofs.PartLemmas.{front-same}
 use Rattle.witnesses.proofs.TextLemmas.{same_triple}
 use Rattle.witnesses.proofs.pieces.put_rational.Goals as goal
 

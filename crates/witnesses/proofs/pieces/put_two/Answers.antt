@@ -1,6 +1,6 @@
 -- The parts joined are the text.
 use Rattle.std.proofs.Common.{codes}
-use Rattle.sinks.proofs.PartLemmas.{front-same}
+use Rattle.streams.proofs.PartLemmas.{front-same}
 use Rattle.witnesses.proofs.TextLemmas.{three_parts}
 use Rattle.witnesses.proofs.pieces.put_two.Goals as goal
 

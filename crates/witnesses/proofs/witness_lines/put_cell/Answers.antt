@@ -1,6 +1,6 @@
 -- The pieces of each kind of witness, joined, are its text.
 use Rattle.std.proofs.Common.{◌∙◌, ap, sym}
-use Rattle.sinks.proofs.PartLemmas.{front-same}
+use Rattle.streams.proofs.PartLemmas.{front-same}
 use Rattle.witnesses.specs.WitnessTexts.{cell_text}
 use Rattle.witnesses.proofs.TextLemmas.{face_cell, point_cell}
 use Rattle.witnesses.proofs.witness_lines.put_cell.Goals as goal

@@ -1,6 +1,6 @@
 -- The two words, the cell and the line feed, one after another.
 use Rattle.std.proofs.Common.{◌∙◌, ap, codes}
-use Rattle.sinks.proofs.PartLemmas.{last-put, last-front}
+use Rattle.streams.proofs.PartLemmas.{last-put, last-front}
 use Rattle.witnesses.specs.WitnessTexts.{cell_text, line_text}
 use Rattle.witnesses.proofs.TextLemmas.{first-front, second-front, line_parts}
 use Rattle.witnesses.specs.Shown.{witness_at}

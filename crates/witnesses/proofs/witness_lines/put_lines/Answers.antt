@@ -1,7 +1,7 @@
 -- The lines before this one were put; this one, or a beginning of it, comes after them.
 use Rattle.std.proofs.Common.{length, ◌<◌, arith, ◌∙◌}
-use Rattle.sinks.proofs.SinkLemmas.{OnErr-holds}
-use Rattle.sinks.proofs.PartLemmas.{parts-front, parts-put}
+use Rattle.streams.proofs.SinkLemmas.{OnErr-holds}
+use Rattle.streams.proofs.PartLemmas.{parts-front, parts-put}
 use Rattle.witnesses.specs.Shown.{witness_at}
 use Rattle.witnesses.specs.WitnessTexts.{line_text}
 use Rattle.witnesses.proofs.witness_lines.put_lines.Goals as goal

@@ -1,5 +1,5 @@
 -- The parts joined are the text.
-use Rattle.sinks.proofs.PartLemmas.{front-same}
+use Rattle.streams.proofs.PartLemmas.{front-same}
 use Rattle.witnesses.proofs.TextLemmas.{word_parts}
 use Rattle.witnesses.proofs.witness_lines.put_locations.Goals as goal
 

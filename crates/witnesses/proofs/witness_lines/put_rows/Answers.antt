@@ -1,7 +1,7 @@
 -- The lines of the parts before this one were put; those of this one, or a beginning of them, come after them.
 use Rattle.std.proofs.Common.{length, ◌<◌, arith, ◌∙◌}
-use Rattle.sinks.proofs.SinkLemmas.{OnErr-holds}
-use Rattle.sinks.proofs.PartLemmas.{parts-front, parts-put}
+use Rattle.streams.proofs.SinkLemmas.{OnErr-holds}
+use Rattle.streams.proofs.PartLemmas.{parts-front, parts-put}
 use Rattle.witnesses.specs.Shown.{witness_at}
 use Rattle.witnesses.specs.WitnessTexts.{row_text}
 use Rattle.witnesses.proofs.witness_lines.put_rows.Goals as goal

@@ -1,5 +1,5 @@
 -- The pieces joined are the text.
-use Rattle.sinks.proofs.PartLemmas.{front-same}
+use Rattle.streams.proofs.PartLemmas.{front-same}
 use Rattle.witnesses.proofs.TextLemmas.{stretch_cell}
 use Rattle.witnesses.proofs.witness_lines.put_stretch.Goals as goal
 

@@ -1,7 +1,7 @@
 -- The lines before this one were put; this one, or a front of it, comes after them.
 use Rattle.std.proofs.Common.{◌<◌, ◌∙◌, length, arith}
 use Rattle.geometry_model.specs.CanonicalText.{line_text}
-use Rattle.sinks.proofs.SinkLemmas.{OnErr-holds}
+use Rattle.streams.proofs.SinkLemmas.{OnErr-holds}
 use Rattle.wkt.proofs.PrintLemmas.{line_at, joined-put, joined-front}
 use Rattle.wkt.proofs.printing.put_joined_lines.Goals as goal
 

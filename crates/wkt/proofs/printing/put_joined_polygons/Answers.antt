@@ -2,7 +2,7 @@
 use Rattle.std.proofs.Common.{[], ◌∙◌, sym}
 use Rattle.std.proofs.lemmas.Option.{get_or_from_slice_get, slice_get_within}
 use Rattle.geometry_model.specs.CanonicalText.{polygon_text}
-use Rattle.sinks.proofs.SinkLemmas.{OnErr-holds}
+use Rattle.streams.proofs.SinkLemmas.{OnErr-holds}
 use Rattle.wkt.proofs.PrintLemmas.{polygon_at, joined-put, joined-front}
 use Rattle.wkt.proofs.printing.put_joined_polygons.Goals as goal
 

@@ -1,8 +1,8 @@
 -- The first position, and the others, each with a comma before it.
 use Rattle.std.proofs.Common.{codes, ◌++◌, subst}
 use Rattle.geometry_model.specs.CanonicalText.{position_text}
-use Rattle.sinks.specs.Sinks.{AppendsFront}
-use Rattle.sinks.proofs.SinkLemmas.{OnErr-holds, AppendsFront-more}
+use Rattle.streams.specs.Sinks.{AppendsFront}
+use Rattle.streams.proofs.SinkLemmas.{OnErr-holds, AppendsFront-more}
 use Rattle.wkt.proofs.PrintLemmas.{line_more, line_split, then-put, then-front}
 use Rattle.wkt.proofs.printing.put_joined_positions.Goals as goal
 

@@ -2,8 +2,8 @@
 use Rattle.std.proofs.Common.{codes, map, refl, ◌++◌}
 use Rattle.std.specs.List.{join_with_byte}
 use Rattle.geometry_model.specs.CanonicalText.{line_text}
-use Rattle.sinks.proofs.PartLemmas.{last-put, last-front}
-use Rattle.sinks.proofs.SinkLemmas.{OnErr-holds, AppendsFront-more, AppendsFront-then}
+use Rattle.streams.proofs.PartLemmas.{last-put, last-front}
+use Rattle.streams.proofs.SinkLemmas.{OnErr-holds, AppendsFront-more, AppendsFront-then}
 use Rattle.wkt.proofs.printing.put_lines.Goals as goal
 
 pub returns-in_err-put_all-clause-front : goal.returns-in_err-put_all-clause-front

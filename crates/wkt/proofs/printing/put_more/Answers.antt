@@ -1,8 +1,8 @@
 -- The points before this one were put; this one, or a front of it, comes after them.
 use Rattle.std.proofs.Common.{length, ◌<◌, ◌++◌, arith, ◌∙◌, ap}
 use Rattle.geometry_model.specs.CanonicalText.{position_text}
-use Rattle.sinks.proofs.PartLemmas.{text-front, text-put}
-use Rattle.sinks.proofs.SinkLemmas.{OnErr-holds}
+use Rattle.streams.proofs.PartLemmas.{text-front, text-put}
+use Rattle.streams.proofs.SinkLemmas.{OnErr-holds}
 use Rattle.wkt.proofs.printing.put_more.Goals as goal
 
 pub returns-in_err-put_position-clause-front : goal.returns-in_err-put_position-clause-front

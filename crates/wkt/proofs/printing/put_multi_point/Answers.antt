@@ -1,10 +1,10 @@
 -- The first point with what comes before it, the others, and the parenthesis, one after another.
 use Rattle.std.proofs.Common.{codes, ◌++◌, subst, OnOk}
 use Rattle.std.specs.Io.KnownBytes.{Appends}
-use Rattle.sinks.specs.Sinks.{AppendsFront}
-use Rattle.sinks.proofs.PartLemmas.{last-put, last-front}
+use Rattle.streams.specs.Sinks.{AppendsFront}
+use Rattle.streams.proofs.PartLemmas.{last-put, last-front}
 use Rattle.wkt.proofs.PrintLemmas.{first_text, more_text, multi_point_split, multi_point_empty}
-use Rattle.sinks.proofs.SinkLemmas.{OnErr-holds, AppendsFront-more, AppendsFront-then}
+use Rattle.streams.proofs.SinkLemmas.{OnErr-holds, AppendsFront-more, AppendsFront-then}
 use Rattle.wkt.proofs.printing.put_multi_point.Goals as goal
 
 pub returns-in_err-put_position-in-Some-clause-front : goal.returns-in_err-put_position-in-Some-clause-front

@@ -1,5 +1,5 @@
 -- The parts joined are the text.
-use Rattle.sinks.proofs.PartLemmas.{front-same}
+use Rattle.streams.proofs.PartLemmas.{front-same}
 use Rattle.wkt.proofs.PrintLemmas.{number_parts}
 use Rattle.wkt.proofs.printing.put_numbers.Goals as goal
 

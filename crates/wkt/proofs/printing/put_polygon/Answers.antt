@@ -1,7 +1,7 @@
 use Rattle.std.proofs.Common.{◌∙◌, sym, codes, subst, OnOk, OnErr}
 use Rattle.std.specs.Io.KnownBytes.{Appends}
 use Rattle.geometry_model.specs.CanonicalText.{line_text}
-use Rattle.sinks.specs.Sinks.{AppendsFront}
+use Rattle.streams.specs.Sinks.{AppendsFront}
 use Rattle.wkt.proofs.PrintLemmas.{named_list, named_none}
 use Rattle.wkt.proofs.printing.put_polygon.Goals as goal
 

@@ -1,4 +1,0 @@
-pub mod Bounds
-pub mod Readers
-pub mod RecordEnds
-pub mod FieldRuns

@@ -1,6 +1,0 @@
--- What a followed reader shows.
-use Rattle.observers.specs.declared.followed_readers.Followed.{Followed}
-
--- the reader beneath
-abbrev pub reader_under : {R O : Type 0} → Followed R O → R
-reader_under f = f.reader

@@ -1,5 +1,0 @@
-use Rattle.std.proofs.Common.{rules}
-use Rattle.sinks.proofs.devices.StopSink.fails_now.Goals as goal
-
-pub returns-clause-fails : goal.returns-clause-fails
-returns-clause-fails c = search rules

@@ -1,0 +1,5 @@
+pub mod EndLemmas
+pub mod RunLemmas
+pub mod SinkLemmas
+pub mod PartLemmas
+pub mod LineLemmas

@@ -1,0 +1,11 @@
+pub mod FollowedReaders
+pub mod Bounds
+pub mod Readers
+pub mod RecordEnds
+pub mod FieldRuns
+pub mod Sinks
+pub mod MemorySinks
+pub mod StdSinks
+pub mod StopReaders
+pub mod StopSinks
+pub mod RecordWriters
