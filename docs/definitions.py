@@ -105,12 +105,12 @@ PAGE = [
     ("Tiles",
      "Cells cut the grid, and rows are copied to cells. Laws prove that the query over tiles gives the rows of"
      " the query over the whole.",
-     [("tile_laws", "Cells", "Cell cells_of mark owner owns"),
-      ("tile_laws", "Tiles", "geometry_at marks marked is_zero"),
-      ("tile_laws", "Orders", "key_in keys_of"),
-      ("tile_laws", "TileLaws", "GeometryStatement AreKeyedRows FieldOnGrid AreOnGrid Forces IsTiled tiles_in rows_of_tiles"
+     [("table_laws", "Cells", "Cell cells_of mark owner owns"),
+      ("table_laws", "Tiles", "geometry_at marks marked is_zero"),
+      ("table_laws", "Orders", "key_in keys_of"),
+      ("table_laws", "TileLaws", "GeometryStatement AreKeyedRows FieldOnGrid AreOnGrid Forces IsTiled tiles_in rows_of_tiles"
        " DatabaseIsWhole TilesGiveRows CountsOfTilesAddUp SortedTileIsTile HasMarks TileIsKeyed"),
-      ("tile_laws", "StretchLaws", "blocks_of IsStretched IsOverBlocks BlocksGiveRows MergedBlocksAreMeant CountsOfBlocksAddUp")]),
+      ("table_laws", "StretchLaws", "blocks_of IsStretched IsOverBlocks BlocksGiveRows MergedBlocksAreMeant CountsOfBlocksAddUp")]),
     ("Plans and work",
      "Only EXPLAIN and EXPLAIN ANALYZE show these. The rows of an answer don't depend on them.",
      [(T, "Plans", "can_search expected_rows first_of_least is_column_of is_known places_where access_methods accesses_of nested predicates_by_parts"

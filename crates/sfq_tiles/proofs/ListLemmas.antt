@@ -9,7 +9,7 @@ use Rattle.std.proofs.lemmas.List.FromFn.{map-range_with_len_more}
 use Rattle.streams.specs.Sinks.{AppendsFront}
 use Rattle.streams.proofs.SinkLemmas.{Appends-then, AppendsFront-more, AppendsFront-then}
 use Rattle.geometry_model.specs.Envelopes.{Envelope}
-use Rattle.tile_laws.specs.Cells.{Cell}
+use Rattle.table_laws.specs.Cells.{Cell}
 use Rattle.sfq_tiles.specs.Lists.{sides_text, span_text, stretch_line}
 
 -- the text of one number more

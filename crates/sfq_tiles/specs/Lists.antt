@@ -4,7 +4,7 @@ use Rattle.std.specs.List.{concat, flat_map, range_with_len, slice_index_or}
 use Rattle.std.specs.Fmt.{signed_decimal}
 use Rattle.geometry_model.specs.Envelopes.{Envelope}
 use Rattle.sfq_tiles.specs.declared.listing.Written.{Written}
-use Rattle.tile_laws.specs.Cells.{Cell, cells_of}
+use Rattle.table_laws.specs.Cells.{Cell, cells_of}
 
 -- the line of a stretch: the name of its part, its number, and how many rows it has (RFC 4180, 2; the columns: this project's choice)
 abbrev pub stretch_line : List ℕ → ℕ → ℕ → List ℕ

@@ -1,7 +1,7 @@
 //! What the program does: it reads the schema, checks every table, and writes the parts.
 
 ghost use Rattle.std.specs.Prelude.{IfOk};
-ghost use Rattle.tile_laws.specs.Cells.{IsCut};
+ghost use Rattle.table_laws.specs.Cells.{IsCut};
 
 use crate::definitions::schema_text;
 use crate::endings::{Ending, ended};

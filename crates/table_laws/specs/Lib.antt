@@ -1,3 +1,14 @@
 pub mod LoadLaws
 pub mod KeyLaws
 pub mod FeatureTableLaws
+pub mod PassingLaws
+pub mod CandidateLaws
+pub mod MeaningLaws
+pub mod Cells
+pub mod Tiles
+pub mod Orders
+pub mod PairLaws
+pub mod MarkLaws
+pub mod TileLaws
+pub mod StretchLaws
+pub mod ColumnLaws

@@ -17,7 +17,7 @@ use Rattle.feature_table.specs.Tables.{AreRecordsOf, records_in}
 use Rattle.table_model.specs.Loading.{Record, header_fault}
 use Rattle.table_model.specs.declared.definitions.ColumnDef.{ColumnDef}
 use Rattle.table_model.specs.declared.faults.LoadFault.{LoadFault}
-use Rattle.tile_laws.specs.Cells.{Cell, cells_of, is_copied}
+use Rattle.table_laws.specs.Cells.{Cell, cells_of, is_copied}
 use Rattle.tiles.specs.Copies.{AreAdded, AreAll, AreRecordsOfTable, AreWritten, WereRead, geometry_in, copied_fields, is_copied_to, lines_of, marked_fields, rows_at, size_of, stretches, stretches_of, table_at, tile_of, tiles}
 use Rattle.tiles.specs.RecordLines.{cell_row, line_of, places_in}
 use Rattle.tiles.specs.Texts.{Texts, Grow}

@@ -6,7 +6,7 @@ use Rattle.std.proofs.lemmas.Int.{ints}
 use Rattle.std.proofs.lemmas.Bool.{and_from}
 use Rattle.geometry_model.specs.Points.{Position}
 use Rattle.geometry_model.specs.Envelopes.{Envelope}
-use Rattle.tile_laws.specs.Cells.{IsCut, IsOnGrid, is_within, cells_of}
+use Rattle.table_laws.specs.Cells.{IsCut, IsOnGrid, is_within, cells_of}
 use Rattle.tiles.specs.Cuts.{LiesWithin}
 use Rattle.tiles.specs.Lines.{IsInGrid, times_within, whole}
 

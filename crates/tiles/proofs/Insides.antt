@@ -5,7 +5,7 @@ use Rattle.std.proofs.lemmas.Int.{ints}
 use Rattle.geometry_model.specs.Points.{Position}
 use Rattle.geometry_model.specs.Envelopes.{Envelope}
 use Rattle.fraction.specs.Ranges.{IsOnGrid}
-use Rattle.tile_laws.specs.Cells.{is_within}
+use Rattle.table_laws.specs.Cells.{is_within}
 use Rattle.tiles.specs.Cuts.{HasBothSides, IsMedian, LiesWithin}
 use Rattle.tiles.specs.Lines.{coordinate, IsInGrid, PassesThrough, low_part, high_part}
 use Rattle.tiles.specs.declared.lines.Axis.{Axis}

@@ -10,7 +10,7 @@ use Rattle.std.proofs.lemmas.List.Elements.{All-take, All-drop}
 use Rattle.geometry_model.specs.Points.{Position}
 use Rattle.geometry_model.specs.Envelopes.{Envelope}
 use Rattle.fraction.specs.Ranges.{IsOnGrid}
-use Rattle.tile_laws.specs.Cells.{is_within}
+use Rattle.table_laws.specs.Cells.{is_within}
 use Rattle.tiles.specs.Cuts.{HasBothSides, HasOneCoordinate, LiesWithin, IsMedian, StaysWhole, IsHalved, IsCutAtMedians, longer}
 use Rattle.tiles.specs.Lines.{IsInGrid, PassesThrough, Parts, low_part, high_part}
 use Rattle.tiles.specs.declared.lines.Line.{Line}

@@ -6,7 +6,7 @@ use Rattle.geometry_model.specs.Envelopes.{Envelope, envelope, meets}
 use Rattle.geometry_model.specs.Geometries.{Geometry}
 use Rattle.rtree.specs.Found.{meeting_places}
 use Rattle.table_model.specs.Loading.{Record}
-use Rattle.tile_laws.specs.Cells.{Cell, cells_of}
+use Rattle.table_laws.specs.Cells.{Cell, cells_of}
 use Rattle.tiles.specs.Copies.{is_copied_to, meets_cell}
 use Rattle.tiles.specs.RecordLines.{cell_row, envelope_row, line_of, mark_fields, marked_line}
 use Rattle.tiles.specs.Texts.{gets_of}

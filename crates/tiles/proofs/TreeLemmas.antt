@@ -9,7 +9,7 @@ use Rattle.std.proofs.lemmas.List.Elements.{filter-append}
 use Rattle.geometry_model.specs.Envelopes.{Envelope, overlap}
 use Rattle.rtree.specs.Found.{meeting_places, placed_meets}
 use Rattle.rtree.specs.Trees.{places_found}
-use Rattle.tile_laws.specs.Cells.{cells_of}
+use Rattle.table_laws.specs.Cells.{cells_of}
 use Rattle.tiles.specs.Lines.{Parts, PassesThrough, low_part, high_part, least_along, greatest_along}
 use Rattle.tiles.specs.Trees.{numbered_boxes, passes, is_parted}
 use Rattle.tiles.specs.declared.lines.Axis.{Axis}

@@ -8,7 +8,7 @@ use Rattle.feature_table.specs.Reading.{StillGives}
 use Rattle.feature_table.specs.Tables.{AreRecordsOf}
 use Rattle.table_model.specs.Loading.{Record, header_fault}
 use Rattle.table_model.specs.declared.definitions.ColumnDef.{ColumnDef}
-use Rattle.tile_laws.specs.Cells.{Cell, cells_of, is_copied}
+use Rattle.table_laws.specs.Cells.{Cell, cells_of, is_copied}
 use Rattle.tiles.specs.RecordLines.{field_in, geometry_of, line_of, mark_fields, places_in}
 use Rattle.tiles.specs.Texts.{Grow, Texts}
 

@@ -5,7 +5,7 @@ use Rattle.std.specs.List.Sorted.{IsPermutation}
 use Rattle.geometry_model.specs.Envelopes.{Envelope}
 use Rattle.geometry_model.specs.Points.{Position}
 use Rattle.fraction.specs.Ranges.{IsOnGrid}
-use Rattle.tile_laws.specs.Cells.{is_within}
+use Rattle.table_laws.specs.Cells.{is_within}
 use Rattle.tiles.specs.Lines.{coordinate, low_part, high_part}
 use Rattle.tiles.specs.declared.lines.Axis.{Axis}
 use Rattle.tiles.specs.declared.lines.Axis.TheVariants.{X, Y}

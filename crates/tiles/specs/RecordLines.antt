@@ -9,7 +9,7 @@ use Rattle.geometry_model.specs.Geometries.{Geometry}
 use Rattle.geometry_model.specs.TextReading.{read_text}
 use Rattle.table_model.specs.Loading.{Record, place_in}
 use Rattle.table_model.specs.declared.definitions.ColumnDef.{ColumnDef}
-use Rattle.tile_laws.specs.Cells.{Cell, cells_of, is_copied, south_mark, west_mark}
+use Rattle.table_laws.specs.Cells.{Cell, cells_of, is_copied, south_mark, west_mark}
 
 -- the line of some fields (RFC 4180, 2)
 unfoldable pub line_of : Record → List ℕ

@@ -5,7 +5,7 @@ ghost use Rattle.std.specs.List.{enumerate_from};
 ghost use Rattle.std.specs.List.Sorted.{IsPermutation};
 ghost use Rattle.geometry_model.specs.Envelopes.{Envelope as Rectangle};
 ghost use Rattle.rtree.specs.Found.{meeting_places};
-ghost use Rattle.tile_laws.specs.Cells.{IsCut, cells_of};
+ghost use Rattle.table_laws.specs.Cells.{IsCut, cells_of};
 ghost use Rattle.tiles.specs.Cuts.{IsCutAtMedians};
 ghost use Rattle.tiles.specs.Lines.{whole};
 ghost use Rattle.tiles.specs.Trees.{numbered_boxes, is_parted};

@@ -1,7 +1,7 @@
 //! The marks of a row in a cell.
 
 ghost use Rattle.std.specs.Prelude.{◌≡◌};
-ghost use Rattle.tile_laws.specs.Cells.{mark, west_mark, south_mark};
+ghost use Rattle.table_laws.specs.Cells.{mark, west_mark, south_mark};
 
 use rtree::Envelope;
 

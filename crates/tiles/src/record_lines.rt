@@ -3,7 +3,7 @@
 ghost use Rattle.std.specs.Prelude.{◌≡◌, ◌++◌, ◌∷◌, [], IfErr, OnOk, map};
 ghost use Rattle.csv.specs.Records.{fields_of, partial_of};
 ghost use Rattle.feature_table.specs.Outcomes.{IsFailure};
-ghost use Rattle.tile_laws.specs.Cells.{mark};
+ghost use Rattle.table_laws.specs.Cells.{mark};
 ghost use Rattle.tiles.specs.Copies.{copied_fields};
 ghost use Rattle.tiles.specs.Faults.{IsCopyFault};
 ghost use Rattle.tiles.specs.RecordLines.{field_in, line_of, mark_text, name_at, names_of};

@@ -3,7 +3,7 @@ use Rattle.std.proofs.Common.{◌≡◌, ◌++◌, Option, None, ap, codes, deci
 use Rattle.std.specs.Io.KnownBytes.{Appends}
 use Rattle.streams.proofs.SinkLemmas.{Appends-then, AppendsFront-more, AppendsFront-then, OnErr-holds}
 use Rattle.streams.specs.Sinks.{AppendsFront}
-use Rattle.tile_laws.specs.Cells.{Cell, cells_of}
+use Rattle.table_laws.specs.Cells.{Cell, cells_of}
 use Rattle.sfq_tiles.specs.Lists.{rows_text, sides_text}
 use Rattle.sfq_tiles.proofs.ListLemmas.{last_front}
 use Rattle.sfq_tiles.proofs.listing.put_tile.Goals as goal

@@ -1,7 +1,7 @@
 use Rattle.std.proofs.Common.{◌++◌, ◌∷◌, [], OnOk, Option, None, ap, ap₂, sym, subst, unwrap_or, ◌∙◌}
 use Rattle.csv.specs.Records.{fields_of}
 use Rattle.table_model.specs.Loading.{Record}
-use Rattle.tile_laws.specs.Cells.{Cell}
+use Rattle.table_laws.specs.Cells.{Cell}
 use Rattle.tiles.specs.RecordLines.{line_of, mark_fields, mark_text}
 use Rattle.tiles.specs.Texts.{Grow, in_cell}
 use Rattle.tiles.proofs.copying.put_row.Goals as goal

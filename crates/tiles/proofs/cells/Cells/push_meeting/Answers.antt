@@ -1,7 +1,7 @@
 use Rattle.std.proofs.Common.{◌≡◌, ◌∙◌, ◌++◌, ◌∷◌, [], Some, true, false, ap, sym}
 use Rattle.geometry_model.specs.Envelopes.{overlap}
 use Rattle.rtree.specs.Found.{meeting_places}
-use Rattle.tile_laws.specs.Cells.{cells_of}
+use Rattle.table_laws.specs.Cells.{cells_of}
 use Rattle.tiles.specs.Lines.{whole}
 use Rattle.tiles.proofs.TreeLemmas.{absent_met, tree_met, tree_missed}
 use Rattle.tiles.proofs.cells.Cells.push_meeting.Goals as goal

@@ -1,9 +1,0 @@
-pub mod PlanLists
-pub mod Orders
-pub mod Lawful
-pub mod Probes
-pub mod Kept
-pub mod Filters
-pub mod Candidates
-pub mod Meaning
-pub mod Bound

@@ -1,5 +1,0 @@
-use Rattle.plan_laws.proofs.Candidates.{candidates_differ}
-use Rattle.plan_laws.proofs.candidate_laws.candidates_differ.Goals as goal
-
-pub returns : goal.returns
-returns c = candidates_differ

@@ -1,5 +1,0 @@
-use Rattle.plan_laws.proofs.Candidates.{first_rows_are_meant}
-use Rattle.plan_laws.proofs.candidate_laws.first_rows_are_meant.Goals as goal
-
-pub returns : goal.returns
-returns c = first_rows_are_meant

@@ -1,5 +1,0 @@
-use Rattle.plan_laws.proofs.Candidates.{passing_are_permuted}
-use Rattle.plan_laws.proofs.candidate_laws.passing_are_permuted.Goals as goal
-
-pub returns : goal.returns
-returns c = passing_are_permuted

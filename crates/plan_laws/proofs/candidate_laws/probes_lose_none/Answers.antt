@@ -1,5 +1,0 @@
-use Rattle.plan_laws.proofs.Candidates.{probes_lose_none}
-use Rattle.plan_laws.proofs.candidate_laws.probes_lose_none.Goals as goal
-
-pub returns : goal.returns
-returns c = probes_lose_none

@@ -1,5 +1,0 @@
-use Rattle.plan_laws.proofs.Meaning.{plans_give_meaning}
-use Rattle.plan_laws.proofs.meaning_laws.plans_give_meaning.Goals as goal
-
-pub returns : goal.returns
-returns c = plans_give_meaning

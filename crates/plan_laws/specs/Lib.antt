@@ -1,3 +1,0 @@
-pub mod PassingLaws
-pub mod CandidateLaws
-pub mod MeaningLaws

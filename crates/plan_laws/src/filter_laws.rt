@@ -1,9 +1,0 @@
-//! The law that the filters of a plan pass exactly what ON and WHERE select.
-
-ghost use Rattle.plan_laws.specs.PassingLaws.{FiltersAreAsked};
-
-/// The filters of a lawful plan, evaluated in its order up to the first that isn't true, are all true exactly where ON and
-/// WHERE are.
-pub fn filters_are_asked()
-    ensures { FiltersAreAsked }
-{}

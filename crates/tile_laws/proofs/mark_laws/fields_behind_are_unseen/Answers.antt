@@ -1,5 +1,0 @@
-use Rattle.tile_laws.proofs.MarkFacts.{fields_behind_are_unseen}
-use Rattle.tile_laws.proofs.mark_laws.fields_behind_are_unseen.Goals as goal
-
-pub returns : goal.returns
-returns c = fields_behind_are_unseen

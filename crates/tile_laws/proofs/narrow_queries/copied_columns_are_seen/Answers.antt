@@ -1,5 +1,0 @@
-use Rattle.tile_laws.proofs.Narrowing.{copied_columns_are_seen}
-use Rattle.tile_laws.proofs.narrow_queries.copied_columns_are_seen.Goals as goal
-
-pub returns : goal.returns
-returns c = copied_columns_are_seen

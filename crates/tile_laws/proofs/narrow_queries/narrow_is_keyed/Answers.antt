@@ -1,5 +1,0 @@
-use Rattle.tile_laws.proofs.NarrowTables.{narrow_is_keyed}
-use Rattle.tile_laws.proofs.narrow_queries.narrow_is_keyed.Goals as goal
-
-pub returns : goal.returns
-returns c = narrow_is_keyed

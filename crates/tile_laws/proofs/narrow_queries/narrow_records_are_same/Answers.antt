@@ -1,5 +1,0 @@
-use Rattle.tile_laws.proofs.Narrowing.{narrow_records_are_same}
-use Rattle.tile_laws.proofs.narrow_queries.narrow_records_are_same.Goals as goal
-
-pub returns : goal.returns
-returns c = narrow_records_are_same

@@ -1,5 +1,0 @@
-use Rattle.tile_laws.proofs.OwnerFacts.{grid_is_cut}
-use Rattle.tile_laws.proofs.pair_laws.grid_is_cut.Goals as goal
-
-pub returns : goal.returns
-returns c = grid_is_cut

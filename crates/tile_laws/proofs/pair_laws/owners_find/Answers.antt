@@ -1,5 +1,0 @@
-use Rattle.tile_laws.proofs.OwnerFacts.{owners_find}
-use Rattle.tile_laws.proofs.pair_laws.owners_find.Goals as goal
-
-pub returns : goal.returns
-returns c = owners_find

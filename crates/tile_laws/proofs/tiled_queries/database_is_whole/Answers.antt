@@ -1,5 +1,0 @@
-use Rattle.tile_laws.proofs.KeyOrder.{database_is_whole}
-use Rattle.tile_laws.proofs.tiled_queries.database_is_whole.Goals as goal
-
-pub returns : goal.returns
-returns c = database_is_whole

@@ -1,5 +1,0 @@
-use Rattle.tile_laws.proofs.TwoTables.{tiles_give_rows}
-use Rattle.tile_laws.proofs.tiled_queries.tiles_give_rows.Goals as goal
-
-pub returns : goal.returns
-returns c = tiles_give_rows
