@@ -21,12 +21,12 @@ use Rattle.edge_boxes.specs.EdgeCrossings.{AreCrossings}
 use Rattle.edge_boxes.specs.declared.point_crossings.Crossings.{Crossings}
 use Rattle.validity.specs.ValidGeometries.{HasLength}
 use Rattle.matrix_laws.specs.Cells.{Covers}
-use Rattle.cover_laws.specs.Gaps.{IsGap, IsClear, IsShared, mostly}
-use Rattle.cover_laws.specs.Covering.{IsOffEdges, ShowsOff, ShowsEnds}
-use Rattle.cover_laws.proofs.Shared.{start_on, end_on}
-use Rattle.cover_laws.proofs.Located.{off_is_shown}
-use Rattle.cover_laws.proofs.GapTheorems.{gap_has_mediant}
-use Rattle.cover_laws.proofs.CoveringTheorems.{gap_is_there}
+use Rattle.matrix_laws.specs.Gaps.{IsGap, IsClear, IsShared, mostly}
+use Rattle.matrix_laws.specs.Covering.{IsOffEdges, ShowsOff, ShowsEnds}
+use Rattle.matrix_laws.proofs.Shared.{start_on, end_on}
+use Rattle.matrix_laws.proofs.Located.{off_is_shown}
+use Rattle.matrix_laws.proofs.GapTheorems.{gap_has_mediant}
+use Rattle.matrix_laws.proofs.CoveringTheorems.{gap_is_there}
 use Rattle.de9im.specs.Raising.{IsRaisedTo, Grows, off_edges}
 use Rattle.de9im.proofs.Growth.{grows_raised}
 use Rattle.de9im.proofs.OffEdges.{shown_off}

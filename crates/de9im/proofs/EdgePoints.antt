@@ -9,12 +9,12 @@ use Rattle.geometry_model.specs.Locations.{is_at, is_odd_end, locate}
 use Rattle.geometry_model.specs.Dimensions.{Matrix}
 use Rattle.geometry_model.specs.declared.shapes.Kind.TheVariants as kinds
 use Rattle.geometry_model.specs.declared.point_sets.Dimension.TheVariants.{Zero}
-use Rattle.cover_laws.specs.Gaps.{EdgeGaps, AreGaps, of_own_edges}
-use Rattle.cover_laws.proofs.GapTheorems.{mostly_is_located, own_edges_are_mostly}
+use Rattle.matrix_laws.specs.Gaps.{EdgeGaps, AreGaps, of_own_edges}
+use Rattle.matrix_laws.proofs.GapTheorems.{mostly_is_located, own_edges_are_mostly}
 use Rattle.matrix_laws.specs.Cells.{Shows, IsPartOf, Covers}
 use Rattle.matrix_laws.proofs.Growing.{still_shown, shows_at}
 use Rattle.matrix_laws.proofs.CellTheorems.{growing_keeps}
-use Rattle.cover_laws.specs.Covering.{ShowsEnds}
+use Rattle.matrix_laws.specs.Covering.{ShowsEnds}
 use Rattle.de9im.specs.Raising.{IsOnBoth}
 use Rattle.de9im.proofs.Growth.{covered_kept}
 

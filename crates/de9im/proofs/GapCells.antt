@@ -13,15 +13,15 @@ use Rattle.geometry_model.specs.declared.point_sets.Location.{Location}
 use Rattle.geometry_model.specs.declared.point_sets.Location.TheVariants.{Interior, Exterior}
 use Rattle.geometry_model.specs.declared.point_sets.Dimension.TheVariants.{One, Two}
 use Rattle.validity.specs.ValidGeometries.{HasLength}
-use Rattle.cover_laws.specs.Gaps.{IsBetween, IsGap, mostly, of_own_edges}
-use Rattle.cover_laws.proofs.GapTheorems.{gap_has_mediant}
+use Rattle.matrix_laws.specs.Gaps.{IsBetween, IsGap, mostly, of_own_edges}
+use Rattle.matrix_laws.proofs.GapTheorems.{gap_has_mediant}
 use Rattle.matrix_laws.specs.Cells.{Shows, raised, IsPartOf}
 use Rattle.matrix_laws.proofs.Growing.{still_shown}
-use Rattle.cover_laws.specs.Covering.{IsOffEdges, ShowsOff, ShowsOn, ShowsAt, ShowsGap}
+use Rattle.matrix_laws.specs.Covering.{IsOffEdges, ShowsOff, ShowsOn, ShowsAt, ShowsGap}
 use Rattle.side_labels.specs.declared.piece_sides.Sides.{Sides}
 use Rattle.de9im.specs.Raising.{IsRaisedTo, Grows, ShowsAllAlong, ShowsOffAt, ShowsGapOff, with_sides}
 use Rattle.de9im.proofs.Growth.{part_of_itself, raised_one, raised_two, raised_so, shown_kept, grows_raised}
-use Rattle.cover_laws.proofs.CoveringTheorems.{gap_is_there}
+use Rattle.matrix_laws.proofs.CoveringTheorems.{gap_is_there}
 
 both_kept : (P Q : Matrix → Type 0) → ((m n : Matrix) → IsPartOf m n → P m → P n) → ((m n : Matrix) → IsPartOf m n → Q m → Q n) → (m n : Matrix) → IsPartOf m n → P m × Q m → P n × Q n
 both_kept P Q p q m n part h = (p m n part h.0, q m n part h.1)

@@ -14,8 +14,8 @@ use Rattle.geometry_laws.proofs.RingParity.{each_from_all}
 use Rattle.geometry_laws.proofs.CoverTheorems.{all_from_each}
 use Rattle.edge_boxes.specs.EdgeCrossings.{AreCrossings, on_any, is_odd_above}
 use Rattle.edge_boxes.specs.declared.point_crossings.Crossings.{Crossings}
-use Rattle.cover_laws.specs.Gaps.{mostly}
-use Rattle.cover_laws.specs.Covering.{IsOffEdges}
+use Rattle.matrix_laws.specs.Gaps.{mostly}
+use Rattle.matrix_laws.specs.Covering.{IsOffEdges}
 use Rattle.de9im.specs.Raising.{off_edges}
 
 on_not_off : (g : Geometry) (x : Point) → on_any (edges g) x ≡ true → IsOffEdges g x → ⊥

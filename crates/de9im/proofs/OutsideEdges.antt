@@ -25,10 +25,10 @@ use Rattle.edge_boxes.specs.RunLaws.{box_of}
 use Rattle.matrix_laws.specs.Cells.{Covers, Shows}
 use Rattle.matrix_laws.proofs.Closing.{valid_rings_are_closed}
 use Rattle.matrix_laws.proofs.Outside.{common_point_meets}
-use Rattle.cover_laws.specs.Gaps.{mostly, of_own_edges}
-use Rattle.cover_laws.specs.Covering.{IsOffEdges, ShowsOff, ShowsEnds}
-use Rattle.cover_laws.proofs.GapTheorems.{off_edges_is_no_boundary}
-use Rattle.cover_laws.proofs.Located.{on_or_off, off_is_shown}
+use Rattle.matrix_laws.specs.Gaps.{mostly, of_own_edges}
+use Rattle.matrix_laws.specs.Covering.{IsOffEdges, ShowsOff, ShowsEnds}
+use Rattle.matrix_laws.proofs.GapTheorems.{off_edges_is_no_boundary}
+use Rattle.matrix_laws.proofs.Located.{on_or_off, off_is_shown}
 use Rattle.edge_boxes.specs.NearEdges.{is_near}
 use Rattle.edge_boxes.proofs.BoxFacts.{run_then_rest}
 use Rattle.de9im.proofs.EdgePoints.{Applies, no_edges, own_point}

@@ -15,7 +15,7 @@ use Rattle.matrix_laws.proofs.Matrices.{labels_give_matrix}
 use Rattle.matrix_laws.specs.Cells.{at_most, Shows, IsPartOf, IsSound, Covers, CoversPosition}
 use Rattle.matrix_laws.proofs.Growing.{still_shown, cell_of}
 use Rattle.matrix_laws.proofs.CellTheorems.{covering_is_whole, covers_turned}
-use Rattle.cover_laws.specs.Covering.{ShowsEnds}
+use Rattle.matrix_laws.specs.Covering.{ShowsEnds}
 use Rattle.de9im.specs.Cells.{of_exteriors}
 use Rattle.de9im.specs.Raising.{Grows, ShowsOwnEnds}
 use Rattle.de9im.proofs.Growth.{covered_kept, part_through}

@@ -18,8 +18,8 @@ use Rattle.matrix_laws.proofs.Turned.{labelled_is_transposed}
 use Rattle.matrix_laws.specs.Cells.{Shows, IsPartOf, IsSound, Covers, CoversPosition}
 use Rattle.matrix_laws.proofs.Growing.{still_shown}
 use Rattle.matrix_laws.proofs.CellTheorems.{covering_is_whole, covers_turned}
-use Rattle.cover_laws.specs.Gaps.{of_own_edges}
-use Rattle.cover_laws.specs.Covering.{ShowsOff, ShowsEnds}
+use Rattle.matrix_laws.specs.Gaps.{of_own_edges}
+use Rattle.matrix_laws.specs.Covering.{ShowsOff, ShowsEnds}
 use Rattle.de9im.specs.Raising.{Grows, HasSides, of_area}
 use Rattle.de9im.proofs.Apart.{apart_is_there, apart_covers}
 use Rattle.de9im.proofs.Passes.{turned_shows}

@@ -11,13 +11,13 @@ use Rattle.geometry_laws.proofs.RingParity.{each_from_all}
 use Rattle.matrix_laws.proofs.Closing.{valid_rings_are_closed}
 use Rattle.matrix_laws.proofs.MatrixLists.{Some_of, some_from_any}
 use Rattle.matrix_laws.specs.Cells.{ShowsPoint, Covers}
-use Rattle.cover_laws.specs.Gaps.{EdgeGaps, AreGaps, IsGap, IsWithin, mostly}
-use Rattle.cover_laws.proofs.GapTheorems.{gap_end_is_alike}
-use Rattle.cover_laws.specs.Covering.{IsOffEdges, ShowsOff, ShowsEnds}
-use Rattle.cover_laws.specs.CoveringLaws.{IsFullOff}
-use Rattle.cover_laws.proofs.Located.{on_or_off, off_is_shown}
-use Rattle.cover_laws.proofs.FullCovering.{full_off_at}
-use Rattle.cover_laws.proofs.HeldCovering.{shown_by_covered}
+use Rattle.matrix_laws.specs.Gaps.{EdgeGaps, AreGaps, IsGap, IsWithin, mostly}
+use Rattle.matrix_laws.proofs.GapTheorems.{gap_end_is_alike}
+use Rattle.matrix_laws.specs.Covering.{IsOffEdges, ShowsOff, ShowsEnds}
+use Rattle.matrix_laws.specs.CoveringLaws.{IsFullOff}
+use Rattle.matrix_laws.proofs.Located.{on_or_off, off_is_shown}
+use Rattle.matrix_laws.proofs.FullCovering.{full_off_at}
+use Rattle.matrix_laws.proofs.HeldCovering.{shown_by_covered}
 use Rattle.de9im.specs.Raising.{ShowsGapOff}
 
 -- ---- a point off the second geometry's edges lies as the sample of the gap that holds it

@@ -14,10 +14,10 @@ use Rattle.geometry_model.specs.declared.point_sets.Location.TheVariants.{Interi
 use Rattle.geometry_model.specs.declared.point_sets.Dimension.TheVariants.{Zero, One, Two}
 use Rattle.edge_boxes.specs.NearEdges.{is_near}
 use Rattle.side_labels.specs.declared.piece_sides.Sides.{Sides}
-use Rattle.cover_laws.specs.Gaps.{IsBetween, mostly}
+use Rattle.matrix_laws.specs.Gaps.{IsBetween, mostly}
 use Rattle.matrix_laws.specs.Cells.{Shows, raised, IsPartOf, IsSound, CoversPosition}
 use Rattle.de9im.specs.Cells.{of_exteriors}
-use Rattle.cover_laws.specs.Covering.{IsOffEdges, ShowsOff, ShowsAt}
+use Rattle.matrix_laws.specs.Covering.{IsOffEdges, ShowsOff, ShowsAt}
 
 -- the matrix has grown just far enough to show this: every matrix that it was part of and that shows this, it is still part of
 pub record IsRaisedTo (Shown : Matrix → Type 0) (m n : Matrix) : Type 0 where

@@ -1,8 +1,8 @@
 //! Tests whether a matrix shows all that the edges of its first geometry can show, so that the search can stop.
 
 ghost use Rattle.std.specs.Prelude.{◌≡◌, ◌↔◌, true, IsTrue};
-ghost use Rattle.cover_laws.specs.CoveringLaws.{IsFullOff, IsFullOn, IsFullAlong};
-ghost use Rattle.cover_laws.specs.Gaps.{of_own_edges};
+ghost use Rattle.matrix_laws.specs.CoveringLaws.{IsFullOff, IsFullOn, IsFullAlong};
+ghost use Rattle.matrix_laws.specs.Gaps.{of_own_edges};
 ghost use Rattle.geometry_model.specs.declared.point_sets.Location.TheVariants.{Exterior};
 ghost use Rattle.de9im.specs.Raising.{ShowsAllOff};
 

@@ -4,8 +4,8 @@ ghost use Rattle.std.specs.Prelude.{◌≡◌, true, All, Contains, pos, ◌≤�
 ghost use Rattle.geometry_model.specs.Geometries.{edges};
 ghost use Rattle.geometry_model.specs.Pieces.{stretches};
 ghost use Rattle.edge_boxes.specs.EdgeCrossings.{AreCrossings};
-ghost use Rattle.cover_laws.specs.Gaps.{IsGap};
-ghost use Rattle.cover_laws.specs.Covering.{IsHeld, ShowsOff, ShowsAt, ShowsGap};
+ghost use Rattle.matrix_laws.specs.Gaps.{IsGap};
+ghost use Rattle.matrix_laws.specs.Covering.{IsHeld, ShowsOff, ShowsAt, ShowsGap};
 ghost use Rattle.validity.specs.ValidGeometries.{HasLength};
 ghost use Rattle.fraction.specs.Ranges.{meeting_limit};
 ghost use Rattle.de9im.specs.Raising.{Grows, IsRaisedTo, ShowsAllAlong, ShowsOffAt, ShowsGapOff, with_sides, off_edges};

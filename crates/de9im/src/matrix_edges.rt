@@ -8,8 +8,8 @@ ghost use Rattle.geometry_model.specs.Validity.{IsValid};
 ghost use Rattle.geometry_model.specs.declared.point_sets.Dimension.TheVariants.{Zero};
 ghost use Rattle.validity.specs.ValidGeometries.{HasLength};
 ghost use Rattle.matrix_laws.specs.Cells.{at_most, Shows, Covers};
-ghost use Rattle.cover_laws.specs.Gaps.{of_own_edges};
-ghost use Rattle.cover_laws.specs.Covering.{ShowsEnds};
+ghost use Rattle.matrix_laws.specs.Gaps.{of_own_edges};
+ghost use Rattle.matrix_laws.specs.Covering.{ShowsEnds};
 ghost use Rattle.noding.specs.Merging.{AreMerged};
 ghost use Rattle.de9im.specs.Raising.{Grows, IsOnBoth};
 

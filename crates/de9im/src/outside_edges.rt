@@ -6,7 +6,7 @@ ghost use Rattle.geometry_model.specs.Envelopes.{envelope};
 ghost use Rattle.geometry_model.specs.Validity.{IsValid};
 ghost use Rattle.validity.specs.ValidGeometries.{HasLength};
 ghost use Rattle.matrix_laws.specs.Cells.{Covers};
-ghost use Rattle.cover_laws.specs.Covering.{ShowsEnds};
+ghost use Rattle.matrix_laws.specs.Covering.{ShowsEnds};
 ghost use Rattle.de9im.specs.Raising.{Grows, IsUprightOutside};
 
 use crate::MatrixCells;

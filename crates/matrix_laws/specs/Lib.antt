@@ -6,3 +6,8 @@ pub mod MatrixLaws
 pub mod MeetingLaws
 pub mod Cells
 pub mod CellLaws
+pub mod Gaps
+pub mod GapLaws
+pub mod Covering
+pub mod CoveringLaws
+pub mod Witnessing

@@ -20,10 +20,10 @@ use Rattle.geometry_laws.proofs.Hulls.{OnHull, on_from_hull, hull_from_on}
 use Rattle.geometry_laws.proofs.LineOrder.{on_sum, area_on_line}
 use Rattle.geometry_laws.proofs.Cuts.{OneLine, one_line, not_less_self, turn_less, not_after_both, not_before_both}
 use Rattle.matrix_laws.proofs.MatrixLists.{Some_of, all_from_each, among_from_contains, any_from_some, contains_from_among, some_from_any}
-use Rattle.cover_laws.specs.Covering.{IsHeld}
+use Rattle.matrix_laws.specs.Covering.{IsHeld}
 use Rattle.noding.specs.Merging.{AreMerged, left_of}
-use Rattle.cover_laws.proofs.Between.{on_line, wide}
-use Rattle.cover_laws.proofs.Shared.{clash, start_on, end_on, span_forth, on_forth}
+use Rattle.matrix_laws.proofs.Between.{on_line, wide}
+use Rattle.matrix_laws.proofs.Shared.{clash, start_on, end_on, span_forth, on_forth}
 
 -- ---- lists
 held_by : (es : List Edge) (f : Edge) → Among f es → (x : Point) → on f x ≡ true → Any (λ g. on g x ≡ true) es

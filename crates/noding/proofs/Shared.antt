@@ -23,7 +23,7 @@ use Rattle.noding.specs.declared.answers.Meet.{Meet}
 use Rattle.noding.proofs.NamedCuts.{CutOf}
 use Rattle.noding.proofs.NodeCuts.{cut_is_point, cut_of_both, named_on_both}
 use Rattle.noding.proofs.BreakPoints.{Shares, all_of, any_left, any_right, earlier_or_last, point_kept}
-use Rattle.cover_laws.specs.Gaps.{SharesNoStretch}
+use Rattle.matrix_laws.specs.Gaps.{SharesNoStretch}
 use Rattle.noding.specs.Steps.{IsSharedPoint, ListsCommonCuts, AreSharedSoFar, IsAt, IsAtPlace, AreShared}
 use Rattle.noding.proofs.NearGaps.{IsNearAt, sharing, sharing_is_near}
 

@@ -33,7 +33,7 @@ use Rattle.noding.proofs.OneLine.{OnLine, start_on_line, end_on_line}
 use Rattle.noding.proofs.NodeCuts.{cut_is_point, end_is_on_edge, common_at_end, common_at_crossing}
 use Rattle.noding.proofs.NodeSteps.{sorted_from_pairs}
 use Rattle.noding.proofs.BreakPoints.{all_of, position_is_triple}
-use Rattle.cover_laws.specs.Gaps.{IsBetween, IsClear, IsShared, IsGap, IsWithin, AreGaps}
+use Rattle.matrix_laws.specs.Gaps.{IsBetween, IsClear, IsShared, IsGap, IsWithin, AreGaps}
 use Rattle.noding.specs.Steps.{AreShared, stops_of}
 
 -- ---- points in order

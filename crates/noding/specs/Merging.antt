@@ -1,7 +1,7 @@
 -- Edges that were made of others, so that each of their points is on some of those.
 use Rattle.std.specs.Prelude.{ℕ, List, All, ◌++◌, take, drop}
 use Rattle.geometry_model.specs.Geometries.{Edge}
-use Rattle.cover_laws.specs.Covering.{IsHeld}
+use Rattle.matrix_laws.specs.Covering.{IsHeld}
 
 -- each point of the second edges is on some of the first
 abbrev pub AreMerged : List Edge → List Edge → Type 0

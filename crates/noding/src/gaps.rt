@@ -4,7 +4,7 @@ ghost use Rattle.std.specs.Prelude.{◌≡◌, false, [], OnErr, OnOk};
 ghost use Rattle.std.specs.List.{list_any};
 ghost use Rattle.edge_boxes.specs.BoxLists.{BoxesOf};
 ghost use Rattle.edge_boxes.specs.OneLine.{meet_on_one_line};
-ghost use Rattle.cover_laws.specs.Gaps.{AreGaps, SharesNoStretch};
+ghost use Rattle.matrix_laws.specs.Gaps.{AreGaps, SharesNoStretch};
 
 use crate::sharing::{find_shared, put_in_order};
 use crate::stops::set_stops;
@@ -29,7 +29,7 @@ pub struct Gaps {
 }
 
 impl Model for Gaps {
-    ghost use Rattle.cover_laws.specs.Gaps.{EdgeGaps};
+    ghost use Rattle.matrix_laws.specs.Gaps.{EdgeGaps};
 
     ghost Value = { EdgeGaps };
 

@@ -4,7 +4,7 @@ ghost use Rattle.std.specs.Prelude.{◌≡◌, ◌↔◌, ◌∷◌, [], IsTrue,
 ghost use Rattle.std.specs.declared.cmp.Ordering.TheVariants.{Less};
 ghost use Rattle.geometry_model.specs.Points.{point_at, compare};
 ghost use Rattle.geometry_model.specs.Sides.{on_one_line};
-ghost use Rattle.cover_laws.specs.Covering.{IsHeld};
+ghost use Rattle.matrix_laws.specs.Covering.{IsHeld};
 
 use fraction::GridPoint;
 use orient::{Segment, side_number};

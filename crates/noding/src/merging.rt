@@ -4,7 +4,7 @@ ghost use Rattle.std.specs.Prelude.{◌≡◌, ◌↔◌, IsTrue, ◌+◌, ◌<�
 ghost use Rattle.geometry_model.specs.Geometries.{Edge};
 ghost use Rattle.geometry_model.specs.Points.{point_at};
 ghost use Rattle.geometry_model.specs.Sides.{on};
-ghost use Rattle.cover_laws.specs.Covering.{IsHeld};
+ghost use Rattle.matrix_laws.specs.Covering.{IsHeld};
 ghost use Rattle.noding.specs.Merging.{AreMerged, KeepsHeld, left_of};
 
 use crate::joining::{ascending, joined, line_order};

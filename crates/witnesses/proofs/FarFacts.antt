@@ -16,7 +16,7 @@ use Rattle.geometry_laws.proofs.Scaling.{same_x}
 use Rattle.geometry_laws.proofs.Lines.{off_beyond}
 use Rattle.geometry_laws.proofs.Locating.{locate_off, by_contraries}
 use Rattle.geometry_laws.proofs.CoverTheorems.{all_from_each}
-use Rattle.witness_laws.specs.Witnessing.{IsFacePoint}
+use Rattle.matrix_laws.specs.Witnessing.{IsFacePoint}
 use Rattle.witnesses.specs.FarPoints.{Reaches}
 
 -- the point of the x axis one step to the right of x

@@ -12,7 +12,7 @@ use Rattle.geometry_model.specs.declared.point_sets.Dimension.{Dimension}
 use Rattle.geometry_model.specs.declared.point_sets.Dimension.TheVariants.{Empty, Zero, One, Two}
 use Rattle.geometry_laws.specs.PieceLaws.{HasClosedRings, IsPieceOf}
 use Rattle.noding.specs.Nodings.{HasNodeTriples}
-use Rattle.witness_laws.specs.Witnessing.{HoldsStretch, IsFacePoint}
+use Rattle.matrix_laws.specs.Witnessing.{HoldsStretch, IsFacePoint}
 use Rattle.witnesses.specs.Heights.{IsAhead, IsPast, ahead, ClearsEdge, ClearsPosition}
 use Rattle.witnesses.specs.declared.heights.Side.{Side}
 use Rattle.witnesses.specs.declared.heights.Side.TheVariants.{Upper, Lower}

@@ -3,7 +3,7 @@
 ghost use Rattle.std.specs.Prelude.{◌≡◌, All, ◌≤ℤ◌, pos};
 ghost use Rattle.geometry_model.specs.declared.point_sets.Location.TheVariants.{Exterior};
 ghost use Rattle.geometry_model.specs.WellKnownText.{coordinate_limit};
-ghost use Rattle.witness_laws.specs.Witnessing.{IsFacePoint};
+ghost use Rattle.matrix_laws.specs.Witnessing.{IsFacePoint};
 ghost use Rattle.witnesses.specs.FarPoints.{Reaches};
 
 use crate::face_points::FacePoint;

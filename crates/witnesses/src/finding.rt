@@ -11,7 +11,7 @@ ghost use Rattle.geometry_model.specs.declared.point_sets.Location.TheVariants.{
 ghost use Rattle.geometry_model.specs.declared.point_sets.Dimension.TheVariants.{Two};
 ghost use Rattle.geometry_laws.specs.PieceLaws.{IsPieceOf};
 ghost use Rattle.noding.specs.Nodings.{piece_of, HasNodeTriples, Noding};
-ghost use Rattle.witness_laws.specs.Witnessing.{IsFacePoint};
+ghost use Rattle.matrix_laws.specs.Witnessing.{IsFacePoint};
 ghost use Rattle.witnesses.specs.Shown.{AreLabelled, HasPairOn, IsBeside, IsWitnessOf, ShowsAll, shown_matrix, witness_at};
 
 use crate::face_points::FacePoint;

@@ -1,6 +1,6 @@
 use Rattle.std.proofs.Common.{sym, ap, ◌∙◌}
 use Rattle.geometry_model.specs.declared.point_sets.Dimension.TheVariants.{One}
-use Rattle.cover_laws.specs.Gaps.{of_own_edges}
+use Rattle.matrix_laws.specs.Gaps.{of_own_edges}
 use Rattle.matrix_laws.proofs.Growing.{shows_at}
 use Rattle.de9im.proofs.fullness.is_full_along.Goals as goal
 

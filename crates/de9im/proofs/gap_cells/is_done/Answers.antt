@@ -1,4 +1,4 @@
-use Rattle.cover_laws.proofs.HeldCovering.{held_shows, full_shows}
+use Rattle.matrix_laws.proofs.HeldCovering.{held_shows, full_shows}
 use Rattle.de9im.proofs.gap_cells.is_done.Goals as goal
 
 pub returns-then-is_held : goal.returns-then-is_held

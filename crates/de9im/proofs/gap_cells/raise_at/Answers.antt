@@ -3,7 +3,7 @@ use Rattle.std.proofs.lemmas.Bool.{false≢true}
 use Rattle.geometry_model.specs.Labels.{below, above}
 use Rattle.geometry_model.specs.declared.point_sets.Dimension.TheVariants.{Two}
 use Rattle.matrix_laws.specs.Cells.{raised}
-use Rattle.cover_laws.specs.Gaps.{of_own_edges}
+use Rattle.matrix_laws.specs.Gaps.{of_own_edges}
 use Rattle.de9im.proofs.OffEdges.{shown_on, shown_off}
 use Rattle.de9im.proofs.GapCells.{sides_are, on_upright, on_slanted, at_off, at_on}
 use Rattle.de9im.proofs.gap_cells.raise_at.Goals as goal

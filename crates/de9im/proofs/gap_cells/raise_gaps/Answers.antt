@@ -2,7 +2,7 @@ use Rattle.std.proofs.Common.{◌≡◌, ◌-◌, ◌+◌, sym, ap, take, arith}
 use Rattle.std.proofs.lemmas.List.{take_all}
 use Rattle.std.proofs.lemmas.List.Elements.{All-same}
 use Rattle.geometry_model.specs.Pieces.{stretches}
-use Rattle.cover_laws.specs.Covering.{ShowsGap}
+use Rattle.matrix_laws.specs.Covering.{ShowsGap}
 use Rattle.de9im.proofs.Growth.{grows_through}
 use Rattle.de9im.proofs.GapCells.{gap_at, gap_grows, gaps_more, gaps_full}
 use Rattle.de9im.proofs.gap_cells.raise_gaps.Goals as goal

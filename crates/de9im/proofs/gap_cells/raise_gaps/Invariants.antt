@@ -1,7 +1,7 @@
 use Rattle.std.proofs.Common.{take}
 use Rattle.std.specs.List.{All}
 use Rattle.geometry_model.specs.Pieces.{stretches}
-use Rattle.cover_laws.specs.Covering.{ShowsGap}
+use Rattle.matrix_laws.specs.Covering.{ShowsGap}
 use Rattle.de9im.specs.Raising.{Grows}
 use Rattle.de9im.proofs.gap_cells.raise_gaps.Given as goal
 

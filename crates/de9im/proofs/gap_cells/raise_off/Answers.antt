@@ -2,7 +2,7 @@ use Rattle.std.proofs.Common.{◌≡◌, ◌≢◌, ◌∙◌, ap, sym, rules}
 use Rattle.std.proofs.lemmas.Bool.{false≢true}
 use Rattle.geometry_model.specs.Geometries.{kind}
 use Rattle.geometry_model.specs.declared.shapes.Kind.TheVariants as kinds
-use Rattle.cover_laws.specs.Gaps.{of_own_edges}
+use Rattle.matrix_laws.specs.Gaps.{of_own_edges}
 use Rattle.de9im.proofs.GapCells.{off_upright, off_one_sided, off_two_sided}
 use Rattle.de9im.proofs.gap_cells.raise_off.Goals as goal
 

@@ -6,10 +6,10 @@ use Rattle.geometry_model.specs.Pieces.{stretches}
 use Rattle.geometry_model.specs.Locations.{locate}
 use Rattle.geometry_model.specs.declared.point_sets.Dimension.TheVariants.{Zero}
 use Rattle.edge_boxes.specs.BoxLists.{BoxesOf}
-use Rattle.cover_laws.specs.Gaps.{AreGaps, SharesNoStretch}
+use Rattle.matrix_laws.specs.Gaps.{AreGaps, SharesNoStretch}
 use Rattle.matrix_laws.specs.Cells.{Shows}
-use Rattle.cover_laws.specs.Covering.{ShowsGap}
-use Rattle.cover_laws.proofs.CoveringTheorems.{full_off_covers, gaps_cover, held_covers}
+use Rattle.matrix_laws.specs.Covering.{ShowsGap}
+use Rattle.matrix_laws.proofs.CoveringTheorems.{full_off_covers, gaps_cover, held_covers}
 use Rattle.de9im.specs.Raising.{IsOnBoth}
 use Rattle.de9im.proofs.Growth.{grows_through}
 use Rattle.de9im.proofs.EdgePoints.{ends_kept, points_kept, shared_on_both}

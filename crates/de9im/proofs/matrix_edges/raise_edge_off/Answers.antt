@@ -4,10 +4,10 @@ use Rattle.geometry_model.specs.Points.{Point}
 use Rattle.geometry_model.specs.Geometries.{Edge, edges}
 use Rattle.geometry_model.specs.Pieces.{stretches}
 use Rattle.edge_boxes.specs.BoxLists.{BoxesOf}
-use Rattle.cover_laws.specs.Gaps.{AreGaps}
+use Rattle.matrix_laws.specs.Gaps.{AreGaps}
 use Rattle.de9im.specs.Raising.{ShowsGapOff}
 use Rattle.de9im.proofs.EdgePoints.{ends_kept, covers_kept}
-use Rattle.cover_laws.proofs.CoveringTheorems.{held_by_covered}
+use Rattle.matrix_laws.proofs.CoveringTheorems.{held_by_covered}
 use Rattle.de9im.proofs.Rest.{gaps_off_cover}
 use Rattle.de9im.proofs.matrix_edges.raise_edge_off.Goals as goal
 

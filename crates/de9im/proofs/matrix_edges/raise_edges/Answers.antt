@@ -2,7 +2,7 @@ use Rattle.std.specs.List.{Contains}
 use Rattle.std.proofs.lemmas.List.Elements.{All-weaker, All-contains, All-contains_itself}
 use Rattle.geometry_model.specs.Geometries.{edges}
 use Rattle.matrix_laws.specs.Cells.{Covers}
-use Rattle.cover_laws.proofs.CoveringTheorems.{full_covers}
+use Rattle.matrix_laws.proofs.CoveringTheorems.{full_covers}
 use Rattle.validity.specs.ValidGeometries.{HasLength}
 use Rattle.de9im.proofs.Growth.{grows_through, all_taken}
 use Rattle.de9im.proofs.EdgePoints.{ends_kept, edges_more}

@@ -2,7 +2,7 @@ use Rattle.std.proofs.Common.{subst, sym, All}
 use Rattle.geometry_model.specs.Geometries.{edges}
 use Rattle.geometry_model.specs.Dimensions.{Matrix}
 use Rattle.matrix_laws.specs.Cells.{IsPartOf, Covers}
-use Rattle.cover_laws.specs.Covering.{ShowsEnds}
+use Rattle.matrix_laws.specs.Covering.{ShowsEnds}
 use Rattle.de9im.specs.Raising.{Grows}
 use Rattle.de9im.proofs.Passes.{ends_turned, ends_again, covered_turned, passes_give, is_matrix}
 use Rattle.de9im.proofs.matrix_finding.find_by_edges.Goals as goal

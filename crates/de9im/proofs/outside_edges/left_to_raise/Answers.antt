@@ -6,7 +6,7 @@ use Rattle.geometry_model.specs.declared.point_sets.Location.{Location}
 use Rattle.geometry_model.specs.declared.point_sets.Location.TheVariants.{Exterior}
 use Rattle.geometry_model.specs.declared.point_sets.Dimension.TheVariants.{One}
 use Rattle.matrix_laws.specs.Cells.{Shows}
-use Rattle.cover_laws.specs.Gaps.{of_own_edges}
+use Rattle.matrix_laws.specs.Gaps.{of_own_edges}
 use Rattle.edge_boxes.specs.BoxLists.{BoxesOf}
 use Rattle.edge_boxes.specs.NearEdges.{is_near}
 use Rattle.std.specs.List.{All}

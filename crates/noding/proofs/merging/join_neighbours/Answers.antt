@@ -1,7 +1,7 @@
 use Rattle.std.proofs.Common.{◌≤◌, ◌+◌, ◌∙◌, List, length, refl, sym, subst, arith, rules}
 use Rattle.geometry_model.specs.Geometries.{Edge}
 use Rattle.std.proofs.lemmas.List.Elements.{All-take}
-use Rattle.cover_laws.specs.Covering.{IsHeld}
+use Rattle.matrix_laws.specs.Covering.{IsHeld}
 use Rattle.noding.specs.Merging.{AreMerged, left_of}
 use Rattle.noding.proofs.Held.{all_left, all_through, none_left}
 use Rattle.noding.proofs.merging.join_neighbours.Goals as goal

@@ -1,5 +1,0 @@
-use Rattle.cover_laws.proofs.GapTheorems.{sides_along_own_edge}
-use Rattle.cover_laws.proofs.gap_sides.sides_along_own_edge.Goals as goal
-
-pub returns : goal.returns
-returns _ = sides_along_own_edge

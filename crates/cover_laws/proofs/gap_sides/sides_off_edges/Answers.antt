@@ -1,5 +1,0 @@
-use Rattle.cover_laws.proofs.GapTheorems.{sides_off_edges}
-use Rattle.cover_laws.proofs.gap_sides.sides_off_edges.Goals as goal
-
-pub returns : goal.returns
-returns _ = sides_off_edges

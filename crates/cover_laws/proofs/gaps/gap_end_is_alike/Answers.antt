@@ -1,5 +1,0 @@
-use Rattle.cover_laws.proofs.GapTheorems.{gap_end_is_alike}
-use Rattle.cover_laws.proofs.gaps.gap_end_is_alike.Goals as goal
-
-pub returns : goal.returns
-returns _ = gap_end_is_alike

@@ -1,5 +1,0 @@
-use Rattle.cover_laws.proofs.GapTheorems.{gap_has_mediant}
-use Rattle.cover_laws.proofs.gaps.gap_has_mediant.Goals as goal
-
-pub returns : goal.returns
-returns _ = gap_has_mediant

@@ -1,5 +1,0 @@
-use Rattle.cover_laws.proofs.GapTheorems.{shared_gap_holds_ends}
-use Rattle.cover_laws.proofs.gaps.shared_gap_holds_ends.Goals as goal
-
-pub returns : goal.returns
-returns _ = shared_gap_holds_ends

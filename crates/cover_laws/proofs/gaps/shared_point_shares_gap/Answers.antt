@@ -1,5 +1,0 @@
-use Rattle.cover_laws.proofs.GapTheorems.{shared_point_shares_gap}
-use Rattle.cover_laws.proofs.gaps.shared_point_shares_gap.Goals as goal
-
-pub returns : goal.returns
-returns _ = shared_point_shares_gap

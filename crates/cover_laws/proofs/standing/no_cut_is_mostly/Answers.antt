@@ -1,5 +1,0 @@
-use Rattle.cover_laws.proofs.GapTheorems.{no_cut_is_mostly}
-use Rattle.cover_laws.proofs.standing.no_cut_is_mostly.Goals as goal
-
-pub returns : goal.returns
-returns _ = no_cut_is_mostly

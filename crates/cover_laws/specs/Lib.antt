@@ -1,4 +1,0 @@
-pub mod Gaps
-pub mod GapLaws
-pub mod Covering
-pub mod CoveringLaws

@@ -1,0 +1,5 @@
+use Rattle.matrix_laws.proofs.GapTheorems.{sides_within_own_edge}
+use Rattle.matrix_laws.proofs.gap_sides.sides_within_own_edge.Goals as goal
+
+pub returns : goal.returns
+returns _ = sides_within_own_edge

@@ -1,0 +1,5 @@
+use Rattle.matrix_laws.proofs.GapTheorems.{gap_has_mediant}
+use Rattle.matrix_laws.proofs.gaps.gap_has_mediant.Goals as goal
+
+pub returns : goal.returns
+returns _ = gap_has_mediant

@@ -1,5 +1,0 @@
-use Rattle.witness_laws.proofs.Showing.{seen_above_is_face_point}
-use Rattle.witness_laws.proofs.seen_above_is_face_point.Goals as goal
-
-pub returns : goal.returns
-returns _ = seen_above_is_face_point
