@@ -10,7 +10,7 @@ use Rattle.geometry_model.specs.FirstFaults.{share_point}
 use Rattle.geometry_model.proofs.DimensionFacts.{is_false}
 use Rattle.geometry_laws.proofs.Scaling.{and_parts}
 use Rattle.geometry_laws.proofs.Hulls.{OnHull, on_parts, hull_from_on}
-use Rattle.validity_laws.proofs.SharedPoints.{side_sum, zero_scaled, shared_point_is_decided, weak}
+use Rattle.geometry_laws.proofs.SharedPoints.{side_sum, zero_scaled, shared_point_is_decided, weak}
 
 -- both numbers are above 0, or both are below it
 abbrev pub Beside : ℤ → ℤ → Type 0

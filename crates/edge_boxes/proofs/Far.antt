@@ -13,8 +13,8 @@ use Rattle.geometry_model.specs.Envelopes.{Envelope, overlap}
 use Rattle.integers.proofs.Ring.{solve, var, ◌⊖◌, ◌⊗◌}
 use Rattle.integers.proofs.Signs.{plus_minus, strict_plus_plus, at_most_or_less, less_from, at_most_yes, at_most_from}
 use Rattle.geometry_laws.proofs.Scaling.{and_parts, and_from}
-use Rattle.validity_laws.proofs.ElementFacts.{or_from}
-use Rattle.validity_laws.proofs.SharedPoints.{shared_point_is_decided}
+use Rattle.geometry_laws.proofs.ElementFacts.{or_from}
+use Rattle.geometry_laws.proofs.SharedPoints.{shared_point_is_decided}
 use Rattle.edge_boxes.specs.RunLaws.{box_of}
 use Rattle.edge_boxes.proofs.OverlappingBoxes.{sharing_boxes_overlap}
 use Rattle.edge_boxes.specs.EdgeRuns.{LiesIn}

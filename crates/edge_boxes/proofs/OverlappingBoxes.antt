@@ -7,8 +7,8 @@ use Rattle.integers.proofs.Ring.{var, ◌⊗◌, ◌⊖◌, solve}
 use Rattle.integers.proofs.Signs.{at_most_or_less, strict_plus_plus, at_most_yes, at_most_from}
 use Rattle.geometry_laws.proofs.Scaling.{and_parts, and_from}
 use Rattle.geometry_laws.proofs.Hulls.{on_parts}
-use Rattle.validity_laws.proofs.ElementFacts.{or_from}
-use Rattle.validity_laws.proofs.SharedPoints.{shared_point_is_decided}
+use Rattle.geometry_laws.proofs.ElementFacts.{or_from}
+use Rattle.geometry_laws.proofs.SharedPoints.{shared_point_is_decided}
 use Rattle.edge_boxes.specs.RunLaws.{SharingBoxesOverlap}
 
 -- one of two ends is at most the coordinate, and one at least

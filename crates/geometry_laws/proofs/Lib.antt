@@ -26,3 +26,14 @@ pub mod NearPoints
 pub mod First
 pub mod Avoid
 pub mod CoverTheorems
+pub mod SharedPoints
+pub mod OtherPoints
+pub mod ElementFacts
+pub mod FaultFacts
+pub mod FirstFaultFacts
+pub mod FirstPlace
+pub mod TestOrder
+pub mod ElementPlaces
+pub mod ValidParts
+pub mod VerticalLines
+pub mod Views

@@ -3,3 +3,7 @@ pub mod SideLaws
 pub mod RingLaws
 pub mod PieceLaws
 pub mod CoverLaws
+pub mod SharedPointLaws
+pub mod FaultLaws
+pub mod ValidPartLaws
+pub mod FaceLaws

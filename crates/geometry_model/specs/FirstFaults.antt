@@ -1,4 +1,4 @@
--- The first fault of a geometry, computed in whole numbers. `validity_laws` proves that each test agrees with its fact in `Validity`.
+-- The first fault of a geometry, computed in whole numbers. `geometry_laws` proves that each test agrees with its fact in `Validity`.
 use Rattle.std.specs.Prelude.{ℕ, ◌+◌, ◌-◌, ◌==◌, ℤ, pos, int_lt, Bool, false, not, ◌&&◌, ◌||◌, List, [], ◌∷◌, ◌++◌, length, map, flat_map, find, Option, Some, None, nat_lt, nat_le, slice_get, if◌then◌else◌}
 use Rattle.std.specs.List.{list_any, range_with_len, enumerate_from}
 use Rattle.geometry_model.specs.Points.{Position, point_at}

@@ -21,8 +21,8 @@ use Rattle.geometry_laws.proofs.Cuts.{Ends, piece_ends}
 use Rattle.geometry_laws.proofs.WithinPiece.{locate_within}
 use Rattle.geometry_laws.proofs.PieceTheorems.{first_belongs, second_belongs, off_has_triangle}
 use Rattle.matrix_laws.proofs.Pieces.{sample_inside}
-use Rattle.face_laws.specs.FaceLaws.{SeesUp, SeesDown}
-use Rattle.face_laws.proofs.Views.{face_point_above, face_point_below}
+use Rattle.geometry_laws.specs.FaceLaws.{SeesUp, SeesDown}
+use Rattle.geometry_laws.proofs.Views.{face_point_above, face_point_below}
 use Rattle.matrix_laws.specs.Witnessing.{IsStrictlyBetween, HoldsStretch, IsFacePoint}
 
 -- ---- a stretch has a segment: from its middle to the middle of the rest

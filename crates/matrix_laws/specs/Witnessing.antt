@@ -10,7 +10,7 @@ use Rattle.geometry_model.specs.Pieces.{Piece, sample}
 use Rattle.geometry_model.specs.declared.point_sets.Location.{Location}
 use Rattle.geometry_laws.specs.PieceLaws.{HasClosedRings, IsPieceOf, IsOff}
 use Rattle.geometry_laws.specs.CoverLaws.{IsSlantAt}
-use Rattle.face_laws.specs.FaceLaws.{SeesUp, SeesDown}
+use Rattle.geometry_laws.specs.FaceLaws.{SeesUp, SeesDown}
 
 -- x is strictly between p and q: a point on their straight line, after p and before q (06-103r4, 6.1.7: Line)
 pub record IsStrictlyBetween (p q x : Point) : Type 0 where

@@ -8,7 +8,7 @@ use Rattle.geometry_model.specs.FirstFaults.{share_point}
 use Rattle.geometry_laws.proofs.Each.{Among}
 use Rattle.geometry_laws.proofs.Scaling.{and_from}
 use Rattle.matrix_laws.proofs.MatrixLists.{contains_from_among}
-use Rattle.validity_laws.proofs.SharedPoints.{shared_point_is_decided}
+use Rattle.geometry_laws.proofs.SharedPoints.{shared_point_is_decided}
 use Rattle.edge_boxes.specs.RunLaws.{box_of}
 use Rattle.edge_boxes.specs.Sharings.{is_asked, places_asked, places_sharing}
 

@@ -10,7 +10,7 @@ use Rattle.geometry_model.specs.Sides.{on, on_one_line}
 use Rattle.geometry_model.specs.FirstFaults.{share_point}
 use Rattle.geometry_model.specs.Envelopes.{overlap}
 use Rattle.geometry_laws.proofs.Scaling.{and_parts, and_from}
-use Rattle.validity_laws.proofs.SharedPoints.{shared_point_is_decided}
+use Rattle.geometry_laws.proofs.SharedPoints.{shared_point_is_decided}
 use Rattle.fraction.specs.Ranges.{meeting_limit}
 use Rattle.matrix_laws.proofs.MatrixLists.{among_from_contains, any_from_some}
 use Rattle.edge_boxes.specs.RunLaws.{box_of}

@@ -8,7 +8,7 @@ use Rattle.std.proofs.lemmas.List.Sums.{AllPass-from_list_all}
 use Rattle.geometry_model.specs.FirstFaults.{validity_fault}
 use Rattle.geometry_model.specs.Geometries.{Geometry}
 use Rattle.geometry_model.specs.Validity.{IsValid}
-use Rattle.validity_laws.proofs.FirstFaultFacts.{none_is_found_where_valid}
+use Rattle.geometry_laws.proofs.FirstFaultFacts.{none_is_found_where_valid}
 use Rattle.table_laws.specs.MeaningLaws.{BoundHasValid}
 use Rattle.table_model.specs.BoundQueries.{type_if, operand_type, can_compare, fits_by_parts, cond_fits, argument_fits, geometry_fits}
 use Rattle.table_model.specs.GeometryColumns.{ColumnShape}

@@ -9,7 +9,7 @@ use Rattle.geometry_model.specs.Validity.{IsValid}
 use Rattle.geometry_model.specs.declared.geometry_faults.GeometryFault.{GeometryFault}
 use Rattle.geometry_model.specs.declared.text_faults.TextFault.{TextFault}
 use Rattle.geometry_model.specs.declared.validity_faults.ValidityFault.{ValidityFault}
-use Rattle.validity_laws.proofs.FirstFaultFacts.{none_is_found_where_valid}
+use Rattle.geometry_laws.proofs.FirstFaultFacts.{none_is_found_where_valid}
 use Rattle.table_model.specs.FeatureTables.{TakesValid}
 use Rattle.table_model.specs.GeometryColumns.{ColumnShape, of_shape, read_geometry, takes_type}
 use Rattle.table_model.specs.declared.faults.LoadFault.{LoadFault}

@@ -7,7 +7,7 @@ use Rattle.geometry_model.specs.FirstFaults.{has_fault, numbers}
 use Rattle.geometry_model.specs.declared.validity_faults.ValidityFault.TheVariants.{RingNotClosed}
 use Rattle.geometry_laws.specs.PieceLaws.{HasClosedRings}
 use Rattle.matrix_laws.proofs.Closing.{closed}
-use Rattle.validity_laws.proofs.FirstFaultFacts.{are_closed}
+use Rattle.geometry_laws.proofs.FirstFaultFacts.{are_closed}
 
 -- where no ring is found that isn't closed, all are closed
 pub none_open : (g : Geometry) → find (has_fault g) (map RingNotClosed (numbers 0 (length (rings g)))) ≡ None → HasClosedRings g

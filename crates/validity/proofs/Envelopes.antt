@@ -18,7 +18,7 @@ use Rattle.geometry_laws.specs.RingLaws.{IsClosed}
 use Rattle.geometry_laws.specs.PieceLaws.{HasClosedRings}
 use Rattle.geometry_laws.proofs.PointOrder.{same_reflexive}
 use Rattle.matrix_laws.proofs.Outside.{common_point_meets}
-use Rattle.validity_laws.proofs.SharedPoints.{shared_point_is_decided}
+use Rattle.geometry_laws.proofs.SharedPoints.{shared_point_is_decided}
 use Rattle.edge_boxes.specs.RingEdges.{edges_share}
 use Rattle.edge_boxes.proofs.Runs.{polygons_by_their_edges}
 use Rattle.validity.specs.Neighbours.{either_envelope, element_envelope}

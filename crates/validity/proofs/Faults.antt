@@ -7,9 +7,9 @@ use Rattle.geometry_model.specs.FirstFaults.{validity_fault}
 use Rattle.geometry_model.specs.declared.validity_faults.ValidityFault.{ValidityFault}
 use Rattle.validity.specs.CheckFaults.{fault_in, IsFaultOf, IsFirstFaultOf, IsAnyFaultOf}
 use Rattle.validity.specs.declared.check_fault.CheckFault.{CheckFault}
-use Rattle.validity_laws.specs.FaultLaws.{IsFirst}
-use Rattle.validity_laws.proofs.FirstPlace.{first_fault_is_first}
-use Rattle.validity_laws.proofs.FirstFaultFacts.{none_is_found_where_valid}
+use Rattle.geometry_laws.specs.FaultLaws.{IsFirst}
+use Rattle.geometry_laws.proofs.FirstPlace.{first_fault_is_first}
+use Rattle.geometry_laws.proofs.FirstFaultFacts.{none_is_found_where_valid}
 
 -- a geometry in which no fault is found is valid, since the test finds one wherever one applies
 pub no_fault_valid : (g : Geometry) → validity_fault g ≡ None → IsValid g

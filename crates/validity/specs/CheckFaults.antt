@@ -3,7 +3,7 @@ use Rattle.std.specs.Prelude.{◌≡◌, Option, Some, None, MatchOption}
 use Rattle.geometry_model.specs.Geometries.{Geometry}
 use Rattle.geometry_model.specs.Validity.{HasFault}
 use Rattle.geometry_model.specs.FirstFaults.{validity_fault}
-use Rattle.validity_laws.specs.FaultLaws.{IsFirst}
+use Rattle.geometry_laws.specs.FaultLaws.{IsFirst}
 use Rattle.geometry_model.specs.declared.validity_faults.ValidityFault.{ValidityFault}
 use Rattle.geometry_model.specs.declared.validity_faults.ValidityFault.TheVariants as validity
 use Rattle.validity.specs.declared.check_fault.CheckFault.{CheckFault}

@@ -8,7 +8,7 @@ use Rattle.integers.proofs.Ring.{solve, var, lit, ◌⊕◌, ◌⊖◌, ◌⊗�
 use Rattle.integers.proofs.Signs.{strict_plus_plus, cancel_positive, zero_times}
 use Rattle.geometry_laws.specs.CoverLaws.{IsLower}
 use Rattle.geometry_laws.proofs.RingParity.{position_is_point}
-use Rattle.face_laws.specs.FaceLaws.{IsOnTheWayUp, IsOnTheWayDown, SeesUp, SeesDown}
+use Rattle.geometry_laws.specs.FaceLaws.{IsOnTheWayUp, IsOnTheWayDown, SeesUp, SeesDown}
 use Rattle.witnesses.specs.declared.heights.Side.{Side}
 use Rattle.witnesses.specs.declared.heights.Side.TheVariants.{Upper, Lower}
 use Rattle.witnesses.specs.declared.heights.Height.{Height}

@@ -16,7 +16,7 @@ use Rattle.geometry_laws.proofs.LineSides.{side_turned}
 use Rattle.geometry_laws.proofs.LineOrder.{up}
 use Rattle.geometry_laws.proofs.Hulls.{OnHull, on_parts, hull_from_on, on_from_hull}
 use Rattle.geometry_laws.proofs.Triangles.{dot_coordinate}
-use Rattle.face_laws.proofs.VerticalLines.{side_along, straight_through}
+use Rattle.geometry_laws.proofs.VerticalLines.{side_along, straight_through}
 use Rattle.witnesses.specs.declared.heights.Side.{Side}
 use Rattle.witnesses.specs.declared.heights.Side.TheVariants.{Upper, Lower}
 use Rattle.witnesses.specs.declared.heights.Height.{Height}

@@ -13,7 +13,7 @@ use Rattle.wkt.specs.KeptGeometries.{IsKept}
 use Rattle.std.specs.Ordering.{int_eq}
 use Rattle.integers.proofs.Tests.{equal_yes}
 use Rattle.geometry_laws.proofs.Scaling.{and_from}
-use Rattle.validity_laws.proofs.OtherPoints.{same_from}
+use Rattle.geometry_laws.proofs.OtherPoints.{same_from}
 
 -- ---- no part is empty but an empty LINESTRING
 none_empty : (parts : List (List Position)) (i : ℕ) → All (λ part. 0 < length part) parts → slice_get parts i ≡ Some [] → ⊥

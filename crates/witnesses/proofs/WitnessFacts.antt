@@ -29,7 +29,7 @@ use Rattle.geometry_laws.proofs.PointOrder.{same_transitive}
 use Rattle.geometry_laws.proofs.Respect.{on_respects, odd_above_respects, odd_at_or_above_respects}
 use Rattle.matrix_laws.proofs.Labelled.{labelled_is_matrix}
 use Rattle.noding.specs.Nodings.{HasNodeTriples, piece_of}
-use Rattle.face_laws.specs.FaceLaws.{SeesUp, SeesDown}
+use Rattle.geometry_laws.specs.FaceLaws.{SeesUp, SeesDown}
 use Rattle.matrix_laws.specs.Witnessing.{HoldsStretch, IsFacePoint}
 use Rattle.matrix_laws.proofs.Showing.{piece_is_stretch, seen_above_is_face_point, seen_below_is_face_point}
 use Rattle.matrix_laws.proofs.SlantSamples.{sample_is_slant}

@@ -4,7 +4,7 @@ ghost use Rattle.std.specs.Prelude.{◌≡◌, ◌*◌, ◌≤◌, pos, ◌<ℤ�
 ghost use Rattle.geometry_model.specs.Points.{IsPoint};
 ghost use Rattle.geometry_model.specs.WellKnownText.{coordinate_limit};
 ghost use Rattle.geometry_laws.specs.CoverLaws.{IsSlantAt};
-ghost use Rattle.face_laws.specs.FaceLaws.{SeesUp, SeesDown};
+ghost use Rattle.geometry_laws.specs.FaceLaws.{SeesUp, SeesDown};
 ghost use Rattle.witnesses.specs.Heights.{IsHeight, Keeps, moved_point, rise_limit};
 ghost use Rattle.witnesses.specs.Shown.{Clears, IsHalfWay};
 

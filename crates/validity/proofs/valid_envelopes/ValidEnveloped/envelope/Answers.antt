@@ -1,7 +1,7 @@
 use Rattle.std.proofs.Common.{◌≡◌, ◌↔◌, ◌∙◌, ap, sym, subst, true, Option, None}
 use Rattle.geometry_model.specs.Geometries.{is_empty}
 use Rattle.geometry_model.specs.Envelopes.{Envelope, envelope}
-use Rattle.validity_laws.proofs.ValidParts.{envelope_is_absent_where_empty}
+use Rattle.geometry_laws.proofs.ValidParts.{envelope_is_absent_where_empty}
 use Rattle.validity.proofs.valid_envelopes.ValidEnveloped.envelope.Goals as goal
 
 pub returns-clause-absent : goal.returns-clause-absent

@@ -1,2 +1,0 @@
-pub mod VerticalLines
-pub mod Views

@@ -1,5 +1,0 @@
-use Rattle.face_laws.proofs.Views.{face_point_above}
-use Rattle.face_laws.proofs.face_point_above.Goals as goal
-
-pub returns : goal.returns
-returns _ = face_point_above

@@ -1,5 +1,0 @@
-use Rattle.face_laws.proofs.Views.{face_point_below}
-use Rattle.face_laws.proofs.face_point_below.Goals as goal
-
-pub returns : goal.returns
-returns _ = face_point_below

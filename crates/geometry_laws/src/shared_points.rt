@@ -1,0 +1,13 @@
+//! Laws of the points that two edges share.
+
+ghost use Rattle.geometry_laws.specs.SharedPointLaws.{SharedPointIsDecided, OtherPointIsDecided};
+
+/// Two edges share a point exactly where an end of one is on the other, or where they cross.
+pub fn shared_point_is_decided()
+    ensures { SharedPointIsDecided }
+{}
+
+/// Two edges with a common end share another point exactly where an end other than it is on both.
+pub fn other_point_is_decided()
+    ensures { OtherPointIsDecided }
+{}

@@ -1,9 +1,0 @@
-pub mod SharedPoints
-pub mod OtherPoints
-pub mod ElementFacts
-pub mod FaultFacts
-pub mod FirstFaultFacts
-pub mod FirstPlace
-pub mod TestOrder
-pub mod ElementPlaces
-pub mod ValidParts

@@ -1,5 +1,0 @@
-use Rattle.validity_laws.proofs.FirstPlace.{first_fault_is_first}
-use Rattle.validity_laws.proofs.faults.first_fault_is_first.Goals as goal
-
-pub returns : goal.returns
-returns c = first_fault_is_first

@@ -1,5 +1,0 @@
-use Rattle.validity_laws.proofs.TestOrder.{no_earlier_fault_applies}
-use Rattle.validity_laws.proofs.faults.no_earlier_fault_applies.Goals as goal
-
-pub returns : goal.returns
-returns c = no_earlier_fault_applies

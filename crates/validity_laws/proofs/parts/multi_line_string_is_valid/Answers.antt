@@ -1,5 +1,0 @@
-use Rattle.validity_laws.proofs.ValidParts.{multi_line_string_is_valid}
-use Rattle.validity_laws.proofs.parts.multi_line_string_is_valid.Goals as goal
-
-pub returns : goal.returns
-returns c = multi_line_string_is_valid

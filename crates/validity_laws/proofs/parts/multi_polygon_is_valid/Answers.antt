@@ -1,5 +1,0 @@
-use Rattle.validity_laws.proofs.ValidParts.{multi_polygon_is_valid}
-use Rattle.validity_laws.proofs.parts.multi_polygon_is_valid.Goals as goal
-
-pub returns : goal.returns
-returns c = multi_polygon_is_valid

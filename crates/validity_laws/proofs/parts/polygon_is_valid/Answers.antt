@@ -1,5 +1,0 @@
-use Rattle.validity_laws.proofs.ValidParts.{polygon_is_valid}
-use Rattle.validity_laws.proofs.parts.polygon_is_valid.Goals as goal
-
-pub returns : goal.returns
-returns c = polygon_is_valid

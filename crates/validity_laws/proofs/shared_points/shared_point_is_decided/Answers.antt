@@ -1,5 +1,0 @@
-use Rattle.validity_laws.proofs.SharedPoints.{shared_point_is_decided}
-use Rattle.validity_laws.proofs.shared_points.shared_point_is_decided.Goals as goal
-
-pub returns : goal.returns
-returns c = shared_point_is_decided

@@ -1,3 +1,0 @@
-pub mod SharedPointLaws
-pub mod FaultLaws
-pub mod ValidPartLaws
