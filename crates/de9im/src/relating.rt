@@ -2,7 +2,7 @@
 
 ghost use Rattle.std.specs.Prelude.{◌≡◌, IfOk, OnOk, OnErr};
 ghost use Rattle.geometry_model.specs.Dimensions.{IsMatrix};
-ghost use Rattle.integers.specs.Counts.{one_more};
+ghost use Rattle.basics.specs.Counts.{one_more};
 
 use crate::find_matrix;
 use crate::matrix::Matrix;

@@ -18,7 +18,7 @@ impl Model for Work {
 
 impl Work {
     ghost use Rattle.std.specs.Prelude.{◌≡◌};
-    ghost use Rattle.integers.specs.Counts.{one_more};
+    ghost use Rattle.basics.specs.Counts.{one_more};
 
     /// No matrix yet.
     pub fn new() -> Work

@@ -1,7 +1,7 @@
 -- Edges of which one lies beside the other: both its ends are on one side of that one's line.
 use Rattle.std.proofs.Common.{ℤ, pos, ◌+ℤ◌, ◌*ℤ◌, ◌≤ℤ◌, ◌<ℤ◌, int_lt, ◌≡◌, refl, ◌⊎◌, inl, inr, Bool, true, false, ◌&&◌, ◌||◌, sym, ◌∙◌, subst, arith}
 use borrow.Author.Differences.{ints}
-use Rattle.integers.proofs.Signs.{three_ways, plus_plus, plus_minus, strict_plus_plus, strict_plus_minus, less_from}
+use Rattle.basics.proofs.Signs.{three_ways, plus_plus, plus_minus, strict_plus_plus, strict_plus_minus, less_from}
 use Rattle.geometry_model.specs.Points.{point_at}
 use Rattle.geometry_model.specs.Geometries.{Edge}
 use Rattle.geometry_model.specs.Sides.{side}

@@ -7,9 +7,9 @@ use Rattle.geometry_model.specs.Points.{Position, Point, IsPoint}
 use Rattle.geometry_model.specs.Geometries.{Edge}
 use Rattle.geometry_model.specs.Sides.{side, on, between}
 use Rattle.geometry_model.specs.Crossings.{exactly_one, reaches, spans, side_rightward, strictly_above, at_or_above}
-use Rattle.integers.proofs.Ring.{solve, var, lit, ◌⊕◌, ◌⊖◌, ◌⊗◌}
-use Rattle.integers.proofs.Signs.{plus_plus, plus_minus, minus_plus, minus_minus, strict_plus_plus, strict_plus_minus, cancel_positive, cancel_negative, zero_product, less_yes, less_no, at_most_yes, at_most_no}
-use Rattle.integers.proofs.Tests.{equal_from}
+use Rattle.basics.proofs.Ring.{solve, var, lit, ◌⊕◌, ◌⊖◌, ◌⊗◌}
+use Rattle.basics.proofs.Signs.{plus_plus, plus_minus, minus_plus, minus_minus, strict_plus_plus, strict_plus_minus, cancel_positive, cancel_negative, zero_product, less_yes, less_no, at_most_yes, at_most_no}
+use Rattle.basics.proofs.Tests.{equal_from}
 use Rattle.geometry_laws.proofs.LineSides.{side'}
 use Rattle.geometry_laws.proofs.RingParity.{rightward_left, rightward_right}
 

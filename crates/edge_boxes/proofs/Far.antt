@@ -10,8 +10,8 @@ use Rattle.geometry_model.specs.Sides.{on}
 use Rattle.geometry_model.specs.Validity.{SharePoint}
 use Rattle.geometry_model.specs.FirstFaults.{share_point}
 use Rattle.geometry_model.specs.Envelopes.{Envelope, overlap}
-use Rattle.integers.proofs.Ring.{solve, var, ◌⊖◌, ◌⊗◌}
-use Rattle.integers.proofs.Signs.{plus_minus, strict_plus_plus, at_most_or_less, less_from, at_most_yes, at_most_from}
+use Rattle.basics.proofs.Ring.{solve, var, ◌⊖◌, ◌⊗◌}
+use Rattle.basics.proofs.Signs.{plus_minus, strict_plus_plus, at_most_or_less, less_from, at_most_yes, at_most_from}
 use Rattle.geometry_laws.proofs.Scaling.{and_parts, and_from}
 use Rattle.geometry_laws.proofs.ElementFacts.{or_from}
 use Rattle.geometry_laws.proofs.SharedPoints.{shared_point_is_decided}

@@ -7,8 +7,8 @@ use Rattle.std.proofs.Math.Nat.{div-add-mod, mod-lt}
 use mir.Syntax.{w32}
 use mir.Val.{SFits}
 use Rattle.geometry_model.specs.WellKnownText.{coordinate_limit}
-use Rattle.integers.proofs.Ring.{solve, var, lit, ◌⊖◌, ◌⊗◌}
-use Rattle.integers.proofs.Signs.{plus_plus, at_most_or_less, same_at_most, at_most_yes, at_most_no, at_most_from, not_at_most_from}
+use Rattle.basics.proofs.Ring.{solve, var, lit, ◌⊖◌, ◌⊗◌}
+use Rattle.basics.proofs.Signs.{plus_plus, at_most_or_less, same_at_most, at_most_yes, at_most_no, at_most_from, not_at_most_from}
 use Rattle.edge_boxes.specs.BoxCells.{IsFloor, IsCeiling}
 
 weak : (x : ℤ) → pos 0 <ℤ x → pos 0 ≤ℤ x

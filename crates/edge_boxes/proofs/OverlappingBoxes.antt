@@ -3,8 +3,8 @@ use Rattle.std.proofs.Common.{◌≡◌, ◌⊎◌, inl, inr, Bool, true, ◌&&�
 use Rattle.std.specs.Int.{int_min, int_max}
 use Rattle.std.proofs.lemmas.Int.{ints, clamps}
 use Rattle.geometry_model.specs.Sides.{between}
-use Rattle.integers.proofs.Ring.{var, ◌⊗◌, ◌⊖◌, solve}
-use Rattle.integers.proofs.Signs.{at_most_or_less, strict_plus_plus, at_most_yes, at_most_from}
+use Rattle.basics.proofs.Ring.{var, ◌⊗◌, ◌⊖◌, solve}
+use Rattle.basics.proofs.Signs.{at_most_or_less, strict_plus_plus, at_most_yes, at_most_from}
 use Rattle.geometry_laws.proofs.Scaling.{and_parts, and_from}
 use Rattle.geometry_laws.proofs.Hulls.{on_parts}
 use Rattle.geometry_laws.proofs.ElementFacts.{or_from}

@@ -9,7 +9,7 @@ use Rattle.geometry_model.specs.Geometries.{Edge}
 use Rattle.geometry_model.specs.Sides.{on}
 use Rattle.geometry_model.specs.Crossings.{exactly_one as xor, spans, strictly_above, at_or_above}
 use Rattle.geometry_laws.proofs.Each.{Each, each_map, none_passes, parity, parity_none, same_parity, odd_count}
-use Rattle.integers.proofs.Signs.{less_from, at_most_no}
+use Rattle.basics.proofs.Signs.{less_from, at_most_no}
 use Rattle.edge_boxes.specs.EdgeRuns.{LiesIn, Telescopes, SumsUp}
 use Rattle.edge_boxes.specs.BoxCells.{IsFloor, IsCeiling, IsCellOf}
 use Rattle.edge_boxes.specs.EdgeCrossings.{AreCrossings}

@@ -4,8 +4,8 @@ use borrow.Author.Differences.{ints}
 use Rattle.geometry_model.specs.Points.{Position, Point}
 use Rattle.geometry_model.specs.Geometries.{Edge}
 use Rattle.geometry_model.specs.Crossings.{exactly_one as xor}
-use Rattle.integers.proofs.Ring.{solve, var, lit, ◌⊕◌, ◌⊖◌, ◌⊗◌}
-use Rattle.integers.proofs.Signs.{plus_plus, strict_plus_plus, at_most_or_less, at_most_yes, at_most_from}
+use Rattle.basics.proofs.Ring.{solve, var, lit, ◌⊕◌, ◌⊖◌, ◌⊗◌}
+use Rattle.basics.proofs.Signs.{plus_plus, strict_plus_plus, at_most_or_less, at_most_yes, at_most_from}
 use Rattle.geometry_laws.proofs.Scaling.{and_parts}
 use Rattle.edge_boxes.specs.BoxCells.{IsFloor, IsCeiling, IsCellOf}
 use Rattle.edge_boxes.specs.Strips.{rise, IsInStrip, LiesInStrip, IsStripOf, lies_under, lies_over}

@@ -10,7 +10,7 @@ use mir.Syntax.{w32, w64}
 use mir.Val.{SFits}
 use Rattle.geometry_model.specs.Points.{Position}
 use Rattle.geometry_model.specs.Geometries.{Edge}
-use Rattle.integers.proofs.Signs.{at_most_or_less, minus_minus}
+use Rattle.basics.proofs.Signs.{at_most_or_less, minus_minus}
 use Rattle.edge_boxes.specs.Strips.{rise, IsInStrip, LiesInStrip, IsWider}
 use Rattle.edge_boxes.specs.declared.strips.Direction.{Direction}
 use Rattle.edge_boxes.specs.declared.strips.Strip.{Strip}

@@ -7,7 +7,7 @@ use Rattle.std.proofs.lemmas.Nat.Gcd.{le_of_dvd, dvd_trans, same_from_IsGcd, IsG
 use Rattle.std.specs.Int.{IsGcd}
 use Rattle.std.specs.Ordering.{int_eq}
 use native.Mathlib.Nat.{pos_of_dvd_of_pos, div-le_self, le_of_mul-le-mul_left, mul-le-mul_left}
-use Rattle.integers.proofs.Tests.{equal_from}
+use Rattle.basics.proofs.Tests.{equal_from}
 use Rattle.geometry_model.specs.Points.{Point, IsPoint, gcd, least_form}
 use Rattle.geometry_model.specs.WellKnownText.{coordinate_limit}
 use Rattle.geometry_model.proofs.LeastFormFacts.{IsGcd-gcd, least_is_same, least_is_point, least_is_least}

@@ -5,8 +5,8 @@ use Rattle.std.proofs.lemmas.Cmp.{alike_right}
 use Rattle.std.specs.Cmp.{Equal-is}
 use Rattle.std.specs.declared.cmp.Ordering.TheVariants.{Equal}
 use Rattle.std.specs.Ordering.{int_cmp, ordering_then}
-use Rattle.integers.proofs.Ring.{solve, var, ◌⊕◌, ◌⊖◌, ◌⊗◌}
-use Rattle.integers.proofs.Tests.{same_cmp}
+use Rattle.basics.proofs.Ring.{solve, var, ◌⊕◌, ◌⊖◌, ◌⊗◌}
+use Rattle.basics.proofs.Tests.{same_cmp}
 use Rattle.geometry_model.specs.Points.{Point, IsPoint, same_point, compare, mediant, least_form}
 use Rattle.geometry_model.proofs.LeastFormFacts.{least_is_same, least_is_point}
 use Rattle.fraction.specs.Between.{IsBetween}

@@ -7,8 +7,8 @@ use Rattle.std.specs.declared.cmp.Ordering.{Ordering}
 use Rattle.std.specs.declared.cmp.Ordering.TheVariants.{Less, Equal, Greater}
 use Rattle.std.specs.Ordering.{int_cmp, int_eq, ordering_then, is_eq, eq_by_cmp}
 use Rattle.std.specs.Int.{int_max}
-use Rattle.integers.proofs.Signs.{less_no}
-use Rattle.integers.proofs.Tests.{equal_yes, cmp_two_scaled}
+use Rattle.basics.proofs.Signs.{less_no}
+use Rattle.basics.proofs.Tests.{equal_yes, cmp_two_scaled}
 use Rattle.geometry_model.specs.Points.{Position, Point, IsPoint, point_at, same_point, compare_x, compare_y, compare}
 use Rattle.geometry_model.specs.WellKnownText.{same_position}
 use Rattle.geometry_model.proofs.LeastFormFacts.{least_is_unique}

@@ -6,9 +6,9 @@ use Rattle.std.specs.Cmp.{IsTotalOrder, IsEquivalence}
 use Rattle.std.specs.declared.cmp.Ordering.TheVariants.{Less, Equal}
 use Rattle.std.specs.Ordering.{int_cmp}
 use Rattle.std.specs.Int.{int_max}
-use Rattle.integers.proofs.Ring.{solve, var, ◌⊗◌}
-use Rattle.integers.proofs.Quotients.{trans_less}
-use Rattle.integers.proofs.Tests.{cmp_less, cmp_less_from, cmp_equal_from, cmp_two_scaled}
+use Rattle.basics.proofs.Ring.{solve, var, ◌⊗◌}
+use Rattle.basics.proofs.Quotients.{trans_less}
+use Rattle.basics.proofs.Tests.{cmp_less, cmp_less_from, cmp_equal_from, cmp_two_scaled}
 use Rattle.geometry_model.specs.WellKnownText.{same_position}
 use Rattle.fraction.specs.Fractions.{Fraction, IsFraction, x_of, y_of, compare_fractions}
 use Rattle.fraction.specs.Orders.{made_fraction, fraction_order, point_order}

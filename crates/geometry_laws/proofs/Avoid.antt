@@ -3,8 +3,8 @@ use Rattle.std.proofs.Common.{ℕ, ◌*◌, ℤ, pos, ◌+ℤ◌, ◌-ℤ◌, �
 use borrow.Author.Differences.{ints}
 use Rattle.geometry_model.specs.Points.{Point, IsPoint, same_point}
 use Rattle.geometry_model.specs.Dimensions.{area, weighted, weighted_three}
-use Rattle.integers.proofs.Ring.{solve, var, lit, ◌⊕◌, ◌⊖◌, ◌⊗◌}
-use Rattle.integers.proofs.Signs.{three_ways, is_or_not, zero_product, plus_plus}
+use Rattle.basics.proofs.Ring.{solve, var, lit, ◌⊕◌, ◌⊖◌, ◌⊗◌}
+use Rattle.basics.proofs.Signs.{three_ways, is_or_not, zero_product, plus_plus}
 use Rattle.geometry_laws.proofs.Plane.{right}
 use Rattle.geometry_laws.proofs.Each.{Each, each_map}
 use Rattle.geometry_laws.proofs.Eventually.{Eventually, both, weaker, always, grows, each_eventually}

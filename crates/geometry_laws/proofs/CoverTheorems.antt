@@ -8,8 +8,8 @@ use Rattle.geometry_model.specs.Crossings.{strictly_above, at_or_above}
 use Rattle.geometry_model.specs.Dimensions.{area, weighted, weighted_three, HasTriangle, common}
 use Rattle.geometry_model.specs.Locations.{is_at}
 use Rattle.geometry_model.specs.Labels.{above, below, edges_of_both}
-use Rattle.integers.proofs.Ring.{solve, var, lit, ◌⊖◌, ◌⊗◌}
-use Rattle.integers.proofs.Signs.{cancel_zero}
+use Rattle.basics.proofs.Ring.{solve, var, lit, ◌⊖◌, ◌⊗◌}
+use Rattle.basics.proofs.Signs.{cancel_zero}
 use Rattle.geometry_laws.specs.RingLaws.{IsClosed}
 use Rattle.geometry_laws.specs.PieceLaws.{HasClosedRings}
 use Rattle.geometry_laws.specs.CoverLaws.{Line, value, IsLine, FirstAbove, IsSlantAt, NearSides, AreAllNear}

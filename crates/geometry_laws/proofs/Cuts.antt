@@ -12,9 +12,9 @@ use Rattle.geometry_model.specs.Dimensions.{area, weighted}
 use Rattle.geometry_model.specs.CutPoints.{IsCut}
 use Rattle.geometry_model.specs.CutPoints.IsCut.{AtEnd, Listed, AtCrossing}
 use Rattle.geometry_model.specs.Pieces.{Piece, IsPiece}
-use Rattle.integers.proofs.Ring.{solve, var, lit, ◌⊕◌, ◌⊗◌}
-use Rattle.integers.proofs.Signs.{strict_plus_plus}
-use Rattle.integers.proofs.Tests.{equal_from}
+use Rattle.basics.proofs.Ring.{solve, var, lit, ◌⊕◌, ◌⊗◌}
+use Rattle.basics.proofs.Signs.{strict_plus_plus}
+use Rattle.basics.proofs.Tests.{equal_from}
 use Rattle.geometry_laws.specs.RingLaws.{Misses}
 use Rattle.geometry_laws.specs.PointLaws.{reversed}
 use Rattle.geometry_laws.specs.PieceLaws.{Inside}

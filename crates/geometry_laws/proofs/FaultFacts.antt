@@ -13,7 +13,7 @@ use Rattle.geometry_model.specs.Validity.{is_short, ShareOther, Clash, IsNotSimp
 use Rattle.geometry_model.specs.FirstFaults.{share_point, share_other, clash, any_pair, is_not_simple, rings_share, is_not_closed, elements_share, test_of, test_of_both, ring_of, has_fault}
 use Rattle.geometry_model.specs.declared.validity_faults.ValidityFault.{ValidityFault}
 use Rattle.geometry_model.specs.declared.validity_faults.ValidityFault.TheVariants.{TooFewPoints, RingNotClosed, RingNotSimple, RingsMeet, HoleOutside, HolesNested, ElementsMeet, ElementInside}
-use Rattle.integers.proofs.Tests.{equal_yes}
+use Rattle.basics.proofs.Tests.{equal_yes}
 use Rattle.geometry_laws.proofs.Scaling.{and_parts, and_from}
 use Rattle.geometry_laws.specs.FaultLaws.{FaultIsDecided, AreClosed}
 use Rattle.geometry_laws.proofs.SharedPoints.{shared_point_is_decided, start_on, end_on, one_above, at_both, no_difference}

@@ -6,10 +6,10 @@ use Rattle.geometry_model.specs.Points.{Position, Point, IsPoint}
 use Rattle.geometry_model.specs.Geometries.{Edge}
 use Rattle.geometry_model.specs.Sides.{side, on}
 use Rattle.geometry_model.specs.Crossings.{exactly_one as xor, reaches, spans, side_rightward, strictly_above, at_or_above}
-use Rattle.integers.proofs.Ring.{solve, var, lit, ◌⊕◌, ◌⊖◌, ◌⊗◌}
-use Rattle.integers.proofs.Signs.{strict_plus_plus, strict_plus_minus, plus_plus, minus_plus, zero_times, at_most_from, at_most_or_less, at_most_yes, at_most_no, less_yes, less_no, less_from}
-use Rattle.integers.proofs.Quotients.{trans_at_most, at_most_scaled}
-use Rattle.integers.proofs.Tests.{equal_yes}
+use Rattle.basics.proofs.Ring.{solve, var, lit, ◌⊕◌, ◌⊖◌, ◌⊗◌}
+use Rattle.basics.proofs.Signs.{strict_plus_plus, strict_plus_minus, plus_plus, minus_plus, zero_times, at_most_from, at_most_or_less, at_most_yes, at_most_no, less_yes, less_no, less_from}
+use Rattle.basics.proofs.Quotients.{trans_at_most, at_most_scaled}
+use Rattle.basics.proofs.Tests.{equal_yes}
 use Rattle.geometry_laws.proofs.LineSides.{side', side_turned}
 use Rattle.geometry_laws.proofs.Each.{Each, Among}
 use Rattle.geometry_laws.proofs.Scaling.{and_parts, and_from}

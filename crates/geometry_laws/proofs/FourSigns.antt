@@ -2,7 +2,7 @@
 -- up, uq, pv, qv, uv and pq are distances to the right.
 use Rattle.std.proofs.Common.{ℤ, pos, ◌+ℤ◌, ◌-ℤ◌, ◌*ℤ◌, ◌≤ℤ◌, ◌<ℤ◌, ◌≡◌, arith}
 use borrow.Author.Differences.{ints}
-use Rattle.integers.proofs.Signs.{plus_plus, plus_minus, minus_plus, minus_minus, strict_plus_plus, strict_plus_minus, strict_minus_plus, strict_minus_minus, cancel_nonnegative, cancel_positive, cancel_nonpositive, cancel_negative}
+use Rattle.basics.proofs.Signs.{plus_plus, plus_minus, minus_plus, minus_minus, strict_plus_plus, strict_plus_minus, strict_minus_plus, strict_minus_minus, cancel_nonnegative, cancel_positive, cancel_nonpositive, cancel_negative}
 
 pub record Areas (a b c d up uq pv qv uv pq : ℤ) : Type 0 where
   pub by_v : qv *ℤ a ≡ pv *ℤ b +ℤ uv *ℤ d

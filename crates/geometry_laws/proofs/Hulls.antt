@@ -5,9 +5,9 @@ use Rattle.std.specs.Ordering.{int_eq}
 use Rattle.geometry_model.specs.Points.{Position, Point, IsPoint}
 use Rattle.geometry_model.specs.Geometries.{Edge}
 use Rattle.geometry_model.specs.Sides.{side, on, between}
-use Rattle.integers.proofs.Ring.{solve, var, lit, ◌⊕◌, ◌⊖◌, ◌⊗◌}
-use Rattle.integers.proofs.Signs.{plus_plus, minus_minus, plus_minus, cancel_nonnegative, cancel_nonpositive, cancel_zero, at_most_or_less, at_most_yes, is_or_not}
-use Rattle.integers.proofs.Tests.{equal_from, equal_yes}
+use Rattle.basics.proofs.Ring.{solve, var, lit, ◌⊕◌, ◌⊖◌, ◌⊗◌}
+use Rattle.basics.proofs.Signs.{plus_plus, minus_minus, plus_minus, cancel_nonnegative, cancel_nonpositive, cancel_zero, at_most_or_less, at_most_yes, is_or_not}
+use Rattle.basics.proofs.Tests.{equal_from, equal_yes}
 use Rattle.geometry_laws.proofs.Scaling.{and_parts, and_from}
 use Rattle.geometry_laws.proofs.LineSides.{square, weight, square', weight', weights_cancel, x_of, y_of, drop_zero, square_positive}
 

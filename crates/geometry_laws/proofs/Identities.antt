@@ -1,7 +1,7 @@
 -- Identities of areas and of distances to the right, each solved by computation.
 use Rattle.std.proofs.Common.{ℤ, pos, ◌+ℤ◌, ◌-ℤ◌, ◌*ℤ◌, ◌≡◌, List, [], ◌∷◌}
 use Rattle.geometry_model.specs.Points.{Point}
-use Rattle.integers.proofs.Ring.{Expr, var, lit, ◌⊕◌, ◌⊖◌, ◌⊗◌, solve}
+use Rattle.basics.proofs.Ring.{Expr, var, lit, ◌⊕◌, ◌⊖◌, ◌⊗◌, solve}
 use Rattle.geometry_model.specs.Dimensions.{area}
 use Rattle.geometry_laws.proofs.Plane.{right}
 

@@ -2,7 +2,7 @@
 use Rattle.std.proofs.Common.{ℤ, pos, ◌+ℤ◌, ◌-ℤ◌, ◌*ℤ◌, ◌≤ℤ◌, ◌<ℤ◌, int_le, ◌≡◌, true, false, arith}
 use borrow.Author.Differences.{ints}
 use Rattle.geometry_model.specs.Points.{Point, IsPoint}
-use Rattle.integers.proofs.Signs.{plus_plus, strict_plus_plus, cancel_nonnegative, cancel_positive}
+use Rattle.basics.proofs.Signs.{plus_plus, strict_plus_plus, cancel_nonnegative, cancel_positive}
 use Rattle.geometry_laws.proofs.Plane.{right, reaches}
 use Rattle.geometry_laws.proofs.Identities.{way, right_turned}
 

@@ -6,8 +6,8 @@ use Rattle.geometry_model.specs.Points.{Position, Point, IsPoint, compare}
 use Rattle.geometry_model.specs.Geometries.{Edge}
 use Rattle.geometry_model.specs.Sides.{side}
 use Rattle.geometry_model.specs.Dimensions.{area, weighted}
-use Rattle.integers.proofs.Ring.{Expr, solve, var, lit, ◌⊕◌, ◌⊖◌, ◌⊗◌}
-use Rattle.integers.proofs.Signs.{strict_plus_plus, plus_plus, zero_product, is_or_not}
+use Rattle.basics.proofs.Ring.{Expr, solve, var, lit, ◌⊕◌, ◌⊖◌, ◌⊗◌}
+use Rattle.basics.proofs.Signs.{strict_plus_plus, plus_plus, zero_product, is_or_not}
 use Rattle.geometry_laws.proofs.Plane.{right}
 use Rattle.geometry_laws.proofs.Identities.{right', area', U, V, P, values}
 use Rattle.geometry_laws.proofs.LeftToRight.{right_trans_first, right_trans_last}

@@ -3,8 +3,8 @@ use Rattle.std.proofs.Common.{ℤ, pos, ◌+ℤ◌, ◌-ℤ◌, ◌*ℤ◌, ◌�
 use borrow.Author.Differences.{ints}
 use Rattle.geometry_model.specs.Points.{Position, Point}
 use Rattle.geometry_model.specs.Sides.{side}
-use Rattle.integers.proofs.Ring.{Expr, solve, var, lit, ◌⊕◌, ◌⊖◌, ◌⊗◌}
-use Rattle.integers.proofs.Signs.{three_ways, is_or_not, cancel_zero, strict_plus_plus, strict_minus_minus, plus_plus, minus_minus, at_most_or_less}
+use Rattle.basics.proofs.Ring.{Expr, solve, var, lit, ◌⊕◌, ◌⊖◌, ◌⊗◌}
+use Rattle.basics.proofs.Signs.{three_ways, is_or_not, cancel_zero, strict_plus_plus, strict_minus_minus, plus_plus, minus_minus, at_most_or_less}
 use Rattle.geometry_laws.specs.SideLaws.{IsOnLine}
 
 -- a at 0 and 1, b at 2 and 3, p at 4, 5 and 6

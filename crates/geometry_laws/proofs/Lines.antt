@@ -6,9 +6,9 @@ use Rattle.geometry_model.specs.Points.{Position, Point, IsPoint, point_at}
 use Rattle.geometry_model.specs.Geometries.{Edge}
 use Rattle.geometry_model.specs.Sides.{side, on, between}
 use Rattle.geometry_model.specs.Dimensions.{weighted, weighted_three}
-use Rattle.integers.proofs.Ring.{solve, var, lit, ◌⊕◌, ◌⊖◌, ◌⊗◌}
-use Rattle.integers.proofs.Signs.{plus_plus, plus_minus, strict_plus_plus, at_most_or_less, three_ways}
-use Rattle.integers.proofs.Tests.{not_equal_from}
+use Rattle.basics.proofs.Ring.{solve, var, lit, ◌⊕◌, ◌⊖◌, ◌⊗◌}
+use Rattle.basics.proofs.Signs.{plus_plus, plus_minus, strict_plus_plus, at_most_or_less, three_ways}
+use Rattle.basics.proofs.Tests.{not_equal_from}
 use Rattle.geometry_laws.specs.CoverLaws.{Line, value}
 use Rattle.geometry_laws.proofs.LineSides.{side', side_turned}
 use Rattle.geometry_laws.proofs.Hulls.{OnHull, hull_from_on}

@@ -8,7 +8,7 @@ use Rattle.geometry_model.specs.Crossings.{exactly_one as xor, odd_above}
 use Rattle.geometry_model.specs.Locations.{is_at, last_after, ends, in_points, in_lines, in_rings, locate}
 use Rattle.geometry_model.specs.Labels.{above}
 use Rattle.geometry_model.specs.declared.point_sets.Location.TheVariants.{Interior, Boundary, Exterior}
-use Rattle.integers.proofs.Ring.{solve, var, lit, ◌⊕◌, ◌⊗◌}
+use Rattle.basics.proofs.Ring.{solve, var, lit, ◌⊕◌, ◌⊗◌}
 use Rattle.geometry_laws.proofs.Each.{Each, each_map, none_passes, parity, odd_count, parity_append, each_left, each_right}
 use Rattle.geometry_laws.proofs.Xor.{xor_self, xor_false}
 use Rattle.geometry_laws.proofs.Scaling.{same_x, same_y}

@@ -7,8 +7,8 @@ use Rattle.geometry_model.specs.Sides.{on}
 use Rattle.geometry_model.specs.Crossings.{spans, side_rightward, strictly_above, at_or_above}
 use Rattle.geometry_model.specs.Locations.{locate}
 use Rattle.geometry_model.specs.Labels.{above, below}
-use Rattle.integers.proofs.Ring.{solve, var, lit, ◌⊕◌, ◌⊖◌, ◌⊗◌}
-use Rattle.integers.proofs.Signs.{strict_plus_plus, plus_plus, plus_minus, cancel_positive, zero_product, at_most_or_less, less_yes, less_no, at_most_yes, at_most_no}
+use Rattle.basics.proofs.Ring.{solve, var, lit, ◌⊕◌, ◌⊖◌, ◌⊗◌}
+use Rattle.basics.proofs.Signs.{strict_plus_plus, plus_plus, plus_minus, cancel_positive, zero_product, at_most_or_less, less_yes, less_no, at_most_yes, at_most_no}
 use Rattle.geometry_laws.specs.CoverLaws.{value, IsJustBelow, AreAllNear}
 use Rattle.geometry_laws.proofs.Each.{Each, each_map, each_of}
 use Rattle.geometry_laws.proofs.Scaling.{same_from}

@@ -6,9 +6,9 @@ use Rattle.geometry_model.specs.Geometries.{Edge}
 use Rattle.geometry_model.specs.Sides.{side, on}
 use Rattle.geometry_model.specs.Crossings.{exactly_one as xor, reaches, spans, side_rightward, strictly_above, at_or_above}
 use Rattle.geometry_model.specs.Dimensions.{weighted}
-use Rattle.integers.proofs.Ring.{solve, var, lit, ◌⊕◌, ◌⊖◌, ◌⊗◌}
-use Rattle.integers.proofs.Signs.{strict_plus_plus, plus_plus, plus_minus, cancel_positive, zero_product, at_most_or_less, less_yes, less_no, at_most_yes, at_most_no, at_most_from, not_at_most_from}
-use Rattle.integers.proofs.Quotients.{at_most_scaled}
+use Rattle.basics.proofs.Ring.{solve, var, lit, ◌⊕◌, ◌⊖◌, ◌⊗◌}
+use Rattle.basics.proofs.Signs.{strict_plus_plus, plus_plus, plus_minus, cancel_positive, zero_product, at_most_or_less, less_yes, less_no, at_most_yes, at_most_no, at_most_from, not_at_most_from}
+use Rattle.basics.proofs.Quotients.{at_most_scaled}
 use Rattle.geometry_laws.proofs.LineSides.{side'}
 use Rattle.geometry_laws.proofs.Hulls.{on_parts}
 use Rattle.geometry_laws.proofs.Eventually.{Eventually, both, weaker, grows, from_one, always}

@@ -9,9 +9,9 @@ use Rattle.geometry_model.specs.Sides.{side, on}
 use Rattle.geometry_model.specs.WellKnownText.{same_position}
 use Rattle.geometry_model.specs.Validity.{ShareOther}
 use Rattle.geometry_model.specs.FirstFaults.{other_on}
-use Rattle.integers.proofs.Ring.{solve, var, lit, ◌⊕◌, ◌⊖◌, ◌⊗◌}
-use Rattle.integers.proofs.Signs.{at_most_or_less, three_ways, plus_plus, strict_plus_plus, cancel_zero, cancel_positive}
-use Rattle.integers.proofs.Tests.{equal_from, equal_yes}
+use Rattle.basics.proofs.Ring.{solve, var, lit, ◌⊕◌, ◌⊖◌, ◌⊗◌}
+use Rattle.basics.proofs.Signs.{at_most_or_less, three_ways, plus_plus, strict_plus_plus, cancel_zero, cancel_positive}
+use Rattle.basics.proofs.Tests.{equal_from, equal_yes}
 use Rattle.geometry_laws.proofs.Scaling.{and_parts, and_from, same_x, same_y}
 use Rattle.geometry_laws.proofs.LineSides.{square, weight, square_positive}
 use Rattle.geometry_laws.proofs.Hulls.{OnHull, on_from_hull, on_parts, hull_from_on}

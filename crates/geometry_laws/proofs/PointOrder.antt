@@ -5,10 +5,10 @@ use Rattle.std.specs.declared.cmp.Ordering.{Ordering}
 use Rattle.std.specs.declared.cmp.Ordering.TheVariants.{Less, Equal, Greater}
 use Rattle.std.specs.Ordering.{int_cmp, ordering_then}
 use Rattle.geometry_model.specs.Points.{Point, IsPoint, same_point, compare, compare_x, compare_y, mediant}
-use Rattle.integers.proofs.Ring.{solve, var, ◌⊕◌, ◌⊖◌, ◌⊗◌}
-use Rattle.integers.proofs.Signs.{three_ways}
-use Rattle.integers.proofs.Quotients.{trans_less, trans_same, trans_at_most}
-use Rattle.integers.proofs.Tests.{cmp_less, cmp_equal, cmp_greater, cmp_less_from, cmp_equal_from, same_equal}
+use Rattle.basics.proofs.Ring.{solve, var, ◌⊕◌, ◌⊖◌, ◌⊗◌}
+use Rattle.basics.proofs.Signs.{three_ways}
+use Rattle.basics.proofs.Quotients.{trans_less, trans_same, trans_at_most}
+use Rattle.basics.proofs.Tests.{cmp_less, cmp_equal, cmp_greater, cmp_less_from, cmp_equal_from, same_equal}
 use Rattle.geometry_laws.specs.PointLaws.{reversed}
 use Rattle.geometry_laws.proofs.Scaling.{same_x, same_y, same_from}
 

@@ -9,9 +9,9 @@ use Rattle.geometry_model.specs.Sides.{side, on, between}
 use Rattle.geometry_model.specs.Crossings.{exactly_one, reaches, spans, side_rightward, strictly_above, at_or_above, odd, odd_above, odd_at_or_above}
 use Rattle.geometry_model.specs.Locations.{is_at, ends, on_some, in_points, in_lines, in_rings, locate}
 use Rattle.geometry_model.specs.declared.point_sets.Location.TheVariants.{Interior, Boundary, Exterior}
-use Rattle.integers.proofs.Ring.{solve, var, ◌⊖◌, ◌⊗◌}
-use Rattle.integers.proofs.Quotients.{at_most_scaled}
-use Rattle.integers.proofs.Tests.{cmp_scaled, negative_scaled, nonpositive_scaled, cmp_two_scaled}
+use Rattle.basics.proofs.Ring.{solve, var, ◌⊖◌, ◌⊗◌}
+use Rattle.basics.proofs.Quotients.{at_most_scaled}
+use Rattle.basics.proofs.Tests.{cmp_scaled, negative_scaled, nonpositive_scaled, cmp_two_scaled}
 use Rattle.geometry_laws.specs.PointLaws.{Respects}
 use Rattle.geometry_laws.proofs.Scaling.{scaled, by_scaling}
 use Rattle.geometry_laws.proofs.LineSides.{side'}

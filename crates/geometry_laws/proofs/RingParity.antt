@@ -7,8 +7,8 @@ use Rattle.geometry_model.specs.Sides.{side}
 use Rattle.geometry_model.specs.Crossings.{exactly_one as xor, reaches as position_reaches, side_rightward, strictly_above, odd_above}
 use Rattle.geometry_model.specs.Dimensions.{area, weighted}
 use Rattle.geometry_model.specs.Locations.{last_after}
-use Rattle.integers.proofs.Ring.{solve, var, lit, ◌⊕◌, ◌⊖◌, ◌⊗◌}
-use Rattle.integers.proofs.Signs.{same_at_most, cancel_positive, at_most_yes, at_most_no, at_most_from, not_at_most_from}
+use Rattle.basics.proofs.Ring.{solve, var, lit, ◌⊕◌, ◌⊖◌, ◌⊗◌}
+use Rattle.basics.proofs.Signs.{same_at_most, cancel_positive, at_most_yes, at_most_no, at_most_from, not_at_most_from}
 use Rattle.std.proofs.lemmas.List.Elements.{All-head, All-tail}
 use Rattle.geometry_laws.specs.RingLaws.{IsClosed, Misses}
 use Rattle.geometry_laws.proofs.Plane.{right, reaches, above, over, Meets}

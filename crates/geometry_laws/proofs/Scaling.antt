@@ -3,7 +3,7 @@ use Rattle.std.proofs.Common.{ℤ, pos, ◌*ℤ◌, ◌<ℤ◌, ◌≡◌, Bool,
 use lib.IntN.{*ℤ_comm}
 use Rattle.std.specs.Ordering.{int_eq}
 use Rattle.geometry_model.specs.Points.{Point, IsPoint, same_point}
-use Rattle.integers.proofs.Tests.{equal_from, equal_yes}
+use Rattle.basics.proofs.Tests.{equal_from, equal_yes}
 
 -- the triple k times p
 abbrev pub scaled : ℤ → Point → Point

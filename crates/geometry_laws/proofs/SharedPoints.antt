@@ -6,8 +6,8 @@ use Rattle.geometry_model.specs.Geometries.{Edge}
 use Rattle.geometry_model.specs.Sides.{side, on}
 use Rattle.geometry_model.specs.Validity.{SharePoint}
 use Rattle.geometry_model.specs.FirstFaults.{opposite, cross}
-use Rattle.integers.proofs.Ring.{Expr, solve, var, lit, ◌⊕◌, ◌⊖◌, ◌⊗◌}
-use Rattle.integers.proofs.Signs.{three_ways, is_or_not, at_most_or_less, plus_plus, plus_minus, strict_plus_plus, zero_product, cancel_zero, less_yes, less_from}
+use Rattle.basics.proofs.Ring.{Expr, solve, var, lit, ◌⊕◌, ◌⊖◌, ◌⊗◌}
+use Rattle.basics.proofs.Signs.{three_ways, is_or_not, at_most_or_less, plus_plus, plus_minus, strict_plus_plus, zero_product, cancel_zero, less_yes, less_from}
 use Rattle.geometry_laws.proofs.Scaling.{and_parts, and_from, same_from}
 use Rattle.geometry_laws.proofs.Respect.{on_respects}
 use Rattle.geometry_laws.proofs.LineSides.{square, weight, x_of, y_of, drop_zero, square_positive}

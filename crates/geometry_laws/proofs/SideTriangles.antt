@@ -15,8 +15,8 @@ use Rattle.geometry_laws.proofs.RingParity.{parity_of_rings}
 use Rattle.geometry_laws.proofs.Triangles.{marks, off_first, triangle_of_off}
 use Rattle.geometry_laws.proofs.Locating.{locate_off}
 use Rattle.geometry_laws.specs.CoverLaws.{IsJustBelow, NearSides}
-use Rattle.integers.proofs.Ring.{solve, var, lit, ◌⊕◌, ◌⊖◌, ◌⊗◌}
-use Rattle.integers.proofs.Signs.{strict_plus_plus, plus_plus}
+use Rattle.basics.proofs.Ring.{solve, var, lit, ◌⊕◌, ◌⊖◌, ◌⊗◌}
+use Rattle.basics.proofs.Signs.{strict_plus_plus, plus_plus}
 use Rattle.geometry_laws.proofs.Nudge.{lifted, lifted_is_point, IsSlant, off_soon, down, sinks, rises}
 
 -- where just the edges at or above s are strictly above t, what is above t is what is below s

@@ -5,9 +5,9 @@ use Rattle.geometry_model.specs.Points.{Position, Point, IsPoint}
 use Rattle.geometry_model.specs.Geometries.{Edge}
 use Rattle.geometry_model.specs.Sides.{side, on}
 use Rattle.geometry_model.specs.Crossings.{exactly_one, reaches, spans, side_rightward}
-use Rattle.integers.proofs.Ring.{solve, var, lit, ◌⊕◌, ◌⊖◌, ◌⊗◌}
-use Rattle.integers.proofs.Quotients.{at_most_scaled}
-use Rattle.integers.proofs.Signs.{cancel_zero}
+use Rattle.basics.proofs.Ring.{solve, var, lit, ◌⊕◌, ◌⊖◌, ◌⊗◌}
+use Rattle.basics.proofs.Quotients.{at_most_scaled}
+use Rattle.basics.proofs.Signs.{cancel_zero}
 use Rattle.geometry_laws.specs.CoverLaws.{IsStraightOver, IsLower}
 use Rattle.geometry_laws.proofs.LineSides.{side_turned}
 use Rattle.geometry_laws.proofs.Hulls.{on_parts}

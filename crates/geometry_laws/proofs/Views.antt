@@ -7,9 +7,9 @@ use Rattle.geometry_model.specs.Sides.{on}
 use Rattle.geometry_model.specs.Crossings.{spans, side_rightward, strictly_above, at_or_above}
 use Rattle.geometry_model.specs.Locations.{is_at, locate}
 use Rattle.geometry_model.specs.Labels.{above, below}
-use Rattle.integers.proofs.Ring.{solve, var, ◌⊗◌}
-use Rattle.integers.proofs.Signs.{strict_plus_plus, plus_plus, cancel_positive, cancel_negative, at_most_or_less, less_yes, less_no, less_from, at_most_yes, at_most_no, zero_times}
-use Rattle.integers.proofs.Quotients.{less_scaled}
+use Rattle.basics.proofs.Ring.{solve, var, ◌⊗◌}
+use Rattle.basics.proofs.Signs.{strict_plus_plus, plus_plus, cancel_positive, cancel_negative, at_most_or_less, less_yes, less_no, less_from, at_most_yes, at_most_no, zero_times}
+use Rattle.basics.proofs.Quotients.{less_scaled}
 use Rattle.geometry_laws.specs.PieceLaws.{IsOff}
 use Rattle.geometry_laws.specs.CoverLaws.{IsStraightOver, IsLower}
 use Rattle.geometry_laws.proofs.Each.{each_map}

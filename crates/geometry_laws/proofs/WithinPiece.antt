@@ -13,9 +13,9 @@ use Rattle.geometry_model.specs.Labels.{above, below, is_upright}
 use Rattle.geometry_model.specs.CutPoints.IsCut.{AtEnd, Listed}
 use Rattle.geometry_model.specs.Pieces.{Piece, IsPiece}
 use Rattle.geometry_model.specs.declared.point_sets.Location.TheVariants.{Interior, Boundary, Exterior}
-use Rattle.integers.proofs.Ring.{solve, var, lit, ◌⊕◌, ◌⊖◌, ◌⊗◌}
-use Rattle.integers.proofs.Signs.{zero_product, three_ways, less_yes, less_no, at_most_yes, at_most_no}
-use Rattle.integers.proofs.Tests.{equal_from, equal_yes, equal_no, not_equal_from}
+use Rattle.basics.proofs.Ring.{solve, var, lit, ◌⊕◌, ◌⊖◌, ◌⊗◌}
+use Rattle.basics.proofs.Signs.{zero_product, three_ways, less_yes, less_no, at_most_yes, at_most_no}
+use Rattle.basics.proofs.Tests.{equal_from, equal_yes, equal_no, not_equal_from}
 use Rattle.geometry_laws.specs.RingLaws.{IsClosed}
 use Rattle.geometry_laws.specs.PieceLaws.{Inside}
 use Rattle.geometry_laws.proofs.Plane.{right}

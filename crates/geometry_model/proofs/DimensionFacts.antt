@@ -4,8 +4,8 @@ use Rattle.std.proofs.lemmas.Int.{ints}
 use Rattle.std.proofs.lemmas.Bool.{and_parts}
 use Rattle.std.specs.Cmp.{signed_Decides}
 use Rattle.std.specs.Ordering.{int_eq}
-use Rattle.integers.proofs.Ring.{solve, var, ◌⊕◌, ◌⊖◌, ◌⊗◌}
-use Rattle.integers.proofs.Signs.{cancel_zero, zero_times}
+use Rattle.basics.proofs.Ring.{solve, var, ◌⊕◌, ◌⊖◌, ◌⊗◌}
+use Rattle.basics.proofs.Signs.{cancel_zero, zero_times}
 use Rattle.geometry_model.specs.Points.{Point, IsPoint, same_point}
 use Rattle.geometry_model.specs.Geometries.{Geometry}
 use Rattle.geometry_model.specs.Dimensions.{weighted, weighted_three, area, HasPoint, HasSegment, HasTriangle, HasDimension, Matrix, cell, matrix_of, common, IsMatrix, transposed}

@@ -10,8 +10,8 @@ use Rattle.std.specs.Ordering.{int_eq}
 use Rattle.std.specs.Int.{IsGcd}
 use native.Mathlib.Nat.{mod-eq-zero_of_dvd, mul-dvd-mul_right, dvd_of_mul-dvd-mul_right, eq-one_of_dvd-one, pos_of_dvd_of_pos, dvd-mul_right, dvd-mul_left, mod-lt, div-add-mod', mul-lt-mul_of_pos_right}
 use Prim.Native.Nat.{◌∣◌}
-use Rattle.integers.proofs.Ring.{solve, var, ◌⊗◌, ◌⊖◌}
-use Rattle.integers.proofs.Signs.{cancel_zero, cancel_positive}
+use Rattle.basics.proofs.Ring.{solve, var, ◌⊗◌, ◌⊖◌}
+use Rattle.basics.proofs.Signs.{cancel_zero, cancel_positive}
 use Rattle.geometry_model.specs.Points.{Point, IsPoint, same_point, IsLeast, last_divisor, gcd, least_form}
 
 -- ---- the greatest common divisor

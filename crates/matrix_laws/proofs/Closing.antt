@@ -7,7 +7,7 @@ use Rattle.geometry_model.specs.Geometries.{Geometry, rings}
 use Rattle.geometry_model.specs.Locations.{last_after}
 use Rattle.geometry_model.specs.Validity.{IsValid, IsNotClosed}
 use Rattle.geometry_model.specs.declared.validity_faults.ValidityFault.TheVariants.{RingNotClosed}
-use Rattle.integers.proofs.Signs.{is_or_not}
+use Rattle.basics.proofs.Signs.{is_or_not}
 use Rattle.geometry_laws.specs.RingLaws.{IsClosed}
 use Rattle.geometry_laws.specs.PieceLaws.{HasClosedRings}
 

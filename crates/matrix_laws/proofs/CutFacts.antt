@@ -3,8 +3,8 @@ use Rattle.std.proofs.Common.{◌≡◌, ◌≢◌, inl, ℕ, Bool, true, false,
 use borrow.Author.Differences.{ints}
 use native.Mathlib.Nat.{zero-div}
 use Rattle.std.specs.Prelude.{int_div, unsigned_abs}
-use Rattle.integers.proofs.Ring.{solve, var, lit, ◌⊖◌, ◌⊗◌}
-use Rattle.integers.proofs.Signs.{less_yes, less_from, not_less_from}
+use Rattle.basics.proofs.Ring.{solve, var, lit, ◌⊖◌, ◌⊗◌}
+use Rattle.basics.proofs.Signs.{less_yes, less_from, not_less_from}
 use Rattle.geometry_model.specs.Points.{Point, IsPoint, same_point, gcd, least_form}
 use Rattle.geometry_model.specs.Geometries.{Edge}
 use Rattle.geometry_model.specs.Sides.{on, on_one_line}

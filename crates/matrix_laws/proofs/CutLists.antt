@@ -3,8 +3,8 @@ use Rattle.std.proofs.Common.{◌≡◌, ◌≢◌, ◌⊎◌, inl, inr, Bool, t
 use borrow.Author.Differences.{ints}
 use native.Mathlib.Nat.{eq-one_of_dvd-one}
 use Rattle.std.specs.Ordering.{int_eq}
-use Rattle.integers.proofs.Signs.{less_from}
-use Rattle.integers.proofs.Tests.{equal_from}
+use Rattle.basics.proofs.Signs.{less_from}
+use Rattle.basics.proofs.Tests.{equal_from}
 use Rattle.geometry_model.specs.Points.{Position, Point, IsPoint, IsLeast, point_at, same_point, least_form}
 use Rattle.geometry_model.specs.Geometries.{Edge}
 use Rattle.geometry_model.specs.Sides.{side, on, on_one_line}

@@ -16,9 +16,9 @@ use Rattle.geometry_model.specs.Labels.{label, above, below, is_upright, side_la
 use Rattle.geometry_model.specs.declared.point_sets.Location.{Location}
 use Rattle.geometry_model.specs.declared.point_sets.Location.TheVariants.{Interior, Boundary, Exterior}
 use Rattle.geometry_model.specs.declared.point_sets.Dimension.TheVariants.{Empty, Zero, One, Two}
-use Rattle.integers.proofs.Ring.{solve, var, lit, ◌⊕◌, ◌⊖◌, ◌⊗◌}
-use Rattle.integers.proofs.Signs.{cancel_zero, at_most_or_less, at_most_yes}
-use Rattle.integers.proofs.Tests.{equal_from, not_equal_from}
+use Rattle.basics.proofs.Ring.{solve, var, lit, ◌⊕◌, ◌⊖◌, ◌⊗◌}
+use Rattle.basics.proofs.Signs.{cancel_zero, at_most_or_less, at_most_yes}
+use Rattle.basics.proofs.Tests.{equal_from, not_equal_from}
 use Rattle.geometry_laws.specs.RingLaws.{IsClosed}
 use Rattle.geometry_laws.specs.CoverLaws.{Line, value, IsLine}
 use Rattle.geometry_laws.specs.PieceLaws.{IsPieceOf}

@@ -7,7 +7,7 @@ use Rattle.geometry_model.specs.Sides.{side, on}
 use Rattle.geometry_model.specs.Crossings.{exactly_one as xor, reaches, side_rightward, strictly_above, at_or_above, odd_above}
 use Rattle.geometry_model.specs.Dimensions.{weighted}
 use Rattle.geometry_model.specs.Validity.{inside}
-use Rattle.integers.proofs.Signs.{plus_plus, cancel_nonnegative, less_no, at_most_or_less, at_most_from, not_at_most_from}
+use Rattle.basics.proofs.Signs.{plus_plus, cancel_nonnegative, less_no, at_most_or_less, at_most_from, not_at_most_from}
 use Rattle.geometry_laws.specs.RingLaws.{IsClosed, Misses}
 use Rattle.geometry_laws.proofs.Each.{Each, Among, each_of, each_map, each_at, each_left, each_right, among_left, among_right, among_either, parity, parity_none, parity_append, same_parity}
 use Rattle.geometry_laws.proofs.Xor.{xor_self, xor_false}

@@ -11,8 +11,8 @@ use Rattle.geometry_model.specs.Locations.{is_at, locate}
 use Rattle.geometry_model.specs.Labels.{above}
 use Rattle.geometry_model.specs.Envelopes.{Envelope, envelope_at, joined, with_position, envelope_of_positions, envelope, overlap, meets}
 use Rattle.geometry_model.specs.declared.point_sets.Location.TheVariants.{Interior, Exterior}
-use Rattle.integers.proofs.Ring.{solve, var, lit, ◌⊕◌, ◌⊖◌, ◌⊗◌}
-use Rattle.integers.proofs.Signs.{plus_plus, plus_minus, minus_plus, strict_plus_plus, strict_minus_plus, cancel_positive, cancel_negative, less_yes, less_no, at_most_yes, at_most_no, at_most_from, not_at_most_from}
+use Rattle.basics.proofs.Ring.{solve, var, lit, ◌⊕◌, ◌⊖◌, ◌⊗◌}
+use Rattle.basics.proofs.Signs.{plus_plus, plus_minus, minus_plus, strict_plus_plus, strict_minus_plus, cancel_positive, cancel_negative, less_yes, less_no, at_most_yes, at_most_no, at_most_from, not_at_most_from}
 use Rattle.geometry_laws.specs.RingLaws.{IsClosed}
 use Rattle.geometry_laws.specs.PieceLaws.{HasClosedRings}
 use Rattle.geometry_laws.specs.CoverLaws.{value}

@@ -11,8 +11,8 @@ use Rattle.geometry_model.specs.Crossings.{exactly_one as xor, reaches, spans, s
 use Rattle.geometry_model.specs.Locations.{is_at, last_after}
 use Rattle.geometry_model.specs.Validity.{IsValid, Clash, ShareOther}
 use Rattle.geometry_model.specs.declared.validity_faults.ValidityFault.TheVariants.{RingNotClosed, RingNotSimple}
-use Rattle.integers.proofs.Signs.{at_most_yes, at_most_no}
-use Rattle.integers.proofs.Tests.{equal_yes}
+use Rattle.basics.proofs.Signs.{at_most_yes, at_most_no}
+use Rattle.basics.proofs.Tests.{equal_yes}
 use Rattle.geometry_laws.specs.RingLaws.{IsClosed}
 use Rattle.geometry_laws.proofs.Plane.{right}
 use Rattle.geometry_laws.proofs.Each.{Each, each_append, parity, parity_append}

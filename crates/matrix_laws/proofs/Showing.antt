@@ -8,7 +8,7 @@ use Rattle.geometry_model.specs.Locations.{locate}
 use Rattle.geometry_model.specs.Labels.{above, below, edges_of_both}
 use Rattle.geometry_model.specs.Pieces.{Piece, sample}
 use Rattle.geometry_model.specs.declared.point_sets.Location.{Location}
-use Rattle.integers.proofs.Ring.{solve, var, lit, ◌⊕◌, ◌⊖◌, ◌⊗◌}
+use Rattle.basics.proofs.Ring.{solve, var, lit, ◌⊕◌, ◌⊖◌, ◌⊗◌}
 use Rattle.geometry_laws.specs.RingLaws.{IsClosed}
 use Rattle.geometry_laws.specs.PieceLaws.{Inside, HasClosedRings, IsPieceOf, IsOff}
 use Rattle.geometry_laws.proofs.RingParity.{each_from_all}

@@ -8,7 +8,7 @@ use Rattle.geometry_model.specs.Dimensions.{weighted}
 use Rattle.geometry_model.specs.Locations.{is_at, locate}
 use Rattle.geometry_model.specs.Labels.{above}
 use Rattle.geometry_model.specs.declared.point_sets.Location.TheVariants.{Interior, Boundary, Exterior}
-use Rattle.integers.proofs.Ring.{solve, var, lit, ◌⊕◌, ◌⊗◌}
+use Rattle.basics.proofs.Ring.{solve, var, lit, ◌⊕◌, ◌⊗◌}
 use Rattle.geometry_laws.specs.RingLaws.{IsClosed, Misses}
 use Rattle.geometry_laws.proofs.Each.{Each, each_map}
 use Rattle.geometry_laws.proofs.Lines.{weighted_is_point}

@@ -7,7 +7,7 @@ use Rattle.geometry_model.specs.Points.{Position, Point, IsPoint, point_at, same
 use Rattle.geometry_model.specs.Geometries.{Edge}
 use Rattle.geometry_model.specs.Sides.{side, on}
 use Rattle.geometry_model.specs.CutPoints.{is_end}
-use Rattle.integers.proofs.Ring.{solve, var, lit, ◌⊗◌}
+use Rattle.basics.proofs.Ring.{solve, var, lit, ◌⊗◌}
 use Rattle.geometry_laws.proofs.Plane.{right}
 use Rattle.geometry_laws.proofs.PointOrder.{same_symmetric, equal_is_same, less_transitive}
 use Rattle.geometry_laws.proofs.Respect.{on_respects}

@@ -14,7 +14,7 @@ use Rattle.geometry_model.specs.declared.point_sets.Location.{Location}
 use Rattle.geometry_model.specs.declared.point_sets.Location.TheVariants.{Interior, Boundary, Exterior}
 use Rattle.geometry_model.specs.declared.point_sets.Dimension.{Dimension}
 use Rattle.geometry_model.specs.declared.point_sets.Dimension.TheVariants.{Empty, Zero, One, Two}
-use Rattle.integers.proofs.Tests.{equal_from}
+use Rattle.basics.proofs.Tests.{equal_from}
 use Rattle.geometry_laws.specs.RingLaws.{IsClosed}
 use Rattle.geometry_laws.specs.PieceLaws.{HasClosedRings, Inside}
 use Rattle.geometry_laws.proofs.Plane.{right}

@@ -6,7 +6,7 @@ use Rattle.std.proofs.Math.Seq.{drop-cons}
 use Rattle.std.proofs.lemmas.List.{get_or-drop}
 use Rattle.std.proofs.lemmas.List.Sums.{sum_by-cons}
 use Rattle.std.proofs.lemmas.List.Sorted.{sum_by-IsPermutation, length_permutation}
-use Rattle.integers.proofs.Signs.{at_most_yes}
+use Rattle.basics.proofs.Signs.{at_most_yes}
 use Rattle.geometry_model.specs.Geometries.{Edge}
 use Rattle.noding.specs.NodeRanges.{lesser, greater, x_ranges_overlap, overlaps_with_first, overlaps_of_first, overlapping_pairs}
 use Rattle.noding.proofs.Sweeping.{lesser_first, greater_first}

@@ -4,9 +4,9 @@ use borrow.Author.Differences.{ints}
 use Rattle.std.specs.Cmp.{both_ways}
 use Rattle.std.specs.declared.cmp.Ordering.TheVariants.{Equal, Greater}
 use Rattle.std.specs.Ordering.{int_cmp}
-use Rattle.integers.proofs.Ring.{solve, var, lit, ◌⊕◌, ◌⊖◌, ◌⊗◌}
-use Rattle.integers.proofs.Signs.{at_most_from, at_most_yes, at_most_or_less}
-use Rattle.integers.proofs.Tests.{cmp_equal, cmp_greater}
+use Rattle.basics.proofs.Ring.{solve, var, lit, ◌⊕◌, ◌⊖◌, ◌⊗◌}
+use Rattle.basics.proofs.Signs.{at_most_from, at_most_yes, at_most_or_less}
+use Rattle.basics.proofs.Tests.{cmp_equal, cmp_greater}
 use Rattle.geometry_model.specs.Points.{Position, Point, IsPoint, point_at, same_point}
 use Rattle.geometry_model.specs.Geometries.{Edge}
 use Rattle.geometry_model.specs.Sides.{side, on, on_one_line}

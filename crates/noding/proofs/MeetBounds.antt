@@ -4,7 +4,7 @@ use Rattle.std.proofs.Common.{arith}
 use Rattle.std.proofs.lemmas.Int.{ints}
 use mir.Syntax.{w64, w128}
 use mir.Val.{SFits}
-use Rattle.integers.proofs.Ring.{solve, var, lit, ◌⊖◌, ◌⊗◌}
+use Rattle.basics.proofs.Ring.{solve, var, lit, ◌⊖◌, ◌⊗◌}
 use Rattle.orient.proofs.Bounds.{product_within}
 use Rattle.geometry_model.specs.Points.{Position, Point, IsPoint, point_at, gcd, least_form}
 use Rattle.geometry_model.specs.Sides.{side}

@@ -1,8 +1,8 @@
 -- The points that a meeting names are cuts of the two edges.
 use Rattle.std.proofs.Common.{◌≡◌, ◌⊎◌, inl, inr, true, false, ◌&&◌, refl, sym, subst, ◌∙◌, [], ◌∷◌, All, pos, arith}
 use Rattle.std.specs.Ordering.{int_eq, is_le}
-use Rattle.integers.proofs.Ring.{solve, var, lit, ◌⊕◌, ◌⊖◌, ◌⊗◌}
-use Rattle.integers.proofs.Tests.{equal_yes}
+use Rattle.basics.proofs.Ring.{solve, var, lit, ◌⊕◌, ◌⊖◌, ◌⊗◌}
+use Rattle.basics.proofs.Tests.{equal_yes}
 use Rattle.geometry_model.specs.Points.{Point, IsPoint, point_at, compare}
 use Rattle.geometry_model.specs.Geometries.{Edge}
 use Rattle.geometry_model.specs.Sides.{on, on_one_line}

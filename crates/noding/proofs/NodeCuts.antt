@@ -1,7 +1,7 @@
 -- The cuts on an edge: the listed positions on it, and what it has in common with each of the edges.
 use Rattle.std.proofs.Common.{◌≡◌, ◌⊎◌, inl, inr, Bool, true, false, not, ◌||◌, refl, sym, subst, ◌∙◌, List, [], ◌∷◌, Contains, pos, arith}
 use Rattle.std.specs.Ordering.{int_eq}
-use Rattle.integers.proofs.Tests.{equal_yes}
+use Rattle.basics.proofs.Tests.{equal_yes}
 use Rattle.geometry_model.specs.Points.{Position, Point, IsPoint, point_at, same_point}
 use Rattle.geometry_model.specs.Geometries.{Edge}
 use Rattle.geometry_model.specs.Sides.{side, on, on_one_line}

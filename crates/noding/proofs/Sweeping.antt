@@ -2,7 +2,7 @@
 use Rattle.std.proofs.Common.{◌≡◌, ◌⊎◌, inl, inr, ℕ, ◌<◌, ◌≤◌, Bool, true, false, not, ◌&&◌, ◌||◌, refl, sym, subst, ◌∙◌, List, length, get_or, ℤ, pos, ◌≤ℤ◌, ◌<ℤ◌, ◌*ℤ◌, ◌-ℤ◌, int_le, arith}
 use Rattle.std.proofs.lemmas.Int.{ints}
 use Rattle.std.proofs.lemmas.List.{get_or_default}
-use Rattle.integers.proofs.Signs.{at_most_yes, at_most_no}
+use Rattle.basics.proofs.Signs.{at_most_yes, at_most_no}
 use Rattle.geometry_model.specs.Points.{Point, IsPoint}
 use Rattle.geometry_model.specs.Geometries.{Edge}
 use Rattle.geometry_model.specs.Sides.{on, between, on_one_line}

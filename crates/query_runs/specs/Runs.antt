@@ -3,7 +3,7 @@ use Rattle.std.specs.Prelude.{◌≡◌, ◌<◌, ◌⊎◌, ⊤, ℕ, Bool, tru
 use Rattle.std.specs.Option.{option_map_or}
 use Rattle.std.specs.Io.KnownBytes.{Appends, Keeps}
 use Rattle.geometry_model.specs.Geometries.{Geometry}
-use Rattle.integers.specs.Counts.{one_more}
+use Rattle.basics.specs.Counts.{one_more}
 use Rattle.streams.specs.Sinks.{AppendsFront}
 use Rattle.table_model.specs.AnswerTexts.{answer, count_records, record_of}
 use Rattle.table_model.specs.Arguments.{denoted}

@@ -9,7 +9,7 @@ use Rattle.std.proofs.lemmas.List.{get_or-drop, get_or-take, get_or_default, len
 use Rattle.std.proofs.lemmas.List.Elements.{filter-append}
 use Rattle.std.proofs.lemmas.List.FromFn.{get_or-map-range_with_len}
 use Rattle.std.proofs.lemmas.Slice.Zip.{get_or-zip, length-zip}
-use Rattle.integers.proofs.Signs.{at_most_from, at_most_yes}
+use Rattle.basics.proofs.Signs.{at_most_from, at_most_yes}
 use Rattle.geometry_model.specs.Envelopes.{Envelope, joined, overlap}
 use Rattle.rtree.specs.Joins.{with_envelope}
 use Rattle.rtree.specs.Packing.{Entry, around, eights, nodes_over}

@@ -1,7 +1,7 @@
 -- Why the program ends early: what it prints then, and its status.
 use Rattle.std.specs.Prelude.{◌≡◌, ◌⊎◌, ◌++◌, ℕ, List, Option, codes}
 use Rattle.std.specs.Io.KnownBytes.{Appends}
-use Rattle.integers.specs.Counts.{one_more}
+use Rattle.basics.specs.Counts.{one_more}
 use Rattle.streams.specs.Sinks.{AppendsFront}
 use Rattle.failures.specs.Failures.{failure_line, failure_status}
 use Rattle.failures.specs.declared.failure.Failure.TheVariants as failed

@@ -4,7 +4,7 @@ ghost use Rattle.std.specs.Prelude.{◌≡◌, ◌≤◌, ◌+◌, IfOk, IsOk, O
 ghost use Rattle.std.specs.Option.{option_copied};
 ghost use Rattle.geometry_model.specs.Geometries.{kind};
 ghost use Rattle.geometry_model.specs.Predicates as predicates;
-ghost use Rattle.integers.specs.Counts.{one_more};
+ghost use Rattle.basics.specs.Counts.{one_more};
 ghost use Rattle.table_model.specs.RunOutcomes.{ByEveryMatrix, kept_count};
 ghost use Rattle.table_model.specs.Truths as spec;
 ghost use Rattle.spatial_sql.specs.Evaluation.{computed_of};

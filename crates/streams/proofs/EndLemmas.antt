@@ -8,7 +8,7 @@ use Rattle.std.proofs.lemmas.Bool.Decides.{nat_tests}
 use Rattle.std.proofs.lemmas.List.{length-take-le, take_more}
 use Rattle.std.proofs.lemmas.List.Folds.{list_any-append}
 use Rattle.std.proofs.lemmas.List.Sums.{fold-append}
-use Rattle.integers.specs.Counts.{one_more}
+use Rattle.basics.specs.Counts.{one_more}
 use Rattle.streams.specs.Bounds.{at_field, at_record, checked, ends_line, field_limit, fields_limit, in_field, is_in_record, is_outside, is_past, is_quote, moved, new_record, place_after, place_outside, record_limit, tally_after}
 use Rattle.streams.specs.RecordEnds.{IsRecordEnd, IsWithin}
 use Rattle.streams.specs.declared.tallies.Place.{Place}

@@ -1,7 +1,7 @@
 -- When a CSV text has passed its bound. (RFC 4180, 2.4 to 2.7. A line ends in a carriage return or a line feed, and a line feed right
 -- after a carriage return counts as a blank line, which is no record.)
 use Rattle.std.specs.Prelude.{ℕ, nat_le, nat_lt, Bool, true, false, ◌==◌, ◌||◌, if◌then◌else◌}
-use Rattle.integers.specs.Counts.{one_more}
+use Rattle.basics.specs.Counts.{one_more}
 use Rattle.streams.specs.declared.tallies.Place.{Place}
 use Rattle.streams.specs.declared.tallies.Place.TheVariants as at
 use Rattle.streams.specs.declared.tallies.Tally.{Tally}

@@ -1,6 +1,6 @@
 -- What a writer of records holds, and what writing one does to a sink's count of failures.
 use Rattle.std.specs.Prelude.{◌≡◌, ℕ, [], Result, Ok, Err}
-use Rattle.integers.specs.Counts.{one_more}
+use Rattle.basics.specs.Counts.{one_more}
 use Rattle.streams.specs.declared.put_fault.PutFault.{PutFault}
 use Rattle.streams.specs.declared.put_fault.PutFault.TheVariants as put
 use Rattle.streams.specs.declared.record_writer.RecordWriter.{RecordWriter}

@@ -1,7 +1,7 @@
 -- What a call does to the bytes that a sink took and to its count of failures.
 use Rattle.std.specs.Prelude.{◌≡◌, ℕ, List, ◌++◌, Option, Result, Ok, Err}
 use Rattle.std.specs.Io.KnownBytes.{Appends}
-use Rattle.integers.specs.Counts.{one_more}
+use Rattle.basics.specs.Counts.{one_more}
 
 -- the known bytes grew by a beginning of these bytes
 abbrev pub AppendsFront : Option (List ℕ) → Option (List ℕ) → List ℕ → Type 0

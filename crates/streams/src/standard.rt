@@ -15,7 +15,7 @@ pub struct StdSink<W: Write> {
 
 impl<W: Write> StdSink<W> {
     ghost use Rattle.std.specs.Io.KnownBytes.{Keeps};
-    ghost use Rattle.integers.specs.Counts.{one_more};
+    ghost use Rattle.basics.specs.Counts.{one_more};
     ghost use Rattle.streams.specs.Sinks.{CountsFailure};
     ghost use Rattle.streams.specs.StdSinks.{writer_under, std_failures};
 

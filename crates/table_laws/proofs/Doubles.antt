@@ -4,7 +4,7 @@ use Rattle.std.proofs.Common.{◌∙◌, ◌⊎◌, ap, arith, inl, inr, sym}
 use Rattle.std.proofs.lemmas.Bool.{false≢true}
 use Rattle.std.specs.List.{Contains, list_any}
 use Rattle.std.specs.Ordering.{int_eq}
-use Rattle.integers.proofs.Tests.{equal_from, equal_no, equal_yes}
+use Rattle.basics.proofs.Tests.{equal_from, equal_no, equal_yes}
 use Rattle.table_model.specs.Loading.{double_from, double_key}
 use Rattle.table_laws.specs.KeyLaws.{DoubleIsFirst, IsFirstDouble, NoneIsDouble}
 use Rattle.table_laws.proofs.TableLists.{Each, Pairs, all-pairs, each-weaker, pairs-all}

@@ -6,8 +6,8 @@ use Rattle.std.proofs.lemmas.Bool.{false≢true}
 use Rattle.std.proofs.lemmas.List.Sorted.{IsPermutation-cons, IsPermutation-middle, IsPermutation-refl, IsPermutation-sym, IsPermutation-trans}
 use Rattle.std.specs.List.{list_any}
 use Rattle.std.specs.Ordering.{int_eq}
-use Rattle.integers.proofs.Signs.{less_from, not_less_from, three_ways}
-use Rattle.integers.proofs.Tests.{equal_yes}
+use Rattle.basics.proofs.Signs.{less_from, not_less_from, three_ways}
+use Rattle.basics.proofs.Tests.{equal_yes}
 use Rattle.table_model.specs.Loading.{by_key, double_from, double_key, insert_by_key, key_of}
 use Rattle.table_model.specs.Meanings.{Row}
 use Rattle.table_laws.proofs.TableLists.{Each, Pairs, each-weaker, pairs-map}

@@ -10,7 +10,7 @@ use Rattle.std.proofs.lemmas.Bool.{and_parts, and_from, false_from_ne_true}
 use Rattle.std.proofs.lemmas.List.Elements.{All-head, All-tail}
 use Rattle.std.proofs.lemmas.List.Sums.{sum_by-cons}
 use mathlib.Core.Path.{fun_ext}
-use Rattle.integers.proofs.Signs.{at_most_yes, at_most_from, less_from, not_less_from}
+use Rattle.basics.proofs.Signs.{at_most_yes, at_most_from, less_from, not_less_from}
 use Rattle.geometry_model.specs.Points.{Position}
 use Rattle.geometry_model.specs.Envelopes.{Envelope, envelope, with_position, envelope_of_positions, overlap, meets}
 use Rattle.geometry_model.specs.Geometries.{positions}

@@ -1,7 +1,7 @@
 -- How a command ends, and what it returns and writes then.
 use Rattle.std.specs.Prelude.{◌≡◌, ◌⊎◌, ℕ, List, Option, Result, Ok, Err}
 use Rattle.std.specs.Io.KnownBytes.{Appends, Keeps}
-use Rattle.integers.specs.Counts.{one_more}
+use Rattle.basics.specs.Counts.{one_more}
 use Rattle.streams.specs.Sinks.{AppendsFront}
 use Rattle.failures.specs.Failures.{failure_line, failure_status}
 use Rattle.failures.specs.declared.failure.Failure.{Failure}

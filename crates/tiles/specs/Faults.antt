@@ -1,7 +1,7 @@
 -- Why a second pass isn't done to its end.
 use Rattle.std.specs.Prelude.{◌≡◌, ◌⊎◌, ◌∷◌, ℕ, List, Option, Some}
 use Rattle.csv.specs.declared.reader.Reader.{Reader}
-use Rattle.integers.specs.Counts.{one_more}
+use Rattle.basics.specs.Counts.{one_more}
 use Rattle.feature_table.specs.Outcomes.{IsFailure}
 use Rattle.feature_table.specs.Reading.{StillGives}
 use Rattle.feature_table.specs.Tables.{AreRecordsOf}

@@ -4,8 +4,8 @@ use borrow.Author.Differences.{ints}
 use Rattle.geometry_model.specs.Points.{Point, IsPoint, point_at}
 use Rattle.geometry_model.specs.Geometries.{Geometry, edges, listed}
 use Rattle.geometry_model.specs.Sides.{on}
-use Rattle.integers.proofs.Ring.{solve, var, lit, ◌⊕◌, ◌⊖◌, ◌⊗◌}
-use Rattle.integers.proofs.Signs.{strict_plus_plus, cancel_positive, zero_times}
+use Rattle.basics.proofs.Ring.{solve, var, lit, ◌⊕◌, ◌⊖◌, ◌⊗◌}
+use Rattle.basics.proofs.Signs.{strict_plus_plus, cancel_positive, zero_times}
 use Rattle.geometry_laws.specs.CoverLaws.{IsLower}
 use Rattle.geometry_laws.proofs.RingParity.{position_is_point}
 use Rattle.geometry_laws.specs.FaceLaws.{IsOnTheWayUp, IsOnTheWayDown, SeesUp, SeesDown}

@@ -8,7 +8,7 @@ use Rattle.geometry_model.specs.Crossings.{exactly_one, side_rightward, strictly
 use Rattle.geometry_model.specs.Locations.{is_at, locate}
 use Rattle.geometry_model.specs.Labels.{above}
 use Rattle.geometry_model.specs.declared.point_sets.Location.TheVariants.{Interior, Exterior}
-use Rattle.integers.proofs.Signs.{at_most_yes}
+use Rattle.basics.proofs.Signs.{at_most_yes}
 use Rattle.geometry_laws.specs.PieceLaws.{IsOff}
 use Rattle.geometry_laws.proofs.Each.{Each, each_map, parity_none}
 use Rattle.geometry_laws.proofs.RingParity.{parity_of_rings, each_from_all}

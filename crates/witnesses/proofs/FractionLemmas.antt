@@ -8,8 +8,8 @@ use Rattle.std.proofs.Math.Nat.{zero-div}
 use Rattle.std.specs.Cmp.{signed_Decides}
 use Rattle.std.specs.Ordering.{int_eq}
 use Prim.Native.Nat.{◌∣◌}
-use Rattle.integers.proofs.Ring.{solve, var, ◌⊗◌, ◌⊖◌}
-use Rattle.integers.proofs.Signs.{cancel_zero}
+use Rattle.basics.proofs.Ring.{solve, var, ◌⊗◌, ◌⊖◌}
+use Rattle.basics.proofs.Signs.{cancel_zero}
 use Rattle.geometry_model.specs.Points.{Point, gcd, least_form}
 use Rattle.geometry_model.proofs.LeastFormFacts.{least_is_same, least_is_point, least_is_least, least_is_unique}
 use Rattle.fraction.specs.Fractions.{Fraction, IsFraction}

@@ -5,10 +5,10 @@ use Rattle.std.specs.Ordering.{int_eq}
 use Rattle.geometry_model.specs.Points.{Position, Point, IsPoint, point_at}
 use Rattle.geometry_model.specs.Geometries.{Edge}
 use Rattle.geometry_model.specs.Sides.{side, on, between}
-use Rattle.integers.proofs.Ring.{solve, var, lit, ◌⊕◌, ◌⊖◌, ◌⊗◌}
-use Rattle.integers.proofs.Signs.{plus_plus, strict_plus_plus, cancel_nonnegative, cancel_positive, at_most_or_less, at_most_yes, zero_times}
-use Rattle.integers.proofs.Quotients.{trans_at_most}
-use Rattle.integers.proofs.Tests.{equal_yes}
+use Rattle.basics.proofs.Ring.{solve, var, lit, ◌⊕◌, ◌⊖◌, ◌⊗◌}
+use Rattle.basics.proofs.Signs.{plus_plus, strict_plus_plus, cancel_nonnegative, cancel_positive, at_most_or_less, at_most_yes, zero_times}
+use Rattle.basics.proofs.Quotients.{trans_at_most}
+use Rattle.basics.proofs.Tests.{equal_yes}
 use Rattle.geometry_laws.specs.CoverLaws.{IsStraightOver}
 use Rattle.geometry_laws.proofs.Scaling.{and_from}
 use Rattle.geometry_laws.proofs.RingParity.{position_is_point}

@@ -11,7 +11,7 @@ use Rattle.geometry_model.specs.declared.validity_faults.ValidityFault.TheVarian
 use Rattle.geometry_model.specs.declared.shapes.Kind.TheVariants as kinds
 use Rattle.wkt.specs.KeptGeometries.{IsKept}
 use Rattle.std.specs.Ordering.{int_eq}
-use Rattle.integers.proofs.Tests.{equal_yes}
+use Rattle.basics.proofs.Tests.{equal_yes}
 use Rattle.geometry_laws.proofs.Scaling.{and_from}
 use Rattle.geometry_laws.proofs.OtherPoints.{same_from}
 

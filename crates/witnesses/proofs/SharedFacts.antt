@@ -9,8 +9,8 @@ use Rattle.geometry_model.specs.Geometries.{Edge}
 use Rattle.geometry_model.specs.Sides.{on}
 use Rattle.geometry_model.specs.Dimensions.{area}
 use Rattle.geometry_model.specs.Validity.{SharePoint, ShareOther}
-use Rattle.integers.proofs.Ring.{solve, var, lit, ◌⊕◌, ◌⊖◌, ◌⊗◌}
-use Rattle.integers.proofs.Tests.{equal_yes}
+use Rattle.basics.proofs.Ring.{solve, var, lit, ◌⊕◌, ◌⊖◌, ◌⊗◌}
+use Rattle.basics.proofs.Tests.{equal_yes}
 use Rattle.geometry_laws.proofs.Scaling.{and_parts, and_from}
 use Rattle.geometry_laws.proofs.PointOrder.{same_reflexive, same_symmetric, same_transitive, equal_is_same}
 use Rattle.noding.specs.declared.answers.Meet.TheVariants.{Apart, At, Along}

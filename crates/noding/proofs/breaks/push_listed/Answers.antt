@@ -3,7 +3,7 @@ use Rattle.std.specs.Int.{w32}
 use Rattle.std.specs.Prelude.{FitsSigned}
 use mir.Facts.{to_z-of_z}
 use Rattle.std.proofs.lemmas.List.{append-nil}
-use Rattle.integers.proofs.Signs.{less_from}
+use Rattle.basics.proofs.Signs.{less_from}
 use Rattle.geometry_model.specs.Points.{point_at}
 use Rattle.geometry_model.specs.Sides.{on}
 use Rattle.noding.specs.NodeRanges.{greatest_x}

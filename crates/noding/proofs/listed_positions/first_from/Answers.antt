@@ -2,7 +2,7 @@ use Rattle.std.proofs.Common.{rules, ◌≡◌, true, false, ℤ, ◌<ℤ◌, �
 use Rattle.std.specs.List.Sorted.{IsPartitionedBy, IsPartitionPoint}
 use Rattle.std.proofs.lemmas.Int.{ints}
 use Rattle.std.proofs.lemmas.List.Sorted.{IsPartitionPoint-from_clause}
-use Rattle.integers.proofs.Signs.{less_from, not_less_from}
+use Rattle.basics.proofs.Signs.{less_from, not_less_from}
 use Rattle.geometry_model.specs.Points.{Position}
 use Rattle.noding.specs.Sweeps.{AscendPositions}
 use Rattle.noding.proofs.listed_positions.first_from.Goals as goal

@@ -2,7 +2,7 @@ use Rattle.std.proofs.Common.{◌≡◌, ◌&&◌, true, sym, ap, ap₂, subst, 
 use borrow.Author.Differences.{ints}
 use Rattle.std.proofs.lemmas.Int.{to_z-of_z}
 use mir.Val.{to_z, of_z, SFits}
-use Rattle.integers.proofs.Tests.{cmp_less_from, cmp_greater_from, cmp_equal_from}
+use Rattle.basics.proofs.Tests.{cmp_less_from, cmp_greater_from, cmp_equal_from}
 use Rattle.geometry_model.specs.Points.{Position, point_at}
 use Rattle.geometry_model.specs.Geometries.{Edge}
 use Rattle.geometry_model.specs.Sides.{side, on_one_line}

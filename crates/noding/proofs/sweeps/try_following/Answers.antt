@@ -2,7 +2,7 @@ use Rattle.std.proofs.Common.{◌≡◌, ◌∙◌, ◌+◌, ◌-◌, ◌^◌, �
 use Rattle.std.specs.Int.{w32}
 use Rattle.std.specs.Prelude.{FitsSigned}
 use mir.Facts.{to_z-of_z}
-use Rattle.integers.proofs.Signs.{less_from, not_less_from}
+use Rattle.basics.proofs.Signs.{less_from, not_less_from}
 use Rattle.noding.specs.NodeRanges.{least_x, greatest_x, overlaps_with_first}
 use Rattle.noding.proofs.BreakPoints.{rest_apart}
 use Rattle.noding.proofs.Sweeping.{later_apart, none_common, overlaps_next}

@@ -2,7 +2,7 @@ use Rattle.std.specs.Prelude.{◌≡◌, ℤ, pos, ◌*ℤ◌, int_le, [], ◌�
 use Rattle.std.proofs.Common.{sym, ap, ap₂, ◌∙◌, to_z}
 use Rattle.std.proofs.lemmas.Int.{to_z-of_z}
 use mir.Syntax.{w32, w64, w128}
-use Rattle.integers.proofs.Ring.{solve, var, lit, ◌⊗◌}
+use Rattle.basics.proofs.Ring.{solve, var, lit, ◌⊗◌}
 use Rattle.orient.proofs.Bounds.{read, product_read}
 use Rattle.orient.proofs.crossings.reaches.Goals as goal
 

@@ -3,7 +3,7 @@ use Rattle.std.proofs.Common.{sym, ap, ◌∙◌, to_z, of_z}
 use Rattle.std.proofs.lemmas.Int.{to_z-of_z}
 use Rattle.std.proofs.lemmas.Bool.{ne_eqb}
 use mir.Syntax.{w128}
-use Rattle.integers.proofs.Tests.{equal_yes, equal_no}
+use Rattle.basics.proofs.Tests.{equal_yes, equal_no}
 use Rattle.geometry_model.specs.Sides.{side}
 use Rattle.orient.proofs.Tests.{others_decide, all_fail}
 use Rattle.orient.proofs.sides.is_on.Goals as goal

@@ -2,7 +2,7 @@ use Rattle.std.proofs.Common.{◌≡◌, ◌∙◌, sym, ap, ap₂, subst, ℤ, 
 use Rattle.std.proofs.lemmas.Int.{to_z-of_z}
 use mir.Syntax.{w64, w128}
 use mir.Val.{SFits}
-use Rattle.integers.proofs.Signs.{strict_plus_plus}
+use Rattle.basics.proofs.Signs.{strict_plus_plus}
 use Rattle.geometry_model.specs.Points.{Point}
 use Rattle.geometry_model.specs.WellKnownText.{coordinate_limit}
 use Rattle.fraction.specs.Ranges.{IsKeptPoint}

@@ -1,7 +1,7 @@
 use Rattle.std.proofs.Common.{◌≡◌, ◌∙◌, sym, ap, subst}
 use mir.Syntax.{w32}
 use Rattle.orient.proofs.Bounds.{read}
-use Rattle.integers.proofs.Tests.{cmp_equal_from}
+use Rattle.basics.proofs.Tests.{cmp_equal_from}
 use Rattle.geometry_model.specs.Points.{Position, point_at}
 use Rattle.witnesses.specs.Heights.{ClearsEdge, ClearsPosition}
 use Rattle.witnesses.proofs.HeightFacts.{keeps_both, clears_turned, clears_upright, same_edge}

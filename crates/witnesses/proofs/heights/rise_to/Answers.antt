@@ -1,5 +1,5 @@
 use Rattle.std.proofs.Common.{◌≡◌, ℤ, pos, ◌-ℤ◌, ◌*ℤ◌, sym, ap, ◌∙◌, [], ◌∷◌}
-use Rattle.integers.proofs.Ring.{solve, var, lit, ◌⊖◌, ◌⊗◌}
+use Rattle.basics.proofs.Ring.{solve, var, lit, ◌⊖◌, ◌⊗◌}
 use Rattle.geometry_model.specs.Points.{point_at}
 use Rattle.witnesses.specs.Heights.{ahead}
 use Rattle.witnesses.proofs.NumberReads.{beyond_read, before_read}

@@ -2,7 +2,7 @@
 //! empty body, and its contract is a law.
 #![tactic(auto)]
 
-ghost use Rattle.integers.specs.Laws.{Distributes, Associates, ProductOfDifferences, LessIsTransitive, AtMostIsTransitive, ZeroProduct, SignIsKept};
+ghost use Rattle.basics.specs.Laws.{Distributes, Associates, ProductOfDifferences, LessIsTransitive, AtMostIsTransitive, ZeroProduct, SignIsKept};
 
 /// Multiplication distributes over addition: `a (b + c) = a b + a c`.
 pub fn product_distributes()

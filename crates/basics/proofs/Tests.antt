@@ -8,8 +8,8 @@ use lib.Signed.{◌≤ℤ◌, ◌<ℤ◌, lt_z as int_lt, le_z as int_le}
 use borrow.Author.Differences.{ints}
 use Rattle.std.specs.declared.cmp.Ordering.TheVariants.{Less, Equal, Greater}
 use Rattle.std.specs.Ordering.{int_cmp, int_eq, is_eq}
-use Rattle.integers.proofs.Quotients.{less_scaled}
-use Rattle.integers.proofs.Signs.{less_yes, less_no, three_ways, same_less, same_at_most, strict_plus_plus, strict_plus_minus, plus_plus, plus_minus, cancel_positive, cancel_negative, cancel_nonnegative, cancel_nonpositive}
+use Rattle.basics.proofs.Quotients.{less_scaled}
+use Rattle.basics.proofs.Signs.{less_yes, less_no, three_ways, same_less, same_at_most, strict_plus_plus, strict_plus_minus, plus_plus, plus_minus, cancel_positive, cancel_negative, cancel_nonnegative, cancel_nonpositive}
 
 -- ---- which of three
 -- a comparison answers with the order of the two numbers

@@ -9,7 +9,7 @@ use native.Mathlib.Omega.{arith}
 use lib.Dec.{T, leb, eqb, eqb→eq}
 use lib.IntN.{ℤ, pos, negsuc, ◌+ℤ◌, ◌-ℤ◌, ◌*ℤ◌, +ℤ_assoc, +ℤ_idl, *ℤ_comm, zero-*ℤ}
 use borrow.Author.Differences.{ints}
-use Rattle.integers.proofs.IntRing.{distributes, associates}
+use Rattle.basics.proofs.IntRing.{distributes, associates}
 
 infixl 6 ◌⊕◌ ◌⊖◌
 infixl 7 ◌⊗◌

@@ -5,8 +5,8 @@ use native.Mathlib.Omega.{arith}
 use lib.IntN.{ℤ, pos, ◌+ℤ◌, ◌-ℤ◌, ◌*ℤ◌}
 use lib.Signed.{◌≤ℤ◌, ◌<ℤ◌, lt_z as int_lt, le_z as int_le}
 use borrow.Author.Differences.{ints}
-use Rattle.integers.proofs.Ring.{solve, var, lit, ◌⊕◌, ◌⊖◌, ◌⊗◌}
-use Rattle.integers.proofs.Signs.{plus_plus, strict_plus_plus, cancel_nonnegative, cancel_positive, cancel_zero, same_at_most, same_less}
+use Rattle.basics.proofs.Ring.{solve, var, lit, ◌⊕◌, ◌⊖◌, ◌⊗◌}
+use Rattle.basics.proofs.Signs.{plus_plus, strict_plus_plus, cancel_nonnegative, cancel_positive, cancel_zero, same_at_most, same_less}
 
 -- how far c/k lies past a/m, times m n k, is what b/n lies past a/m and c/k past b/n together
 pub by_way : (a m b n c k : ℤ) → k *ℤ (b *ℤ m -ℤ a *ℤ n) +ℤ m *ℤ (c *ℤ n -ℤ b *ℤ k) ≡ n *ℤ (c *ℤ m -ℤ a *ℤ k)

@@ -1,5 +1,0 @@
-use Rattle.integers.proofs.Quotients.{trans_at_most}
-use Rattle.integers.proofs.at_most_is_transitive.Goals as goal
-
-pub returns : goal.returns
-returns c = trans_at_most

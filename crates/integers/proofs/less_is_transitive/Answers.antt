@@ -1,5 +1,0 @@
-use Rattle.integers.proofs.Quotients.{trans_less}
-use Rattle.integers.proofs.less_is_transitive.Goals as goal
-
-pub returns : goal.returns
-returns c = trans_less

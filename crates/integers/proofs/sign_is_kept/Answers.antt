@@ -1,5 +1,0 @@
-use Rattle.integers.proofs.Tests.{cmp_scaled}
-use Rattle.integers.proofs.sign_is_kept.Goals as goal
-
-pub returns : goal.returns
-returns c = cmp_scaled
