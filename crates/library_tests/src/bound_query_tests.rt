@@ -1,8 +1,7 @@
 //! What names and conditions of a query are bound to, with places counted by hand.
 
 use geometry_model::Predicate;
-use spatial_sql::query_binding::bind;
-use spatial_sql::{Bound, read_query, read_schema};
+use spatial_sql::{Bound, bind_to_tables, read_query, read_schema};
 use std::alloc::Global;
 use std::test::Fail;
 use table_model::conditions::{ColumnPlace, Cond, GeometryArgument, Item, Operand, Reference};
@@ -13,7 +12,7 @@ const SCHEMA: &[u8] =
 fn bound(alloc: Global, text: &str) -> Result<Bound, Fail> {
     let schema = read_schema(alloc, SCHEMA)?;
     let query = read_query(alloc, text)?;
-    Ok(bind(alloc, &query, schema.tables())?)
+    Ok(bind_to_tables(alloc, &query, schema.tables())?)
 }
 
 /// Whether this is the name of the first reference.

@@ -8,8 +8,7 @@ use feature_table::{Database, Records, Row, Schema, next_record, order_by_key};
 use planner::choose_by_counts;
 use query_runs::{header_record, row_record};
 use rtree::RTree;
-use spatial_sql::query_binding::bind;
-use spatial_sql::{Bound, Query, passes, read_query, read_schema};
+use spatial_sql::{Bound, Query, bind_to_tables, passes, read_query, read_schema};
 use std::alloc::{AllocError, Global};
 use std::test::Fail;
 use table_model::plans::Plan;
@@ -82,7 +81,7 @@ fn planned(
     database: &Database<'_, RTree>,
     query: &Query<'_>,
 ) -> Result<(ByteRecord, u64, bool), Fail> {
-    let bound = bind(alloc, query, database.definitions())?;
+    let bound = bind_to_tables(alloc, query, database.definitions())?;
     let plan = choose_by_counts(alloc, &bound, &[10])?;
     let header = header_record(alloc, database.definitions(), &bound)?;
     let returned = are_returned(alloc, database, &bound, &plan)?;

@@ -37,6 +37,7 @@ pub use de9im::Work;
 pub use idle_rows::gives_none;
 pub use passing_rows::passes;
 pub use query_binder::{Argument, Bound, ColumnShape, Cond, TableDef};
+pub use query_binding::bind_to_tables;
 pub use sought_values::{equal_column, sought_value};
 pub use sql_text::{Query, QueryFault, SchemaFault, read_query, read_schema};
 pub use table_model::values::Truth;

@@ -71,7 +71,11 @@ fn bound_query(
 /// fault of its text or geometry, whose byte is counted in the string's value; `BadPattern` at the string of ST_Relate;
 /// `TypeMismatch` at the first byte of a predicate or call whose argument isn't a geometry, or of a comparison whose sides
 /// aren't both INTEGER or both TEXT (NULL is either); or `OutOfMemory`.
-pub fn bind(alloc: Global, query: &Query<'_>, definitions: &[TableDef]) -> Result<Bound, QueryFault>
+pub fn bind_to_tables(
+    alloc: Global,
+    query: &Query<'_>,
+    definitions: &[TableDef],
+) -> Result<Bound, QueryFault>
     ensures answer { Binds result (spec.binding geometry_binding definitions.now query.now) }
     ensures bound { IfOk result (IsBound geometry_fits definitions.now) }
 {
