@@ -2,7 +2,7 @@ pub mod ArrayFacts
 pub mod MeetingFacts
 pub mod Spelling
 pub mod AsTexts
-pub mod Parts
+pub mod ArrayParts
 pub mod Tested
 pub mod WrittenFacts
 pub mod BoxWords

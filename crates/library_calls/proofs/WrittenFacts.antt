@@ -15,7 +15,7 @@ use Rattle.wkt.specs.KeptGeometries.{IsKept}
 use Rattle.wkt.proofs.KeptLines.{Apart, lines_apart}
 use Rattle.text_laws.proofs.TextPrinted.{counts_again, rings_kept}
 use Rattle.library_calls.specs.Written.{first_past_limit, fits, is_within_counts, parts_of, taken, use_up, within_or, written_as}
-use Rattle.library_calls.proofs.Parts.{as_many, joined, some_in_each, sum_used}
+use Rattle.library_calls.proofs.ArrayParts.{as_many, joined, some_in_each, sum_used}
 
 -- sizes that use up a number, and nothing else
 pub lines_fit : (count : ℕ) (lines polygons : List ℕ) → (use_up lines count && length polygons == 0) ≡ true → use_up lines count ≡ true

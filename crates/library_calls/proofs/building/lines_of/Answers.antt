@@ -2,7 +2,7 @@
 use Rattle.std.proofs.Common.{◌≡◌, ◌∙◌, ◌+◌, ap, take, drop, get_or, map, length-drop, arith}
 use Rattle.geometry_model.specs.WellKnownText.{without_repeats}
 use Rattle.library_calls.specs.Written.{parts_of}
-use Rattle.library_calls.proofs.Parts.{enough_more, line_more, next_size, rest_more}
+use Rattle.library_calls.proofs.ArrayParts.{enough_more, line_more, next_size, rest_more}
 use Rattle.library_calls.proofs.building.lines_of.Goals as goal
 
 pub loop-size-preserved : goal.loop-size-preserved

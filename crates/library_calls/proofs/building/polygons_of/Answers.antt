@@ -2,7 +2,7 @@
 use Rattle.std.proofs.Common.{◌≡◌, ◌∙◌, ◌+◌, ap, take, drop, get_or, map, sum, length-drop, arith}
 use Rattle.geometry_model.specs.WellKnownText.{without_repeats}
 use Rattle.library_calls.specs.Written.{parts_of}
-use Rattle.library_calls.proofs.Parts.{enough_more, next_size, polygon_more, sizes_parted}
+use Rattle.library_calls.proofs.ArrayParts.{enough_more, next_size, polygon_more, sizes_parted}
 use Rattle.library_calls.proofs.building.polygons_of.Goals as goal
 
 pub loop-count-preserved : goal.loop-count-preserved

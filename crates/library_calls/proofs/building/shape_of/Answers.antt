@@ -1,7 +1,7 @@
 -- The sizes use up the positions, so there are enough of them.
 use Rattle.std.proofs.Common.{◌≡◌, subst, true, arith, vec_len}
 use Rattle.library_calls.specs.Written.{fits}
-use Rattle.library_calls.proofs.Parts.{sum_used}
+use Rattle.library_calls.proofs.ArrayParts.{sum_used}
 use Rattle.library_calls.proofs.WrittenFacts.{lines_fit, polygon_sizes}
 use Rattle.library_calls.proofs.building.shape_of.Goals as goal
 
