@@ -102,12 +102,15 @@ class Refused(unittest.TestCase):
         status, lines = self.found("crates.txt", "# Each crate.\n")
         self.assertEqual((status, lines), (1, ["crates/one:1: a crate that isn't in crates.txt"]))
 
-    def test_a_crate_without_a_row(self):
+    def test_a_crate_without_a_paragraph(self):
         table = "# Architecture\n\n| crate | what it does |\n|---|---|\n"
         one = table + "| `one` | one |\n\n| type | keeps |\n|---|---|\n| `two` | two |\n"
         self.assertEqual(self.found("docs/ARCHITECTURE.md", one), (0, []))
-        self.refused("docs/ARCHITECTURE.md", table, 1, "no row for the crate one")
+        self.refused("docs/ARCHITECTURE.md", table, 1, "no paragraph for the crate one")
         self.refused("docs/ARCHITECTURE.md", one.replace("| one |", "| one |\n| `two` | two |"), 6, "two")
+        room = "# Architecture\n\n**`one`** is one. *Invariant:* it isn't `two`.\n"
+        self.assertEqual(self.found("docs/ARCHITECTURE.md", room), (0, []))
+        self.refused("docs/ARCHITECTURE.md", room + "\n**`two`** is two.\n", 5, "two")
 
     def test_another_layout(self):
         more = {"bin/rt": LAYS_OUT}

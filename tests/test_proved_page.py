@@ -93,7 +93,7 @@ class Page(unittest.TestCase):
         functions, public = proved_page.all_functions()
         needed = proved_page.needed(public)
         self.assertGreater(len(needed), 50)
-        self.assertLess({"relate", "Table::load", "RTree::search", "spatial_sql::bind"}, set(needed))
+        self.assertLess({"relate", "Table::load", "RTree::search", "bind"}, set(needed))
         page = proved_page.text_of_pages()
         self.assertGreater(len(proved_page.rows_of(page)), 40)
         self.assertEqual(proved_page.wrong_clauses(page, functions), [])

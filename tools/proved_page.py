@@ -92,7 +92,7 @@ def is_reached(function, lib):
     """Whether a library's root makes a public function of it reachable, or C calls it."""
     if function.is_exported() or function.module == "lib" or re.search(rf"^pub mod {function.module};", lib, re.M):
         return True
-    names = {it for part in re.findall(r"^pub use ([^;]*);", lib, re.M) for it in re.findall(r"\w+", part)}
+    names = {it for part in re.findall(r"^pub use ([^;]*);", lib, re.M) for it in re.findall(r"\b\w+\b(?!::)", part)}
     return (function.owner or function.name) in names
 
 

@@ -1,5 +1,5 @@
-//! Laws of sums, products and orders of whole numbers, which the proofs of geometry use. Nothing here runs: each function has an
-//! empty body, and its contract is a law.
+//! The arithmetic of proofs: laws of sums, products and orders of whole numbers, and lemmas of rings, quotients and signs.
+//! Nothing here runs: each function has an empty body, and its contract is a law.
 #![tactic(auto)]
 
 ghost use Rattle.basics.specs.Laws.{Distributes, Associates, ProductOfDifferences, LessIsTransitive, AtMostIsTransitive, ZeroProduct, SignIsKept};

@@ -1,5 +1,4 @@
-//! The commands of `sfq` with their words and help texts, for `clap`. The crate `command_line` reads the words of a command
-//! line with them.
+//! The commands of `sfq` with their words and help texts, for `clap`. `order` reads the words of a command line with them.
 
 ghost use Rattle.std.specs.Prelude.{◌≡◌, false, codes, IfOk, IsOkAnd};
 ghost use Rattle.clap.specs.Words.{app_of, rule_of, with_rule, AddsSubcommand};

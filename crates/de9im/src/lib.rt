@@ -1,11 +1,6 @@
-//! The dimensionally extended nine-intersection model of two geometries (06-103r4, 6.1.15): `relate` computes their
-//! matrix; patterns match it, and the spatial predicates follow from it.
-//!
-//! Patterns of the DE-9IM matrix (06-103r4, 6.1.15): how they are read, and which predicates only geometries whose
-//! envelopes meet can satisfy. Neither needs a matrix.
-//!
-//! Finds the cells of the DE-9IM matrix of two valid geometries. It goes through the edges of each, and locates them in the
-//! other, but skips what can't change a cell any more (06-103r4, 6.1.15.2).
+//! The dimensionally extended nine-intersection model of two geometries (06-103r4, 6.1.15). `relate` makes their matrix: it goes
+//! through positions and edges of each, locates them in the other, and skips what can't change a cell any more. Patterns match a
+//! matrix, and predicates follow from it; which of these hold only where envelopes meet is known without one.
 #![tactic(auto)]
 
 mod fullness;

@@ -1,5 +1,5 @@
 //! The cells of the DE-9IM matrix of two geometries while they are found: what raises them, and their text (06-103r4,
-//! 6.1.15.2). The crate `matrices` finds them, and `relate` of `de9im` makes a matrix of them.
+//! 6.1.15.2). `find_matrix` finds them, and `relate` makes a matrix of them.
 
 ghost use Rattle.std.specs.Prelude.{◌≡◌};
 ghost use Rattle.geometry_model.specs.Patterns.{dimension_character};
@@ -10,7 +10,7 @@ use std::marker::Model;
 
 /// The cells of a DE-9IM matrix of two geometries: the dimension of what each part of the first has in common with each part
 /// of the second. The first word of a field's name is the part of the first geometry, the second word that of the second
-/// (06-103r4, 6.1.15.2). Contracts see them as that matrix; only `relate` of `de9im` makes a matrix of them.
+/// (06-103r4, 6.1.15.2). Contracts see them as that matrix; only `relate` makes a matrix of them.
 #[derive(Clone, Copy, Debug, PartialEq, Eq)]
 pub struct MatrixCells {
     /// Of both interiors.

@@ -1,6 +1,5 @@
-//! Runs plans of bound queries: whichever lawful plan is taken, the rows are those that the query means.
-//!
-//! The candidates of a plan: the rows, or the pairs of rows, that its accesses give, and the walk over them.
+//! Runs plans of bound queries: the walk over the candidates of a plan, which are the rows or pairs of rows that its accesses
+//! give, and the rows that pass. Whichever lawful plan is taken, these are those that the query means.
 #![tactic(auto)]
 
 mod asked_envelopes;

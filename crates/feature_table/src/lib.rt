@@ -1,8 +1,5 @@
-//! Feature tables in the style of OGC 06-104r4 (Simple Features, part 2), loaded from records of CSV: lawful
-//! schemas, tables of typed rows by ascending key, databases.
-//!
-//! Schemas, which are lawful, and tables of typed rows by ascending key, with an index for each geometry column, loaded from
-//! records of CSV.
+//! Feature tables in the style of OGC 06-104r4 (Simple Features, part 2): lawful schemas; records of CSV; tables of typed rows by
+//! ascending key, loaded from them, with an index for each geometry column; databases.
 #![tactic(auto)]
 
 pub mod cells;

@@ -1,8 +1,6 @@
-//! The laws of the geometry: what the definitions of `geometry_model` promise together. Nothing here runs: each function has an
-//! empty body, and its contract is a law.
-//!
-//! The laws of validity: the tests of faults, which compute in whole numbers, agree with the faults, which are facts about
-//! rational points. Nothing here runs: each function has an empty body, and its contract is a law.
+//! The laws of the geometry: what the definitions of `geometry_model` promise together, of points, sides, parity, pieces and
+//! coverings, of the faults of geometries, and of what is straight above and below a face point. Nothing here runs: each function
+//! has an empty body, and its contract is a law.
 #![tactic(auto)]
 
 pub mod coverings;

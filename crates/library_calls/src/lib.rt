@@ -1,10 +1,6 @@
-//! What the C library does, over texts and over valid geometries: their matrix, the relations by number, and faults in numbers
-//! (06-103r4, 6.1 and 7.2; the numbers: this project's choice). The crate `sfq_c` exports those over texts.
-//!
-//! Geometries from arrays of whole coordinates, as programs hold them: the same geometries, and the same faults, as those of texts
-//! with these numbers (06-103r4, 6.1 and 8.2; the arrays and the limits: this project's choice).
-//!
-//! Valid geometries that a caller in C keeps, each behind one pointer (06-103r4, 6.1; how they are kept: this project's choice).
+//! What the C library does (06-103r4, 6.1, 7.2 and 8.2; the numbers, arrays and limits: this project's choice): with texts, with
+//! arrays of whole coordinates, which are as texts with these numbers, and with valid geometries that a caller keeps behind a
+//! pointer: their matrix, the relations by number, what shows why, and faults in numbers. The crate `sfq_c` exports it.
 #![tactic(auto)]
 
 pub mod array_laws;

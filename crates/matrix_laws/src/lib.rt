@@ -1,6 +1,7 @@
-//! The theorem that labels are the point sets: the label matrix of two valid geometries is their DE-9IM matrix, and what
-//! follows from it. The modules have the laws that it needs, of cuts, areas and nested rings, and laws of what a matrix
-//! shows. Nothing here runs: each function has an empty body, and its contract is a law.
+//! The theorem that labels are the point sets: the label matrix of two valid geometries is their DE-9IM matrix, and what follows
+//! from it. The modules have the laws that it needs, of cuts, gaps, areas, elements and nested rings, and laws of what a matrix
+//! shows: by its cells, by covers and by witnesses. Nothing here runs: each function has an empty body, and its contract is a
+//! law.
 #![tactic(auto)]
 
 pub mod areas;

@@ -1,13 +1,9 @@
-//! What segments of the grid have in common, exactly: of two of them the points, of many the nodes and the pieces between
-//! them.
+//! What segments of the grid have in common, exactly: of two of them the points, of many the nodes and the pieces between them,
+//! of one edge among others the points and the gaps between these; and edges merged along each line.
 //!
-//! A segment is cut at its break points: its ends, the listed positions on it (positions that are given beside the segments,
-//! as a MULTIPOINT's), and what it shares with other segments. Nodes are the break points of all segments and the listed
-//! positions. A piece is the stretch of a segment between neighbouring nodes on it.
-//!
-//! Where other edges meet an edge: the points that they share, and the gaps between these.
-//!
-//! The edges of a geometry, merged along each line, so that one search finds out whether they hold all of another edge.
+//! A segment is cut at its break points: its ends, the listed positions on it (positions that are given beside the segments, as a
+//! MULTIPOINT's), and what it shares with other segments. Nodes are the break points of all segments and the listed positions. A
+//! piece is the stretch of a segment between neighbouring nodes on it.
 #![tactic(auto)]
 
 pub mod answers;

@@ -1,6 +1,5 @@
-//! Runs of queries: `run` writes the answer of a query's text over tables that it loads from readers.
-//!
-//! The records of an answer: its header, and the fields of a row.
+//! Runs of queries: `run` reads a query's text, loads the tables from readers, binds, plans, and writes the answer. The records
+//! of an answer are here too: its header, and the fields of a row.
 #![tactic(auto)]
 
 pub mod record_fields;

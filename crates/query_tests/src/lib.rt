@@ -1,12 +1,6 @@
-//! Tests of loaded tables, of the rows of plans and of conditions at rows, called by themselves.
-//!
-//! Tests of whole commands that need code: beginnings of texts, observers, and an index that lacks memory.
-//!
-//! Tests of runs over pairs of geometries, of the pages of faults, and of the texts that words give.
-//!
-//! Tests of witnesses and of the places of faults.
-//!
-//! Tests of the tiles that tables are split into: their cells, the check of a table, and the texts that are written.
+//! Tests of what is above the tables, which need code: loaded tables, rows of plans and conditions at rows, whole commands with
+//! observers and refused searches, runs over pairs, pages of faults and texts of words, witnesses and places of faults, and
+//! tiles.
 #![tactic(auto)]
 
 #[cfg(test)]

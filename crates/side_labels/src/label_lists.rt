@@ -1,5 +1,5 @@
 //! Labels: where the nodes, the pieces and the pieces' sides of two geometries lie in both (06-103r4, 6.1.15.2; labels:
-//! this project's choice). Here are their types; the crate `side_labels` finds them.
+//! this project's choice). Here are their types; `labels` finds them.
 
 ghost use Rattle.std.specs.Prelude.{◌≡◌};
 ghost use Rattle.geometry_model.specs.Labels.{same_location};

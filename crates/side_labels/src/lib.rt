@@ -1,4 +1,5 @@
-//! Where points lie in a geometry, and the labels of the nodes, the pieces and their sides of two geometries.
+//! Where points and their two sides lie in a geometry, and the labels of two geometries: where their nodes, their pieces and the
+//! pieces' sides lie in both.
 #![tactic(auto)]
 
 pub mod label_lists;

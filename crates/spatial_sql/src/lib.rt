@@ -1,10 +1,6 @@
-//! Schemas and queries in the style of OGC 06-104r4 (Simple Features, part 2): their texts are read into trees, a query
-//! is bound to a database, and its conditions have a truth at rows.
-//!
-//! The truth of conditions at rows, in SQL's three-valued logic, with the spatial predicates of OGC 06-104r4 (Simple
-//! Features, part 2).
-//!
-//! The filters of a plan: which rows pass its conjuncts, and of which rows it is sure beforehand that they don't.
+//! What a query means over a database, in the style of OGC 06-104r4 (Simple Features, part 2): `bind` turns its names into places
+//! and its texts into geometries, and `value` is the truth of a condition at rows, in SQL's three-valued logic. Filters say which
+//! rows pass all conjuncts, and of which it is sure beforehand that they don't.
 #![tactic(auto)]
 
 mod argument_binding;

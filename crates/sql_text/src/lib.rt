@@ -1,8 +1,6 @@
-//! The tokens of schemas and queries, in the style of OGC 06-104r4 (Simple Features, part 2): `lex` cuts a text into them,
-//! and a `Cursor` goes through them for the readers. The smallest steps of the readers of queries are here too.
-//!
-//! The reader of schemas in the style of OGC 06-104r4 (Simple Features, part 2): `read_schema` reads a text into the
-//! definitions of tables that the grammar gives.
+//! Reads schemas and queries in the style of OGC 06-104r4 (Simple Features, part 2): `lex` cuts a text into tokens, a `Cursor`
+//! goes through them, and `read_schema` and `read_query` make the definitions of tables and the tree of a query that the grammar
+//! gives.
 #![tactic(auto)]
 
 mod comparison_reader;

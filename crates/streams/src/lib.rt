@@ -1,13 +1,6 @@
-//! Observers, to which a run reports its progress: how many bytes a reader gave, how many candidates were looked at and how
-//! many rows were found. They can't change what is read or found.
-//!
-//! Readers of CSV texts with a bound. A text with too long a field or record is refused, and so is one that never ends a
-//! field or record, or has blank lines without end. And calls of the system that are made again where a signal interrupts them.
-//!
-//! Sinks: where the text of an answer goes, piece by piece. Over memory, over a writer, and the devices that
-//! fail on purpose, for tests.
-//!
-//! Writes records to a sink, each as the line that a `csv` writer with default settings makes of it.
+//! Where bytes come from and go to: sinks over memory and writers, and the writer of records as `csv` lines; readers with a bound
+//! on fields and records; calls of the system that are made again after a signal; observers of progress, which change nothing;
+//! and the devices that fail on purpose, for tests.
 #![tactic(auto)]
 
 pub mod devices;

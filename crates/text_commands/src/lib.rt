@@ -1,15 +1,6 @@
-//! The commands that need no schema, over readers and sinks of any kind: `relate`, `why`, `pairs` and `fault`.
-//!
-//! The DE-9IM matrix of two geometries in well-known text, or why there is none.
-//!
-//! The texts that words of a command line give: a word's own, or that of a file which it names by `@` and a path.
-//!
-//! The command `pairs`: a line for each record of two geometries, the DE-9IM matrix of the two or why one is refused.
-//!
-//! What the command `why` computes of texts: what shows each cell of the matrix of two geometries, and where a geometry isn't
-//! valid.
-//!
-//! The pages of `sfq fault`: what each fault means, an example of it, and what to do. They are those of docs/FAULTS.md.
+//! The commands that need no schema, over readers and sinks of any kind: `relate`, the matrix of two geometries in well-known
+//! text; `why`, what shows its cells, or where one isn't valid; `pairs`, a line for each record of two; and `fault`, the pages of
+//! docs/FAULTS.md. The text that a word gives, its own or that of a file, is read here too.
 #![tactic(auto)]
 
 pub mod cell_witnesses;

@@ -1,11 +1,6 @@
-//! The cells that tables are split into, and what a row gets in each.
-//!
-//! The grid is cut into boxes, and one cell more is for the empty geometries. A row is copied to each cell that the
-//! envelope of its geometry meets, with two marks.
-//!
-//! The first pass over a table that is split: it checks the table as loading does, without its bound of rows, and keeps no row.
-//!
-//! The second pass over a table: it writes each record to the texts of the cells that it is copied to, or of the stretch that it is in.
+//! What splits tables. The grid is cut into cells, and one cell more is for the empty geometries; a row is copied to each cell
+//! that the envelope of its geometry meets, with two marks. A first pass checks a table as loading does, without its bound of
+//! rows, and keeps no row; a second one writes each record to the texts of its cells, or of the stretch that it is in.
 #![tactic(auto)]
 
 pub mod cells;

@@ -1,16 +1,7 @@
-//! Witnesses: what shows each cell of the matrix of two geometries. A cell of dimension 0 is shown by a point, 1 by an open
-//! stretch, 2 by a face point, off all edges, around which all points lie alike (06-103r4, 6.1.15.2; witnesses: this
-//! project's choice).
-//!
-//! Where a ring clashes with itself and where two rings meet: two edges, and exactly what they share (06-103r4, 6.1.6.1
-//! and 6.1.11.1; places: this project's choice). Nothing here takes memory.
-//!
-//! Where and why a geometry isn't valid (06-103r4, 6.1.7, 6.1.11 and 6.1.14; which place is shown: this project's choice).
-//! Nothing here takes memory.
-//!
-//! Reasons as text: what shows each cell of a matrix, and where a geometry has a fault of validity.
-//!
-//! Whether the geometry that a text spells is valid, and if not, where it isn't: as a value, and as a line.
+//! What shows why. Witnesses of each cell of the matrix of two geometries: of dimension 0 a point, of 1 an open stretch, of 2 a
+//! face point, off all edges, around which all points lie alike (06-103r4, 6.1.15.2; witnesses: this project's choice). The place
+//! of a fault of validity (06-103r4, 6.1.6 to 6.1.14; which place is shown: this project's choice). Whether the geometry of a
+//! text is valid. And the lines that say these.
 #![tactic(auto)]
 
 mod divisors;

@@ -1,8 +1,5 @@
-//! Well-known text (06-103r4, 7.2): `read` reads a geometry from it, and `print` writes a geometry's canonical text. Geometries
-//! and faults are those of the crate `geometries`, and sinks, to which a text is written, those of the crate `sinks`.
-//!
-//! The type of geometries, and the faults of their texts (06-103r4, 6.1 and 7.2). The crate `wkt` reads geometries from
-//! texts and prints them.
+//! Geometries and well-known text (06-103r4, 6.1 and 7.2): the type of geometries, `read`, which reads one from a text or returns
+//! the first fault, and `print`, which writes its canonical text to a sink.
 #![tactic(auto)]
 
 mod coordinate_reader;
