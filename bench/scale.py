@@ -27,7 +27,7 @@ from timing import PROGRAM, ROOT, Table, exponent, figure, measure
 sys.path.insert(0, str(ROOT / "tests"))
 import scale_cluster
 
-SCALE = ROOT / "scale" / "sfq-scale"
+SCALE = ROOT / "bindings" / "python" / "bin" / "sfq-scale"
 TILES = ROOT / "crates" / "sfq_tiles" / "out" / "sfq_tiles"
 PICTURE = ROOT / "docs" / "pictures" / "scale.svg"
 MOST_ROWS = 100_000

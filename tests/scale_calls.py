@@ -10,7 +10,7 @@ import sys
 import tempfile
 
 ROOT = os.path.dirname(os.path.dirname(os.path.realpath(__file__)))
-sys.path.insert(0, f"{ROOT}/scale")
+sys.path.insert(0, f"{ROOT}/bindings/python")
 sys.dont_write_bytecode = True
 
 from sfq_scale import command

@@ -91,7 +91,7 @@ class Checkout:
             os.makedirs(self.root, exist_ok=True)
             shutil.copy(f"{ROOT}/{name}", f"{self.root}/{name}")
         leave_out = shutil.ignore_patterns("__pycache__")
-        for name in ("tools", "man", "completions", "scale", "python"):
+        for name in ("tools", "packaging", "bindings/python"):
             shutil.copytree(f"{ROOT}/{name}", f"{self.root}/{name}", ignore=leave_out)
         shutil.copy(f"{ROOT}/CHANGELOG.md", self.root)
         lines = "".join(f"{it}: {' '.join(used)}\n" for it, used in crates.items())

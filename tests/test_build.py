@@ -214,7 +214,7 @@ class Builds(WithBuild):
         self.assertEqual((ran.returncode, ran.stderr), (1, b"sfq: no sfq-tiles: crates.txt has no crate sfq_tiles\n"))
         ran = self.checkout.run(["sfq-tiles", "--version"])
         self.assertEqual((ran.returncode, ran.stdout, ran.stderr), (1, b"", b"sfq: ./build --tiles makes sfq-tiles\n"))
-        ran = self.checkout.run(["scale/sfq-scale", "run", "s", "d", "q", "--scheduler", "tcp://127.0.0.1:1", "--sfq", "/bin/true"])
+        ran = self.checkout.run(["bindings/python/bin/sfq-scale", "run", "s", "d", "q", "--scheduler", "tcp://127.0.0.1:1", "--sfq", "/bin/true"])
         self.assertEqual((ran.returncode, ran.stdout), (2, b""))
         self.assertRegex(ran.stderr, rb"\Asfq-scale: there is no program sfq-tiles beside sfq-scale or on the path: ./build --tiles makes it .*\n\Z")
 

@@ -29,7 +29,7 @@ import postgresql_server
 import repository
 
 sys.path.insert(0, f"{ROOT}/bench")
-sys.path.insert(0, f"{ROOT}/python")
+sys.path.insert(0, f"{ROOT}/bindings/python")
 
 import pairs as drawing
 import sfq
@@ -168,7 +168,7 @@ class Texts(unittest.TestCase):
     def test_a_missing_gdal_is_a_clear_error(self):
         with tempfile.TemporaryDirectory() as room:
             write(f"{room}/osgeo/__init__.py", "raise ImportError('none')\n")
-            known = {**os.environ, "PYTHONPATH": f"{room}:{ROOT}/python", "PYTHONDONTWRITEBYTECODE": "1"}
+            known = {**os.environ, "PYTHONPATH": f"{room}:{ROOT}/bindings/python", "PYTHONDONTWRITEBYTECODE": "1"}
             words = [sys.executable, "-m", "sfq.imports", "a", "--grid", "1", "--out", f"{room}/out"]
             ran = subprocess.run(words, env=known, capture_output=True, text=True)
         self.assertEqual((ran.returncode, ran.stdout), (1, ""))
@@ -206,7 +206,7 @@ class Installation(unittest.TestCase):
     def test_the_wheel_has_the_commands(self):
         with tempfile.TemporaryDirectory() as room:
             text = f"import wheels; print(wheels.build_wheel({room!r}))"
-            name = subprocess.run([sys.executable, "-B", "-c", text], cwd=f"{ROOT}/python/backend", capture_output=True, text=True, check=True).stdout.strip()
+            name = subprocess.run([sys.executable, "-B", "-c", text], cwd=f"{ROOT}/bindings/python/backend", capture_output=True, text=True, check=True).stdout.strip()
             with zipfile.ZipFile(f"{room}/{name}") as archive:
                 found = archive.read(next(it for it in archive.namelist() if it.endswith("entry_points.txt"))).decode()
         self.assertEqual(found, "[console_scripts]\nsfq-import = sfq.imports:main\nsfq-export = sfq.exports:main\n")
@@ -239,7 +239,7 @@ class Imports(engine_rows.WithLibrary):
 
     def command(self, name, *words, given=None, **more):
         known = {**os.environ, "SFQ_LIBRARY": library.SHARED, "PYTHONDONTWRITEBYTECODE": "1", **more}
-        return subprocess.run([PYTHON, f"{ROOT}/python/bin/{name}", *words], env=known, input=given, capture_output=True, text=True, cwd=self.room)
+        return subprocess.run([PYTHON, f"{ROOT}/bindings/python/bin/{name}", *words], env=known, input=given, capture_output=True, text=True, cwd=self.room)
 
     def source(self, features, name="t"):
         """Makes a file of GeoJSON, and returns its path."""
@@ -628,7 +628,7 @@ class Imports(engine_rows.WithLibrary):
     def test_progress_is_for_a_terminal(self):
         leader, follower = pty.openpty()
         self.addCleanup(os.close, leader)
-        words = [PYTHON, f"{ROOT}/python/bin/sfq-import", self.points("1,2\n" for _ in range(60_000)), "--grid", "1", "--out", f"{self.room}/shown"]
+        words = [PYTHON, f"{ROOT}/bindings/python/bin/sfq-import", self.points("1,2\n" for _ in range(60_000)), "--grid", "1", "--out", f"{self.room}/shown"]
         known = {**os.environ, "SFQ_LIBRARY": library.SHARED, "PYTHONDONTWRITEBYTECODE": "1"}
         with subprocess.Popen(words, env=known, stderr=follower) as child:
             os.close(follower)
@@ -646,7 +646,7 @@ class Imports(engine_rows.WithLibrary):
         out = f"{self.room}/many"
         room = 700 * 2**20
         known = {**os.environ, "SFQ_LIBRARY": library.SHARED, "PYTHONDONTWRITEBYTECODE": "1"}
-        words = [PYTHON, f"{ROOT}/python/bin/sfq-import", path, "--grid", "0.5", "--out", out]
+        words = [PYTHON, f"{ROOT}/bindings/python/bin/sfq-import", path, "--grid", "0.5", "--out", out]
         ran = subprocess.run(words, env=known, capture_output=True, text=True, preexec_fn=lambda: resource.setrlimit(resource.RLIMIT_AS, (room, room)))
         self.assertEqual((ran.returncode, ran.stdout), (0, ""), ran.stderr)
         self.assertIn("1,000,000 of 1,000,000 records in points.csv", ran.stderr)
@@ -670,7 +670,7 @@ class Documents(engine_rows.WithLibrary):
             os.makedirs(f"{room}/bin")
             os.symlink(repository.PROGRAM if repository.is_built() else f"{ROOT}/sfq", f"{room}/bin/sfq")
             for it in ("sfq-import", "sfq-export"):
-                os.symlink(f"{ROOT}/python/bin/{it}", f"{room}/bin/{it}")
+                os.symlink(f"{ROOT}/bindings/python/bin/{it}", f"{room}/bin/{it}")
             os.symlink(f"{ROOT}/examples", f"{room}/examples")
             known = {**os.environ, "PATH": f"{room}/bin:{os.environ['PATH']}", "SFQ_LIBRARY": library.SHARED, "PYTHONDONTWRITEBYTECODE": "1"}
             for script, shown in blocks:

@@ -18,7 +18,7 @@ import library
 import repository
 
 sys.path.insert(0, f"{ROOT}/bench")
-sys.path.insert(0, f"{ROOT}/python")
+sys.path.insert(0, f"{ROOT}/bindings/python")
 
 import pairs as drawing
 import sfq
@@ -239,7 +239,7 @@ class Package(engine_rows.WithLibrary):
 
     @unittest.skipUnless(PYTHON, "needs the package python3-shapely")
     def test_arrays_of_numpy(self):
-        ran = subprocess.run([PYTHON, "-c", ARRAYS], capture_output=True, text=True, env=environment(PYTHONPATH=f"{ROOT}/python"))
+        ran = subprocess.run([PYTHON, "-c", ARRAYS], capture_output=True, text=True, env=environment(PYTHONPATH=f"{ROOT}/bindings/python"))
         self.assertEqual((ran.returncode, ran.stdout), (0, ran.stdout), ran.stderr)
         self.assertEqual(ran.stdout.split(), ["[0,1,2]", "LINESTRING(0", "0,3", "4)", "['0FFFFF212',", "'FF0FFF212']", "[]",
                                               "['0FFFFFFF2',", "'FF0FFF212']", "1", "W3", "GridError", "GridError", "GridError", "ValueError"])
@@ -279,7 +279,7 @@ class Package(engine_rows.WithLibrary):
         )
         lines = [canonical for _, canonical in engine_rows.canonical_texts()]
         given = {"input": "\n".join(lines) + "\n", "text": True, "capture_output": True}
-        ran = subprocess.run([python, "-c", text], env=environment(PYTHONPATH=f"{ROOT}/python"), **given)
+        ran = subprocess.run([python, "-c", text], env=environment(PYTHONPATH=f"{ROOT}/bindings/python"), **given)
         self.assertEqual((ran.returncode, ran.stderr), (0, ""))
         *same, ring, fraction = ran.stdout.splitlines()
         self.assertEqual(same, ["True True"] * len(lines))
@@ -308,7 +308,7 @@ class Package(engine_rows.WithLibrary):
         shown = re.findall(r"```python\n(.*?)```.*?```text\n(.*?)```", text, re.S)
         self.assertGreaterEqual(len(shown), 1)
         for source, output in shown:
-            ran = subprocess.run([sys.executable, "-c", source], env=environment(PYTHONPATH=f"{ROOT}/python"), capture_output=True, text=True)
+            ran = subprocess.run([sys.executable, "-c", source], env=environment(PYTHONPATH=f"{ROOT}/bindings/python"), capture_output=True, text=True)
             self.assertEqual((ran.stdout, ran.stderr), (output, ""), source)
 
 
@@ -323,7 +323,7 @@ class Installation(unittest.TestCase):
     def build(self, call):
         """Returns what a call of the build backend returns, made in a process of its own as pip does."""
         text = f"import wheels; print(wheels.{call})"
-        ran = subprocess.run([sys.executable, "-B", "-c", text], env=environment(PYTHONPATH=f"{ROOT}/python/backend"), cwd=f"{ROOT}/python",
+        ran = subprocess.run([sys.executable, "-B", "-c", text], env=environment(PYTHONPATH=f"{ROOT}/bindings/python/backend"), cwd=f"{ROOT}/bindings/python",
                              capture_output=True, text=True, check=True)
         return ran.stdout.strip()
 
@@ -339,14 +339,14 @@ class Installation(unittest.TestCase):
     def test_the_wheel_has_the_package(self):
         with zipfile.ZipFile(f"{self.room}/" + self.build(f"build_wheel({self.room!r})")) as archive:
             names = archive.namelist()
-            self.assertEqual(archive.read("sfq/__init__.py").decode(), read(f"{ROOT}/python/sfq/__init__.py"))
+            self.assertEqual(archive.read("sfq/__init__.py").decode(), read(f"{ROOT}/bindings/python/sfq/__init__.py"))
             listed = [it.split(",")[0] for it in archive.read(names[-1]).decode().splitlines()]
         self.assertEqual(listed, names)
         self.assertIn("sfq/py.typed", names)
 
     def test_the_version_is_that_of_the_program(self):
         version = repository.version()
-        self.assertEqual(re.search(r'^version = "(.*)"$', read(f"{ROOT}/python/pyproject.toml"), re.M)[1], version)
+        self.assertEqual(re.search(r'^version = "(.*)"$', read(f"{ROOT}/bindings/python/pyproject.toml"), re.M)[1], version)
         self.assertEqual(sfq.__version__, version)
 
     def test_pip_installs_it_without_a_network(self):
@@ -355,7 +355,7 @@ class Installation(unittest.TestCase):
             self.skipTest("needs the package python3-venv")
         python = f"{self.room}/venv/bin/python"
         clean = {name: value for name, value in environment().items() if not name.startswith(("PIP_", "PYTHONPATH"))}
-        words = [python, "-m", "pip", "install", "-q", "--no-index", "--disable-pip-version-check", f"{ROOT}/python"]
+        words = [python, "-m", "pip", "install", "-q", "--no-index", "--disable-pip-version-check", f"{ROOT}/bindings/python"]
         ran = subprocess.run(words, env={**clean, "https_proxy": "http://127.0.0.1:1"}, capture_output=True, text=True)
         self.assertEqual(ran.returncode, 0, ran.stderr)
         text = "import sfq, importlib.metadata; print(sfq.__file__, importlib.metadata.version('sfq'))"
@@ -367,7 +367,7 @@ class Installation(unittest.TestCase):
     def loading(self, place):
         """Returns the error of a geometry where SFQ_LIBRARY names this file."""
         text = "import sfq\ntry:\n    sfq.Geometry('POINT(1 1)').fault\nexcept sfq.LibraryError as error:\n    print(error)\n"
-        known = environment(PYTHONPATH=f"{ROOT}/python", SFQ_LIBRARY=place)
+        known = environment(PYTHONPATH=f"{ROOT}/bindings/python", SFQ_LIBRARY=place)
         return subprocess.run([sys.executable, "-c", text], env=known, capture_output=True, text=True).stdout
 
     def test_a_missing_library_is_a_clear_error(self):
@@ -375,7 +375,7 @@ class Installation(unittest.TestCase):
         self.assertRegex(self.loading("libc.so.6"), r"libc.so.6 isn't the library that this package needs: .*sfq_read")
 
     def test_meanings_are_those_of_the_other_bindings(self):
-        text = read(f"{ROOT}/library/faults.h")
+        text = read(f"{ROOT}/bindings/c/faults.h")
         for code, meaning in _faults.MEANINGS.items():
             self.assertIn(f'"{meaning}"', text, code)
 

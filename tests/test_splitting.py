@@ -234,7 +234,7 @@ class Manual(WithFolder):
 
     @needs_programs
     def test_prints_what_is_shown(self):
-        page = read(f"{ROOT}/man/sfq-tiles.1").replace("\\-", "-")
+        page = read(f"{ROOT}/packaging/man/sfq-tiles.1").replace("\\-", "-")
         call, shown = re.findall(r"\.EX\n((?:.*\n)+?)\.EE\n", page)
         words = call.replace(" OUT ", f" {self.folder}/out ").split()[1:]
         ran = subprocess.run([TILES, *words], cwd=ROOT, capture_output=True, text=True)
