@@ -5,18 +5,16 @@ import random
 import re
 import shutil
 import subprocess
-import sys
 import tempfile
 import unittest
 from concurrent.futures import ThreadPoolExecutor
 
 from support import ROOT, needs, needs_build, read
+
 import engine_rows
 import library
-import repository
-
-sys.path.insert(0, f"{ROOT}/bench")
 import pairs as drawing
+import repository
 
 # A text, and its first fault in numbers: the letter, the number, and two places. Worked out from docs/FAULTS.md.
 FAULTS = [

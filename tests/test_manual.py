@@ -7,18 +7,19 @@ import sys
 import tempfile
 import unittest
 
-import scale_programs
-from support import ROOT, asked, needs, read
+from support import ROOT, asked, needs, python_command, read
+
 import repository
+import scale_programs
 
 PAGE = f"{ROOT}/packaging/man/sfq.1"
 COMPLETIONS = ("sfq.bash", "_sfq", "sfq.fish")
 # The other commands, and the words that print their options.
 OTHERS = {
     "sfq-tiles": [scale_programs.TILES, "--help"],
-    "sfq-scale": [sys.executable, f"{ROOT}/bindings/python/bin/sfq-scale", "run", "--help"],
-    "sfq-import": [sys.executable, f"{ROOT}/bindings/python/bin/sfq-import", "--help"],
-    "sfq-export": [sys.executable, f"{ROOT}/bindings/python/bin/sfq-export", "--help"],
+    "sfq-scale": [*python_command(sys.executable, "sfq-scale"), "run", "--help"],
+    "sfq-import": [*python_command(sys.executable, "sfq-import"), "--help"],
+    "sfq-export": [*python_command(sys.executable, "sfq-export"), "--help"],
 }
 
 
@@ -156,7 +157,8 @@ class OtherCommands(unittest.TestCase):
     def test_each_says_its_version(self):
         for name, words in OTHERS.items():
             if name != "sfq-tiles" or scale_programs.has_tiles():
-                ran = subprocess.run([*words[: 2 if words[0] == sys.executable else 1], "--version"], capture_output=True, text=True)
+                command = [it for it in words if it not in ("run", "--help")]
+                ran = subprocess.run([*command, "--version"], capture_output=True, text=True)
                 self.assertEqual((ran.stdout, ran.stderr), (f"{name} {repository.version()}\n", ""))
 
 

@@ -15,18 +15,15 @@ import tempfile
 import time
 import unittest
 
+from support import ROOT, read, write
+
 import postgresql_server
+import repository
 import scale_cluster
 import scale_programs
 import scale_tables
 from fuzz import joins
 from scale_programs import SFQ, TILES
-from support import ROOT, read, write
-
-import repository
-
-sys.path.insert(0, f"{ROOT}/bindings/python")
-
 from sfq_scale import merging, query, schema, words
 
 MISTAKEN = f"{ROOT}/tests/mistaken_tiles.py"
@@ -309,9 +306,10 @@ class Refusals(WithCluster):
     @needs_program
     def test_output_that_cannot_be_written(self):
         words_ = self.words("SELECT id, name FROM parcel")
-        code = f"import sys; sys.path[:0] = ['{ROOT}/tests', '{ROOT}/bindings/python']; import scale_here; scale_here.take(); from sfq_scale import command; command.main({words_!r})"
+        code = f"import scale_here; scale_here.take(); from sfq_scale import command; command.main({words_!r})"
+        known = scale_cluster.environment({"TMPDIR": self.folder, "PYTHONPATH": f"{ROOT}/tests:{ROOT}/bindings/python"})
         with open("/dev/full", "wb") as full:
-            ran = subprocess.run([sys.executable, "-c", code], stdout=full, stderr=subprocess.PIPE, env=scale_cluster.environment({"TMPDIR": self.folder}))
+            ran = subprocess.run([sys.executable, "-c", code], stdout=full, stderr=subprocess.PIPE, env=known)
         self.assertEqual((ran.stderr, ran.returncode), (b"sfq: write failed\n", 6))
         self.refused("SELECT id FROM parcel", 6, "no folder can be made in /nothing", "--room", "/nothing")
 

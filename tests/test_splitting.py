@@ -14,11 +14,12 @@ import tempfile
 import time
 import unittest
 
+from support import ROOT, read, write
+
 import scale_tables
 import tile_model
 from fuzz import joins
 from scale_programs import SFQ, TILES, needs_programs
-from support import ROOT, read, write
 
 
 class WithFolder(unittest.TestCase):

@@ -10,21 +10,16 @@ import re
 import shutil
 import signal
 import subprocess
-import sys
 import tempfile
 import threading
 import unittest
 
 from support import ROOT, needs_build, read
+
 import answers
-import required_rows
-
-sys.path.insert(0, f"{ROOT}/tests/fuzz")
-sys.path.insert(0, f"{ROOT}/bench")
-
-import changes
-import outcomes
 import pairs
+import required_rows
+from fuzz import changes, outcomes
 
 FOUND = importlib.util.spec_from_file_location("web_build", f"{ROOT}/bindings/web/build.py")
 web_build = importlib.util.module_from_spec(FOUND)

@@ -16,7 +16,7 @@ import library
 import repository
 import tiles
 
-# Where Python's modules of programs are installed, a folder for each package. The programs look there.
+# Where Python's modules of programs are installed, a folder for each package. The launchers have Python run this folder.
 SHARE = "share/sfq"
 # Where each shell looks for the completions of a command.
 SHELLS = {
@@ -47,6 +47,7 @@ TILES = [
 ]
 DATA = [(f"bindings/python/bin/{it}", f"bin/{it}", 0o755) for it in bindings.COMMANDS]
 DATA += [*(file for it in bindings.COMMANDS for file in described(it)), *modules("bindings/python/sfq")]
+DATA.append(("bindings/python/__main__.py", f"{SHARE}/__main__.py", 0o644))
 FILES = PROGRAM + TILES + DATA
 # Debian's zsh looks elsewhere for the completions of its packages.
 OF_DEBIAN = {"share/zsh/site-functions/": "share/zsh/vendor-completions/"}

@@ -174,7 +174,6 @@ def flat(suite):
 
 def find_tests():
     """Returns the tests in tests/."""
-    sys.path.insert(0, f"{ROOT}/tests")
     found = unittest.defaultTestLoader.discover(f"{ROOT}/tests", top_level_dir=f"{ROOT}/tests")
     return list(flat(found))
 

@@ -13,14 +13,14 @@ import hashlib
 import json
 import os
 import re
+import runpy
 import shutil
 import sys
 import tempfile
 from typing import NamedTuple
 
 WEB = os.path.dirname(os.path.realpath(__file__))
-sys.dont_write_bytecode = True
-sys.path.insert(0, f"{os.path.dirname(os.path.dirname(WEB))}/tools")
+runpy.run_path(f"{os.path.dirname(os.path.dirname(WEB))}/tools/paths.py")
 
 import calls
 import fault_pages
