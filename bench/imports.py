@@ -16,7 +16,7 @@ import tempfile
 
 from timing import ROOT, Table, figure, measure
 
-LIBRARY = ROOT / "library" / "out" / "libsfq.so.0"
+LIBRARY = ROOT / "bindings" / "c" / "out" / "libsfq.so.0"
 MOST = 4
 SOURCE = """
 import random, sys
@@ -69,7 +69,7 @@ def seconds(path, room, repeats):
         for it in ("ours", "theirs.csv"):
             shutil.rmtree(room / it, ignore_errors=True)
             (room / it).unlink(missing_ok=True)
-        _, taken, memory = measure([ROOT / "python/bin/sfq-import", path, *grid, "--out", room / "ours"], room)
+        _, taken, memory = measure([ROOT / "bindings/python/bin/sfq-import", path, *grid, "--out", room / "ours"], room)
         ours.append(taken)
         peak = max(peak, memory)
         theirs.append(measure(["ogr2ogr", "-f", "CSV", "-lco", "GEOMETRY=AS_WKT", room / "theirs.csv", path], room)[1])

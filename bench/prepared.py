@@ -20,7 +20,7 @@ import tempfile
 from areas import SPAN, ring, star
 from timing import ROOT, figure, instructions, measure, print_columns, print_heads, ratios
 
-LIBRARY = ROOT / "library" / "out" / "libsfq.a"
+LIBRARY = ROOT / "bindings" / "c" / "out" / "libsfq.a"
 SIZES = (5, 100, 1_000, 9_999)
 # Two stars: what they are, and by how much one of them is moved either way.
 MOVED = [("cross", SPAN // 3), ("are apart", SPAN * 29 // 20)]
@@ -35,7 +35,7 @@ def built(folder):
         sys.exit("the library isn't there: run ./build --library once")
     program = folder / "prepared"
     source = pathlib.Path(__file__).resolve().parent / "prepared.c"
-    words = ["gcc", "-O2", "-Wall", "-o", program, source, f"-I{ROOT}/library", LIBRARY, "-lgeos_c"]
+    words = ["gcc", "-O2", "-Wall", "-o", program, source, f"-I{ROOT}/bindings/c", LIBRARY, "-lgeos_c"]
     subprocess.run([str(it) for it in words], check=True)
     return program
 

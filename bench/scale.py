@@ -16,6 +16,7 @@ import argparse
 import hashlib
 import pathlib
 import re
+import runpy
 import subprocess
 import sys
 import tempfile
@@ -24,10 +25,10 @@ import time
 import plots
 from timing import PROGRAM, ROOT, Table, exponent, figure, measure
 
-sys.path.insert(0, str(ROOT / "tests"))
+runpy.run_path(str(ROOT / "tools" / "paths.py"))
 import scale_cluster
 
-SCALE = ROOT / "scale" / "sfq-scale"
+SCALE = ROOT / "bindings" / "python" / "bin" / "sfq-scale"
 TILES = ROOT / "crates" / "sfq_tiles" / "out" / "sfq_tiles"
 PICTURE = ROOT / "docs" / "pictures" / "scale.svg"
 MOST_ROWS = 100_000

@@ -6,12 +6,12 @@ It prints, as JSON, what each wrote on its two streams, as Latin-1, and its stat
 """
 import json
 import os
+import runpy
 import sys
 import tempfile
 
 ROOT = os.path.dirname(os.path.dirname(os.path.realpath(__file__)))
-sys.path.insert(0, f"{ROOT}/scale")
-sys.dont_write_bytecode = True
+runpy.run_path(f"{ROOT}/tools/paths.py")
 
 from sfq_scale import command
 

@@ -2,7 +2,7 @@
 import functools
 import os
 
-import support  # finds the tools
+import support  # finds the modules
 import repository
 import tiles
 

@@ -1,6 +1,7 @@
 """What the system tests share."""
 import functools
 import os
+import runpy
 import shutil
 import stat
 import subprocess
@@ -9,8 +10,7 @@ import tempfile
 import unittest
 
 ROOT = os.path.dirname(os.path.dirname(os.path.realpath(__file__)))
-sys.path.insert(0, f"{ROOT}/tools")
-sys.dont_write_bytecode = True
+runpy.run_path(f"{ROOT}/tools/paths.py")
 
 import answers
 import printed
@@ -37,6 +37,12 @@ def finish(out, err, status):
     sys.exit(status)
 exec(open(room + "/behaviour").read())
 """
+
+
+def python_command(python, name):
+    """Returns the words that run sfq-import, sfq-export or sfq-scale of this repository by a Python, as the launcher does by Debian's."""
+    folder = f"{ROOT}/bindings/python"
+    return [python, "-B", folder, f"{folder}/bin/{name}"]
 
 
 def needs(package, command):
@@ -91,7 +97,7 @@ class Checkout:
             os.makedirs(self.root, exist_ok=True)
             shutil.copy(f"{ROOT}/{name}", f"{self.root}/{name}")
         leave_out = shutil.ignore_patterns("__pycache__")
-        for name in ("tools", "man", "completions", "scale", "python"):
+        for name in ("tools", "packaging", "bindings/python"):
             shutil.copytree(f"{ROOT}/{name}", f"{self.root}/{name}", ignore=leave_out)
         shutil.copy(f"{ROOT}/CHANGELOG.md", self.root)
         lines = "".join(f"{it}: {' '.join(used)}\n" for it, used in crates.items())

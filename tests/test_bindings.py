@@ -48,7 +48,7 @@ class Installed(engine_rows.WithLibrary):
 
     def test_nothing_is_written_outside_of_the_prefix(self):
         """PostgreSQL looks in folders of its own, which aren't below this prefix: a line says what to do."""
-        self.assertRegex(self.printed, r"(?m)^not installed: the extensions of PostgreSQL, which (looks in /.*make -C postgresql|need )")
+        self.assertRegex(self.printed, r"(?m)^not installed: the extensions of PostgreSQL, which (looks in /.*make -C bindings/postgresql|need )")
         for it in self.made:
             self.assertTrue(os.path.lexists(it) and bindings.is_below(os.path.dirname(it), os.path.dirname(self.prefix)), it)
 

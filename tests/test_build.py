@@ -5,7 +5,6 @@ import pty
 import shutil
 import signal
 import subprocess
-import sys
 import tarfile
 import time
 import unittest
@@ -214,7 +213,7 @@ class Builds(WithBuild):
         self.assertEqual((ran.returncode, ran.stderr), (1, b"sfq: no sfq-tiles: crates.txt has no crate sfq_tiles\n"))
         ran = self.checkout.run(["sfq-tiles", "--version"])
         self.assertEqual((ran.returncode, ran.stdout, ran.stderr), (1, b"", b"sfq: ./build --tiles makes sfq-tiles\n"))
-        ran = self.checkout.run(["scale/sfq-scale", "run", "s", "d", "q", "--scheduler", "tcp://127.0.0.1:1", "--sfq", "/bin/true"])
+        ran = self.checkout.run(["bindings/python/bin/sfq-scale", "run", "s", "d", "q", "--scheduler", "tcp://127.0.0.1:1", "--sfq", "/bin/true"])
         self.assertEqual((ran.returncode, ran.stdout), (2, b""))
         self.assertRegex(ran.stderr, rb"\Asfq-scale: there is no program sfq-tiles beside sfq-scale or on the path: ./build --tiles makes it .*\n\Z")
 
@@ -268,7 +267,7 @@ class Commands(WithBuild):
         for it in ("sfq", "sfq-tiles"):
             self.assertEqual(subprocess.run([f"{prefix}/bin/{it}"], capture_output=True).stdout, b"proved\n")
         for it in ("sfq-scale", "sfq-import", "sfq-export"):
-            ran = subprocess.run([sys.executable, f"{prefix}/bin/{it}", "--version"], capture_output=True, text=True, cwd="/")
+            ran = subprocess.run([f"{prefix}/bin/{it}", "--version"], capture_output=True, text=True, cwd="/")
             self.assertEqual((ran.stdout, ran.stderr), (f"{it} 0.1.0\n", ""))
         self.assertEqual(self.installed(prefix), found)
         self.assertEqual(self.build("--uninstall", prefix).returncode, 0)
@@ -282,11 +281,11 @@ class Commands(WithBuild):
         words = [f"{prefix}/bin/sfq-scale", "run", "s", "d", "q", "--scheduler", "tcp://127.0.0.1:1"]
         for it in ("sfq", "sfq-tiles"):
             os.rename(f"{prefix}/bin/{it}", f"{prefix}/{it}")
-            ran = subprocess.run([sys.executable, *words], capture_output=True, text=True, env={**os.environ, "PATH": "/usr/bin:/bin"})
+            ran = subprocess.run(words, capture_output=True, text=True, env={**os.environ, "PATH": "/usr/bin:/bin"})
             self.assertEqual(ran.returncode, 2)
             self.assertIn(f"sfq-scale: there is no program {it} beside sfq-scale", ran.stderr)
             os.rename(f"{prefix}/{it}", f"{prefix}/bin/{it}")
-        ran = subprocess.run([sys.executable, *words], capture_output=True, text=True, env={**os.environ, "PATH": "/usr/bin:/bin"})
+        ran = subprocess.run(words, capture_output=True, text=True, env={**os.environ, "PATH": "/usr/bin:/bin"})
         self.assertNotIn("there is no program", ran.stderr)
 
 

@@ -8,9 +8,10 @@ import unittest
 import xml.etree.ElementTree as tree
 from collections import Counter
 
+from support import ROOT, read
+
 import exact_cells
 import exact_places
-from support import ROOT, read
 
 SCRIPT = f"{ROOT}/examples/draw.py"
 KINDS = {"at": "point", "from": "stretch", "around": "ring"}

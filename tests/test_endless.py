@@ -7,8 +7,9 @@ import tempfile
 import threading
 import unittest
 
-from faults import sweeps
 from support import needs_build
+
+from faults import sweeps
 
 FIELD_BYTES = 1 << 20
 RECORD_FIELDS = 100_000

@@ -4,10 +4,10 @@ import sys
 import unittest
 from concurrent.futures import ThreadPoolExecutor
 
-from faults import measures, sweeps
 from support import ROOT, needs, needs_build, read
 
 import proving
+from faults import measures, sweeps
 
 # How many calls of a kind are failed in the short form, at most, and in the long one.
 FEW, ALL = 60, sys.maxsize

@@ -6,10 +6,10 @@ import sys
 import tempfile
 import unittest
 
-from fuzz import cases, checks, outcomes, reducer
 from support import ROOT, needs_build, read, write
 
 import repository
+from fuzz import cases, checks, outcomes, reducer
 
 FUZZ, GAUGE = f"{ROOT}/tests/fuzz/fuzz.py", f"{ROOT}/crates/gauge/out/gauge"
 SQUARE, LINE = b"POLYGON((0 0,4 0,4 4,0 4,0 0))", b"LINESTRING(-2 2,2 -2)"

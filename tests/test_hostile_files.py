@@ -10,8 +10,9 @@ import threading
 import time
 import unittest
 
-from faults import sweeps
 from support import needs, needs_build
+
+from faults import sweeps
 
 # What `check` writes.
 WELL = (b"place 300\narea 60\nshore 2\n", b"", 0)

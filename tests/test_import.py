@@ -15,23 +15,18 @@ import sys
 import tempfile
 import unittest
 import xml.etree.ElementTree as tree
-import zipfile
 from fractions import Fraction
 
-from support import ROOT, needs, needs_build, read, write
+from support import ROOT, needs, needs_build, python_command, read, write
 
 import answers
 import bindings
 import engine_rows
 import library
 import packages
+import pairs as drawing
 import postgresql_server
 import repository
-
-sys.path.insert(0, f"{ROOT}/bench")
-sys.path.insert(0, f"{ROOT}/python")
-
-import pairs as drawing
 import sfq
 from sfq import _grid, _reading, _tables, _wkb, imports
 
@@ -168,7 +163,7 @@ class Texts(unittest.TestCase):
     def test_a_missing_gdal_is_a_clear_error(self):
         with tempfile.TemporaryDirectory() as room:
             write(f"{room}/osgeo/__init__.py", "raise ImportError('none')\n")
-            known = {**os.environ, "PYTHONPATH": f"{room}:{ROOT}/python", "PYTHONDONTWRITEBYTECODE": "1"}
+            known = {**os.environ, "PYTHONPATH": f"{room}:{ROOT}/bindings/python", "PYTHONDONTWRITEBYTECODE": "1"}
             words = [sys.executable, "-m", "sfq.imports", "a", "--grid", "1", "--out", f"{room}/out"]
             ran = subprocess.run(words, env=known, capture_output=True, text=True)
         self.assertEqual((ran.returncode, ran.stdout), (1, ""))
@@ -190,7 +185,7 @@ class Texts(unittest.TestCase):
 
 
 class Installation(unittest.TestCase):
-    """The commands where ./build --install or pip installs them."""
+    """The commands where ./build --install installs them."""
 
     def test_the_commands_run_from_a_prefix(self):
         """With the package for Python programs, or without."""
@@ -199,17 +194,9 @@ class Installation(unittest.TestCase):
                 with contextlib.redirect_stdout(io.StringIO()):
                     packages.copy(packages.DATA + more, room)
                 for it in bindings.COMMANDS:
-                    ran = subprocess.run([sys.executable, f"{room}/bin/{it}", "--version"], capture_output=True, text=True, cwd=room)
+                    ran = subprocess.run([f"{room}/bin/{it}", "--version"], capture_output=True, text=True, cwd=room)
                     self.assertEqual((ran.stdout, ran.stderr), (f"{it} {repository.version()}\n", ""))
                     self.assertTrue(os.path.isfile(f"{room}/share/man/man1/{it}.1"))
-
-    def test_the_wheel_has_the_commands(self):
-        with tempfile.TemporaryDirectory() as room:
-            text = f"import wheels; print(wheels.build_wheel({room!r}))"
-            name = subprocess.run([sys.executable, "-B", "-c", text], cwd=f"{ROOT}/python/backend", capture_output=True, text=True, check=True).stdout.strip()
-            with zipfile.ZipFile(f"{room}/{name}") as archive:
-                found = archive.read(next(it for it in archive.namelist() if it.endswith("entry_points.txt"))).decode()
-        self.assertEqual(found, "[console_scripts]\nsfq-import = sfq.imports:main\nsfq-export = sfq.exports:main\n")
 
 
 class Imports(engine_rows.WithLibrary):
@@ -239,7 +226,7 @@ class Imports(engine_rows.WithLibrary):
 
     def command(self, name, *words, given=None, **more):
         known = {**os.environ, "SFQ_LIBRARY": library.SHARED, "PYTHONDONTWRITEBYTECODE": "1", **more}
-        return subprocess.run([PYTHON, f"{ROOT}/python/bin/{name}", *words], env=known, input=given, capture_output=True, text=True, cwd=self.room)
+        return subprocess.run([*python_command(PYTHON, name), *words], env=known, input=given, capture_output=True, text=True, cwd=self.room)
 
     def source(self, features, name="t"):
         """Makes a file of GeoJSON, and returns its path."""
@@ -628,7 +615,7 @@ class Imports(engine_rows.WithLibrary):
     def test_progress_is_for_a_terminal(self):
         leader, follower = pty.openpty()
         self.addCleanup(os.close, leader)
-        words = [PYTHON, f"{ROOT}/python/bin/sfq-import", self.points("1,2\n" for _ in range(60_000)), "--grid", "1", "--out", f"{self.room}/shown"]
+        words = [*python_command(PYTHON, "sfq-import"), self.points("1,2\n" for _ in range(60_000)), "--grid", "1", "--out", f"{self.room}/shown"]
         known = {**os.environ, "SFQ_LIBRARY": library.SHARED, "PYTHONDONTWRITEBYTECODE": "1"}
         with subprocess.Popen(words, env=known, stderr=follower) as child:
             os.close(follower)
@@ -646,7 +633,7 @@ class Imports(engine_rows.WithLibrary):
         out = f"{self.room}/many"
         room = 700 * 2**20
         known = {**os.environ, "SFQ_LIBRARY": library.SHARED, "PYTHONDONTWRITEBYTECODE": "1"}
-        words = [PYTHON, f"{ROOT}/python/bin/sfq-import", path, "--grid", "0.5", "--out", out]
+        words = [*python_command(PYTHON, "sfq-import"), path, "--grid", "0.5", "--out", out]
         ran = subprocess.run(words, env=known, capture_output=True, text=True, preexec_fn=lambda: resource.setrlimit(resource.RLIMIT_AS, (room, room)))
         self.assertEqual((ran.returncode, ran.stdout), (0, ""), ran.stderr)
         self.assertIn("1,000,000 of 1,000,000 records in points.csv", ran.stderr)
@@ -670,7 +657,7 @@ class Documents(engine_rows.WithLibrary):
             os.makedirs(f"{room}/bin")
             os.symlink(repository.PROGRAM if repository.is_built() else f"{ROOT}/sfq", f"{room}/bin/sfq")
             for it in ("sfq-import", "sfq-export"):
-                os.symlink(f"{ROOT}/python/bin/{it}", f"{room}/bin/{it}")
+                os.symlink(f"{ROOT}/bindings/python/bin/{it}", f"{room}/bin/{it}")
             os.symlink(f"{ROOT}/examples", f"{room}/examples")
             known = {**os.environ, "PATH": f"{room}/bin:{os.environ['PATH']}", "SFQ_LIBRARY": library.SHARED, "PYTHONDONTWRITEBYTECODE": "1"}
             for script, shown in blocks:

@@ -6,10 +6,10 @@ import tempfile
 import unittest
 from collections import Counter
 
-from fuzz import joins, outcomes
 from support import needs_build, write
 
 import repository
+from fuzz import joins, outcomes
 
 # How many joins are drawn in the short form, and in the long one. Each is asked twice, with its references exchanged.
 FEW, MANY = 200, 2_000

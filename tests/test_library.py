@@ -5,18 +5,16 @@ import random
 import re
 import shutil
 import subprocess
-import sys
 import tempfile
 import unittest
 from concurrent.futures import ThreadPoolExecutor
 
 from support import ROOT, needs, needs_build, read
+
 import engine_rows
 import library
-import repository
-
-sys.path.insert(0, f"{ROOT}/bench")
 import pairs as drawing
+import repository
 
 # A text, and its first fault in numbers: the letter, the number, and two places. Worked out from docs/FAULTS.md.
 FAULTS = [
@@ -231,7 +229,7 @@ class WithLibrary(unittest.TestCase):
     def program(self, name, *words, of=("calls", "kept", "whys")):
         """Compiles the program, and returns its path."""
         to = f"{self.room.name}/{name}"
-        flags = ["-std=c99", "-Wall", "-Wextra", "-Werror", "-g", f"-I{ROOT}/library", "-pthread"]
+        flags = ["-std=c99", "-Wall", "-Wextra", "-Werror", "-g", f"-I{ROOT}/bindings/c", "-pthread"]
         sources = [f"{ROOT}/tests/library/{it}.c" for it in of]
         subprocess.run(["cc", *flags, *sources, "-o", to, *words], check=True)
         return to
@@ -330,7 +328,7 @@ class Library(WithLibrary):
             # A shared library has the version of a call behind it, and the version itself.
             seen = re.findall(r"^[0-9a-f]+ (?!A )[A-Z] ([^@\s]+)\S*$", ran.stdout, re.M)
             self.assertEqual(sorted(seen), sorted(library.seen_calls()))
-        declared = re.findall(r"^\w+ (sfq_\w+)\(", read(f"{ROOT}/library/sfq.h"), re.M)
+        declared = re.findall(r"^\w+ (sfq_\w+)\(", read(f"{ROOT}/bindings/c/sfq.h"), re.M)
         self.assertEqual(sorted(declared), sorted(library.seen_calls()))
 
     @needs("g++", "c++")
@@ -338,7 +336,7 @@ class Library(WithLibrary):
         with open(f"{self.room.name}/header.cc", "w", encoding="utf-8") as file:
             file.write('#include "sfq.h"\nint main() { return sfq_check("", 0, nullptr) == SFQ_REFUSED ? 0 : 1; }\n')
         program = f"{self.room.name}/header"
-        flags = ["-std=c++11", "-Wall", "-Wextra", "-Werror", f"-I{ROOT}/library"]
+        flags = ["-std=c++11", "-Wall", "-Wextra", "-Werror", f"-I{ROOT}/bindings/c"]
         subprocess.run(["c++", *flags, f"{program}.cc", f"{library.OUT}/libsfq.a", "-o", program], check=True)
         self.assertEqual(subprocess.run([program]).returncode, 0)
 

@@ -7,18 +7,19 @@ import sys
 import tempfile
 import unittest
 
-import scale_programs
-from support import ROOT, asked, needs, read
-import repository
+from support import ROOT, asked, needs, python_command, read
 
-PAGE = f"{ROOT}/man/sfq.1"
+import repository
+import scale_programs
+
+PAGE = f"{ROOT}/packaging/man/sfq.1"
 COMPLETIONS = ("sfq.bash", "_sfq", "sfq.fish")
 # The other commands, and the words that print their options.
 OTHERS = {
     "sfq-tiles": [scale_programs.TILES, "--help"],
-    "sfq-scale": [sys.executable, f"{ROOT}/scale/sfq-scale", "run", "--help"],
-    "sfq-import": [sys.executable, f"{ROOT}/python/bin/sfq-import", "--help"],
-    "sfq-export": [sys.executable, f"{ROOT}/python/bin/sfq-export", "--help"],
+    "sfq-scale": [*python_command(sys.executable, "sfq-scale"), "run", "--help"],
+    "sfq-import": [*python_command(sys.executable, "sfq-import"), "--help"],
+    "sfq-export": [*python_command(sys.executable, "sfq-export"), "--help"],
 }
 
 
@@ -37,13 +38,13 @@ class ManualPage(unittest.TestCase):
     @needs("groff", "groff")
     def test_no_warning(self):
         for name in ("sfq", *OTHERS):
-            ran = subprocess.run(["groff", "-t", "-man", "-ww", "-Tutf8", f"{ROOT}/man/{name}.1"], capture_output=True, text=True)
+            ran = subprocess.run(["groff", "-t", "-man", "-ww", "-Tutf8", f"{ROOT}/packaging/man/{name}.1"], capture_output=True, text=True)
             self.assertEqual((ran.stderr, ran.returncode), ("", 0))
             self.assertIn("EXIT STATUS", re.sub(r".\x08|\x1b\[[\d;]*m", "", ran.stdout))
 
     def test_it_is_of_this_version(self):
         for name in ("sfq", *OTHERS):
-            self.assertIn(f'"sfq {repository.version()}"', read(f"{ROOT}/man/{name}.1"))
+            self.assertIn(f'"sfq {repository.version()}"', read(f"{ROOT}/packaging/man/{name}.1"))
         self.assertRegex(read(f"{ROOT}/CHANGELOG.md"), rf"(?m)^## {re.escape(repository.version())} \(")
 
     def test_each_fault_and_status_of_the_document_is_in_it(self):
@@ -83,7 +84,7 @@ class Help(unittest.TestCase):
             for it in filter(None, pair):
                 self.assertRegex(page, rf"(?<![\w-]){it}\b", it)
         for name in COMPLETIONS:
-            text = read(f"{ROOT}/completions/{name}")
+            text = read(f"{ROOT}/packaging/completions/{name}")
             for it in commands:
                 self.assertRegex(text, rf"\b{it}\b", f"{name}: {it}")
             for short, long in options:
@@ -91,7 +92,7 @@ class Help(unittest.TestCase):
                 self.assertRegex(text, rf"(?<![\w-]){short}\b|-s {short[1:]}\b", f"{name}: {short}")
         self.assertEqual(first.status, 0)
         # Nothing that sfq doesn't have.
-        words = re.search(r"compgen -W '(run [^']*)'", read(f"{ROOT}/completions/sfq.bash"))[1].split()
+        words = re.search(r"compgen -W '(run [^']*)'", read(f"{ROOT}/packaging/completions/sfq.bash"))[1].split()
         self.assertEqual(sorted(words), sorted([*commands, *(it for pair in options for it in pair if it)]))
 
 
@@ -143,7 +144,7 @@ class OtherCommands(unittest.TestCase):
             options = self.options(name)
             if options is None:
                 self.skipTest("needs ./build --tiles")
-            page, texts = read(f"{ROOT}/man/{name}.1").replace("\\-", "-"), {it: read(f"{ROOT}/completions/{it}") for it in completions(name)}
+            page, texts = read(f"{ROOT}/packaging/man/{name}.1").replace("\\-", "-"), {it: read(f"{ROOT}/packaging/completions/{it}") for it in completions(name)}
             for option in options:
                 self.assertRegex(page, rf"(?<![\w-]){option}\b", f"{name}: {option}")
                 for file, text in texts.items():
@@ -156,7 +157,8 @@ class OtherCommands(unittest.TestCase):
     def test_each_says_its_version(self):
         for name, words in OTHERS.items():
             if name != "sfq-tiles" or scale_programs.has_tiles():
-                ran = subprocess.run([*words[: 2 if words[0] == sys.executable else 1], "--version"], capture_output=True, text=True)
+                command = [it for it in words if it not in ("run", "--help")]
+                ran = subprocess.run([*command, "--version"], capture_output=True, text=True)
                 self.assertEqual((ran.stdout, ran.stderr), (f"{name} {repository.version()}\n", ""))
 
 
@@ -169,7 +171,7 @@ class Completions(unittest.TestCase):
     def complete(self, *words, folder=ROOT):
         """Returns what bash offers for the last of these words."""
         script = (
-            f"compopt() {{ :; }}; source '{ROOT}/completions/{words[0]}.bash'; COMP_WORDS=(\"$@\"); COMP_CWORD=$(($# - 1)); "
+            f"compopt() {{ :; }}; source '{ROOT}/packaging/completions/{words[0]}.bash'; COMP_WORDS=(\"$@\"); COMP_CWORD=$(($# - 1)); "
             f'_{words[0].replace("-", "_")}; printf "%s\\n" "${{COMPREPLY[@]}}"'
         )
         ran = subprocess.run(["bash", "-c", script, "bash", *words], cwd=folder, capture_output=True, text=True)
@@ -203,9 +205,9 @@ class Completions(unittest.TestCase):
     @needs("zsh", "zsh")
     def test_zsh(self):
         for name in ("sfq", *OTHERS):
-            ran = subprocess.run(["zsh", "-n", f"{ROOT}/completions/_{name}"], capture_output=True, text=True)
+            ran = subprocess.run(["zsh", "-n", f"{ROOT}/packaging/completions/_{name}"], capture_output=True, text=True)
             self.assertEqual((ran.stderr, ran.returncode), ("", 0))
-            self.assertEqual(read(f"{ROOT}/completions/_{name}").splitlines()[0], f"#compdef {name}")
+            self.assertEqual(read(f"{ROOT}/packaging/completions/_{name}").splitlines()[0], f"#compdef {name}")
 
     @needs("fish", "fish")
     def test_fish(self):
@@ -213,7 +215,7 @@ class Completions(unittest.TestCase):
             ("sfq r", ["relate", "run"]), ("sfq-tiles --r", ["--rows"]), ("sfq-scale ru", ["run"]), ("sfq-scale run --se", ["--send"]),
             ("sfq-import --invalid ", ["leave-out", "mend", "stop"]), ("sfq-export --w", ["--wgs84"]),
         ):
-            script = f"source '{ROOT}/completions/{line.partition(' ')[0]}.fish'; complete -C '{line}'"
+            script = f"source '{ROOT}/packaging/completions/{line.partition(' ')[0]}.fish'; complete -C '{line}'"
             ran = subprocess.run([shutil.which("fish"), "--no-config", "-c", script], capture_output=True, text=True)
             self.assertEqual(ran.returncode, 0, ran.stderr)
             self.assertEqual(sorted(it.split("\t")[0] for it in ran.stdout.splitlines()), wanted)

@@ -3,19 +3,15 @@ import re
 import resource
 import shutil
 import subprocess
-import sys
 import tempfile
 import unittest
 from concurrent.futures import ThreadPoolExecutor
 
-from faults import deep, sweeps
 from support import ROOT, needs_build, read
 
 import proving
-
-sys.path.insert(0, f"{ROOT}/bench")
-
 import worst
+from faults import deep, sweeps
 
 # The greatest memory of a run, as the README says it: these bytes, and so many for each byte of the tables and for each
 # pair of rows that a join finds before it sorts them; under LIMIT n for at most 2n pairs.

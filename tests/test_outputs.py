@@ -13,8 +13,9 @@ import time
 import unittest
 from concurrent.futures import ThreadPoolExecutor
 
-from faults import sweeps
 from support import needs, needs_build
+
+from faults import sweeps
 
 # What writes on standard output, with a text that is longer than a pipe takes.
 WRITING = ("help", "relate", "check", "rows", "long rows", "COUNT(*)", "EXPLAIN", "EXPLAIN ANALYZE")

@@ -5,9 +5,10 @@ import tempfile
 import threading
 import unittest
 
+from support import needs_build
+
 import exact_cells
 from faults import sweeps
-from support import needs_build
 
 SQUARE = "POLYGON((0 0,4 0,4 4,0 4,0 0))"
 RECORD = f'POINT(2 2),"{SQUARE}"\n'.encode()

@@ -50,7 +50,7 @@ class Postgresql(engine_rows.WithLibrary):
     def regress(self, name):
         """Runs one test of the folder postgresql by `make installcheck`, in a copy."""
         room = f"{self.server.room}/{name}"
-        shutil.copytree(f"{ROOT}/postgresql", room)
+        shutil.copytree(f"{ROOT}/bindings/postgresql", room)
         ran = subprocess.run(["make", "-C", room, "installcheck", f"REGRESS={name}"], capture_output=True, text=True,
                              env=self.server.environment())
         differences = read(f"{room}/regression.diffs") if os.path.isfile(f"{room}/regression.diffs") else ""
@@ -176,8 +176,8 @@ class Postgresql(engine_rows.WithLibrary):
 
     def test_versions_are_that_of_the_program(self):
         for it in ("sfq", "sfq_postgis"):
-            self.assertIn(f"default_version = '{repository.version()}'", read(f"{ROOT}/postgresql/{it}.control"))
-            self.assertTrue(os.path.isfile(f"{ROOT}/postgresql/{it}--{repository.version()}.sql"))
+            self.assertIn(f"default_version = '{repository.version()}'", read(f"{ROOT}/bindings/postgresql/{it}.control"))
+            self.assertTrue(os.path.isfile(f"{ROOT}/bindings/postgresql/{it}--{repository.version()}.sql"))
 
     def test_the_example_of_the_document(self):
         text = re.search(r"^## PostgreSQL$(.*?)^## ", read(f"{ROOT}/docs/LIBRARY.md"), re.M | re.S)[1]

@@ -1,12 +1,9 @@
 """What docs/PROVED.md says of clauses and theorems and ample_memory.txt of tests is so, and what isn't so is found."""
-import os
 import re
-import sys
 import unittest
 
 from support import ROOT
 
-sys.path.insert(0, f"{ROOT}/tools")
 import proved_page
 
 SOURCE = """//! Lists.

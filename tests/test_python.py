@@ -4,23 +4,19 @@ import os
 import pickle
 import random
 import re
+import shutil
 import subprocess
 import sys
 import tempfile
 import threading
 import unittest
-import zipfile
 
 from support import ROOT, read
 
 import engine_rows
 import library
-import repository
-
-sys.path.insert(0, f"{ROOT}/bench")
-sys.path.insert(0, f"{ROOT}/python")
-
 import pairs as drawing
+import repository
 import sfq
 from sfq import _faults, _library, _texts
 
@@ -239,7 +235,7 @@ class Package(engine_rows.WithLibrary):
 
     @unittest.skipUnless(PYTHON, "needs the package python3-shapely")
     def test_arrays_of_numpy(self):
-        ran = subprocess.run([PYTHON, "-c", ARRAYS], capture_output=True, text=True, env=environment(PYTHONPATH=f"{ROOT}/python"))
+        ran = subprocess.run([PYTHON, "-c", ARRAYS], capture_output=True, text=True, env=environment(PYTHONPATH=f"{ROOT}/bindings/python"))
         self.assertEqual((ran.returncode, ran.stdout), (0, ran.stdout), ran.stderr)
         self.assertEqual(ran.stdout.split(), ["[0,1,2]", "LINESTRING(0", "0,3", "4)", "['0FFFFF212',", "'FF0FFF212']", "[]",
                                               "['0FFFFFFF2',", "'FF0FFF212']", "1", "W3", "GridError", "GridError", "GridError", "ValueError"])
@@ -279,7 +275,7 @@ class Package(engine_rows.WithLibrary):
         )
         lines = [canonical for _, canonical in engine_rows.canonical_texts()]
         given = {"input": "\n".join(lines) + "\n", "text": True, "capture_output": True}
-        ran = subprocess.run([python, "-c", text], env=environment(PYTHONPATH=f"{ROOT}/python"), **given)
+        ran = subprocess.run([python, "-c", text], env=environment(PYTHONPATH=f"{ROOT}/bindings/python"), **given)
         self.assertEqual((ran.returncode, ran.stderr), (0, ""))
         *same, ring, fraction = ran.stdout.splitlines()
         self.assertEqual(same, ["True True"] * len(lines))
@@ -308,66 +304,87 @@ class Package(engine_rows.WithLibrary):
         shown = re.findall(r"```python\n(.*?)```.*?```text\n(.*?)```", text, re.S)
         self.assertGreaterEqual(len(shown), 1)
         for source, output in shown:
-            ran = subprocess.run([sys.executable, "-c", source], env=environment(PYTHONPATH=f"{ROOT}/python"), capture_output=True, text=True)
+            ran = subprocess.run([sys.executable, "-c", source], env=environment(PYTHONPATH=f"{ROOT}/bindings/python"), capture_output=True, text=True)
             self.assertEqual((ran.stdout, ran.stderr), (output, ""), source)
 
 
+# Debian's Python, whose packages an environment of its own can use.
+DEBIAN = "/usr/bin/python3"
+
+
+def lacks_setuptools():
+    """Returns the package that installing by pip needs and that isn't here, or None."""
+    for module, package in (("venv, ensurepip", "python3-venv"), ("setuptools", "python3-setuptools"), ("wheel", "python3-wheel")):
+        if not os.path.isfile(DEBIAN) or subprocess.run([DEBIAN, "-c", f"import {module}"], capture_output=True).returncode:
+            return package
+    return None
+
+
 class Installation(unittest.TestCase):
-    """The wheel, pip, and how the package finds the library."""
+    """The project as pip installs it, and how the package finds the library."""
 
-    def setUp(self):
-        room = tempfile.TemporaryDirectory(prefix="sfq-python-")
-        self.addCleanup(room.cleanup)
-        self.room = room.name
-
-    def build(self, call):
-        """Returns what a call of the build backend returns, made in a process of its own as pip does."""
-        text = f"import wheels; print(wheels.{call})"
-        ran = subprocess.run([sys.executable, "-B", "-c", text], env=environment(PYTHONPATH=f"{ROOT}/python/backend"), cwd=f"{ROOT}/python",
-                             capture_output=True, text=True, check=True)
-        return ran.stdout.strip()
-
-    def test_the_same_bytes_each_time(self):
-        for call in ("build_wheel", "build_sdist"):
-            made = []
-            for it in "ab":
-                os.makedirs(f"{self.room}/{it}", exist_ok=True)
-                with open(f"{self.room}/{it}/" + self.build(f"{call}({self.room + '/' + it!r})"), "rb") as file:
-                    made.append(file.read())
-            self.assertEqual(made[0], made[1], call)
-
-    def test_the_wheel_has_the_package(self):
-        with zipfile.ZipFile(f"{self.room}/" + self.build(f"build_wheel({self.room!r})")) as archive:
-            names = archive.namelist()
-            self.assertEqual(archive.read("sfq/__init__.py").decode(), read(f"{ROOT}/python/sfq/__init__.py"))
-            listed = [it.split(",")[0] for it in archive.read(names[-1]).decode().splitlines()]
-        self.assertEqual(listed, names)
-        self.assertIn("sfq/py.typed", names)
-
-    def test_the_version_is_that_of_the_program(self):
-        version = repository.version()
-        self.assertEqual(re.search(r'^version = "(.*)"$', read(f"{ROOT}/python/pyproject.toml"), re.M)[1], version)
-        self.assertEqual(sfq.__version__, version)
+    PROJECT = f"{ROOT}/bindings/python"
 
     def test_pip_installs_it_without_a_network(self):
-        venv = subprocess.run([sys.executable, "-m", "venv", f"{self.room}/venv"], capture_output=True)
-        if venv.returncode:
-            self.skipTest("needs the package python3-venv")
-        python = f"{self.room}/venv/bin/python"
-        clean = {name: value for name, value in environment().items() if not name.startswith(("PIP_", "PYTHONPATH"))}
-        words = [python, "-m", "pip", "install", "-q", "--no-index", "--disable-pip-version-check", f"{ROOT}/python"]
-        ran = subprocess.run(words, env={**clean, "https_proxy": "http://127.0.0.1:1"}, capture_output=True, text=True)
-        self.assertEqual(ran.returncode, 0, ran.stderr)
-        text = "import sfq, importlib.metadata; print(sfq.__file__, importlib.metadata.version('sfq'))"
-        ran = subprocess.run([python, "-c", text], env=clean, cwd=self.room, capture_output=True, text=True)
-        self.assertEqual(ran.stderr, "")
-        self.assertTrue(ran.stdout.startswith(f"{self.room}/venv/lib"), ran.stdout)
-        self.assertTrue(ran.stdout.endswith(f" {sfq.__version__}\n"), ran.stdout)
+        """Into an environment that sees the system's packages, of a copy, since setuptools writes beside what it reads."""
+        if lacks_setuptools():
+            self.skipTest(f"needs the package {lacks_setuptools()}")
+        with tempfile.TemporaryDirectory(prefix="sfq-python-") as room:
+            clean = {name: value for name, value in environment().items() if not name.startswith(("PIP_", "PYTHON"))}
+            clean["https_proxy"] = "http://127.0.0.1:1"
+
+            def run(*words):
+                ran = subprocess.run(words, env=clean, cwd=room, capture_output=True, text=True)
+                self.assertEqual((ran.returncode, ran.stderr), (0, ""), words)
+                return ran.stdout
+
+            shutil.copytree(self.PROJECT, f"{room}/project", ignore=shutil.ignore_patterns("__pycache__", "build", "*.egg-info"))
+            run(DEBIAN, "-m", "venv", "--system-site-packages", f"{room}/venv")
+            python = f"{room}/venv/bin/python"
+            flags = ["-q", "--no-build-isolation", "--no-index", "--disable-pip-version-check"]
+            run(python, "-m", "pip", "install", *flags, f"{room}/project")
+            text = (
+                "import importlib.metadata as found, sfq, sfq_scale, os\n"
+                "for it in (sfq, sfq_scale):\n"
+                "    print(it.__file__, os.path.isfile(os.path.join(os.path.dirname(it.__file__), 'py.typed')))\n"
+                "print(found.version('sfq'), *sorted(it.name for it in found.distribution('sfq').entry_points))\n"
+            )
+            *places, last = run(python, "-c", text).splitlines()
+            for it in places:
+                self.assertRegex(it, rf"^{room}/venv/lib/.*/__init__.py True$")
+            self.assertEqual(last, f"{repository.version()} sfq-export sfq-import sfq-scale")
+            for it in ("sfq-import", "sfq-export", "sfq-scale"):
+                self.assertEqual(run(f"{room}/venv/bin/{it}", "--version"), f"{it} {repository.version()}\n")
+            run(python, "-m", "pip", "uninstall", "-q", "-y", "--disable-pip-version-check", "sfq")
+            self.assertEqual([it for it in os.listdir(f"{room}/venv/bin") if it.startswith("sfq")], [])
+
+    def test_the_commands_are_listed_alike(self):
+        """In pyproject.toml, in __main__.py, and as launchers in bin/."""
+        listed = re.findall(r'^(sfq-\w+) = "(.*):main"$', read(f"{self.PROJECT}/pyproject.toml"), re.M)
+        self.assertEqual(sorted(it for it, _ in listed), sorted(os.listdir(f"{self.PROJECT}/bin")))
+        known = re.search(r"^COMMANDS = \{(.*)\}$", read(f"{self.PROJECT}/__main__.py"), re.M)[1]
+        self.assertEqual(re.findall(r'"(sfq-\w+)": "(.*?)"', known), listed)
+        first, *others = (read(f"{self.PROJECT}/bin/{it}").replace(it, "NAME").splitlines()[2:] for it, _ in listed)
+        self.assertEqual(others, [first] * len(others))
+
+    def test_the_version_is_that_of_the_program(self):
+        self.assertEqual(sfq.__version__, repository.version())
+
+    def test_where_the_library_is_looked_for(self):
+        """In the lib of the prefix, whether the package is in site-packages or in share/sfq, and then where the system has it."""
+        for at in ("lib/python3.11/site-packages/sfq", "share/sfq/sfq"):
+            with tempfile.TemporaryDirectory(prefix="sfq-python-") as room:
+                shutil.copytree(f"{self.PROJECT}/sfq", f"{room}/{at}")
+                text = "from sfq import _library; print(*_library.places())"
+                known = {**environment(PYTHONPATH=os.path.dirname(f"{room}/{at}")), "SFQ_LIBRARY": ""}
+                found = subprocess.run([sys.executable, "-c", text], env=known, cwd=room, capture_output=True, text=True).stdout.split()
+                self.assertIn(f"{room}/lib/libsfq.so.0", found)
+                self.assertEqual(found[-1], "libsfq.so.0")
 
     def loading(self, place):
         """Returns the error of a geometry where SFQ_LIBRARY names this file."""
         text = "import sfq\ntry:\n    sfq.Geometry('POINT(1 1)').fault\nexcept sfq.LibraryError as error:\n    print(error)\n"
-        known = environment(PYTHONPATH=f"{ROOT}/python", SFQ_LIBRARY=place)
+        known = environment(PYTHONPATH=f"{ROOT}/bindings/python", SFQ_LIBRARY=place)
         return subprocess.run([sys.executable, "-c", text], env=known, capture_output=True, text=True).stdout
 
     def test_a_missing_library_is_a_clear_error(self):
@@ -375,7 +392,7 @@ class Installation(unittest.TestCase):
         self.assertRegex(self.loading("libc.so.6"), r"libc.so.6 isn't the library that this package needs: .*sfq_read")
 
     def test_meanings_are_those_of_the_other_bindings(self):
-        text = read(f"{ROOT}/library/faults.h")
+        text = read(f"{ROOT}/bindings/c/faults.h")
         for code, meaning in _faults.MEANINGS.items():
             self.assertIn(f'"{meaning}"', text, code)
 

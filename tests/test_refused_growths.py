@@ -4,8 +4,9 @@ import subprocess
 import tempfile
 import unittest
 
-from faults import sweeps
 from support import ROOT, needs
+
+from faults import sweeps
 
 # What `rt ci` and `rt test` leave of these tests.
 TESTS = f"{ROOT}/crates/fault_tests/out/fault_tests_tests"

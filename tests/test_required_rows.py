@@ -1,11 +1,8 @@
 """The rows of required_rows.txt are tested, and a row that no test has is found."""
-import os
-import sys
 import unittest
 
-from support import ROOT
+import support  # finds the modules
 
-sys.path.insert(0, f"{ROOT}/tools")
 import required_rows
 
 SCRIPT = """# A comment.

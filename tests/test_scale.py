@@ -15,22 +15,19 @@ import tempfile
 import time
 import unittest
 
+from support import ROOT, read, write
+
 import postgresql_server
+import repository
 import scale_cluster
 import scale_programs
 import scale_tables
 from fuzz import joins
 from scale_programs import SFQ, TILES
-from support import ROOT, read, write
-
-import repository
-
-sys.path.insert(0, f"{ROOT}/scale")
-
 from sfq_scale import merging, query, schema, words
 
 MISTAKEN = f"{ROOT}/tests/mistaken_tiles.py"
-SCALE = f"{ROOT}/scale/sfq-scale"
+SCALE = f"{ROOT}/bindings/python/bin/sfq-scale"
 
 
 def needs_program(test):
@@ -309,9 +306,10 @@ class Refusals(WithCluster):
     @needs_program
     def test_output_that_cannot_be_written(self):
         words_ = self.words("SELECT id, name FROM parcel")
-        code = f"import sys; sys.path[:0] = ['{ROOT}/tests', '{ROOT}/scale']; import scale_here; scale_here.take(); from sfq_scale import command; command.main({words_!r})"
+        code = f"import scale_here; scale_here.take(); from sfq_scale import command; command.main({words_!r})"
+        known = scale_cluster.environment({"TMPDIR": self.folder, "PYTHONPATH": f"{ROOT}/tests:{ROOT}/bindings/python"})
         with open("/dev/full", "wb") as full:
-            ran = subprocess.run([sys.executable, "-c", code], stdout=full, stderr=subprocess.PIPE, env=scale_cluster.environment({"TMPDIR": self.folder}))
+            ran = subprocess.run([sys.executable, "-c", code], stdout=full, stderr=subprocess.PIPE, env=known)
         self.assertEqual((ran.stderr, ran.returncode), (b"sfq: write failed\n", 6))
         self.refused("SELECT id FROM parcel", 6, "no folder can be made in /nothing", "--room", "/nothing")
 
@@ -547,7 +545,7 @@ class Documents(WithCluster):
         text = read(f"{ROOT}/docs/SCALE.md")
         town, = re.findall(r"^python3 (examples/town\.py .*) out/town$", text, re.M)
         subprocess.run([sys.executable, *shlex.split(town), self.folder], cwd=ROOT, check=True)
-        shown = re.findall(r"^```sh\nscale/sfq-scale (run .*)\n```\n```text\n((?:.*\n)+?)```$", text, re.M)
+        shown = re.findall(r"^```sh\nsfq-scale (run .*)\n```\n```text\n((?:.*\n)+?)```$", text, re.M)
         self.assertGreater(len(shown), 1)
         calls = []
         for line, _ in shown:
@@ -559,8 +557,8 @@ class Documents(WithCluster):
             self.assertEqual(one_run(self.folder, it[3]), (wanted.encode(), b"", 0))
 
     def test_the_manual_page_has_each_option_and_status(self):
-        page = read(f"{ROOT}/man/sfq-scale.1").replace("\\-", "-")
-        source = read(f"{ROOT}/scale/sfq_scale/command.py")
+        page = read(f"{ROOT}/packaging/man/sfq-scale.1").replace("\\-", "-")
+        source = read(f"{ROOT}/bindings/python/sfq_scale/command.py")
         options = re.findall(r'add_argument\("(--[\w-]+)"', source)
         self.assertGreater(len(options), 9)
         for it in options:
@@ -568,7 +566,7 @@ class Documents(WithCluster):
         for it in "02345678":
             self.assertRegex(page, rf"(?m)^\.B {it}$")
         self.assertIn(f'"sfq {repository.version()}"', page)
-        self.assertIn(f'VERSION = "{repository.version()}"', read(f"{ROOT}/scale/sfq_scale/__init__.py"))
+        self.assertIn(f'VERSION = "{repository.version()}"', read(f"{ROOT}/bindings/python/sfq_scale/__init__.py"))
 
 
 class Reading(unittest.TestCase):

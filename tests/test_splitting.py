@@ -14,11 +14,12 @@ import tempfile
 import time
 import unittest
 
+from support import ROOT, read, write
+
 import scale_tables
 import tile_model
 from fuzz import joins
 from scale_programs import SFQ, TILES, needs_programs
-from support import ROOT, read, write
 
 
 class WithFolder(unittest.TestCase):
@@ -234,7 +235,7 @@ class Manual(WithFolder):
 
     @needs_programs
     def test_prints_what_is_shown(self):
-        page = read(f"{ROOT}/man/sfq-tiles.1").replace("\\-", "-")
+        page = read(f"{ROOT}/packaging/man/sfq-tiles.1").replace("\\-", "-")
         call, shown = re.findall(r"\.EX\n((?:.*\n)+?)\.EE\n", page)
         words = call.replace(" OUT ", f" {self.folder}/out ").split()[1:]
         ran = subprocess.run([TILES, *words], cwd=ROOT, capture_output=True, text=True)

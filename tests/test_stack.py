@@ -2,10 +2,10 @@
 import unittest
 from concurrent.futures import ThreadPoolExecutor
 
-from faults import deep
 from support import needs_build
 
 import proving
+from faults import deep
 
 # The greatest that was measured, in kilobytes, beside the words of the command line, and some for other processors.
 GREATEST = 256

@@ -10,23 +10,18 @@ import re
 import shutil
 import signal
 import subprocess
-import sys
 import tempfile
 import threading
 import unittest
 
 from support import ROOT, needs_build, read
+
 import answers
-import required_rows
-
-sys.path.insert(0, f"{ROOT}/tests/fuzz")
-sys.path.insert(0, f"{ROOT}/bench")
-
-import changes
-import outcomes
 import pairs
+import required_rows
+from fuzz import changes, outcomes
 
-FOUND = importlib.util.spec_from_file_location("web_build", f"{ROOT}/web/build.py")
+FOUND = importlib.util.spec_from_file_location("web_build", f"{ROOT}/bindings/web/build.py")
 web_build = importlib.util.module_from_spec(FOUND)
 FOUND.loader.exec_module(web_build)
 
@@ -80,7 +75,7 @@ def needs_page(test):
 
 
 class BuildOfTheModule(unittest.TestCase):
-    """What web/build.py takes and what it refuses, without the kit."""
+    """What bindings/web/build.py takes and what it refuses, without the kit."""
 
     def refused(self, text):
         with self.assertRaises(web_build.Failure) as it:
@@ -128,7 +123,7 @@ class BuildOfTheModule(unittest.TestCase):
     def test_every_file_that_the_page_names_is_made(self):
         made = [*web_build.FILES, *(it.script for it in web_build.MODULES), "examples.js", "town.js"]
         for page in ("index.html", "tables.html"):
-            for it in read(f"{ROOT}/web/{page}").split('src="')[1:]:
+            for it in read(f"{ROOT}/bindings/web/{page}").split('src="')[1:]:
                 self.assertIn(it.partition('"')[0], made)
 
     def test_the_town_has_its_tables_and_its_queries(self):

@@ -5,10 +5,11 @@ import subprocess
 import unittest
 from concurrent.futures import ThreadPoolExecutor
 
+from support import ROOT, needs_build, read
+
 import exact_cells
 import exact_places
 from faults import sweeps
-from support import ROOT, needs_build, read
 
 SCRIPTS = f"{ROOT}/crates/scripts/data"
 SQUARE = "POLYGON((0 0,4 0,4 4,0 4,0 0))"

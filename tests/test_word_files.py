@@ -4,8 +4,9 @@ import subprocess
 import tempfile
 import unittest
 
-from faults import sweeps
 from support import needs_build
+
+from faults import sweeps
 
 GEOMETRY_BYTES = 16 << 20
 QUERY_BYTES = 65_536

@@ -1,16 +1,12 @@
 """Bad inputs at small sizes: the instructions that they take don't grow faster than they did."""
-import sys
 import tempfile
 import unittest
 from concurrent.futures import ThreadPoolExecutor
 
-from support import ROOT, needs, needs_build
+from support import needs, needs_build
 
 import proving
 import repository
-
-sys.path.insert(0, f"{ROOT}/bench")
-
 import timing
 import worst
 

@@ -22,7 +22,7 @@ SQLITE = "lib/sfq0.so"
 
 def files():
     """Returns what is copied: where it is in the repository, where under the prefix, and its mode."""
-    found = sorted(glob.glob(f"{repository.ROOT}/python/sfq/*.py")) + [f"{repository.ROOT}/python/sfq/py.typed"]
+    found = sorted(glob.glob(f"{repository.ROOT}/bindings/python/sfq/*.py")) + [f"{repository.ROOT}/bindings/python/sfq/py.typed"]
     return [(os.path.relpath(it, repository.ROOT), f"{PACKAGES}/sfq/{os.path.basename(it)}", 0o644) for it in found]
 
 
@@ -39,7 +39,7 @@ def has_sqlite():
 def make_sqlite(path):
     """Compiles the extension. The library is within it, and only the entry that SQLite looks for can be seen from outside."""
     flags = [*library.FLAGS, "-fvisibility=hidden", "-shared", f"-I{library.FOLDER}"]
-    made = [f"{repository.ROOT}/sqlite/sfq0.c", f"{library.OUT}/libsfq.a", "-Wl,--exclude-libs,ALL", "-Wl,-z,defs", "-o", path]
+    made = [f"{repository.ROOT}/bindings/sqlite/sfq0.c", f"{library.OUT}/libsfq.a", "-Wl,--exclude-libs,ALL", "-Wl,-z,defs", "-o", path]
     calls.run(["cc", *flags, *made])
 
 
@@ -62,15 +62,15 @@ def has_postgresql():
 
 def of_postgresql():
     """Returns where PostgreSQL looks for what the extensions are made of."""
-    names = sorted(os.path.basename(it) for it in glob.glob(f"{repository.ROOT}/postgresql/sfq*") if not it.endswith(".c"))
+    names = sorted(os.path.basename(it) for it in glob.glob(f"{repository.ROOT}/bindings/postgresql/sfq*") if not it.endswith(".c"))
     return [f"{configured('pkglibdir')}/sfq.so", *(f"{configured('sharedir')}/extension/{it}" for it in names)]
 
 
 def make_postgresql(*words):
     """Makes the extensions in a copy of their folder, by the words of make, over the library that ./build --library made."""
     with tempfile.TemporaryDirectory(prefix="sfq-postgresql-") as room:
-        for it in ("library", "postgresql"):
-            shutil.copytree(f"{repository.ROOT}/{it}", f"{room}/{it}", ignore=shutil.ignore_patterns("out"))
+        for it in ("c", "postgresql"):
+            shutil.copytree(f"{repository.ROOT}/bindings/{it}", f"{room}/{it}", ignore=shutil.ignore_patterns("out"))
         os.makedirs(f"{room}/prefix/lib")
         shutil.copyfile(f"{library.OUT}/libsfq.a", f"{room}/prefix/lib/libsfq.a")
         calls.run(["make", "-s", "-C", f"{room}/postgresql", f"SFQ={room}/prefix", *words])
@@ -96,7 +96,7 @@ def install_made(prefix):
         print("not installed: the extensions of PostgreSQL, which need pg_config, PGXS, make and cc")
     elif not all(is_below(it, prefix) for it in of_postgresql()):
         print(f"not installed: the extensions of PostgreSQL, which looks in {configured('sharedir')}: "
-              f"make -C postgresql install SFQ={os.path.abspath(prefix)}")
+              f"make -C bindings/postgresql install SFQ={os.path.abspath(prefix)}")
     else:
         make_postgresql("install")
         paths += of_postgresql()

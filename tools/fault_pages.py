@@ -12,9 +12,6 @@ import re
 import sys
 import textwrap
 
-sys.path.insert(0, os.path.dirname(os.path.realpath(__file__)))
-sys.dont_write_bytecode = True
-
 import printed
 import repository
 

@@ -1,6 +1,6 @@
-"""Makes the C library of the proved calls of the crate sfq_c: library/out has libsfq.so.0, libsfq.a and sfq.pc.
+"""Makes the C library of the proved calls of the crate sfq_c: bindings/c/out has libsfq.so.0, libsfq.a and sfq.pc.
 
-The proved calls, and the kit's C functions that they use, are behind library/sfq.c, which isn't proved. Only the calls of sfq.h
+The proved calls, and the kit's C functions that they use, are behind bindings/c/sfq.c, which isn't proved. Only the calls of sfq.h
 can be seen from outside.
 """
 import hashlib
@@ -12,14 +12,14 @@ import tempfile
 import calls
 import repository
 
-FOLDER = f"{repository.ROOT}/library"
+FOLDER = f"{repository.ROOT}/bindings/c"
 OUT = f"{FOLDER}/out"
 SHARED = f"{OUT}/libsfq.so.0"
 FLAGS = ["-std=c99", "-O2", "-Wall", "-Wextra", "-Werror", "-fPIC"]
 
 
 def seen_calls():
-    """Returns the calls that can be seen from outside, by library/sfq.map."""
+    """Returns the calls that can be seen from outside, by bindings/c/sfq.map."""
     with open(f"{FOLDER}/sfq.map", encoding="utf-8") as text:
         listed = text.read().split("global:")[1].split("local:")[0]
     return [it.strip() for it in listed.split(";") if it.strip()]
@@ -43,7 +43,7 @@ def is_made():
 
 
 def link(archive):
-    """Makes both libraries in library/out from the proved calls."""
+    """Makes both libraries in bindings/c/out from the proved calls."""
     os.makedirs(OUT, exist_ok=True)
     with tempfile.TemporaryDirectory(prefix="new-", dir=OUT) as room:
         calls.run(["cc", *FLAGS, "-c", f"{FOLDER}/sfq.c", "-o", f"{room}/sfq.o"])
@@ -74,7 +74,7 @@ def make(jobs=0):
     except calls.Failure as it:
         print(f"sfq: no C library: {it}", file=sys.stderr)
         return 1
-    print(f"made: library/out/libsfq.so.0, SHA-256 {repository.sum_of_file(SHARED)}")
+    print(f"made: bindings/c/out/libsfq.so.0, SHA-256 {repository.sum_of_file(SHARED)}")
     return 0
 
 
@@ -86,9 +86,9 @@ def description(prefix, version):
 
 # What is installed: where it is in the repository, where under the prefix, and its mode.
 FILES = [
-    ("library/sfq.h", "include/sfq.h", 0o644),
-    ("library/out/libsfq.so.0", "lib/libsfq.so.0", 0o644),
-    ("library/out/libsfq.a", "lib/libsfq.a", 0o644),
+    ("bindings/c/sfq.h", "include/sfq.h", 0o644),
+    ("bindings/c/out/libsfq.so.0", "lib/libsfq.so.0", 0o644),
+    ("bindings/c/out/libsfq.a", "lib/libsfq.a", 0o644),
 ]
 # Beside them, made when they are installed: what the linker looks for, and what pkg-config reads.
 MADE = ["lib/libsfq.so", "lib/pkgconfig/sfq.pc"]

@@ -16,7 +16,7 @@ import library
 import repository
 import tiles
 
-# Where Python's modules of programs are installed, a folder for each package. The programs look there.
+# Where Python's modules of programs are installed, a folder for each package. The launchers have Python run this folder.
 SHARE = "share/sfq"
 # Where each shell looks for the completions of a command.
 SHELLS = {
@@ -28,8 +28,8 @@ SHELLS = {
 
 def described(name):
     """Returns the manual page and the completions of a command: where each lies in the repository, where under the prefix, its mode."""
-    found = [(f"completions/{source}", target) for source, target in SHELLS.items()]
-    return [(source.format(name), target.format(name), 0o644) for source, target in [("man/{}.1", "share/man/man1/{}.1"), *found]]
+    found = [(f"packaging/completions/{source}", target) for source, target in SHELLS.items()]
+    return [(source.format(name), target.format(name), 0o644) for source, target in [("packaging/man/{}.1", "share/man/man1/{}.1"), *found]]
 
 
 def modules(folder):
@@ -43,10 +43,11 @@ PROGRAM = [("crates/sfq/out/sfq", "bin/sfq", 0o755), *described("sfq"), ("CHANGE
 # sfq-scale is of no use without sfq-tiles.
 TILES = [
     (tiles.PROGRAM, "bin/sfq-tiles", 0o755), *described("sfq-tiles"),
-    ("scale/sfq-scale", "bin/sfq-scale", 0o755), *described("sfq-scale"), *modules("scale/sfq_scale"),
+    ("bindings/python/bin/sfq-scale", "bin/sfq-scale", 0o755), *described("sfq-scale"), *modules("bindings/python/sfq_scale"),
 ]
-DATA = [(f"python/bin/{it}", f"bin/{it}", 0o755) for it in bindings.COMMANDS]
-DATA += [*(file for it in bindings.COMMANDS for file in described(it)), *modules("python/sfq")]
+DATA = [(f"bindings/python/bin/{it}", f"bin/{it}", 0o755) for it in bindings.COMMANDS]
+DATA += [*(file for it in bindings.COMMANDS for file in described(it)), *modules("bindings/python/sfq")]
+DATA.append(("bindings/python/__main__.py", f"{SHARE}/__main__.py", 0o644))
 FILES = PROGRAM + TILES + DATA
 # Debian's zsh looks elsewhere for the completions of its packages.
 OF_DEBIAN = {"share/zsh/site-functions/": "share/zsh/vendor-completions/"}

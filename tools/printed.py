@@ -200,14 +200,14 @@ def everything(folder):
     """Returns every call that the documents show. Files that examples need are made in the folder."""
     found = []
     paths = ["README.md", "CONTRIBUTING.md", "CHANGELOG.md", "SECURITY.md"]
-    for pattern in ("docs/*.md", "examples/*/README.md", "man/*.1"):
+    for pattern in ("docs/*.md", "examples/*/README.md", "packaging/man/*.1"):
         paths += sorted(os.path.relpath(it, repository.ROOT) for it in glob.glob(f"{repository.ROOT}/{pattern}"))
     for path in paths:
         if not os.path.isfile(f"{repository.ROOT}/{path}"):
             continue
         with open(f"{repository.ROOT}/{path}", encoding="utf-8") as file:
             text = file.read()
-        if path.startswith("man/"):
+        if path.startswith("packaging/man/"):
             found += of_manual(path, text)
             continue
         found += of_shell_blocks(path, text) + of_running_text(path, text)

@@ -4,6 +4,8 @@
 out/proved, with a sum over its files, those below it and the kit's logic, and the last line of its check. While the sums of
 all crates stay the same, nothing is called.
 """
+from __future__ import annotations
+
 import hashlib
 import os
 import queue
@@ -13,6 +15,7 @@ import subprocess
 import sys
 import threading
 import time
+from typing import Optional
 
 import repository
 
@@ -20,7 +23,7 @@ import repository
 MEMORY_OF_A_CHECK = 3_000_000_000
 
 
-def processors():
+def processors() -> int:
     """Returns the number of processors, or what the control group's quota leaves of them."""
     count = len(os.sched_getaffinity(0))
     try:
@@ -31,20 +34,28 @@ def processors():
         return count
 
 
-def free_memory():
+def free_memory() -> int:
     """Returns the bytes of memory that are free, by the system and by the control group."""
     with open("/proc/meminfo", encoding="ascii") as file:
-        free = int(re.search(r"MemAvailable:\s+(\d+)", file.read())[1]) * 1024
+        free = number_in(r"MemAvailable:\s+(\d+)", file.read()) * 1024
     try:
         with open("/sys/fs/cgroup/memory.max", encoding="ascii") as most:
             with open("/sys/fs/cgroup/memory.stat", encoding="ascii") as used:
-                held = int(re.search(r"^anon (\d+)", used.read(), re.M)[1])
+                held = number_in(r"^anon (\d+)", used.read())
                 return min(free, int(most.read()) - held)
-    except (OSError, ValueError, TypeError):
+    except (OSError, ValueError):
         return free
 
 
-def span(seconds):
+def number_in(pattern: str, text: str) -> int:
+    """Returns the number that a pattern finds in a text. ValueError where there is none."""
+    found = re.search(pattern, text, re.M)
+    if not found:
+        raise ValueError(f"no {pattern}")
+    return int(found[1])
+
+
+def span(seconds: float) -> str:
     minutes, seconds = divmod(int(seconds), 60)
     return f"{minutes} min {seconds} s" if minutes else f"{seconds} s"
 
@@ -52,23 +63,26 @@ def span(seconds):
 class Crate:
     """A crate, and what is known of its proof."""
 
-    def __init__(self, name, root, below, logic, libraries):
+    sum: str
+
+    def __init__(self, name: str, root: str, below: list[Crate], logic: str, libraries: list[str]) -> None:
         self.name, self.below, self.out = name, below, f"{root}/crates/{name}/out"
         total = hashlib.sha256(repr((logic, libraries)).encode())
         for path in repository.files_of(name, root):
             with open(path, "rb") as file:
                 total.update(repr((os.path.relpath(path, root), file.read())).encode())
         total.update(repr([it.sum for it in below]).encode())
-        self.sum, self.line, self.text = total.hexdigest(), None, ""
+        self.sum, self.text = total.hexdigest(), ""
+        self.line: Optional[str] = None
         self.is_done, self.has_failed = False, False
 
-    def every_below(self):
-        found = {}
+    def every_below(self) -> dict[str, Crate]:
+        found: dict[str, Crate] = {}
         for it in self.below:
             found.update({it.name: it, **it.every_below()})
         return found
 
-    def read_mark(self):
+    def read_mark(self) -> None:
         """Takes over what an earlier run proved."""
         try:
             with open(f"{self.out}/proved", encoding="utf-8") as file:
@@ -78,7 +92,7 @@ class Crate:
         if total == self.sum:
             self.line, self.is_done = line, True
 
-    def write_mark(self, line):
+    def write_mark(self, line: str) -> None:
         """Notes that the crate is proved. `line` is the last one of its check; '-' where it was proved before and rt says no more."""
         self.line, self.is_done = line, True
         os.makedirs(self.out, exist_ok=True)
@@ -86,16 +100,17 @@ class Crate:
             file.write(f"{self.sum}\n{line}\n")
         os.replace(f"{self.out}/proved.new", f"{self.out}/proved")
 
-    def functions(self):
+    def functions(self) -> int:
         found = re.search(r"\bfunctions=(\d+)", self.line or "")
         return int(found[1]) if found else 0
 
 
-def crates_of(root, logic):
+def crates_of(root: str, logic: str) -> list[Crate]:
     """Returns the crates, each after those below it."""
-    lines, made = repository.read_crates(root), {}
+    lines = repository.read_crates(root)
+    made: dict[str, Crate] = {}
 
-    def make(name):
+    def make(name: str) -> Crate:
         if name not in made:
             below = [make(it) for it in lines[name] if it in lines]
             made[name] = Crate(name, root, below, logic, lines[name])
@@ -107,7 +122,7 @@ def crates_of(root, logic):
 class Proving:
     """One run over all crates. `verb` is check, or verdict, which takes nothing from earlier runs and proves tests too."""
 
-    def __init__(self, root, logic, jobs=0, verb="check"):
+    def __init__(self, root: str, logic: str, jobs: int = 0, verb: str = "check") -> None:
         self.root, self.verb = root, verb
         self.crates = crates_of(root, logic)
         self.named = {it.name: it for it in self.crates}
@@ -115,22 +130,23 @@ class Proving:
             for it in self.crates:
                 it.read_mark()
         self.jobs = jobs or max(1, min(processors(), free_memory() // MEMORY_OF_A_CHECK))
-        self.failed, self.begun, self.child = False, time.monotonic(), None
+        self.failed, self.begun = False, time.monotonic()
+        self.child: Optional[subprocess.Popen[str]] = None
         self.on_terminal = sys.stdout.isatty()
 
-    def proved(self):
+    def proved(self) -> list[Crate]:
         return [it for it in self.crates if it.line is not None]
 
-    def head(self):
+    def head(self) -> str:
         done = sum(it.is_done for it in self.crates)
         return f"{done} of {len(self.crates)} crates proved, {span(time.monotonic() - self.begun)}"
 
-    def say(self, text):
+    def say(self, text: str) -> None:
         if self.on_terminal:
             print("\r\x1b[K", end="")
         print(text, flush=True)
 
-    def renew(self):
+    def renew(self) -> None:
         """Renews the one line that a terminal shows."""
         if not self.on_terminal:
             return
@@ -139,7 +155,7 @@ class Proving:
         width = os.get_terminal_size(1).columns or 80
         print(f"\r{line[: width - 1]}\x1b[K", end="", flush=True)
 
-    def take_block(self, name, text):
+    def take_block(self, name: str, text: str) -> None:
         """Takes what rt said of a crate, once it is done with it."""
         crate = self.named.get(name)
         if crate is None or crate.is_done:
@@ -153,7 +169,7 @@ class Proving:
         if crate.is_done and not self.on_terminal:
             self.say(f"{self.head()}: {name}")
 
-    def take_summary(self, text):
+    def take_summary(self, text: str) -> None:
         """Takes the lines that rt closes with: each crate is ok, failed or wasn't run."""
         for name, said in re.findall(r"^(\w+): (ok|failed .*|not run, .*)$", text, re.M):
             crate = self.named.get(name)
@@ -175,10 +191,10 @@ class Proving:
             self.say(f"NOT PROVED: {name}; see {place}")
             self.say("\n".join(crate.text.splitlines()[-15:]))
 
-    def prove_in(self, folder):
+    def prove_in(self, folder: str) -> bool:
         """Proves the crates in a folder and those below them, and returns whether all are proved."""
         words = ["rt", "all", self.verb, "--jobs", str(self.jobs)]
-        self.child = subprocess.Popen(
+        child = self.child = subprocess.Popen(
             words,
             cwd=folder,
             stdin=subprocess.DEVNULL,
@@ -188,15 +204,16 @@ class Proving:
             errors="replace",
             start_new_session=True,
         )
-        lines = queue.Queue()
+        lines: queue.Queue[Optional[str]] = queue.Queue()
 
-        def read():
-            for line in self.child.stdout:
+        def read() -> None:
+            for line in child.stdout or ():
                 lines.put(line)
             lines.put(None)
 
         threading.Thread(target=read, daemon=True).start()
-        name, text, begun = "", [], True
+        name, begun = "", True
+        text: list[str] = []
         while begun:
             self.renew()
             try:
@@ -214,9 +231,9 @@ class Proving:
                 name, text = (line or "").removeprefix("== ").strip(), []
             else:
                 text.append(line)
-        return self.child.wait() == 0 and not self.failed
+        return child.wait() == 0 and not self.failed
 
-    def folders(self):
+    def folders(self) -> list[str]:
         """Returns where `rt all` is called, in turn.
 
         Before its first proof `rt all` reads all that a crate needs, for each crate that no other uses. So first all is
@@ -224,10 +241,11 @@ class Proving:
         """
         used = {low.name: low for it in self.crates for low in it.below}
         large = max(used.values(), key=lambda it: len(it.every_below()), default=None)
-        is_worth_it = self.verb == "check" and large is not None and large.line is None
-        return [f"{self.root}/crates/{large.name}", self.root] if is_worth_it else [self.root]
+        if self.verb == "check" and large is not None and large.line is None:
+            return [f"{self.root}/crates/{large.name}", self.root]
+        return [self.root]
 
-    def run(self):
+    def run(self) -> bool:
         """Proves what isn't proved, and returns whether every crate is. Ends its checks where it is broken off."""
         kept = len(self.proved())
         if kept:
@@ -245,7 +263,7 @@ class Proving:
                 print(f"not reached: {it.name}, which uses a crate that isn't proved", flush=True)
         return is_proved and len(self.proved()) == len(self.crates)
 
-    def end(self):
+    def end(self) -> None:
         """Ends the checks that run still: they are a group of their own, which this run started."""
         if self.child is None or self.child.poll() is not None:
             return

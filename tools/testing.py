@@ -174,7 +174,6 @@ def flat(suite):
 
 def find_tests():
     """Returns the tests in tests/."""
-    sys.path.insert(0, f"{ROOT}/tests")
     found = unittest.defaultTestLoader.discover(f"{ROOT}/tests", top_level_dir=f"{ROOT}/tests")
     return list(flat(found))
 
@@ -269,7 +268,7 @@ def make_library(counts):
             compiled = calls.compile_calls(room, keeps=False)
             library.link(compiled.archive)
             if shutil.which("wasm-opt"):
-                found = importlib.util.spec_from_file_location("web_build", f"{ROOT}/web/build.py")
+                found = importlib.util.spec_from_file_location("web_build", f"{ROOT}/bindings/web/build.py")
                 page = importlib.util.module_from_spec(found)
                 found.loader.exec_module(page)
                 made = {page.SHAPES: compiled, page.TABLES: calls.compile_calls(room, keeps=False, name=page.TABLES.crate)}

@@ -4,11 +4,10 @@
 Run it where ./build has made the program: python3 tests/faults/measures.py. docs/FAULT-TESTING.md has its tables.
 """
 import os
-import sys
+import runpy
 
-sys.dont_write_bytecode = True
-TESTS = os.path.dirname(os.path.dirname(os.path.realpath(__file__)))
-sys.path[:0] = [TESTS, f"{os.path.dirname(TESTS)}/tools"]
+ROOT = os.path.dirname(os.path.dirname(os.path.dirname(os.path.realpath(__file__))))
+runpy.run_path(f"{ROOT}/tools/paths.py")
 
 from faults import deep, sweeps
 

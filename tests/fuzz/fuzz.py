@@ -7,15 +7,15 @@ ends with status 1 where a case fails; the last lines count what runs ended in, 
 import argparse
 import multiprocessing
 import os
+import runpy
 import shutil
 import signal
 import sys
 import tempfile
 import time
 
-sys.dont_write_bytecode = True
-TESTS = os.path.dirname(os.path.dirname(os.path.realpath(__file__)))
-sys.path[:1] = [TESTS, f"{os.path.dirname(TESTS)}/tools"]
+ROOT = os.path.dirname(os.path.dirname(os.path.dirname(os.path.realpath(__file__))))
+runpy.run_path(f"{ROOT}/tools/paths.py")
 
 import proving
 import repository

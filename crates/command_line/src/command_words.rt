@@ -40,7 +40,7 @@ Example, in a checkout:
 Statuses: 0 done, 2 the command line, 3 the schema, 4 a table, 5 the query or a geometry,
 6 a file or the output, 7 out of memory.
 
-The manual: man sfq, or man ./man/sfq.1 in a checkout. docs/FAULTS.md explains each fault.";
+The manual: man sfq, or man ./packaging/man/sfq.1 in a checkout. docs/FAULTS.md explains each fault.";
 
 /// `sfq` before it has its subcommands. Without any word it shows its help.
 fn bare_command<'a>(alloc: Global) -> Command<'a>

@@ -1,4 +1,4 @@
-//! The proved calls of the C library, over texts, over arrays of positions, and over geometries that C keeps. `library/sfq.c`
+//! The proved calls of the C library, over texts, over arrays of positions, and over geometries that C keeps. `bindings/c/sfq.c`
 //! calls them, and hands in what they require: a slice crosses as a pointer, which is never null, and a length; `Global` takes no
 //! bytes, and C passes nothing for it; a slot is empty.
 //!

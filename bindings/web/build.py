@@ -1,7 +1,7 @@
 #!/usr/bin/env python3
-"""Makes the web page in web/out: the modules from the proved crates sfq_c and sfq_web, the examples, and the files beside this one.
+"""Makes the web page in bindings/web/out: the modules from the proved crates sfq_c and sfq_web, the examples, and the files beside this one.
 
-usage: web/build.py [--jobs N]      or ./build --web
+usage: bindings/web/build.py [--jobs N]      or ./build --web
 
 The kit builds for WebAssembly only what takes no memory. So a crate is built for x86-64, as any static library, and the module
 of LLVM that the kit hands to its compiler is compiled for WebAssembly instead, with heap.c in the place of a C library. What this
@@ -13,14 +13,14 @@ import hashlib
 import json
 import os
 import re
+import runpy
 import shutil
 import sys
 import tempfile
 from typing import NamedTuple
 
 WEB = os.path.dirname(os.path.realpath(__file__))
-sys.dont_write_bytecode = True
-sys.path.insert(0, f"{os.path.dirname(WEB)}/tools")
+runpy.run_path(f"{os.path.dirname(os.path.dirname(WEB))}/tools/paths.py")
 
 import calls
 import fault_pages
@@ -252,7 +252,7 @@ def carried(it, module):
 
 
 def kept(it):
-    """Returns what the page in web/out carries of a module, or None where it isn't made."""
+    """Returns what the page in bindings/web/out carries of a module, or None where it isn't made."""
     try:
         with open(f"{OUT}/{it.script}", encoding="utf-8") as file:
             text = file.read()
@@ -262,7 +262,7 @@ def kept(it):
 
 
 def module_script(it, what):
-    return f'// The module, made by web/build.py.\n"use strict";\nconst {it.constant} = {json.dumps(what, indent=2)};\n'
+    return f'// The module, made by bindings/web/build.py.\n"use strict";\nconst {it.constant} = {json.dumps(what, indent=2)};\n'
 
 
 def plain(text):
@@ -277,7 +277,7 @@ def pairs_elsewhere():
     engines = re.search(r"whole coordinates\.\s+(.*?) all print the same", text, re.S)
     rows = re.findall(r"^\| (\d+) \| `(.*?)` \| `(.*?)` \| (.*?) \|.*\| (.*?) \|$", text, re.M)
     if not engines or not rows:
-        raise Failure("docs/WRONG-ELSEWHERE.md has another form than web/build.py reads")
+        raise Failure("docs/WRONG-ELSEWHERE.md has another form than bindings/web/build.py reads")
     names = re.sub(r" [\d.]+", "", plain(engines[1]))
     found = []
     for place, a, b, theirs, ours in rows:
@@ -297,7 +297,7 @@ def examples():
 
 def examples_script():
     shown = json.dumps(examples(), indent=2, ensure_ascii=False)
-    return f'// Made by web/build.py of web/examples.json and docs/WRONG-ELSEWHERE.md.\n"use strict";\nconst EXAMPLES = {shown};\n'
+    return f'// Made by bindings/web/build.py of bindings/web/examples.json and docs/WRONG-ELSEWHERE.md.\n"use strict";\nconst EXAMPLES = {shown};\n'
 
 
 def town():
@@ -315,13 +315,13 @@ def town():
         faults = {it.code: {"means": it.means, "remedy": it.remedy} for it in reversed(fault_pages.rows_of(file.read()))}
     queries = [{"title": plain(title), "says": plain(says), "query": " ".join(query.split())} for title, says, query in asked]
     if not tables or not queries or not faults:
-        raise Failure("examples/parcels or docs/FAULTS.md has another form than web/build.py reads")
+        raise Failure("examples/parcels or docs/FAULTS.md has another form than bindings/web/build.py reads")
     return {"schema": schema, "tables": tables, "queries": queries, "faults": faults}
 
 
 def town_script():
     shown = json.dumps(town(), indent=2, ensure_ascii=False)
-    return f'// Made by web/build.py of examples/parcels and docs/FAULTS.md.\n"use strict";\nconst TOWN = {shown};\n'
+    return f'// Made by bindings/web/build.py of examples/parcels and docs/FAULTS.md.\n"use strict";\nconst TOWN = {shown};\n'
 
 
 def write_page(carried_by, to=OUT):

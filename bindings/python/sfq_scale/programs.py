@@ -16,7 +16,7 @@ FEW = 10
 # What sfq-tiles says where a part can't be written.
 UNWRITABLE = b"sfq: out unwritable\n"
 # What makes each program in a checkout, and where it is then.
-CHECKOUT = os.path.dirname(os.path.dirname(os.path.dirname(os.path.realpath(__file__))))
+CHECKOUT = os.path.realpath(os.path.join(os.path.dirname(os.path.realpath(__file__)), *[os.pardir] * 3))
 BUILT = {
     "sfq": ("./build", f"{CHECKOUT}/crates/sfq/out/sfq"),
     "sfq-tiles": ("./build --tiles", f"{CHECKOUT}/crates/sfq_tiles/out/sfq_tiles"),

@@ -3,7 +3,7 @@
 
 enum { OK = 0, FIRST_REFUSED = 1, SECOND_REFUSED = 2, RELATIONS = 11, ROOM = 4096 };
 
-// As the proved calls write it: see `sfq_fault` in library/sfq.h.
+// As the proved calls write it: see `sfq_fault` in bindings/c/sfq.h.
 typedef struct {
     unsigned char letter, number;
     size first, second;

@@ -384,7 +384,7 @@ async function start() {
 
 async function begin() {
   if (typeof EXAMPLES === "undefined") {
-    hint("Open web/out/index.html, which ./build --web makes of these files.");
+    hint("Open bindings/web/out/index.html, which ./build --web makes of these files.");
     return;
   }
   buildMatrix();

@@ -42,8 +42,9 @@ def places() -> Tuple[str, ...]:
     """Returns where the library is looked for: SFQ_LIBRARY alone if it is set, else the prefix of this package, else the system."""
     if os.environ.get("SFQ_LIBRARY"):
         return (os.environ["SFQ_LIBRARY"],)
-    beside = os.path.join(os.path.dirname(os.path.abspath(__file__)), *[os.pardir] * 3, NAME)
-    return (os.path.normpath(beside), NAME)
+    # The package is in lib/python3.N/site-packages of a prefix, or in share/sfq.
+    above = os.path.normpath(os.path.join(os.path.dirname(os.path.abspath(__file__)), *[os.pardir] * 3))
+    return (os.path.join(above, NAME), os.path.join(above, "lib", NAME), NAME)
 
 
 @functools.lru_cache(maxsize=None)
