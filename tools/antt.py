@@ -22,6 +22,13 @@ class Declaration:
     def text(self):
         return "\n".join(self.lines)
 
+    def parts(self):
+        """The fields of a record, the constructors of a type."""
+        if self.kind not in ("record", "data"):
+            return []
+        heads = [re.match(r"\s+(\S+(?: \S+)*?) :(?: |$)", it) for it in self.lines[1:]]
+        return [name for it in heads if it for name in it[1].split() if name != "field"]
+
 
 class File:
     """A source of the logic: its imports as the local name's path, its modules' paths, its declarations at the top."""
