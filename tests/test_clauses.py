@@ -14,7 +14,9 @@ import clauses
 LISTS = """//! Lists.
 
 ghost use Rattle.std.specs.Prelude.{◌≡◌, ◌++◌, [], ℕ, List, length};
-ghost use Rattle.words.specs.Words.{IsWord, word_count as count};
+ghost use Rattle.words.specs.Words.{
+    IsWord, word_count as count,
+};
 
 use crate::ends::{is_end, last};
 

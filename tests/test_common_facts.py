@@ -91,6 +91,13 @@ class Parsing(unittest.TestCase):
         self.assertEqual((less.name, less.statement), ("less", " (lt : ℕ → Bool) → (n : ℕ) → lt n ≡ true"))
         self.assertEqual((after.name, after.statement, after.lines[-1]), ("after", "ℕ", "after = 3"))
 
+    def test_imports(self):
+        text = "use A.B.{one, two as three}\nuse A.C as other\npub use A.D.{\n  four,\n  five as six,\n}\n\nfact : one ≡ four\nfact = refl\n"
+        file = antt.File(text)
+        self.assertEqual(file.imports, {"one": "A.B.one", "three": "A.B.two", "four": "A.D.four", "six": "A.D.five"})
+        self.assertEqual((file.modules, file.exports), ({"other": "A.C"}, [("four", "A.D.four"), ("six", "A.D.five")]))
+        self.assertEqual([(it.name, it.line) for it in file.declarations], [("fact", 8)])
+
     def test_types(self):
         text = "record pub IsShort (n : ℕ) : Type 0 where\n  field\n    short : n < 3\n\ndata Kind : Type 0 where\n  one : Kind\n"
         self.assertEqual([(it.name, it.kind, it.is_public) for it in antt.File(text).declarations],

@@ -38,7 +38,7 @@ class File:
         self.read(text)
 
     def read(self, text):
-        current, modules, inside, comment = None, [], False, False
+        current, modules, inside, use = None, [], False, ""
         for number, whole in enumerate(text.split("\n"), 1):
             indent = len(whole) - len(whole.lstrip(" "))
             while modules and whole.strip() and indent < modules[-1][0]:
@@ -46,7 +46,13 @@ class File:
                 current = None
             own = modules[-1][0] if modules else 0
             line = whole[own:]
-            if not line.strip():
+            if use or re.match(r"(?:pub )?use ", line):
+                # The names of a long import are on lines of their own.
+                use, current = f"{use} {line.strip()}".strip(), None
+                if "{" not in use or "}" in use:
+                    self.read_use(use)
+                    use = ""
+            elif not line.strip():
                 inside = False
             elif line.startswith(" "):
                 if current and inside:
@@ -55,9 +61,6 @@ class File:
                     current.lines.append(line)
             elif line.startswith("--"):
                 inside = False
-            elif re.match(r"(?:pub )?use ", line):
-                self.read_use(line)
-                current = None
             elif re.match(r"(?:pub )?(?:mod|infix\w?) ", line):
                 current = None
             elif line.startswith("module "):
@@ -91,7 +94,7 @@ class File:
     def read_use(self, line):
         path, brace, names = re.sub(r"^(?:pub )?use ", "", line).partition(".{")
         if brace:
-            for it in names.rpartition("}")[0].split(","):
+            for it in filter(str.strip, names.rpartition("}")[0].split(",")):
                 name, _, own = it.strip().partition(" as ")
                 self.imports[own or name] = f"{path}.{name}"
                 if line.startswith("pub "):

@@ -81,8 +81,8 @@ def contract_at(lines, at):
 
 def imports_of(lines, indent):
     """Returns the imports for contracts that are written at an indent, as a file of the logic."""
-    uses = [line[indent:] for line in lines if line.startswith(" " * indent + "ghost use ")]
-    return antt.File("\n".join(it.removeprefix("ghost ").rstrip(";") for it in uses))
+    uses = re.findall(rf"^ {{{indent}}}ghost (use [^;]*);", "\n".join(lines), re.M)
+    return antt.File("\n".join(" ".join(it.split()) for it in uses))
 
 
 class Imports:
