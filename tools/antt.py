@@ -180,20 +180,9 @@ class Statement:
                     made += [word] + self.listed(inner, bound, depth + 1) + [words[end]]
                 at = end + 1
             elif word.startswith("λ"):
-                end, names = at, []
-                while not words[end].endswith("."):
-                    end += 1
-                for it in words[at : end + 1]:
-                    if re.match(r"λ?[\w'-]*\.?$", it) and it not in ("λ", ":"):
-                        names.append(it.removeprefix("λ").removesuffix("."))
-                inner = dict(bound)
-                binders = [it for it in names if it]
-                types = [it for it in words[at : end + 1] if it.removesuffix(".") in self.imports]
-                binders = [it for it in binders if it not in types or it in bound]
-                for index, it in enumerate(binders):
-                    inner[it] = f"%{depth}.{index}"
-                made += ["λ"] + [inner[it] for it in binders] + ["."]
-                made += self.arrows(words[end + 1 :], inner, depth + 1)
+                binders, behind = lambda_head(words, at)
+                inner = {**bound, **{it: f"%{depth}.{index}" for index, it in enumerate(binders)}}
+                made += ["λ"] + [inner[it] for it in binders] + ["."] + self.arrows(words[behind:], inner, depth + 1)
                 at = len(words)
             else:
                 made.append(self.name(word, bound))
@@ -214,6 +203,25 @@ class Statement:
                 made.append(words[at])
             start = at + 1
         return made
+
+
+def lambda_head(words, at):
+    """Returns the variables of the lambda at a place, and the place behind its dot. Their types, where written, are left out."""
+    binders, place = [], at
+    while place < len(words):
+        word = words[place].removeprefix("λ")
+        if word in ("(", "{"):
+            end = closing(words, place)
+            inner = words[place + 1 : end]
+            binders += inner[: inner.index(":")] if ":" in inner else inner
+            place = end + 1
+            continue
+        if word.removesuffix("."):
+            binders.append(word.removesuffix("."))
+        place += 1
+        if word.endswith("."):
+            break
+    return binders, place
 
 
 def closing(words, at):
