@@ -205,6 +205,12 @@ class Clauses(unittest.TestCase):
     def test_a_function_that_is_no_longer_public(self):
         self.differs("no longer public", ["words::ends::is_end"], [("crates/words/src/lib.rt", "{is_end, last}", "last")])
 
+    def test_what_is_public_now(self):
+        self.differs("now public", ["words::lists::Words::own"], [("crates/words/src/lists.rt", "    fn own", "    pub fn own")])
+        more = "\n/// One.\npub fn one() -> u64 {\n    1\n}\n"
+        end = OLD["crates/lines/src/lib.rt"]
+        self.differs("new public function", ["lines::lib::one"], [("crates/lines/src/lib.rt", end, end + more)])
+
     def test_a_model(self):
         self.differs("model changed", ["words::lists::Words as Model::invariant: invariant: words/specs/Words.word_count w.items ≡ 3"
                       " -> words/specs/Words.word_count w.items ≡ 4"],

@@ -8,7 +8,7 @@ the same as before if it is imported from where that definition is now. Each lin
 what is found wrongly: `crate::module`, `crate::module::function`, or `crate/specs/File`.
 
 It prints one line for each: clauses that are gone or changed, new conditions, functions, types and definitions that are gone,
-changed, renamed, moved or no longer public, and at last how many there are of each. It ends with status 1 if something is
+changed, renamed, moved, no longer or now public, and at last how many there are of each. It ends with status 1 if something is
 gone or changed or has a new condition.
 """
 import collections
@@ -31,8 +31,8 @@ WRONG = [
     "model changed", "definition gone", "definition changed",
 ]
 REPORTED = [
-    "requires gone", "new ensures", "renamed function", "no longer public", "new public function", "moved function", "moved type",
-    "moved model", "moved definition", "new definition",
+    "requires gone", "new ensures", "renamed function", "no longer public", "now public", "new public function", "new public type",
+    "new public model", "moved function", "moved type", "moved model", "moved definition", "new definition",
 ]
 
 
@@ -261,9 +261,11 @@ class Comparison:
                     self.add("type changed", f"{other.path()}: {difference(item.signature, other.signature)}")
             else:
                 self.compare_function(item, other)
-        known = set(pairs.values())
-        for key in sorted(self.new.public - known):
-            self.add("new public function" if key[0] == "function" else "new ensures", self.new.items[key].path())
+        for key in sorted(set(pairs) - self.old.public):
+            if pairs[key] in self.new.public:
+                self.add("now public", self.new.items[pairs[key]].path())
+        for key in sorted(self.new.public - set(pairs.values())):
+            self.add(f"new public {kinds[key[0]]}", self.new.items[key].path())
 
     def compare_function(self, item, other):
         signatures = [re.sub(rf"\bfn {it.name}\b", "fn", it.signature) for it in (item, other)]

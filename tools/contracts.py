@@ -164,4 +164,5 @@ class Root:
             return False
         if not self.is_library or item.module == "lib" or item.module in self.modules or "extern" in item.signature:
             return True
-        return (item.owner or item.name) in self.names
+        # An impl of a trait of the crate is public with the trait, also for a type of another crate.
+        return not self.names.isdisjoint({item.owner or item.name, item.trait.partition("<")[0]})
