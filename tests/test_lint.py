@@ -21,6 +21,8 @@ CLEAN = {
     "crates/one/must-fail/two.edit": "file: src/lib.rt\nold:     1\nnew:     2\n",
 }
 
+# What ./lint counts with.
+TOOLS = ["antt", "common_facts", "counts", "proved_page", "recorded", "repository"]
 # A stand-in for `rt`, whose layout is that no line ends with a space.
 LAYS_OUT = f"""#!{sys.executable}
 import pathlib
@@ -123,16 +125,50 @@ class Refused(unittest.TestCase):
 
     def test_a_document_past_its_size(self):
         page = CLEAN["README.md"]
-        self.assertEqual(self.found("README.md", page + "\n" * 117), (0, []))
-        self.refused("README.md", page + "\n" * 118, 1, "121 lines of at most 120")
-        lines = ("x" * 99 + "\n") * 81 + "x" * (8192 - len(page) - 8101) + "\n"
+        self.assertEqual(self.found("README.md", page + "\n" * 147), (0, []))
+        self.refused("README.md", page + "\n" * 148, 1, "151 lines of at most 150")
+        lines = ("x" * 99 + "\n") * 101 + "x" * (10240 - len(page) - 10101) + "\n"
         self.assertEqual(self.found("README.md", page + lines), (0, []))
-        self.refused("README.md", page + "x" + lines, 1, "8193 bytes of at most 8192")
+        self.refused("README.md", page + "x" + lines, 1, "10241 bytes of at most 10240")
+
+    def test_a_part_of_a_document_past_its_size(self):
+        table = "# Architecture\n\n| crate | what it does |\n|---|---|\n| `one` | one |\n"
+        lines = ("x" * 99 + "\n") * 5 + "x" * 100 + "\n"
+        listed, row = f"- {lines[2:]}", f"| `one` | {'x' * 588} |\n"
+        for text, line in ((f"\n{lines}", 7), (f"\n- one\n{listed}", 8), (f"\n## Head\n{lines}", 8), (row, 6)):
+            self.assertEqual(self.found("docs/ARCHITECTURE.md", table + text), (0, []))
+            self.refused("docs/ARCHITECTURE.md", table + text.replace("x", "xx", 1), line, "601 bytes of at most 600")
+        # The whole may be larger; code isn't counted, nor is a paragraph of just that size.
+        whole = table + f"\n{lines}\n{lines}\n```text\n{lines}{lines}```\n"
+        self.assertEqual(self.found("docs/ARCHITECTURE.md", whole), (0, []))
 
     def test_definitions_that_are_stale(self):
         more = {"docs/definitions.py": MAKES}
         self.assertEqual(self.found("docs/DEFINITIONS.md", "Ones.antt\n", more), (0, []))
         self.refused("docs/DEFINITIONS.md", "Twos.antt\n", 1, "docs/definitions.py", more)
+
+    def test_counts_at_the_end(self):
+        tools = {f"tools/{it}.py": (ROOT / f"tools/{it}.py").read_text() for it in TOOLS}
+        status, lines = self.found(more=tools)
+        self.assertEqual((status, lines[0].split()[:2]), (0, ["crates", "1"]), lines)
+        walk = {"tools/walks.txt": "a way, at most 1 crates:\none::lib::one\n"}
+        status, lines = self.found(more={**tools, **walk})
+        self.assertEqual((status, lines[-1].split()[-4:]), (0, ["1", "at", "most", "1"]), lines)
+        walk = {"tools/walks.txt": "a way, at most 1 crates:\none::lib::two\n"}
+        status, lines = self.found(more={**tools, **walk})
+        self.assertEqual((status, lines[0]), (1, "tools/walks.txt:2: no function one::lib::two"))
+
+    def test_more_than_is_recorded(self):
+        tools = {f"tools/{it}.py": (ROOT / f"tools/{it}.py").read_text() for it in TOOLS}
+        more = {**tools, "tools/long_lines.txt": "# Long.\none 1\n", "tools/common_facts.txt": "# Facts.\n"}
+        long = "long : One\nlong = " + "x" * 124 + "\n"
+        status, lines = self.found("crates/one/proofs/Ones.antt", long, more)
+        self.assertEqual((status, lines[0].split()[:2]), (0, ["crates", "1"]), lines)
+        status, lines = self.found("crates/one/proofs/Ones.antt", long + long, more)
+        self.assertEqual((status, lines[0].partition(" lines")[0]), (1, "tools/long_lines.txt:2: one has 2"))
+        fact = "use Rattle.std.specs.Prelude.{◌≡◌, ℕ}\n\nsame : (n : ℕ) → n ≡ n\nsame n = refl\n"
+        status, lines = self.found("crates/one/proofs/Ones.antt", fact, more)
+        self.assertEqual((status, lines[0].partition(" facts")[0]), (1, "tools/common_facts.txt:1: one has 1"))
 
     def test_handles(self):
         self.refused("HANDLES", "Handles allowed: Net.\n", 1, "has to be")
