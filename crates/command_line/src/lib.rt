@@ -1,7 +1,7 @@
 //! The command line of `sfq`: what its words ask for, and what is wrong with them.
 #![tactic(auto)]
 
-pub mod command_words;
+mod command_words;
 mod known_commands;
 mod misuse;
 mod reading;

@@ -7,7 +7,7 @@ mod fullness;
 mod gap_cells;
 mod labelled;
 mod matrix;
-pub mod matrix_cells;
+mod matrix_cells;
 mod matrix_edges;
 mod matrix_finding;
 mod matrix_positions;

@@ -3,8 +3,8 @@
 //! users need.
 #![tactic(auto)]
 
-pub mod commands;
-pub mod first_run;
+mod commands;
+mod first_run;
 
 pub use commands::{serve, serve_observed};
 pub use failures::{Failure, Fault, GeometryWord, fault_line, status};

@@ -4,20 +4,20 @@
 
 mod asked_envelopes;
 mod envelopes;
-pub mod execution;
+mod execution;
 mod found_pairs;
-pub mod iteration;
+mod iteration;
 mod keys;
 mod orders;
-pub mod partners;
-pub mod places;
-pub mod referenced_tables;
-pub mod row_pairs;
-pub mod rows_by_value;
+mod partners;
+mod places;
+mod referenced_tables;
+mod row_pairs;
+mod rows_by_value;
 mod stages;
 mod value_order;
-pub mod walk_progress;
-pub mod walks;
+mod walk_progress;
+mod walks;
 
 pub use execution::execute;
 pub use iteration::Rows;

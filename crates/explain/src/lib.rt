@@ -4,6 +4,6 @@
 mod access_lines;
 mod filter_line;
 mod lines;
-pub mod plan_text;
+mod plan_text;
 
 pub use plan_text::{analyze, explain};

@@ -2,18 +2,18 @@
 //! ascending key, loaded from them, with an index for each geometry column; databases.
 #![tactic(auto)]
 
-pub mod cells;
-pub mod databases;
-pub mod fields;
-pub mod flat_rows;
-pub mod geometry_fields;
+mod cells;
+mod databases;
+mod fields;
+mod flat_rows;
+mod geometry_fields;
 mod headers;
-pub mod indexes;
-pub mod keys;
+mod indexes;
+mod keys;
 mod loading;
 pub mod records;
-pub mod schemas;
-pub mod tables;
+mod schemas;
+mod tables;
 mod typed_rows;
 mod values;
 

@@ -5,9 +5,9 @@
 #![tactic(auto)]
 
 mod divisors;
-pub mod fractions;
+mod fractions;
 pub mod grid_points;
-pub mod rational_points;
+mod rational_points;
 
 pub use fractions::Frac;
 pub use grid_points::GridPoint;

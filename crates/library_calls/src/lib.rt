@@ -4,21 +4,21 @@
 #![tactic(auto)]
 
 pub mod array_laws;
-pub mod arrays;
+mod arrays;
 mod building;
-pub mod checking;
-pub mod coordinates;
-pub mod explained;
+mod checking;
+mod coordinates;
+mod explained;
 pub mod faults;
-pub mod kept;
-pub mod kept_geometry;
-pub mod meeting;
+mod kept;
+mod kept_geometry;
+mod meeting;
 mod parts;
-pub mod patterns;
-pub mod relations;
-pub mod sizes;
-pub mod slot;
-pub mod texts;
+mod patterns;
+mod relations;
+mod sizes;
+mod slot;
+mod texts;
 
 pub use arrays::read_positions;
 pub use checking::read_arrays;

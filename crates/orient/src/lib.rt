@@ -2,11 +2,11 @@
 //! here takes memory.
 #![tactic(auto)]
 
-pub mod crossings;
-pub mod positions;
+mod crossings;
+mod positions;
 mod products;
-pub mod segments;
-pub mod sides;
+mod segments;
+mod sides;
 
 pub use crossings::{Crossing, at_or_above, crosses_up, crossing_at, crossing_at_position};
 pub use positions::position_on;

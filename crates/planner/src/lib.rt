@@ -2,8 +2,8 @@
 //! order in which its conjuncts are evaluated. It depends only on the conjuncts and on the tables' numbers of rows.
 #![tactic(auto)]
 
-pub mod choosing;
-pub mod chosen_plans;
+mod choosing;
+mod chosen_plans;
 mod costs;
 mod driving;
 mod filter_order;

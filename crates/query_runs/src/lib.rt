@@ -2,8 +2,8 @@
 //! of an answer are here too: its header, and the fields of a row.
 #![tactic(auto)]
 
-pub mod record_fields;
-pub mod runs;
+mod record_fields;
+mod runs;
 
 pub use record_fields::{header_record, row_record};
 pub use runs::{run, run_by_references, run_observed};

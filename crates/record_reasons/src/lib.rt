@@ -2,17 +2,17 @@
 //! the line that says so.
 #![tactic(auto)]
 
-pub mod column_reasons;
-pub mod header_reasons;
+mod column_reasons;
+mod header_reasons;
 pub mod line_ends;
-pub mod named_fields;
-pub mod note_lines;
-pub mod null_reasons;
+mod named_fields;
+mod note_lines;
+mod null_reasons;
 pub mod reason;
-pub mod reason_lines;
-pub mod same_keys;
-pub mod seen_records;
-pub mod shown_texts;
+mod reason_lines;
+mod same_keys;
+mod seen_records;
+mod shown_texts;
 
 pub use line_ends::{LineEnd, first_line_end};
 pub use note_lines::put_line_end;

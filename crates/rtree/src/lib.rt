@@ -6,14 +6,14 @@
 #![tactic(auto)]
 
 mod curve;
-pub mod curve_trees;
+mod curve_trees;
 pub mod envelopes;
-pub mod indexes;
-pub mod list_index;
+mod indexes;
+mod list_index;
 mod packed_trees;
 mod packing;
-pub mod row_trees;
-pub mod trees;
+mod row_trees;
+mod trees;
 
 pub use curve_trees::CurveTree;
 pub use envelopes::{Envelope, Enveloped, meets};

@@ -4,4 +4,4 @@
 #![tactic(auto)]
 
 mod calls;
-pub mod queries;
+mod queries;

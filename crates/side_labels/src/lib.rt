@@ -2,9 +2,9 @@
 //! pieces' sides lie in both.
 #![tactic(auto)]
 
-pub mod label_lists;
-pub mod labelling;
-pub mod location;
+mod label_lists;
+mod labelling;
+mod location;
 pub mod piece_sides;
 
 pub use geometry_model::{Location, Location as Loc};

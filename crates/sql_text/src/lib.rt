@@ -5,19 +5,19 @@
 
 mod comparison_reader;
 mod condition;
-pub mod cursor;
+mod cursor;
 mod definition;
 mod item_reader;
 pub mod lex;
 mod literal_reader;
-pub mod numbers;
+mod numbers;
 mod operand_reader;
 mod predicates;
-pub mod query_reader;
+mod query_reader;
 mod reference_reader;
 mod schema;
 mod select_reader;
-pub mod steps;
+mod steps;
 mod terminals;
 
 pub use query_reader::{Argument, Query};

@@ -4,17 +4,17 @@
 #![tactic(auto)]
 
 pub mod devices;
-pub mod followed_readers;
-pub mod interruptions;
+mod followed_readers;
+mod interruptions;
 mod lines;
-pub mod memory;
+mod memory;
 pub mod put_fault;
-pub mod readers;
-pub mod record_writer;
-pub mod rows;
-pub mod sink;
-pub mod standard;
-pub mod tallies;
+mod readers;
+mod record_writer;
+mod rows;
+mod sink;
+mod standard;
+mod tallies;
 
 pub use followed_readers::{Followed, ReadObserver};
 pub use interruptions::{PatientReader, write_again};

@@ -3,22 +3,22 @@
 //! docs/FAULTS.md. The text that a word gives, its own or that of a file, is read here too.
 #![tactic(auto)]
 
-pub mod cell_witnesses;
-pub mod explained;
-pub mod fault_codes;
-pub mod given_texts;
+mod cell_witnesses;
+mod explained;
+mod fault_codes;
+mod given_texts;
 pub mod page_laws;
-pub mod pages;
+mod pages;
 mod pair_lines;
 mod pair_records;
 mod query_pages;
-pub mod relate;
-pub mod runs;
+mod relate;
+mod runs;
 mod schema_pages;
-pub mod served;
+mod served;
 mod table_pages;
 mod text_pages;
-pub mod text_verdicts;
+mod text_verdicts;
 mod validity_pages;
 
 pub use cell_witnesses::witnesses_of_texts;

@@ -3,23 +3,23 @@
 //! rows, and keeps no row; a second one writes each record to the texts of its cells, or of the stretch that it is in.
 #![tactic(auto)]
 
-pub mod cells;
-pub mod checking;
-pub mod copying;
+mod cells;
+mod checking;
+mod copying;
 mod cuts;
 mod envelopes;
-pub mod faults;
+mod faults;
 mod lines;
-pub mod marks;
-pub mod parts;
+mod marks;
+mod parts;
 mod plain_records;
 mod reading;
 mod record_lines;
-pub mod sampling;
-pub mod stretching;
-pub mod texts;
+mod sampling;
+mod stretching;
+mod texts;
 mod trees;
-pub mod watching;
+mod watching;
 pub mod written_laws;
 
 pub use cells::{Cells, MOST_BOXES};

@@ -2,8 +2,8 @@
 //! its type `Valid` says that it has no fault.
 #![tactic(auto)]
 
-pub mod check_fault;
-pub mod checked_texts;
+mod check_fault;
+mod checked_texts;
 pub mod first_faults;
 mod neighbours;
 mod odd_ends;
@@ -11,7 +11,7 @@ pub mod outlines;
 mod part_tests;
 mod runs;
 mod searched_positions;
-pub mod valid_envelopes;
+mod valid_envelopes;
 pub mod valid_geometry;
 
 pub use check_fault::CheckFault;

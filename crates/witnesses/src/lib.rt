@@ -6,26 +6,26 @@
 
 mod divisors;
 mod elements;
-pub mod face_points;
-pub mod faces;
+mod face_points;
+mod faces;
 mod far_points;
-pub mod fault_lines;
-pub mod finding;
+mod fault_lines;
+mod finding;
 pub mod fraction_laws;
 mod height_products;
-pub mod heights;
+mod heights;
 mod insides;
 mod numbers;
 mod parts;
 mod pieces;
 pub mod places;
 mod polygons;
-pub mod rings;
-pub mod shared;
+mod rings;
+mod shared;
 pub mod verdict;
-pub mod verdict_lines;
+mod verdict_lines;
 pub mod witness;
-pub mod witness_lines;
+mod witness_lines;
 
 pub use face_points::FacePoint;
 pub use faces::face_point;

@@ -4,14 +4,14 @@
 
 mod coordinate_reader;
 mod cursor;
-pub mod geometry;
+mod geometry;
 pub mod kept_laws;
-pub mod line_strings;
+mod line_strings;
 mod list_reader;
 mod plain_positions;
-pub mod polygons;
+mod polygons;
 mod position_reader;
-pub mod printing;
+mod printing;
 mod reading;
 pub mod wkt_fault;
 
