@@ -2,7 +2,6 @@ pub mod DatabaseLemmas
 pub mod FailureLemmas
 pub mod FieldLemmas
 pub mod FlatLemmas
-pub mod SchemaLemmas
 pub mod HeaderLemmas
 pub mod EachLemmas
 pub mod RowLemmas

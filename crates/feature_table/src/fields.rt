@@ -10,7 +10,7 @@ ghost use Rattle.table_model.specs.Outcomes.{Gives};
 ghost use Rattle.table_model.specs.declared.faults.LoadFault.TheVariants as fault;
 
 use crate::geometry_fields::{Geometry, geometry_of};
-use crate::schemas::ColumnType;
+use sql_text::ColumnType;
 use std::alloc::Global;
 use std::str;
 use table_model::faults::LoadFault;

@@ -8,12 +8,10 @@ ghost use Rattle.table_model.specs.Outcomes.{Gives};
 ghost use Rattle.table_model.specs.declared.faults.LoadFault.TheVariants as fault;
 
 use geometry_model::GeometryType;
+use sql_text::ColumnShape;
 use std::alloc::Global;
 use table_model::faults::LoadFault;
 use validity::{Valid, read_valid};
-
-/// The type of a geometry column: one type of geometry, or none for GEOMETRY, which takes them all (06-104r4, 7.2).
-pub type ColumnShape = Option<GeometryType>;
 
 /// A geometry of a field (06-103r4, 6.1).
 pub type Geometry = Valid;

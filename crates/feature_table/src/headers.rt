@@ -8,8 +8,8 @@ ghost use Rattle.feature_table.specs.Outcomes.{is_of_reading};
 ghost use Rattle.table_model.specs.Loading as spec;
 ghost use Rattle.table_model.specs.declared.faults.LoadFault.TheVariants as fault;
 
-use crate::schemas::ColumnDef;
 use csv::ByteRecord;
+use sql_text::ColumnDef;
 use std::alloc::Global;
 use table_model::faults::LoadFault;
 use table_model::texts::same_name;

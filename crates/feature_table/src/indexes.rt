@@ -8,9 +8,9 @@ ghost use Rattle.table_model.specs.Meanings as plain;
 
 use crate::cells::Field;
 use crate::flat_rows::FlatRows;
-use crate::schemas::{ColumnType, TableDef};
 use crate::values::Row;
 use rtree::{Envelope, EnvelopeIndex};
+use sql_text::{ColumnType, TableDef};
 use std::alloc::{AllocError, Global};
 
 /// An index for each geometry column, and one that all other columns share, which lists an absent envelope for each row.

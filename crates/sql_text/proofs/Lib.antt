@@ -5,3 +5,4 @@ pub mod Ascii
 pub mod Passing
 pub mod PredicateNames
 pub mod QueryParts
+pub mod SchemaLemmas

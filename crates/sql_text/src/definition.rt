@@ -9,7 +9,7 @@ ghost use Rattle.table_model.specs.Parsers.{Reads};
 ghost use Rattle.table_model.specs.GeometryColumns.{shape_named};
 
 use crate::cursor::Cursor;
-use feature_table::{ColumnDef, ColumnShape, ColumnType, TableDef};
+use crate::schemas::{ColumnDef, ColumnShape, ColumnType, TableDef};
 use geometry_model::GeometryType;
 use sqlite_items::Items;
 use std::alloc::{AllocError, Global};

@@ -15,12 +15,14 @@ mod operand_reader;
 mod predicates;
 mod query_reader;
 mod reference_reader;
-mod schema;
+mod schema_reader;
+pub mod schemas;
 mod select_reader;
 mod steps;
 mod terminals;
 
 pub use query_reader::{Argument, Query};
-pub use schema::read_schema;
+pub use schema_reader::read_schema;
+pub use schemas::{ColumnDef, ColumnShape, ColumnType, Schema, TableDef, lawful};
 pub use select_reader::read_query;
 pub use table_model::faults::{QueryFault, SchemaFault};

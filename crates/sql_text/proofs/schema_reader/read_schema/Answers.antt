@@ -9,7 +9,7 @@ use Rattle.table_model.specs.GeometryColumns.{ColumnShape}
 use Rattle.table_model.specs.Outcomes.{Gives}
 use Rattle.table_model.specs.SchemaGrammar.{IsSchema}
 use Rattle.table_model.specs.SchemaReading as spec
-use Rattle.sql_text.proofs.schema.read_schema.Goals as goal
+use Rattle.sql_text.proofs.schema_reader.read_schema.Goals as goal
 use Rattle.table_model.specs.GeometryColumns.{shape_named}
 
 is_schema : (text : List ℕ) (r : Result (List (TableDef ColumnShape)) SchemaFault) → Gives fault.OutOfMemory (λ s. s) r (spec.schema_of shape_named text)

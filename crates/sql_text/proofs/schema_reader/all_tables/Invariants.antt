@@ -1,6 +1,6 @@
 use Rattle.std.proofs.Common.{◌≡◌, ◌-◌}
 use Rattle.table_model.specs.SchemaReading as spec
-use Rattle.sql_text.proofs.schema.all_tables.Given as goal
+use Rattle.sql_text.proofs.schema_reader.all_tables.Given as goal
 use Rattle.table_model.specs.GeometryColumns.{shape_named}
 
 abbrev pub invariant-loop-turn : goal.invariant-loop-turn

@@ -3,7 +3,7 @@ use Rattle.std.proofs.lemmas.Grind.{common_steps}
 use Rattle.table_model.specs.SchemaReading as spec
 use Rattle.table_model.specs.SchemaReading.{tables_from}
 use Rattle.sql_text.proofs.Counts.{one_turn}
-use Rattle.sql_text.proofs.schema.all_tables.Goals as goal
+use Rattle.sql_text.proofs.schema_reader.all_tables.Goals as goal
 use Rattle.table_model.specs.GeometryColumns.{shape_named}
 
 pub returns-in_err-table : goal.returns-in_err-table

@@ -1,5 +1,5 @@
 use Rattle.std.proofs.Common.{rules}
-use Rattle.feature_table.proofs.schemas.is_integer.Goals as goal
+use Rattle.sql_text.proofs.schemas.is_integer.Goals as goal
 
 pub returns-in-Text : goal.returns-in-Text
 returns-in-Text c = search rules

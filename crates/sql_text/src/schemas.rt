@@ -5,11 +5,14 @@ ghost use Rattle.std.specs.List.{list_all, list_any};
 ghost use Rattle.table_model.specs.Texts.{same_name};
 ghost use Rattle.table_model.specs.Definitions.{is_integer, lawful, lawful_table, may_be_key, names_differ};
 
-use crate::geometry_fields::ColumnShape;
+use geometry_model::GeometryType;
 use sqlite_items::{self as items, Items};
 use std::marker::Model;
 use table_model::definitions::{COLUMN_LIMIT, TABLE_LIMIT};
 use table_model::texts::same_name;
+
+/// The type of a geometry column: one type of geometry, or none for GEOMETRY, which takes them all (06-104r4, 7.2).
+pub type ColumnShape = Option<GeometryType>;
 
 /// The type of a column: whole numbers, texts or geometries (SQL; 06-104r4, 7.2).
 pub type ColumnType = table_model::definitions::ColumnType<ColumnShape>;
@@ -30,9 +33,9 @@ impl Model for Schema {
     ghost use Rattle.std.specs.Prelude.{IsTrue, List};
     ghost use Rattle.table_model.specs.Definitions.{lawful};
     ghost use Rattle.table_model.specs.declared.definitions.TableDef.{TableDef};
-    ghost use Rattle.feature_table.specs.GeometryFields.{ShapeValue};
+    ghost use Rattle.table_model.specs.GeometryColumns.{ColumnShape};
 
-    ghost Value = { List (TableDef ShapeValue) };
+    ghost Value = { List (TableDef ColumnShape) };
 
     ghost view = { λ s. s.tables };
 

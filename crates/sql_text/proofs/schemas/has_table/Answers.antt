@@ -3,7 +3,7 @@ use Rattle.std.proofs.lemmas.Iterator.{YieldsList-from_slice}
 use Rattle.std.proofs.lemmas.Iterator.Search.{any_from_yields_List}
 use Rattle.table_model.proofs.ListFacts.{list_any-map}
 use Rattle.table_model.specs.Texts.{same_name}
-use Rattle.feature_table.proofs.schemas.has_table.Goals as goal
+use Rattle.sql_text.proofs.schemas.has_table.Goals as goal
 
 pub returns : goal.returns
 returns c =

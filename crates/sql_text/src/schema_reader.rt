@@ -12,7 +12,7 @@ ghost use Rattle.table_model.specs.GeometryColumns.{shape_named};
 use crate::cursor::Cursor;
 use crate::definition::{expect, refuse, table};
 use crate::lex::lex;
-use feature_table::{Schema, TableDef};
+use crate::schemas::{Schema, TableDef};
 use std::alloc::Global;
 use table_model::faults::SchemaFault;
 use table_model::tokens::{TEXT_LIMIT, TokenKind};
