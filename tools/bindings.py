@@ -65,7 +65,8 @@ def has_postgresql() -> bool:
 
 def of_postgresql() -> list[str]:
     """Returns where PostgreSQL looks for what the extensions are made of."""
-    names = sorted(os.path.basename(it) for it in glob.glob(f"{repository.ROOT}/bindings/postgresql/sfq*") if not it.endswith(".c"))
+    found = glob.glob(f"{repository.ROOT}/bindings/postgresql/sfq*")
+    names = sorted(os.path.basename(it) for it in found if it.endswith((".control", ".sql")))
     return [f"{configured('pkglibdir')}/sfq.so", *(f"{configured('sharedir')}/extension/{it}" for it in names)]
 
 

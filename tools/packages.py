@@ -69,7 +69,7 @@ def install(prefix: str) -> int:
     """Installs the program, and sfq-tiles with sfq-scale and the C library with what is over it where they are made."""
     with_library, with_tiles = library.is_made(), tiles.is_made()
     copy(PROGRAM + DATA + TILES * with_tiles + (library.FILES + bindings.files()) * with_library, prefix)
-    made = library.install_made(prefix, released()[0]) + bindings.install_made(prefix) if with_library else []
+    made = library.install_made(prefix, repository.version()) + bindings.install_made(prefix) if with_library else []
     for it in made:
         print(f"installed {it}")
     if not with_tiles:
@@ -99,9 +99,10 @@ def uninstall(prefix: str) -> int:
 
 
 def released() -> tuple[str, int]:
-    """Returns the version and its date, in seconds, by the first entry of CHANGELOG.md."""
+    """Returns the version and its date, in seconds, which its entry of CHANGELOG.md has."""
+    version = repository.version()
     with open(f"{repository.ROOT}/CHANGELOG.md", encoding="utf-8") as text:
-        version, day = re.findall(r"^## (\S+) \((\d+-\d+-\d+)\)", text.read(), re.M)[0]
+        day = re.findall(rf"^## {re.escape(version)} \((\d+-\d+-\d+)\)", text.read(), re.M)[0]
     date = datetime.datetime.fromisoformat(f"{day}T00:00:00+00:00")
     return version, int(date.timestamp())
 

@@ -82,10 +82,6 @@ def crates_with_tests(root: str = ROOT) -> list[str]:
 
 
 def version(root: str = ROOT) -> str:
-    """Returns the version that `sfq --version` prints."""
-    for path in sorted(glob.glob(f"{root}/crates/command_*/src/*.rt")):
-        with open(path, encoding="utf-8") as text:
-            found = re.search(r'VERSION: &str = "([^"]+)"', text.read())
-            if found:
-                return found[1]
-    fail("no crate of the command line names a version")
+    """Returns the version of all that is here. tools/version.py writes it where it has to be spelled."""
+    with open(f"{root}/VERSION", encoding="ascii") as file:
+        return file.read().strip()

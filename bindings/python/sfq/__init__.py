@@ -17,7 +17,7 @@ from . import _library, _positions, _texts
 from ._faults import Fault, FaultError, GridError, LibraryError
 
 __all__ = ["Cell", "Fault", "FaultError", "Geometry", "GridError", "LibraryError", "from_shapely", "relate", "relate_many"]
-__version__ = "0.1.0"
+__version__ = "0.2.0"
 
 
 class Cell(NamedTuple):
