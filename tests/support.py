@@ -99,13 +99,14 @@ class Checkout:
         leave_out = shutil.ignore_patterns("__pycache__")
         for name in ("tools", "packaging", "bindings/python"):
             shutil.copytree(f"{ROOT}/{name}", f"{self.root}/{name}", ignore=leave_out)
-        shutil.copy(f"{ROOT}/CHANGELOG.md", self.root)
+        for name in ("CHANGELOG.md", "VERSION"):
+            shutil.copy(f"{ROOT}/{name}", self.root)
         lines = "".join(f"{it}: {' '.join(used)}\n" for it, used in crates.items())
         write(f"{self.root}/crates.txt", lines)
         write(f"{self.root}/HANDLES", "Handles allowed: none.\n")
         for it in crates:
             name = "main" if it.startswith("sfq") else "lib"
-            write(f"{self.root}/crates/{it}/src/{name}.rt", f'//! {it}\nconst VERSION: &str = "0.1.0";\n')
+            write(f"{self.root}/crates/{it}/src/{name}.rt", f"//! {it}\n")
         self.behave("finish('', '', 0)")
         write(f"{self.room}/bin/rt", STAND_IN.replace("{python}", sys.executable), stat.S_IRWXU)
 

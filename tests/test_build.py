@@ -11,6 +11,8 @@ import unittest
 
 from support import WithCheckout, needs, read, write
 
+import repository
+
 # The crate of sfq-tiles, for tests that make this program too.
 WITH_TILES = {"sfq_tiles": ["middle"]}
 # Proves each crate by `rt all`, and leaves a program. What was proved is kept in a file, by the texts, as the real `rt` keeps it.
@@ -268,7 +270,7 @@ class Commands(WithBuild):
             self.assertEqual(subprocess.run([f"{prefix}/bin/{it}"], capture_output=True).stdout, b"proved\n")
         for it in ("sfq-scale", "sfq-import", "sfq-export"):
             ran = subprocess.run([f"{prefix}/bin/{it}", "--version"], capture_output=True, text=True, cwd="/")
-            self.assertEqual((ran.stdout, ran.stderr), (f"{it} 0.1.0\n", ""))
+            self.assertEqual((ran.stdout, ran.stderr), (f"{it} {repository.version()}\n", ""))
         self.assertEqual(self.installed(prefix), found)
         self.assertEqual(self.build("--uninstall", prefix).returncode, 0)
         found = [os.path.relpath(f"{at}/{it}", prefix) for at, folders, names in os.walk(prefix) for it in [*folders, *names]]

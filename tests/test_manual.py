@@ -42,11 +42,6 @@ class ManualPage(unittest.TestCase):
             self.assertEqual((ran.stderr, ran.returncode), ("", 0))
             self.assertIn("EXIT STATUS", re.sub(r".\x08|\x1b\[[\d;]*m", "", ran.stdout))
 
-    def test_it_is_of_this_version(self):
-        for name in ("sfq", *OTHERS):
-            self.assertIn(f'"sfq {repository.version()}"', read(f"{ROOT}/packaging/man/{name}.1"))
-        self.assertRegex(read(f"{ROOT}/CHANGELOG.md"), rf"(?m)^## {re.escape(repository.version())} \(")
-
     def test_each_fault_and_status_of_the_document_is_in_it(self):
         page, faults = read(PAGE), read(f"{ROOT}/docs/FAULTS.md")
         codes = set(re.findall(r"`sfq: [^`]*?\b([SLQWV]\d+)\b", faults))

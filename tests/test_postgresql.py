@@ -174,10 +174,15 @@ class Postgresql(engine_rows.WithLibrary):
         before, after = map(int, re.findall(r"VmRSS:\s+(\d+) kB", out))
         self.assertLess(after - before, 2_000)
 
-    def test_versions_are_that_of_the_program(self):
-        for it in ("sfq", "sfq_postgis"):
-            self.assertIn(f"default_version = '{repository.version()}'", read(f"{ROOT}/bindings/postgresql/{it}.control"))
-            self.assertTrue(os.path.isfile(f"{ROOT}/bindings/postgresql/{it}--{repository.version()}.sql"))
+    def test_a_database_of_an_earlier_version_is_updated(self):
+        """It has what a new one has then."""
+        listed = "SELECT pg_describe_object(classid, objid, 0) FROM pg_depend WHERE refobjid = (SELECT oid FROM pg_extension WHERE extname = 'sfq') ORDER BY 1;\n"
+        version = "SELECT extversion FROM pg_extension WHERE extname = 'sfq';\n"
+        new = self.asked(f"{version}{listed}")
+        first = self.asked("DROP EXTENSION sfq;\nCREATE EXTENSION sfq VERSION '0.1.0';\n" + version)
+        self.assertEqual(first, "0.1.0\n")
+        self.assertEqual(self.asked(f"ALTER EXTENSION sfq UPDATE;\n{version}{listed}"), new)
+        self.assertTrue(new.startswith(f"{repository.version()}\n"), new)
 
     def test_the_example_of_the_document(self):
         text = re.search(r"^## PostgreSQL$(.*?)^## ", read(f"{ROOT}/docs/LIBRARY.md"), re.M | re.S)[1]

@@ -367,9 +367,6 @@ class Installation(unittest.TestCase):
         first, *others = (read(f"{self.PROJECT}/bin/{it}").replace(it, "NAME").splitlines()[2:] for it, _ in listed)
         self.assertEqual(others, [first] * len(others))
 
-    def test_the_version_is_that_of_the_program(self):
-        self.assertEqual(sfq.__version__, repository.version())
-
     def test_where_the_library_is_looked_for(self):
         """In the lib of the prefix, whether the package is in site-packages or in share/sfq, and then where the system has it."""
         for at in ("lib/python3.11/site-packages/sfq", "share/sfq/sfq"):

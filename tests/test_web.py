@@ -2,7 +2,6 @@
 import base64
 import functools
 import http.server
-import importlib.util
 import json
 import os
 import random
@@ -19,11 +18,8 @@ from support import ROOT, needs_build, read
 import answers
 import pairs
 import required_rows
+import web_page
 from fuzz import changes, outcomes
-
-FOUND = importlib.util.spec_from_file_location("web_build", f"{ROOT}/bindings/web/build.py")
-web_build = importlib.util.module_from_spec(FOUND)
-FOUND.loader.exec_module(web_build)
 
 # A browser may take this long to begin and to do its work, in seconds.
 PATIENCE = 300
@@ -32,8 +28,8 @@ PYTHON = "/usr/bin/python3"
 
 # A small module of LLVM, in the form that the kit writes.
 MODULE = f"""
-target datalayout = "{web_build.NATIVE_LAYOUT}"
-target triple = "{web_build.NATIVE_TARGET}"
+target datalayout = "{web_page.NATIVE_LAYOUT}"
+target triple = "{web_page.NATIVE_TARGET}"
 define noundef i32 @sfq_proved_fault(ptr noundef %a0) #0 {{
   ret i32 0
 }}
@@ -56,9 +52,9 @@ FURTHER = {
 @functools.lru_cache(maxsize=None)
 def carried():
     """Returns what the page carries of each module, where it is made of the present sources. Without the kit this isn't looked at."""
-    found = {it: web_build.kept(it) for it in web_build.MODULES}
+    found = {it: web_page.kept(it) for it in web_page.MODULES}
     is_there = all(what is not None for what in found.values())
-    is_old = is_there and shutil.which("rt") and any(what["inputs"] != web_build.inputs(it) for it, what in found.items())
+    is_old = is_there and shutil.which("rt") and any(what["inputs"] != web_page.inputs(it) for it, what in found.items())
     return found if is_there and not is_old else None
 
 
@@ -75,17 +71,17 @@ def needs_page(test):
 
 
 class BuildOfTheModule(unittest.TestCase):
-    """What bindings/web/build.py takes and what it refuses, without the kit."""
+    """What bindings/web/web_page.py takes and what it refuses, without the kit."""
 
     def refused(self, text):
-        with self.assertRaises(web_build.Failure) as it:
-            web_build.retarget(text, NAMES)
+        with self.assertRaises(web_page.Failure) as it:
+            web_page.retarget(text, NAMES)
         return str(it.exception)
 
     def test_a_module_gets_another_target(self):
-        text = web_build.retarget(MODULE, NAMES)
-        self.assertIn(f'target datalayout = "{web_build.LAYOUT}"', text)
-        self.assertIn(f'target triple = "{web_build.TARGET}"', text)
+        text = web_page.retarget(MODULE, NAMES)
+        self.assertIn(f'target datalayout = "{web_page.LAYOUT}"', text)
+        self.assertIn(f'target triple = "{web_page.TARGET}"', text)
         self.assertIn('"target-cpu"="lime1"', text)
         self.assertNotIn("x86", text)
 
@@ -112,7 +108,7 @@ class BuildOfTheModule(unittest.TestCase):
         self.assertIn("processor", self.refused(MODULE.replace("x86-64-v2", "znver4")))
 
     def test_examples_have_titles_and_both_texts(self):
-        found = web_build.examples()
+        found = web_page.examples()
         self.assertGreaterEqual(sum("elsewhere" in it for it in found), 7)
         for it in found:
             self.assertTrue(all(it[name] for name in ("title", "a", "b", "says")), it)
@@ -121,13 +117,13 @@ class BuildOfTheModule(unittest.TestCase):
         self.assertEqual(elsewhere["engines"], "GEOS, SpatiaLite, PostGIS, GDAL and JTS")
 
     def test_every_file_that_the_page_names_is_made(self):
-        made = [*web_build.FILES, *(it.script for it in web_build.MODULES), "examples.js", "town.js"]
+        made = [*web_page.FILES, *(it.script for it in web_page.MODULES), "examples.js", "town.js"]
         for page in ("index.html", "tables.html"):
             for it in read(f"{ROOT}/bindings/web/{page}").split('src="')[1:]:
                 self.assertIn(it.partition('"')[0], made)
 
     def test_the_town_has_its_tables_and_its_queries(self):
-        town = web_build.town()
+        town = web_page.town()
         self.assertEqual(list(town["tables"]), re.findall(r"CREATE TABLE (\w+)", town["schema"]))
         self.assertGreaterEqual(len(town["queries"]), 19)
         self.assertEqual(len(town["faults"]), 41)
@@ -136,13 +132,13 @@ class BuildOfTheModule(unittest.TestCase):
 # ---- the module and the page in browsers
 
 
-def module_of_page(it=web_build.SHAPES):
+def module_of_page(it=web_page.SHAPES):
     return base64.b64decode(carried()[it]["bytes"])
 
 
 def page(room):
     """Makes the page in a folder: the modules that are there, and the present files. Returns the folder."""
-    web_build.write_page(carried(), f"{room}/page")
+    web_page.write_page(carried(), f"{room}/page")
     return f"{room}/page"
 
 
@@ -156,8 +152,8 @@ def leb(value):
 
 def limited(module, pages):
     """Returns a module whose memory grows by so many pages at most."""
-    begin, end = web_build.sections(module)[5]
-    least = web_build.number(module, begin + 2)[0]
+    begin, end = web_page.sections(module)[5]
+    least = web_page.number(module, begin + 2)[0]
     memory = b"\1\1" + leb(least) + leb(least + pages)
     head = begin - len(leb(end - begin))
     return module[:head] + leb(len(memory)) + memory + module[end:]
@@ -378,8 +374,8 @@ class TheModuleAgain(unittest.TestCase):
     def test_a_second_build_gives_the_same_bytes(self):
         if not shutil.which("rt") or not shutil.which("wasm-opt"):
             self.skipTest("needs the command rt of the Rattle kit, and the package binaryen")
-        for it in web_build.MODULES:
-            self.assertEqual(web_build.make_module(it), module_of_page(it))
+        for it in web_page.MODULES:
+            self.assertEqual(web_page.make_module(it), module_of_page(it))
 
 
 @functools.lru_cache(maxsize=None)

@@ -3,7 +3,7 @@ import os
 import re
 import subprocess
 import tempfile
-from typing import NamedTuple
+from typing import NamedTuple, Sequence
 
 import repository
 import unproved
@@ -21,7 +21,7 @@ class NoAnswers(Exception):
     """`rt try` gave no answers; the text says why."""
 
 
-def by_program(calls):
+def by_program(calls: Sequence[list[str]]) -> list[Answer]:
     answers = []
     for words in calls:
         ran = subprocess.run(
@@ -31,7 +31,7 @@ def by_program(calls):
     return answers
 
 
-def by_one_try(calls):
+def by_one_try(calls: Sequence[list[str]]) -> list[Answer]:
     """Runs all calls on one build by `rt try --cases`: a case per call, whose words are the lines of a file."""
     with tempfile.TemporaryDirectory(prefix="sfq-calls-") as room:
         os.mkdir(f"{room}/cases")
@@ -47,10 +47,10 @@ def by_one_try(calls):
     return split(calls, out, said)
 
 
-def split(calls, out, said):
+def split(calls: Sequence[list[str]], out: bytes, said: bytes) -> list[Answer]:
     """Returns the answer of each case, out of what `rt try --cases` wrote."""
-    outs = re.split(rb"(?m)^== (\d{5})\n", out)
-    outs = dict(zip(outs[1::2], outs[2::2]))
+    parts = re.split(rb"(?m)^== (\d{5})\n", out)
+    outs = dict(zip(parts[1::2], parts[2::2]))
     ends = re.split(rb"(?m)^case=(\d{5}) run=(\S+)(?: status=(\d+))? .*proved=no\n", said)
     answers = {}
     for err, name, how, status in zip(ends[0::4], ends[1::4], ends[2::4], ends[3::4]):
@@ -63,6 +63,6 @@ def split(calls, out, said):
     return [answers[it] for it in sorted(answers)]
 
 
-def ask(calls):
+def ask(calls: Sequence[list[str]]) -> list[Answer]:
     """Returns the answer to each call, in order. Paths in them count from the root of the repository."""
     return by_program(calls) if repository.is_built() else by_one_try(calls)

@@ -8,6 +8,7 @@ import shutil
 import subprocess
 import sys
 import tempfile
+from typing import Optional
 
 import calls
 import library
@@ -18,9 +19,11 @@ PACKAGES = f"lib/python{sys.version_info[0]}.{sys.version_info[1]}/site-packages
 # The commands of the package, which are installed without it too.
 COMMANDS = ("sfq-import", "sfq-export")
 SQLITE = "lib/sfq0.so"
+# What is copied: where it lies in the repository, where under the prefix, and its mode.
+File = tuple[str, str, int]
 
 
-def files():
+def files() -> list[File]:
     """Returns what is copied: where it is in the repository, where under the prefix, and its mode."""
     found = sorted(glob.glob(f"{repository.ROOT}/bindings/python/sfq/*.py")) + [f"{repository.ROOT}/bindings/python/sfq/py.typed"]
     return [(os.path.relpath(it, repository.ROOT), f"{PACKAGES}/sfq/{os.path.basename(it)}", 0o644) for it in found]
@@ -29,14 +32,14 @@ def files():
 # ---- SQLite ----
 
 
-def has_sqlite():
+def has_sqlite() -> bool:
     """Whether the header of SQLite's extensions is there."""
     text = "#include <sqlite3ext.h>\n"
     words = ["cc", "-E", "-x", "c", "-"]
     return bool(shutil.which("cc")) and subprocess.run(words, input=text, text=True, capture_output=True).returncode == 0
 
 
-def make_sqlite(path):
+def make_sqlite(path: str) -> None:
     """Compiles the extension. The library is within it, and only the entry that SQLite looks for can be seen from outside."""
     flags = [*library.FLAGS, "-fvisibility=hidden", "-shared", f"-I{library.FOLDER}"]
     made = [f"{repository.ROOT}/bindings/sqlite/sfq0.c", f"{library.OUT}/libsfq.a", "-Wl,--exclude-libs,ALL", "-Wl,-z,defs", "-o", path]
@@ -46,7 +49,7 @@ def make_sqlite(path):
 # ---- PostgreSQL ----
 
 
-def configured(name):
+def configured(name: str) -> Optional[str]:
     """Returns a folder of PostgreSQL by pg_config, or None where pg_config isn't there or fails."""
     if not shutil.which("pg_config"):
         return None
@@ -54,19 +57,20 @@ def configured(name):
     return ran.stdout.strip() if ran.returncode == 0 else None
 
 
-def has_postgresql():
+def has_postgresql() -> bool:
     """Whether extensions of PostgreSQL can be made: its makefiles are there, and make and a compiler."""
     pgxs = configured("pgxs")
-    return bool(pgxs) and os.path.isfile(pgxs) and bool(shutil.which("make")) and bool(shutil.which("cc"))
+    return pgxs is not None and os.path.isfile(pgxs) and bool(shutil.which("make")) and bool(shutil.which("cc"))
 
 
-def of_postgresql():
+def of_postgresql() -> list[str]:
     """Returns where PostgreSQL looks for what the extensions are made of."""
-    names = sorted(os.path.basename(it) for it in glob.glob(f"{repository.ROOT}/bindings/postgresql/sfq*") if not it.endswith(".c"))
+    found = glob.glob(f"{repository.ROOT}/bindings/postgresql/sfq*")
+    names = sorted(os.path.basename(it) for it in found if it.endswith((".control", ".sql")))
     return [f"{configured('pkglibdir')}/sfq.so", *(f"{configured('sharedir')}/extension/{it}" for it in names)]
 
 
-def make_postgresql(*words):
+def make_postgresql(*words: str) -> None:
     """Makes the extensions in a copy of their folder, by the words of make, over the library that ./build --library made."""
     with tempfile.TemporaryDirectory(prefix="sfq-postgresql-") as room:
         for it in ("c", "postgresql"):
@@ -76,14 +80,14 @@ def make_postgresql(*words):
         calls.run(["make", "-s", "-C", f"{room}/postgresql", f"SFQ={room}/prefix", *words])
 
 
-def is_below(path, prefix):
+def is_below(path: str, prefix: str) -> bool:
     return os.path.realpath(path).startswith(os.path.join(os.path.realpath(prefix), ""))
 
 
 # ---- installing ----
 
 
-def install_made(prefix):
+def install_made(prefix: str) -> list[str]:
     """Makes the extensions under a prefix, and returns their paths. Those of PostgreSQL only where it looks below the prefix."""
     paths = []
     if has_sqlite():
@@ -103,12 +107,12 @@ def install_made(prefix):
     return paths
 
 
-def made(prefix):
+def made(prefix: str) -> list[str]:
     """Returns what install_made may have made, relative to the prefix."""
     of_server = [it for it in of_postgresql() if is_below(it, prefix)] if has_postgresql() else []
     return [SQLITE, *(os.path.relpath(it, os.path.realpath(prefix)) for it in of_server)]
 
 
-def remove_compiled(prefix):
+def remove_compiled(prefix: str) -> None:
     """Removes what Python leaves beside the package when it is used."""
     shutil.rmtree(os.path.join(prefix, PACKAGES, "sfq", "__pycache__"), ignore_errors=True)

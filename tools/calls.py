@@ -2,9 +2,8 @@
 the way to it, of which the web page is made. The crate is sfq_c, or sfq_web for the page's queries."""
 import os
 import re
-import shutil
 import subprocess
-from typing import NamedTuple
+from typing import NamedTuple, Optional, Sequence
 
 import proving
 import repository
@@ -24,9 +23,9 @@ class Compiled(NamedTuple):
     module: str
 
 
-def run(words, **how):
+def run(words: Sequence[str], cwd: Optional[str] = None) -> str:
     """Runs a command, and returns what it wrote. Its last lines are the reason where it fails."""
-    ran = subprocess.run(words, stdin=subprocess.DEVNULL, stdout=subprocess.PIPE, stderr=subprocess.STDOUT, **how)
+    ran = subprocess.run(words, stdin=subprocess.DEVNULL, stdout=subprocess.PIPE, stderr=subprocess.STDOUT, cwd=cwd)
     text = ran.stdout.decode("utf-8", "replace")
     if ran.returncode:
         last = "\n".join(text.splitlines()[-12:])
@@ -34,21 +33,20 @@ def run(words, **how):
     return text
 
 
-def find_kit():
+def find_kit() -> str:
     """Returns the folder of the Rattle kit."""
-    repository.need_rt()
-    kit = os.path.dirname(os.path.dirname(os.path.realpath(shutil.which("rt"))))
+    kit = os.path.dirname(os.path.dirname(os.path.realpath(repository.need_rt())))
     for it in ("bin/rattle", "bin/rattle-link", "toolchain/bin/clang", "toolchain/bin/llvm-ar", "c/liblibc_c.a"):
         if not os.path.exists(f"{kit}/{it}"):
             raise Failure(f"the kit at {kit} lacks {it}")
     return kit
 
 
-def folder_of(name):
+def folder_of(name: str) -> str:
     return f"{repository.ROOT}/crates/{name}"
 
 
-def crate_of(name=CRATE):
+def crate_of(name: str = CRATE) -> proving.Crate:
     """Returns what is known of the crate's proof."""
     crates = proving.crates_of(repository.ROOT, repository.logic_of(repository.kit_line()))
     crate = next((it for it in crates if it.name == name), None)
@@ -58,16 +56,17 @@ def crate_of(name=CRATE):
     return crate
 
 
-def below(crates=None, name=CRATE):
+def below(crates: Optional[dict[str, list[str]]] = None, name: str = CRATE) -> list[str]:
     """Returns the repository's libraries below the crate, each after those that it uses."""
-    crates, found = crates or repository.read_crates(), []
+    crates = crates or repository.read_crates()
+    found: list[str] = []
     for it in crates[name]:
         if it in crates:
             found += [each for each in [*below(crates, it), it] if each not in found]
     return found
 
 
-def prove(jobs=0, name=CRATE):
+def prove(jobs: int = 0, name: str = CRATE) -> None:
     """Proves the crate and all below it, side by side, as far as that isn't done."""
     if crate_of(name).is_done:
         return
@@ -80,7 +79,7 @@ def prove(jobs=0, name=CRATE):
         raise Failure(f"the crate {name} isn't proved")
 
 
-def words_of_build(kit, toolchain, archive, keeps, name):
+def words_of_build(kit: str, toolchain: str, archive: str, keeps: bool, name: str) -> list[str]:
     """Returns the words by which the kit builds the crate with a toolchain of our own. `rt lib` has no word for one."""
     crates = repository.read_crates()
     words = [f"{kit}/bin/rattle", "build", "--crate-name", name, "src/lib.rt", "--extern", f"std={kit}/rlibs/std.rlib"]
@@ -95,7 +94,7 @@ def words_of_build(kit, toolchain, archive, keeps, name):
     return words + ["--backend", "llvm", "--toolchain", toolchain, "-o", archive]
 
 
-def make_toolchain(kit, folder, module):
+def make_toolchain(kit: str, folder: str, module: str) -> None:
     """Makes a folder of links to the kit's toolchain, whose clang keeps the module that it is handed."""
     os.makedirs(f"{folder}/bin")
     os.symlink(f"{kit}/toolchain/lib", f"{folder}/lib")
@@ -107,7 +106,7 @@ def make_toolchain(kit, folder, module):
     os.chmod(f"{folder}/bin/clang", 0o755)
 
 
-def compile_calls(room, keeps=True, name=CRATE):
+def compile_calls(room: str, keeps: bool = True, name: str = CRATE) -> Compiled:
     """Proves the crate over the libraries that are proved below it, and compiles it into a folder.
 
     `keeps` says whether these libraries are those of `rt check`, and what is proved now is kept beside them. What `rt ci` leaves

@@ -11,6 +11,7 @@ import os
 import re
 import sys
 import textwrap
+from typing import Optional
 
 import printed
 import repository
@@ -42,19 +43,20 @@ NOTES = {
 class Row:
     """A row of the document that has a code: its line, what it means, an example and what to do."""
 
-    def __init__(self, code, line, means, example, remedy):
+    def __init__(self, code: str, line: str, means: str, example: list[str], remedy: str) -> None:
         self.code, self.line, self.means, self.example, self.remedy = code, line, means, example, remedy
 
 
-def plain(text):
+def plain(text: str) -> str:
     """Returns a text without its Markdown."""
     text = re.sub(r"\[([^\]]*)\]\([^)]*\)", r"\1", text)
     return " ".join(text.replace("`", "").replace("\\*", "*").split())
 
 
-def rows_of(document):
+def rows_of(document: str) -> list[Row]:
     """Returns the rows of the document that have a code, in its order."""
-    found, header = [], []
+    found: list[Row] = []
+    header: list[str] = []
     for line in document.splitlines():
         if not line.startswith("|"):
             header = []
@@ -68,7 +70,7 @@ def rows_of(document):
     return found
 
 
-def example_of(code, header, line, cell):
+def example_of(code: str, header: str, line: str, cell: str) -> list[str]:
     """Returns the first example of a cell as lines of commands, or in words where it has no text to run; none if it is empty."""
     first = (re.findall(r"(?:`[^`]*`|[^;`])+", cell) or [""])[0]
     texts = re.findall(r"`([^`]*)`", first)
@@ -86,12 +88,12 @@ def example_of(code, header, line, cell):
     return [*echoed(schema), *wrapped_text(made), "sfq check schema.sql ."]
 
 
-def quoted(text):
+def quoted(text: str) -> str:
     assert not set(text) & set('"$`\\!'), text
     return f'"{text}"'
 
 
-def echoed(schema):
+def echoed(schema: str) -> list[str]:
     """Returns the commands that write a schema's text. A long one is cut at a blank, as echo joins its words by blanks."""
     lines, end = [], " > schema.sql"
     while len(f'echo "{schema}"{end}') > WIDTH - 4:
@@ -102,7 +104,7 @@ def echoed(schema):
     return ["echo " + lines[0], *("  " + it for it in lines[1:])]
 
 
-def wrapped_text(command):
+def wrapped_text(command: str) -> list[str]:
     """Returns a command whose word may be cut behind any comma of a geometry, where a line feed and blanks change nothing."""
     lines = []
     while len(command) > WIDTH - 4:
@@ -112,7 +114,7 @@ def wrapped_text(command):
     return [*lines, command]
 
 
-def call(command, words):
+def call(command: list[str], words: list[str]) -> list[str]:
     """Returns a call of the program, on several lines where one is too long."""
     whole = " ".join([*command, *words])
     if len(whole) <= WIDTH - 4:
@@ -125,13 +127,13 @@ def call(command, words):
     return lines
 
 
-def paragraph(label, text):
+def paragraph(label: str, text: str) -> str:
     return textwrap.fill(
         f"{label}: {text}", WIDTH, initial_indent="  ", subsequent_indent="    ", break_long_words=False, break_on_hyphens=False
     )
 
 
-def page_text(code, rows):
+def page_text(code: str, rows: list[Row]) -> str:
     """Returns the page of a code."""
     parts = [f"{code}: {TITLES.get(code) or TITLES[code[0]]}"]
     for it in rows:
@@ -146,7 +148,7 @@ def page_text(code, rows):
     return "\n\n".join(parts) + "\n"
 
 
-def pages(document=None):
+def pages(document: Optional[str] = None) -> dict[str, str]:
     """Returns the page of each code, in the order of the codes: W, V, S, L, Q."""
     if document is None:
         with open(DOCUMENT, encoding="utf-8") as file:
@@ -160,7 +162,7 @@ def pages(document=None):
     return {code: page_text(code, [it for it in rows if it.code == code]) for code in codes}
 
 
-def source_of(letter, texts):
+def source_of(letter: str, texts: dict[str, str]) -> str:
     """Returns the file of the pages of one letter."""
     parts = [
         f"//! The pages of {letter}1 to {list(texts)[-1]}. `tools/fault_pages.py` writes them from the tables of docs/FAULTS.md.\n",
@@ -176,7 +178,7 @@ def source_of(letter, texts):
     return "\n".join(parts)
 
 
-def sources():
+def sources() -> dict[str, str]:
     """Returns the text of each file of pages."""
     found = {}
     for letter, name in FILES.items():
@@ -184,7 +186,7 @@ def sources():
     return found
 
 
-def stale():
+def stale() -> list[str]:
     """Returns the files of pages that aren't those of the document."""
     found = []
     for path, text in sources().items():
@@ -197,7 +199,7 @@ def stale():
     return found
 
 
-def main():
+def main() -> int:
     if sys.argv[1:] == ["--check"]:
         old = stale()
         for it in old:

@@ -18,14 +18,14 @@ SHARED = f"{OUT}/libsfq.so.0"
 FLAGS = ["-std=c99", "-O2", "-Wall", "-Wextra", "-Werror", "-fPIC"]
 
 
-def seen_calls():
+def seen_calls() -> list[str]:
     """Returns the calls that can be seen from outside, by bindings/c/sfq.map."""
     with open(f"{FOLDER}/sfq.map", encoding="utf-8") as text:
         listed = text.read().split("global:")[1].split("local:")[0]
     return [it.strip() for it in listed.split(";") if it.strip()]
 
 
-def inputs():
+def inputs() -> str:
     """Returns a sum over all that the library is made of: the crate with all below it, the kit's logic, and the C beside."""
     total = hashlib.sha256(calls.crate_of().sum.encode())
     for it in ("sfq.c", "sfq.h", "sfq.map"):
@@ -34,7 +34,7 @@ def inputs():
     return total.hexdigest()
 
 
-def is_made():
+def is_made() -> bool:
     """Whether the library is there, made of the present sources. Without the kit this isn't looked at."""
     if not all(os.path.isfile(it) for it in (SHARED, f"{OUT}/libsfq.a", f"{OUT}/inputs")):
         return False
@@ -42,7 +42,7 @@ def is_made():
         return not shutil.which("rt") or file.read() == inputs()
 
 
-def link(archive):
+def link(archive: str) -> None:
     """Makes both libraries in bindings/c/out from the proved calls."""
     os.makedirs(OUT, exist_ok=True)
     with tempfile.TemporaryDirectory(prefix="new-", dir=OUT) as room:
@@ -64,7 +64,7 @@ def link(archive):
             os.replace(f"{room}/{it}", f"{OUT}/{it}")
 
 
-def make(jobs=0):
+def make(jobs: int = 0) -> int:
     """Proves what isn't proved yet of the calls and what they are made of, and makes both libraries. Returns the exit status."""
     print("proving and compiling the calls of the C library", flush=True)
     try:
@@ -78,7 +78,7 @@ def make(jobs=0):
     return 0
 
 
-def description(prefix, version):
+def description(prefix: str, version: str) -> str:
     """Returns the text of sfq.pc, for pkg-config."""
     with open(f"{FOLDER}/sfq.pc.in", encoding="utf-8") as text:
         return text.read().replace("@PREFIX@", prefix).replace("@VERSION@", version)
@@ -94,7 +94,7 @@ FILES = [
 MADE = ["lib/libsfq.so", "lib/pkgconfig/sfq.pc"]
 
 
-def install_made(prefix, version):
+def install_made(prefix: str, version: str) -> list[str]:
     """Makes the link and the description under a prefix, and returns their paths."""
     link_path, description_path = (os.path.join(prefix, it) for it in MADE)
     os.makedirs(os.path.dirname(description_path), exist_ok=True)

@@ -10,6 +10,7 @@ import shutil
 import subprocess
 import tarfile
 import tempfile
+from typing import Iterable
 
 import bindings
 import library
@@ -26,13 +27,13 @@ SHELLS = {
 }
 
 
-def described(name):
+def described(name: str) -> list[bindings.File]:
     """Returns the manual page and the completions of a command: where each lies in the repository, where under the prefix, its mode."""
     found = [(f"packaging/completions/{source}", target) for source, target in SHELLS.items()]
     return [(source.format(name), target.format(name), 0o644) for source, target in [("packaging/man/{}.1", "share/man/man1/{}.1"), *found]]
 
 
-def modules(folder):
+def modules(folder: str) -> list[bindings.File]:
     """Returns the modules of a package of Python's, for a program that is installed without it."""
     found = sorted(glob.glob(f"{repository.ROOT}/{folder}/*.py"))
     return [(os.path.relpath(it, repository.ROOT), f"{SHARE}/{os.path.basename(folder)}/{os.path.basename(it)}", 0o644) for it in found]
@@ -53,7 +54,7 @@ FILES = PROGRAM + TILES + DATA
 OF_DEBIAN = {"share/zsh/site-functions/": "share/zsh/vendor-completions/"}
 
 
-def copy(files, prefix):
+def copy(files: Iterable[bindings.File], prefix: str) -> None:
     """Copies each file under the prefix, a file in use by replacing it, and prints its path."""
     for source, target, mode in files:
         to = os.path.join(prefix, target)
@@ -64,11 +65,11 @@ def copy(files, prefix):
         print(f"installed {to}")
 
 
-def install(prefix):
+def install(prefix: str) -> int:
     """Installs the program, and sfq-tiles with sfq-scale and the C library with what is over it where they are made."""
     with_library, with_tiles = library.is_made(), tiles.is_made()
     copy(PROGRAM + DATA + TILES * with_tiles + (library.FILES + bindings.files()) * with_library, prefix)
-    made = library.install_made(prefix, released()[0]) + bindings.install_made(prefix) if with_library else []
+    made = library.install_made(prefix, repository.version()) + bindings.install_made(prefix) if with_library else []
     for it in made:
         print(f"installed {it}")
     if not with_tiles:
@@ -78,7 +79,7 @@ def install(prefix):
     return 0
 
 
-def uninstall(prefix):
+def uninstall(prefix: str) -> int:
     """Removes each installed file, and the folders below the prefix that are empty then."""
     bindings.remove_compiled(prefix)
     made = [*library.MADE, *bindings.made(prefix)]
@@ -97,15 +98,16 @@ def uninstall(prefix):
     return 0
 
 
-def released():
-    """Returns the version and its date, in seconds, by the first entry of CHANGELOG.md."""
+def released() -> tuple[str, int]:
+    """Returns the version and its date, in seconds, which its entry of CHANGELOG.md has."""
+    version = repository.version()
     with open(f"{repository.ROOT}/CHANGELOG.md", encoding="utf-8") as text:
-        found = re.search(r"^## (\S+) \((\d+)-(\d+)-(\d+)\)", text.read(), re.M)
-    date = datetime.datetime(*map(int, found.groups()[1:]), tzinfo=datetime.timezone.utc)
-    return found[1], int(date.timestamp())
+        day = re.findall(rf"^## {re.escape(version)} \((\d+-\d+-\d+)\)", text.read(), re.M)[0]
+    date = datetime.datetime.fromisoformat(f"{day}T00:00:00+00:00")
+    return version, int(date.timestamp())
 
 
-def make_tarball(path, top, seconds):
+def make_tarball(path: str, top: str, seconds: int) -> None:
     """Writes the files below the folder `top`, with nothing in it that differs from one machine to another."""
     room = io.BytesIO()
     with tarfile.open(fileobj=room, mode="w", format=tarfile.USTAR_FORMAT) as archive:
@@ -116,11 +118,11 @@ def make_tarball(path, top, seconds):
             entry.size, entry.mode, entry.mtime = len(text), mode, seconds
             entry.uname = entry.gname = "root"
             archive.addfile(entry, io.BytesIO(text))
-    with open(path, "wb") as file, gzip.GzipFile("", "wb", 9, file, mtime=seconds) as packed:
+    with open(path, "wb") as made, gzip.GzipFile("", "wb", 9, made, mtime=seconds) as packed:
         packed.write(room.getvalue())
 
 
-def wanted_libc(programs):
+def wanted_libc(programs: Iterable[str]) -> str:
     """Returns the oldest version of the C library that the programs' symbols allow."""
     found = []
     for it in programs:
@@ -129,7 +131,7 @@ def wanted_libc(programs):
     return ".".join(map(str, max((int(a), int(b)) for a, b in found))) if found else "2.17"
 
 
-def control(version, libc, size):
+def control(version: str, libc: str, size: int) -> str:
     return (
         f"Package: sfq\nVersion: {version}\nArchitecture: amd64\nSection: database\nPriority: optional\n"
         f"Maintainer: The sfq project <sfq@localhost>\nDepends: libc6 (>= {libc})\n"
@@ -142,7 +144,7 @@ def control(version, libc, size):
     )
 
 
-def make_deb(path, version, seconds):
+def make_deb(path: str, version: str, seconds: int) -> bool:
     """Makes the package by dpkg-deb, and returns whether dpkg-deb is there."""
     if not shutil.which("dpkg-deb"):
         return False
@@ -174,7 +176,7 @@ def make_deb(path, version, seconds):
     return True
 
 
-def make_packages(folder):
+def make_packages(folder: str) -> int:
     """Makes both packages in the folder: the same bytes from the same sources, wherever they are made."""
     version, seconds = released()
     os.makedirs(folder, exist_ok=True)

@@ -11,7 +11,7 @@ import glob
 import os
 import re
 import shlex
-from typing import List, NamedTuple, Optional
+from typing import NamedTuple, Optional
 
 import repository
 
@@ -20,7 +20,7 @@ class Shown(NamedTuple):
     """A call as a document shows it."""
 
     place: str
-    words: List[str]
+    words: list[str]
     text: Optional[str]  # what it prints, on both streams; None where the document shows only the call
     status: Optional[int]  # the status that the document gives; None where it gives none
 
@@ -34,12 +34,15 @@ class Fence(NamedTuple):
     before: str
 
 
-def fences(text):
-    found, before, inside, begun, kind = [], [], None, 0, ""
+def fences(text: str) -> list[Fence]:
+    found: list[Fence] = []
+    before: list[str] = []
+    inside: Optional[list[str]] = None
+    begun, kind = 0, ""
     for number, line in enumerate(text.splitlines(), 1):
         if line.startswith("```") and inside is None:
             inside, begun, kind = [], number, line[3:].strip()
-        elif line.startswith("```"):
+        elif line.startswith("```") and inside is not None:
             found.append(Fence(begun, kind, "".join(f"{it}\n" for it in inside), "\n".join(before)))
             inside, before = None, []
         elif inside is None:
@@ -49,13 +52,13 @@ def fences(text):
     return found
 
 
-def follows(fence):
+def follows(fence: Fence) -> bool:
     """Whether the block belongs to the one before it: no heading and at most a paragraph is between."""
     paragraphs = [it for it in re.split(r"\n\s*\n", fence.before.strip()) if it]
     return len(paragraphs) < 2 and not re.search(r"^#", fence.before, re.M)
 
 
-def calls_of(text):
+def calls_of(text: str) -> list[list[str]]:
     """Returns the words of each line that calls ./sfq and nothing else."""
     found = []
     for line in re.sub(r"\\\n", " ", text).splitlines():
@@ -66,8 +69,9 @@ def calls_of(text):
     return found
 
 
-def of_shell_blocks(path, text):
-    blocks, found = fences(text), []
+def of_shell_blocks(path: str, text: str) -> list[Shown]:
+    blocks = fences(text)
+    found: list[Shown] = []
     for at, it in enumerate(blocks):
         calls = calls_of(it.text) if it.kind in ("sh", "console", "bash") else []
         after = blocks[at + 1] if at + 1 < len(blocks) else None
@@ -78,7 +82,7 @@ def of_shell_blocks(path, text):
     return found
 
 
-def of_running_text(path, text):
+def of_running_text(path: str, text: str) -> list[Shown]:
     found = []
     for it in re.finditer(r"`(\./sfq [^`]+)`\s+prints\s+`([^`]+)`", text):
         line = text.count("\n", 0, it.start()) + 1
@@ -91,7 +95,7 @@ def of_running_text(path, text):
     return found
 
 
-def of_queries(path, text):
+def of_queries(path: str, text: str) -> list[Shown]:
     folder, blocks = os.path.dirname(path), fences(text)
     if not os.path.isfile(f"{repository.ROOT}/{folder}/schema.sql"):
         return []
@@ -102,8 +106,10 @@ def of_queries(path, text):
     ]
 
 
-def of_manual(path, text):
-    found, call, printed = [], None, []
+def of_manual(path: str, text: str) -> list[Shown]:
+    found: list[Shown] = []
+    call: Optional[tuple[int, list[str]]] = None
+    printed: list[str] = []
     for number, line in enumerate(text.splitlines(), 1):
         line = line.replace("\\-", "-").replace("\\(aq", "'").replace("\\(dq", '"').replace("\\&", "").replace("\\e", "\\")
         if call and (line.startswith((".EE", "$ ")) or not line.strip()):
@@ -116,7 +122,7 @@ def of_manual(path, text):
     return found
 
 
-def cells_of(line):
+def cells_of(line: str) -> list[str]:
     return [it.strip().replace("\\|", "|").replace("\\*", "*") for it in re.split(r"(?<!\\)\|", line.strip().strip("|"))]
 
 
@@ -129,10 +135,11 @@ class Faults:
         "CREATE TABLE v (id INTEGER PRIMARY KEY);\n"
     )
 
-    def __init__(self, folder):
-        self.folder, self.count, self.found = folder, 0, []
+    def __init__(self, folder: str) -> None:
+        self.folder, self.count = folder, 0
+        self.found: list[Shown] = []
 
-    def database(self, schema, table="id\n"):
+    def database(self, schema: str, table: Optional[str] = "id\n") -> list[str]:
         """Writes a schema and its tables, and returns their places."""
         self.count += 1
         place = f"{self.folder}/{self.count}"
@@ -147,9 +154,10 @@ class Faults:
                 file.write(text)
         return [f"{place}/schema.sql", place]
 
-    def read(self, path, text):
+    def read(self, path: str, text: str) -> list[Shown]:
         """Collects the examples of every table of the document."""
-        part, header = "", []
+        part = ""
+        header: list[str] = []
         for number, line in enumerate(text.splitlines(), 1):
             if line.startswith("#"):
                 part, header = line.lower(), []
@@ -161,7 +169,7 @@ class Faults:
                 self.row(f"{path}:{number}", part, header[at], cells[0].strip("`"), cells[at])
         return self.found
 
-    def row(self, place, part, header, fault, cell):
+    def row(self, place: str, part: str, header: str, fault: str, cell: str) -> None:
         """Collects the examples of one row: an example ends at a `;`."""
         for it in re.findall(r"(?:`[^`]*`|[^;`])+", cell):
             codes, at = re.findall(r"`([^`]*)`", it), re.search(r"\(at (\d+)", re.sub(r"`[^`]*`", "", it))
@@ -170,7 +178,7 @@ class Faults:
                 words, status = self.call(part, header, line, it.strip(), codes)
                 self.found.append(Shown(place, words, line + "\n", status))
 
-    def call(self, part, header, line, text, codes):
+    def call(self, part: str, header: str, line: str, text: str, codes: list[str]) -> tuple[list[str], int]:
         """Returns the call that the example means, and the status of its part of the document."""
         if "schema" in part:
             return ["run", *self.database(codes[0]), "SELECT id FROM t"], 3
@@ -182,7 +190,7 @@ class Faults:
         return ["relate", *(pair if "first" in line else reversed(pair))], 5
 
     @staticmethod
-    def loaded(header, line, text, codes):
+    def loaded(header: str, line: str, text: str, codes: list[str]) -> tuple[str, Optional[str]]:
         """Returns the schema and the table of an example of loading."""
         schemas = re.findall(r"`([^`]*)`", header)
         of_geometry = len(schemas) > 1 and re.search(r" L[67]\b", line)
@@ -196,9 +204,9 @@ class Faults:
         return schema, "\n".join(["id,geom" if of_geometry else "id,pop,name", *before, *codes]) + "\n"
 
 
-def everything(folder):
+def everything(folder: str) -> list[Shown]:
     """Returns every call that the documents show. Files that examples need are made in the folder."""
-    found = []
+    found: list[Shown] = []
     paths = ["README.md", "CONTRIBUTING.md", "CHANGELOG.md", "SECURITY.md"]
     for pattern in ("docs/*.md", "examples/*/README.md", "packaging/man/*.1"):
         paths += sorted(os.path.relpath(it, repository.ROOT) for it in glob.glob(f"{repository.ROOT}/{pattern}"))

@@ -11,6 +11,7 @@ import glob
 import os
 import re
 import sys
+from typing import Iterable
 
 import repository
 
@@ -22,34 +23,38 @@ LIST = f"{repository.ROOT}/tests/ample_memory.txt"
 OTHERS = "all others"
 # Errors that come where memory that a value already has can't grow.
 GROWTHS = r"\b(?:AllocError|LoadFault|WktFault|PutFault|Error)\b"
+# A module or script, a function that it calls, and those that are called on its way.
+Triple = tuple[str, str, list[str]]
 
 
-def read(path):
+def read(path: str) -> str:
     with open(path, encoding="utf-8") as text:
         return text.read()
 
 
-def text_of_pages():
+def text_of_pages() -> str:
     return "\n".join(read(it) for it in PAGES)
 
 
 class Function:
     """A function of a crate: its name, the type that it is a method of or "", its signature, its clauses and its body."""
 
-    def __init__(self, crate, module, owner, name, is_public, signature, clauses, body):
+    def __init__(
+        self, crate: str, module: str, owner: str, name: str, is_public: bool, signature: str, clauses: set[str], body: str
+    ) -> None:
         self.crate, self.module, self.owner, self.name = crate, module, owner, name
         self.is_public, self.signature, self.clauses, self.body = is_public, signature, clauses, body
 
-    def is_named(self, name):
+    def is_named(self, name: str) -> bool:
         """Whether the page means it by a name: its own, behind its type or its crate, or that of its type alone."""
         owner, _, last = name.rpartition("::")
         return name == self.owner or (last == self.name and owner in ("", self.owner, self.crate))
 
-    def is_exported(self):
+    def is_exported(self) -> bool:
         """Whether C calls it. Its result is a status then."""
         return 'extern "C" fn' in self.signature
 
-    def takes_memory(self):
+    def takes_memory(self) -> bool:
         """Whether it may run out of memory, by its signature. What is handed an allocator and can't fail only keeps it."""
         result = self.signature.partition("->")[2]
         if "alloc: Global" in self.signature:
@@ -57,13 +62,14 @@ class Function:
         return bool(re.search(r"\bResult\b", result) and re.search(GROWTHS, result))
 
 
-def owner_of(line):
+def owner_of(line: str) -> str:
     """Returns the type that an impl is of, or the trait whose calls begin."""
     head = re.match(r"(?:pub )?(?:impl|trait)\b(?:<(?:[^<>]|<[^<>]*>)*>)? *(.*)", line)
-    return re.match(r"(\w+)", head[1].partition(" for ")[2] or head[1])[1]
+    named = re.match(r"\w+", (head[1].partition(" for ")[2] or head[1]) if head else "")
+    return named[0] if named else ""
 
 
-def functions_in(crate, module, text):
+def functions_in(crate: str, module: str, text: str) -> list[Function]:
     """Returns the functions of a source, as `rt fmt` lays it out, and whether each may be called from outside the crate."""
     found, owner, is_trait = [], "", False
     lines = text.split("\n")
@@ -88,7 +94,7 @@ def functions_in(crate, module, text):
     return found
 
 
-def is_reached(function, lib):
+def is_reached(function: Function, lib: str) -> bool:
     """Whether a library's root makes a public function of it reachable, or C calls it."""
     if function.is_exported() or function.module == "lib" or re.search(rf"^pub mod {function.module};", lib, re.M):
         return True
@@ -96,9 +102,11 @@ def is_reached(function, lib):
     return (function.owner or function.name) in names
 
 
-def all_functions():
+def all_functions() -> tuple[list[Function], list[Function]]:
     """Returns the functions of the libraries and of the programs that the page names, and those that can be called from outside."""
-    found, public, tests = [], [], repository.crates_with_tests()
+    found: list[Function] = []
+    public: list[Function] = []
+    tests = repository.crates_with_tests()
     for crate in repository.read_crates():
         if crate in tests + PROGRAMS:
             continue
@@ -111,7 +119,7 @@ def all_functions():
     return found, public
 
 
-def name_of(function, functions):
+def name_of(function: Function, functions: Iterable[Function]) -> str:
     """Returns how the list names a function: by its type, or by its crate if another one has a function of its name."""
     if function.owner:
         return f"{function.owner}::{function.name}"
@@ -119,11 +127,11 @@ def name_of(function, functions):
     return f"{function.crate}::{function.name}" if len(others) > 1 else function.name
 
 
-def needed(public):
+def needed(public: list[Function]) -> list[str]:
     return sorted({name_of(it, public) for it in public if it.takes_memory()})
 
 
-def listed(text):
+def listed(text: str) -> list[Triple]:
     """Returns the list as triples: the module or script, a function that it calls, and those that are called on its way."""
     found = []
     for line in text.splitlines():
@@ -136,7 +144,7 @@ def listed(text):
     return found
 
 
-def calls(text, name):
+def calls(text: str, name: str) -> bool:
     """Whether a source calls a function. A method's type has to be named in it."""
     owner, _, last = name.rpartition("::")
     if owner[:1].isupper():
@@ -146,21 +154,22 @@ def calls(text, name):
     return bool(re.search(rf"(?<![\w.]){last}(?:::<[^;(]*>)?\(", text))
 
 
-def reached(name, functions):
+def reached(name: str, functions: Iterable[Function]) -> set[str]:
     """Returns the bare names of the functions that may be called, by their names, on the way of a function."""
-    bodies = {}
+    bodies: dict[str, list[str]] = {}
     for it in functions:
         bodies.setdefault(it.name, []).append(it.body)
-    seen, left = set(), [name.rpartition("::")[2]]
+    seen: set[str] = set()
+    left = [name.rpartition("::")[2]]
     while left:
         for body in bodies.get(left.pop(), []):
-            for it in set(re.findall(r"\b(\w+)(?:::<[^;(]*>)?\(", body)) & bodies.keys() - seen:
-                seen.add(it)
-                left.append(it)
+            for called in set(re.findall(r"\b(\w+)(?:::<[^;(]*>)?\(", body)) & bodies.keys() - seen:
+                seen.add(called)
+                left.append(called)
     return seen
 
 
-def sources():
+def sources() -> dict[str, str]:
     """Returns the text of each module of tests; that of the program `scripts`, which plays them, for each script; those of C."""
     found = {}
     for crate in repository.crates_with_tests():
@@ -181,9 +190,11 @@ def sources():
 OF_STD = {"Rows::next": {"steps", "goes"}}
 
 
-def rows_of(page):
+def rows_of(page: str) -> list[tuple[list[str], list[str]]]:
     """Returns the rows of the page's tables of calls as pairs: the names of calls, and those of their clauses."""
-    found, names, is_of_calls = [], [], False
+    found: list[tuple[list[str], list[str]]] = []
+    names: list[str] = []
+    is_of_calls = False
     for line in page.split("\n"):
         cells = [it.strip() for it in re.split(r"(?<!\\)\|", line)]
         if len(cells) != 5:
@@ -196,9 +207,10 @@ def rows_of(page):
     return found
 
 
-def wrong_clauses(page, functions):
+def wrong_clauses(page: str, functions: list[Function]) -> list[str]:
     """Returns the clauses of the page that no call beside them has, the calls that aren't functions, the theorems that aren't."""
-    found, crates = [], {it.crate for it in functions}
+    found: list[str] = []
+    crates = {it.crate for it in functions}
     for names, clauses in rows_of(page):
         meant = [it for name in names for it in functions if it.is_named(name)]
         known = {it.name for it in meant} | {it.owner for it in meant} | crates
@@ -207,11 +219,11 @@ def wrong_clauses(page, functions):
         found += [f"{', '.join(names)}: no clause is named {it}" for it in clauses if it not in have]
     part = page.partition("\n## Theorems")[2].partition("\n## ")[0]
     theorems = [it for inner in re.findall(r"\((`\w+`[^()]*)\)", part) for it in re.findall(r"`(\w+)`", inner)]
-    names = {it.name for it in functions if not it.owner} | crates
-    return found + [f"{it} is no theorem" for it in theorems if it not in names]
+    known = {it.name for it in functions if not it.owner} | crates
+    return found + [f"{it} is no theorem" for it in theorems if it not in known]
 
 
-def wrong_tests(names, triples, texts, functions):
+def wrong_tests(names: Iterable[str], triples: list[Triple], texts: dict[str, str], functions: list[Function]) -> list[str]:
     """Returns what is wrong in a list: the functions that are needed, the list, the sources, all functions of the libraries."""
     found = []
     known = {name_of(it, functions) for it in functions} | {it.name for it in functions}
@@ -228,12 +240,12 @@ def wrong_tests(names, triples, texts, functions):
             found.append(f"{module} is no module of tests and no script")
         elif not calls(texts[module], name):
             found.append(f"{module} doesn't call {name}")
-        on_the_way = reached(name, functions) if ways else set()
+        on_the_way: set[str] = reached(name, functions) if ways else set()
         found += [f"{name} doesn't call {it}" for it in ways if it.rpartition("::")[2] not in on_the_way]
     return found
 
 
-def main():
+def main() -> int:
     functions, public = all_functions()
     found = wrong_clauses(text_of_pages(), functions) + wrong_tests(needed(public), listed(read(LIST)), sources(), functions)
     for it in found:

@@ -6,33 +6,34 @@ import re
 import shutil
 import subprocess
 import sys
+from typing import NoReturn
 
 ROOT = os.path.dirname(os.path.dirname(os.path.realpath(__file__)))
 PROGRAM = f"{ROOT}/crates/sfq/out/sfq"
 
 
-def fail(text):
+def fail(text: str) -> NoReturn:
     sys.exit(f"sfq: {text}")
 
 
-def need_rt():
-    if not shutil.which("rt"):
-        fail("the command rt of the Rattle kit isn't on the path")
+def need_rt() -> str:
+    """Returns the path of the kit's command. The program ends where it isn't on the path."""
+    return shutil.which("rt") or fail("the command rt of the Rattle kit isn't on the path")
 
 
-def kit_line():
+def kit_line() -> str:
     """Returns the line of `rt version`: the kit's name, which differs between machines, and its logic."""
     need_rt()
     return subprocess.run(["rt", "version"], stdout=subprocess.PIPE, text=True, check=True).stdout.strip()
 
 
-def logic_of(line):
+def logic_of(line: str) -> str:
     """Returns the sum that names the kit's logic: the part of its line that proofs depend on."""
     found = re.search(r"\blogic ([0-9a-f]+)", line)
     return found[1] if found else line
 
 
-def read_crates(root=ROOT):
+def read_crates(root: str = ROOT) -> dict[str, list[str]]:
     """Returns the libraries that each crate uses, the repository's and the kit's, in the order of crates.txt."""
     crates = {}
     with open(f"{root}/crates.txt", encoding="utf-8") as lines:
@@ -43,32 +44,32 @@ def read_crates(root=ROOT):
     return crates
 
 
-def files_of(crate, root=ROOT):
+def files_of(crate: str, root: str = ROOT) -> list[str]:
     """Returns the sources, definitions and proofs of a crate, sorted."""
-    found = []
+    found: list[str] = []
     for part in ("src", "specs", "proofs"):
         for at, _, names in os.walk(f"{root}/crates/{crate}/{part}"):
             found += [f"{at}/{it}" for it in names if it.endswith((".rt", ".antt"))]
     return sorted(found)
 
 
-def sum_of_file(path):
+def sum_of_file(path: str) -> str:
     with open(path, "rb") as file:
         return hashlib.sha256(file.read()).hexdigest()
 
 
-def current(*words, root=ROOT):
+def current(*words: str, root: str = ROOT) -> tuple[int, str]:
     """Runs tools/current.sh, and returns its status and its line."""
     ran = subprocess.run(["sh", "tools/current.sh", *words], cwd=root, stdout=subprocess.PIPE, text=True)
     return ran.returncode, ran.stdout.strip()
 
 
-def is_built(root=ROOT):
+def is_built(root: str = ROOT) -> bool:
     """Whether the program is there and was made from the present sources."""
     return current("is", root=root)[0] == 0
 
 
-def crates_with_tests(root=ROOT):
+def crates_with_tests(root: str = ROOT) -> list[str]:
     """Returns the crates that have #[test] functions."""
     found = []
     for crate in read_crates(root):
@@ -80,11 +81,7 @@ def crates_with_tests(root=ROOT):
     return found
 
 
-def version(root=ROOT):
-    """Returns the version that `sfq --version` prints."""
-    for path in sorted(glob.glob(f"{root}/crates/command_*/src/*.rt")):
-        with open(path, encoding="utf-8") as text:
-            found = re.search(r'VERSION: &str = "([^"]+)"', text.read())
-            if found:
-                return found[1]
-    fail("no crate of the command line names a version")
+def version(root: str = ROOT) -> str:
+    """Returns the version of all that is here. tools/version.py writes it where it has to be spelled."""
+    with open(f"{root}/VERSION", encoding="ascii") as file:
+        return file.read().strip()

@@ -7,6 +7,7 @@ import glob
 import os
 import re
 import sys
+from typing import Iterable
 
 import repository
 
@@ -22,14 +23,14 @@ LIST = f"{repository.ROOT}/tests/required_rows.txt"
 SQUARE = "ST_GeomFromText('POLYGON((0 0,4 0,4 4,0 4,0 0))')"
 
 
-def read(path):
+def read(path: str) -> str:
     with open(path, encoding="utf-8") as text:
         return text.read()
 
 
-def written_out(text):
+def written_out(text: str) -> str:
     """Returns a text with the short forms of scripts written out."""
-    def meant(form):
+    def meant(form: re.Match[str]) -> str:
         repeated = re.fullmatch(r"(\d+) to (\d+) of (.*)", form[1], re.S)
         if repeated:
             first, last, part = repeated.groups()
@@ -43,31 +44,33 @@ def written_out(text):
 class Row:
     """A command over files, and what it has to print. Files are a name, `schema` or `table NAME`, and a text."""
 
-    def __init__(self, command, output, files):
+    def __init__(self, command: str, output: str, files: dict[str, str]) -> None:
         self.command, self.output, self.files = command, output, files
 
-    def has_files(self, others):
+    def has_files(self, others: dict[str, str]) -> bool:
         return all(self.files.get(name) == text for name, text in others.items())
 
 
 class Tests:
     """The rows of the scripts by their commands, and by their kind the files of the other tests, each with its name and text."""
 
-    def __init__(self, rows, files):
-        self.rows, self.files = {}, files
+    def __init__(self, rows: Iterable[Row], files: dict[str, list[tuple[str, str]]]) -> None:
+        self.rows: dict[str, list[Row]] = {}
+        self.files = files
         for it in rows:
             self.rows.setdefault(it.command, []).append(it)
 
-    def has_row(self, command, output, files):
+    def has_row(self, command: str, output: str, files: dict[str, str]) -> bool:
         return any(it.output == output and it.has_files(files) for it in self.rows.get(command, []))
 
-    def has_text(self, kind, name, text):
+    def has_text(self, kind: str, name: str, text: str) -> bool:
         return any(name == it and text in whole for it, whole in self.files.get(kind, []))
 
 
-def rows_of(script):
+def rows_of(script: str) -> list[Row]:
     """Returns the rows of a script, as crates/scripts/src/blocks.rt reads it."""
-    rows, files = [], {}
+    rows: list[Row] = []
+    files: dict[str, str] = {}
     for lines in script.split("\n\n"):
         head, _, body = (lines.strip("\n") + "\n").replace("\\\n", "").partition("\n")
         if not head or head.startswith("#"):
@@ -79,39 +82,40 @@ def rows_of(script):
     return rows
 
 
-def all_tests():
+def all_tests() -> Tests:
     names = read(f"{SCRIPTS}/args").splitlines()
     rows = [row for it in names for row in rows_of(read(f"{SCRIPTS}/data/{it}"))]
     paths = {kind: [it for pattern in FILES[kind] for it in glob.glob(f"{repository.ROOT}/{pattern}")] for kind in FILES}
     return Tests(rows, {kind: [(os.path.basename(it), read(it)) for it in paths[kind]] for kind in paths})
 
 
-def text_of(written):
+def text_of(written: str) -> str:
     """Returns a text that a line of the list writes: it ends with a line feed, unless there is a backslash at its end."""
     lines = written.replace("\\n", "\n")
     return written_out(lines[:-1] if lines.endswith("\\") else lines + "\n")
 
 
-def transposed(matrix):
+def transposed(matrix: str) -> str:
     return "".join(matrix[it] for it in (0, 3, 6, 1, 4, 7, 2, 5, 8))
 
 
-def is_text_of_file(line, tests):
+def is_text_of_file(line: str, tests: Tests) -> bool:
     kind, _, rest = line.partition(" ")
     name, colon, text = rest.partition(": ")
     return bool(colon and text) and tests.has_text(kind, name, text)
 
 
-def is_pair(line, tests):
+def is_pair(line: str, tests: Tests) -> bool:
     pair, _, matrix = line.removeprefix("pair ").partition(" => ")
     first, _, second = pair.partition(" | ")
     return (tests.has_row(f"relate {first} | {second}", f"{matrix}\n", {})
             and tests.has_row(f"relate {second} | {first}", f"{transposed(matrix)}\n", {}))
 
 
-def missing(lines, tests):
+def missing(lines: Iterable[str], tests: Tests) -> list[str]:
     """Returns the lines of a list that no test has."""
-    found, files = [], {}
+    found: list[str] = []
+    files: dict[str, str] = {}
     for line in lines:
         command, arrow, output = line.partition(" => ")
         if not line or line.startswith("#"):
@@ -133,7 +137,7 @@ def missing(lines, tests):
     return found
 
 
-def main(words):
+def main(words: list[str]) -> int:
     found = missing(read(words[0] if words else LIST).splitlines(), all_tests())
     for it in found:
         print(it)

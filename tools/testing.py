@@ -1,6 +1,5 @@
 """The parts of ./test, and how what they found is counted."""
 import glob
-import importlib.util
 import os
 import re
 import shutil
@@ -9,8 +8,11 @@ import sys
 import tempfile
 import threading
 import time
+import traceback
 import unittest
 from concurrent.futures import ThreadPoolExecutor
+from types import TracebackType
+from typing import IO, Any, Iterable, Iterator, Optional, Union
 
 import calls
 import library
@@ -21,16 +23,22 @@ import unproved
 
 ROOT = repository.ROOT
 PRINTING = threading.Lock()
-CHILDREN = set()
+CHILDREN: set[subprocess.Popen[str]] = set()
+# A function and its arguments.
+Part = tuple[Any, ...]
+# What unittest hands on of an exception.
+Error = Union[tuple[type[BaseException], BaseException, TracebackType], tuple[None, None, None]]
 
 
 class Counts:
     """What passed, failed and was skipped so far."""
 
-    def __init__(self):
-        self.passed, self.failed, self.skipped = 0, [], []
+    def __init__(self) -> None:
+        self.passed = 0
+        self.failed: list[str] = []
+        self.skipped: list[str] = []
 
-    def take(self, name, is_well, took, number=1, text=""):
+    def take(self, name: str, is_well: bool, took: float, number: int = 1, text: str = "") -> None:
         """Counts a test, and prints its line, below the text of one that failed."""
         with PRINTING:
             if is_well:
@@ -40,12 +48,12 @@ class Counts:
                 print(text.rstrip() or "(it printed nothing)")
             print(f"{'ok' if is_well else 'FAILED'}: {name} ({proving.span(took)})", flush=True)
 
-    def skip(self, name, reason):
+    def skip(self, name: str, reason: str) -> None:
         with PRINTING:
             self.skipped.append(name)
             print(f"skipped: {name}: {reason}", flush=True)
 
-    def close(self):
+    def close(self) -> int:
         """Prints the last line, and returns the status."""
         if self.failed:
             print(f"failed: {', '.join(self.failed)}")
@@ -53,18 +61,18 @@ class Counts:
         return 1 if self.failed else 0
 
 
-def run(words, folder=ROOT, given=subprocess.DEVNULL):
+def run(words: list[str], folder: str = ROOT, given: Union[int, IO[bytes]] = subprocess.DEVNULL) -> tuple[int, str, str, float]:
     """Runs a command, and returns its status, its two streams and how long it took."""
     begun = time.monotonic()
-    how = {"stdin": given, "stdout": subprocess.PIPE, "stderr": subprocess.PIPE, "text": True, "errors": "replace"}
-    with subprocess.Popen(words, cwd=folder, **how) as child:
+    pipe = subprocess.PIPE
+    with subprocess.Popen(words, cwd=folder, stdin=given, stdout=pipe, stderr=pipe, text=True, errors="replace") as child:
         CHILDREN.add(child)
         out, err = child.communicate()
         CHILDREN.discard(child)
     return child.returncode, out, err, time.monotonic() - begun
 
 
-def side_by_side(parts):
+def side_by_side(parts: Iterable[Part]) -> None:
     """Runs the parts, as many at a time as half the processors, since `rt try` uses more than one.
 
     Where they are broken off, ends what they started.
@@ -77,12 +85,14 @@ def side_by_side(parts):
         except BaseException:
             for it in started:
                 it.cancel()
-            for it in [*CHILDREN, *unproved.RUNNING]:
-                it.terminate()
+            for child in CHILDREN:
+                child.terminate()
+            for call in unproved.RUNNING:
+                call.terminate()
             raise
 
 
-def lint(counts):
+def lint(counts: Counts) -> None:
     if os.path.isfile(f"{ROOT}/lint"):
         status, out, err, took = run([f"{ROOT}/lint"])
         counts.take("./lint", status == 0, took, text=out + err)
@@ -92,7 +102,7 @@ def lint(counts):
 PLAYING = "600"
 
 
-def play_program(counts, crate):
+def play_program(counts: Counts, crate: str) -> None:
     """Runs a program on the files beside its source, without proof, and compares what it writes."""
     folder = f"{ROOT}/crates/{crate}"
     words = []
@@ -107,14 +117,14 @@ def play_program(counts, crate):
     counts.take(f"program {crate}", is_well and "run=ended" in err, took, text=out + err)
 
 
-def read(path):
+def read(path: str) -> str:
     if not os.path.isfile(path):
         return ""
     with open(path, encoding="utf-8") as file:
         return file.read()
 
 
-def try_tests(counts, crate):
+def try_tests(counts: Counts, crate: str) -> None:
     """Runs the #[test] functions of a crate, without proof."""
     status, out, err, took = run(["rt", "try", "--test"], f"{ROOT}/crates/{crate}")
     found = re.findall(r"^test \S+ \.\.\. (\S+)", out, re.M)
@@ -126,32 +136,42 @@ def try_tests(counts, crate):
     counts.take(name, status == 0 and passed > 0 and failed == 0, took, passed, out + err)
 
 
+def shown(err: Error) -> str:
+    """Returns the text of an exception, without the calls within unittest."""
+    if err[1] is None:
+        return ""
+    found, own = traceback.TracebackException.from_exception(err[1]), os.path.dirname(unittest.__file__)
+    found.stack = traceback.StackSummary.from_list([it for it in found.stack if os.path.dirname(it.filename) != own])
+    return "".join(found.format())
+
+
 class Result(unittest.TestResult):
     """Hands what unittest finds to the counts."""
 
-    def __init__(self, counts):
+    def __init__(self, counts: Counts) -> None:
         super().__init__()
-        self.counts, self.begun, self.texts = counts, 0, []
+        self.counts, self.begun = counts, 0.0
+        self.texts: list[str] = []
 
-    def startTest(self, test):
+    def startTest(self, test: unittest.TestCase) -> None:
         super().startTest(test)
         self.begun, self.texts = time.monotonic(), []
 
-    def stopTest(self, test):
+    def stopTest(self, test: unittest.TestCase) -> None:
         name = test.id()
         if self.texts:
             self.counts.take(name, False, time.monotonic() - self.begun, text="\n".join(self.texts))
         super().stopTest(test)
 
-    def addSuccess(self, test):
+    def addSuccess(self, test: unittest.TestCase) -> None:
         if not self.texts:
             self.counts.take(test.id(), True, time.monotonic() - self.begun)
 
-    def addSkip(self, test, reason):
+    def addSkip(self, test: unittest.TestCase, reason: str) -> None:
         self.counts.skip(test.id(), reason)
 
-    def addError(self, test, err):
-        text = self._exc_info_to_string(err, test)
+    def addError(self, test: unittest.TestCase, err: Error) -> None:
+        text = shown(err)
         if "setUpClass" in str(test) or not hasattr(test, "_testMethodName"):
             self.counts.take(str(test), False, 0, text=text)
         else:
@@ -159,12 +179,12 @@ class Result(unittest.TestResult):
 
     addFailure = addError
 
-    def addSubTest(self, test, subtest, err):
+    def addSubTest(self, test: unittest.TestCase, subtest: unittest.TestCase, err: Optional[Error]) -> None:
         if err:
-            self.texts.append(f"{subtest}\n{self._exc_info_to_string(err, test)}")
+            self.texts.append(f"{subtest}\n{shown(err)}")
 
 
-def flat(suite):
+def flat(suite: unittest.TestSuite) -> Iterator[unittest.TestCase]:
     for it in suite:
         if isinstance(it, unittest.TestSuite):
             yield from flat(it)
@@ -172,17 +192,17 @@ def flat(suite):
             yield it
 
 
-def find_tests():
+def find_tests() -> list[unittest.TestCase]:
     """Returns the tests in tests/."""
     found = unittest.defaultTestLoader.discover(f"{ROOT}/tests", top_level_dir=f"{ROOT}/tests")
     return list(flat(found))
 
 
-def system_tests(counts, tests):
+def system_tests(counts: Counts, tests: Iterable[unittest.TestCase]) -> None:
     unittest.TestSuite(tests).run(Result(counts))
 
 
-def marked(test, mark):
+def marked(test: unittest.TestCase, mark: str) -> bool:
     """Whether the test's class has the mark.
 
     ASKS_PROGRAM: it asks sfq itself, the proved program where it is built and else an unproved build.
@@ -192,7 +212,7 @@ def marked(test, mark):
     return getattr(test, mark, False)
 
 
-def programs():
+def programs() -> list[str]:
     """Returns the programs that say what they have to write. What sfq writes is asked by tests/."""
     return [
         it for it in repository.read_crates()
@@ -200,22 +220,22 @@ def programs():
     ]
 
 
-def parts_without_proof(counts, is_long):
+def parts_without_proof(counts: Counts, is_long: bool) -> tuple[dict[str, Part], dict[str, list[unittest.TestCase]]]:
     """Returns the parts of ./test by their names, in the order in which they begin."""
-    parts = {"lint": (lint, counts)}
+    parts: dict[str, Part] = {"lint": (lint, counts)}
     if shutil.which("rt"):
         parts |= {it: (try_tests, counts, it) for it in reversed(repository.crates_with_tests())}
         parts |= {it: (play_program, counts, it) for it in programs()}
     else:
         counts.skip("tests of crates, programs", "needs the command rt of the Rattle kit")
-    files = {}
+    files: dict[str, list[unittest.TestCase]] = {}
     for it in find_tests():
         if is_long or not marked(it, "IS_LONG"):
             files.setdefault(type(it).__module__.split(".")[0], []).append(it)
     return parts, files
 
 
-def without_proof(is_long, named):
+def without_proof(is_long: bool, named: list[str]) -> int:
     """Runs all parts, or those that are named: lint, a crate, or a file of tests/ such as test_manual."""
     counts = Counts()
     parts, files = parts_without_proof(counts, is_long)
@@ -223,7 +243,10 @@ def without_proof(is_long, named):
     if unknown:
         print(f"sfq: no part {unknown[0]}: the parts are {', '.join([*parts, *sorted(files)])}", file=sys.stderr)
         return 2
-    is_wanted = lambda it: not named or it in named
+
+    def is_wanted(it: str) -> bool:
+        return not named or it in named
+
     if is_wanted("lint"):
         lint(counts)
     tests = [test for it in files if is_wanted(it) for test in files[it]]
@@ -231,13 +254,13 @@ def without_proof(is_long, named):
     return counts.close()
 
 
-def gate(counts):
+def gate(counts: Counts) -> bool:
     """Runs `rt ci`, whose lines go through, and counts what it counted. Returns whether it went well."""
     before, begun = repository.current("sum")[1], time.monotonic()
     child = subprocess.Popen(["rt", "ci"], cwd=ROOT, stdout=subprocess.PIPE, text=True, errors="replace")
     last = ""
     try:
-        for line in child.stdout:
+        for line in child.stdout or ():
             print(line, end="", flush=True)
             last = line.strip() or last
         status = child.wait()
@@ -260,7 +283,7 @@ def gate(counts):
     return is_well
 
 
-def make_library(counts):
+def make_library(counts: Counts) -> None:
     """Makes the C library, and the web page where binaryen is there, of the libraries that `rt ci` left proved."""
     begun, text = time.monotonic(), ""
     try:
@@ -268,30 +291,31 @@ def make_library(counts):
             compiled = calls.compile_calls(room, keeps=False)
             library.link(compiled.archive)
             if shutil.which("wasm-opt"):
-                found = importlib.util.spec_from_file_location("web_build", f"{ROOT}/bindings/web/build.py")
-                page = importlib.util.module_from_spec(found)
-                found.loader.exec_module(page)
-                made = {page.SHAPES: compiled, page.TABLES: calls.compile_calls(room, keeps=False, name=page.TABLES.crate)}
-                kit = calls.find_kit()
-                page.write_page({it: page.carried(it, page.module_of(kit, it, each)) for it, each in made.items()})
+                import web_page
+
+                tables = calls.compile_calls(room, keeps=False, name=web_page.TABLES.crate)
+                made, kit = {web_page.SHAPES: compiled, web_page.TABLES: tables}, calls.find_kit()
+                web_page.write_page({it: web_page.carried(it, web_page.module_of(kit, it, each)) for it, each in made.items()})
     except calls.Failure as it:
         text = str(it)
     counts.take("making of the C library and the web page", not text, time.monotonic() - begun, text=text)
 
 
-def tests_of_library(counts, tests, is_left):
+def tests_of_library(counts: Counts, tests: Iterable[unittest.TestCase], is_left: bool) -> None:
     """Runs what calls the C library and the page, made first where `rt ci` left what they are made of."""
     if is_left and calls.CRATE in repository.read_crates():
         make_library(counts)
     system_tests(counts, tests)
 
 
-def is_after_proof(test):
+def is_after_proof(test: unittest.TestCase) -> bool:
     """Whether the test needs what `rt ci` leaves."""
     return marked(test, "ASKS_PROGRAM") or marked(test, "ASKS_LIBRARY")
 
 
-def tests_after_proof(tests):
+def tests_after_proof(
+    tests: Iterable[unittest.TestCase]
+) -> tuple[list[unittest.TestCase], list[unittest.TestCase], list[unittest.TestCase]]:
     """Returns those that call the library, those that ask only the program, and long ones of the gate that do neither.
 
     They run side by side, and two runs of one class would share its files, so each test is in one of the three.
@@ -303,7 +327,7 @@ def tests_after_proof(tests):
     return calling, asking, [it for it in found if not is_after_proof(it)]
 
 
-def with_proof():
+def with_proof() -> int:
     """First what is quick, then `rt ci`, then what asks the program that it leaves.
 
     `rt ci` proves and runs the crates' tests and the programs, so they aren't run without proof too. At its end what earlier
@@ -319,7 +343,7 @@ def with_proof():
     return counts.close()
 
 
-def try_edits(crates):
+def try_edits(crates: list[str]) -> int:
     """Tries the edits of crates/CRATE/edits by `rt must-fail`, in a copy of the repository whose must-fail/ they are."""
     counts = Counts()
     with tempfile.TemporaryDirectory(prefix="sfq-edits-") as room:
@@ -340,7 +364,7 @@ def try_edits(crates):
     return counts.close()
 
 
-def copy_crates(known, crate, room):
+def copy_crates(known: dict[str, list[str]], crate: str, room: str) -> None:
     """Copies the crate and those below it, with what earlier checks kept and without edits."""
     if crate in known and not os.path.isdir(f"{room}/crates/{crate}"):
         leave_out = shutil.ignore_patterns("must-fail", "edits")
@@ -349,7 +373,7 @@ def copy_crates(known, crate, room):
             copy_crates(known, it, room)
 
 
-def try_edits_of(counts, crate, edits, room):
+def try_edits_of(counts: Counts, crate: str, edits: list[str], room: str) -> None:
     folder = f"{room}/crates/{crate}/must-fail"
     os.mkdir(folder)
     for it in edits:

@@ -16,11 +16,11 @@ NAMED = f"{FOLDER}/out/sfq-tiles"
 STAMP = f"{FOLDER}/out/stamp"
 
 
-def text_of_stamp():
+def text_of_stamp() -> str:
     return f"{calls.crate_of(CRATE).sum}\n{repository.sum_of_file(PROGRAM)}\n"
 
 
-def is_made():
+def is_made() -> bool:
     """Whether the program is there, made of the present sources. Without the kit this isn't looked at."""
     if not os.access(PROGRAM, os.X_OK) or not os.path.isfile(STAMP):
         return False
@@ -28,7 +28,7 @@ def is_made():
         return not shutil.which("rt") or file.read() == text_of_stamp()
 
 
-def link():
+def link() -> None:
     """Links the proved program."""
     log = f"{FOLDER}/out/link.log"
     with open(log, "wb") as out:
@@ -39,7 +39,7 @@ def link():
     stamp()
 
 
-def stamp():
+def stamp() -> None:
     """Notes that the program was made of the present sources, and makes the link to it."""
     if not os.path.lexists(NAMED):
         os.symlink(CRATE, NAMED)
@@ -47,7 +47,7 @@ def stamp():
         file.write(text_of_stamp())
 
 
-def make(jobs=0):
+def make(jobs: int = 0) -> int:
     """Proves what isn't proved yet of the program and what it is made of, and links it. Returns the exit status."""
     print("proving and linking sfq-tiles", flush=True)
     try:

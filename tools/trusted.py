@@ -13,7 +13,7 @@ MODELS = ("geometry_model", "table_model")
 PROGRAMS = ("sfq", "sfq_tiles")
 
 
-def copy_sources(root, room):
+def copy_sources(root: str, room: str) -> None:
     """Copies what is proved, and nothing that an earlier build left."""
     shutil.copytree(f"{root}/crates", f"{room}/crates", ignore=shutil.ignore_patterns("out"))
     shutil.copytree(f"{root}/tools", f"{room}/tools", ignore=shutil.ignore_patterns("__pycache__"))
@@ -21,7 +21,7 @@ def copy_sources(root, room):
         shutil.copyfile(f"{root}/{name}", f"{room}/{name}")
 
 
-def chain(root=repository.ROOT):
+def chain(root: str = repository.ROOT) -> list[str]:
     """Returns the files that the chain of docs/PROVED.md names, from the headline down to the definitions."""
     try:
         with open(f"{root}/docs/PROVED.md", encoding="utf-8") as file:
@@ -29,7 +29,7 @@ def chain(root=repository.ROOT):
     except OSError:
         text = ""
     found = CHAIN.search(text)
-    paths = []
+    paths: list[str] = []
     if found:
         part = text[found.end() :]
         following = re.search(r"^#", part, re.M)
@@ -43,7 +43,7 @@ def chain(root=repository.ROOT):
     return [os.path.relpath(it, root) for it in names]
 
 
-def kit_libraries(root=repository.ROOT):
+def kit_libraries(root: str = repository.ROOT) -> list[str]:
     """Returns the kit's libraries that the programs are built from: their contracts are taken as the kit proved them."""
     crates, used = repository.read_crates(root), {"std"}
     left = [it for it in PROGRAMS if it in crates]
@@ -56,7 +56,7 @@ def kit_libraries(root=repository.ROOT):
     return sorted(used)
 
 
-def show(kit, programs, root=repository.ROOT):
+def show(kit: str, programs: dict[str, str], root: str = repository.ROOT) -> None:
     """Prints the trusted base. `programs` are the SHA-256 of the programs that were built from nothing, by their names."""
     print("\nWhat you trust:")
     print(f"  the kit that proved and compiled it: {kit}")

@@ -13,21 +13,23 @@ import subprocess
 import sys
 import tempfile
 import time
+from typing import Callable
 
 ROOT = os.path.dirname(os.path.dirname(os.path.realpath(__file__)))
 NOTICE = "sfq: answered by an unproved build with run-time checks, made anew for each call; ./build proves and keeps the program"
 NO_ANSWER = 1
 # The calls of `rt` that run now.
-RUNNING = set()
+RUNNING: set[subprocess.Popen[bytes]] = set()
 # The last lines of `rt try`'s standard error, after what the program wrote there.
 ENDED = re.compile(
     rb"(?:^interpreter: .*\n)?(?:^checked: .*\n)?(?:^races: .*\n)?^run=ended status=(\d+) .*proved=no\n\Z", re.M
 )
 
 
-def plain_words(words):
+def plain_words(words: list[str]) -> list[int]:
     """Returns the positions of the words that aren't options, that of the command first."""
-    found, only_words = [], False
+    found: list[int] = []
+    only_words = False
     for at, word in enumerate(words):
         if word == "--" and at and not only_words:
             only_words = True
@@ -36,12 +38,12 @@ def plain_words(words):
     return found
 
 
-def places(words):
+def places(words: list[str]) -> list[int]:
     """Returns the positions of the words that name the schema and the directory, where the command has such words."""
     return plain_words(words)[1:3] if words and words[0] in ("run", "check") else []
 
 
-def text_places(words):
+def text_places(words: list[str]) -> list[int]:
     """Returns the positions of the words that name a file by `@`, and of the path of `pairs`."""
     found = plain_words(words)
     if words and words[0] == "pairs":
@@ -50,7 +52,7 @@ def text_places(words):
     return [at for at in found if words[at].startswith("@")]
 
 
-def is_for_clap(words):
+def is_for_clap(words: list[str]) -> bool:
     """Whether the words can only ask for help or for the version, or be mistaken: no command of sfq has an option."""
     before = words[: words.index("--")] if "--" in words else words
     return not before or before[0] == "help" or any(it.startswith("-") and it != "-" for it in before)
@@ -62,19 +64,21 @@ class HandedIn:
     Copies are made in `room`. Paths count from `base`.
     """
 
-    def __init__(self, room, base):
-        self.room, self.base, self.files, self.names = room, base, {}, {}
+    def __init__(self, room: str, base: str) -> None:
+        self.room, self.base = room, base
+        self.files: dict[str, str] = {}
+        self.names: dict[tuple[str, str], str] = {}
         self.is_read = False
 
-    def at(self, path):
+    def at(self, path: str) -> str:
         return os.path.join(self.base, path) if path else ""
 
-    def name(self, path, kind):
+    def name(self, path: str, kind: str) -> str:
         """Returns the name that stands for the path in the program's folder."""
         key = kind, os.path.realpath(self.at(path)) if path else ""
         return self.names.setdefault(key, f"{kind}{len(self.names)}")
 
-    def take(self, name, path):
+    def take(self, name: str, path: str) -> None:
         """Hands in the file under the name. What is no plain file, such as a pipe, is read first."""
         path = self.at(path)
         try:
@@ -91,7 +95,7 @@ class HandedIn:
             # The program says what is missing.
             pass
 
-    def text(self, path):
+    def text(self, path: str) -> str:
         """Hands in the file of a text, or standard input for `-`, and returns its name."""
         if path == "-":
             path = self.standard_input()
@@ -103,7 +107,7 @@ class HandedIn:
             self.take(name, path)
         return name
 
-    def standard_input(self):
+    def standard_input(self) -> str:
         """Returns the path of a copy of standard input, which is empty when it is read again."""
         path = os.path.join(self.room, f"input{self.is_read:d}")
         with open(path, "wb") as copy:
@@ -112,7 +116,7 @@ class HandedIn:
         self.is_read = True
         return path
 
-    def tables(self, name, folder, schema):
+    def tables(self, name: str, folder: str, schema: bytes) -> None:
         """Hands in each file of the folder that is named as a table that the schema's text can name."""
         try:
             found = sorted(os.listdir(self.at(folder) + "/"))
@@ -129,7 +133,7 @@ class HandedIn:
             else:
                 self.take(f"{name}/{it}", path)
 
-    def words(self, words):
+    def words(self, words: list[str]) -> list[str]:
         """Returns the words with the schema, the directory and the files of texts named as they are handed in."""
         words, at = list(words), places(words)
         for it in text_places(words):
@@ -149,11 +153,11 @@ class HandedIn:
             words[at[1]] = name
         return words
 
-    def flags(self):
+    def flags(self) -> list[str]:
         return [it for name, path in self.files.items() for it in ("--data", f"{name}={path}")]
 
 
-def with_own_name(words, status, out, err):
+def with_own_name(words: list[str], status: int, out: bytes, err: bytes) -> tuple[bytes, bytes]:
     """Puts the program's name into the texts of clap: `rt try` runs it as `program`."""
     if is_for_clap(words):
         out = re.sub(rb"(?m)^Usage: program\b", b"Usage: sfq", out, count=1)
@@ -163,7 +167,7 @@ def with_own_name(words, status, out, err):
     return out, err
 
 
-def run_rt(words, room, waiting):
+def run_rt(words: list[str], room: str, waiting: Callable[[float], None]) -> tuple[bytes, bytes]:
     """Runs `rt` in the program's crate and returns what it wrote on its two streams, calling `waiting` meanwhile."""
     streams = os.path.join(room, "stdout"), os.path.join(room, "stderr")
     with open(streams[0], "wb") as out, open(streams[1], "wb") as err:
@@ -193,21 +197,21 @@ def run_rt(words, room, waiting):
         return out.read(), err.read()
 
 
-def show_waiting(seconds):
+def show_waiting(seconds: float) -> None:
     if sys.stderr.isatty():
         print(f"\rsfq: making an unproved build, about a minute: {seconds:.0f} s\x1b[K", end="", file=sys.stderr, flush=True)
 
 
-def clear_waiting():
+def clear_waiting() -> None:
     if sys.stderr.isatty():
         print("\r\x1b[K", end="", file=sys.stderr, flush=True)
 
 
-def say(text):
+def say(text: str) -> None:
     print(f"sfq: {text}", file=sys.stderr, flush=True)
 
 
-def refuse(said):
+def refuse(said: bytes) -> int:
     """Says why there is no answer, from what `rt try` wrote, and returns the status."""
     last = said.rstrip(b"\n").rpartition(b"\n")[2]
     if last.startswith(b"run=no-answer"):
@@ -230,7 +234,7 @@ def refuse(said):
     return NO_ANSWER
 
 
-def pass_on(out, err, status):
+def pass_on(out: bytes, err: bytes, status: int) -> int:
     """Writes what the program wrote, and returns its status, or that of a program whose output can't be written."""
     sys.stderr.buffer.write(err)
     sys.stderr.flush()
@@ -244,7 +248,7 @@ def pass_on(out, err, status):
     return status
 
 
-def answer(words):
+def answer(words: list[str]) -> int:
     """Runs the call, and returns the status."""
     if not shutil.which("rt"):
         say("the command rt of the Rattle kit is needed to build the program")
@@ -267,7 +271,7 @@ def answer(words):
     return pass_on(out, err, status)
 
 
-def main():
+def main() -> int:
     for it in (signal.SIGINT, signal.SIGTERM, signal.SIGHUP):
         signal.signal(it, lambda number, _: sys.exit(128 + number))
     return answer(sys.argv[1:])

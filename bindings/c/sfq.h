@@ -37,7 +37,7 @@ extern "C" {
 #endif
 
 /* The version of this header: 1,000,000 times the first number, 1,000 times the second, and the third. */
-#define SFQ_VERSION 1000
+#define SFQ_VERSION 2000
 
 /* What a call returns. */
 enum sfq_status {

@@ -11,13 +11,13 @@ SFQ_LIBRARY names; it is loaded when it is first asked.
 from __future__ import annotations
 
 import re
-from typing import Any, Dict, Iterable, List, NamedTuple, Optional, Sequence, Tuple, Union
+from typing import Any, Iterable, NamedTuple, Optional, Sequence, Union
 
 from . import _library, _positions, _texts
 from ._faults import Fault, FaultError, GridError, LibraryError
 
 __all__ = ["Cell", "Fault", "FaultError", "Geometry", "GridError", "LibraryError", "from_shapely", "relate", "relate_many"]
-__version__ = "0.1.0"
+__version__ = "0.2.0"
 
 
 class Cell(NamedTuple):
@@ -41,6 +41,9 @@ class Geometry:
     """
 
     __slots__ = ("_kept", "_spelled", "_text")
+    _kept: _library.Kept
+    _spelled: str
+    _text: Optional[str]
 
     def __init__(self, text: str) -> None:
         if not isinstance(text, str):
@@ -76,7 +79,7 @@ class Geometry:
     def __delattr__(self, name: str) -> None:
         raise AttributeError("sfq: a Geometry can't be changed")
 
-    def __reduce__(self):
+    def __reduce__(self) -> tuple[type[Geometry], tuple[str]]:
         return type(self), (self._spelled,)
 
     @property
@@ -100,7 +103,7 @@ class Geometry:
         """The canonical text: `POINT(1 2)`, whatever the blanks, case and signs. Of a refused text itself."""
         if self._text is None:
             self._set("_text", self._kept.canonical() if self.is_valid else self._spelled)
-        return self._text
+        return self._text or ""
 
     @property
     def dimension(self) -> int:
@@ -113,7 +116,7 @@ class Geometry:
         return _library.is_empty(self._kept)
 
     @property
-    def bounds(self) -> Optional[Tuple[int, int, int, int]]:
+    def bounds(self) -> Optional[tuple[int, int, int, int]]:
         """The least x, the least y, the greatest x and the greatest y, as shapely has them; None where it is empty."""
         found = _library.envelope(self._kept)
         return found and (found[0], found[2], found[1], found[3])
@@ -126,7 +129,9 @@ class Geometry:
 
     def __eq__(self, other: object) -> bool:
         """Whether the canonical texts are the same. Whether the sets of points are is `equals`."""
-        return self.text == other.text if isinstance(other, Geometry) else NotImplemented
+        if not isinstance(other, Geometry):
+            return NotImplemented
+        return self.text == other.text
 
     def __hash__(self) -> int:
         return hash(self.text)
@@ -136,7 +141,7 @@ class Geometry:
             raise FaultError(self.fault)
 
     @property
-    def __geo_interface__(self) -> Dict[str, Any]:
+    def __geo_interface__(self) -> dict[str, Any]:
         """The type and the coordinates as GeoJSON has them. FaultError of a refused text."""
         self._need_valid()
         name, coordinates = _texts.coordinates(self._spelled)
@@ -153,7 +158,7 @@ class Geometry:
         """Returns the DE-9IM matrix of this geometry and another: nine characters F, 0, 1, 2 (06-103r4, 6.1.15.2)."""
         return _library.relate(*_kept_pair(self, other))
 
-    def why(self, other: Shape) -> List[Cell]:
+    def why(self, other: Shape) -> list[Cell]:
         """Returns the nine cells of the matrix, by rows, each with what shows it (06-103r4, 6.1.15.2)."""
         return [Cell(*line.split(" ", 3)) for line in _library.why(*_kept_pair(self, other)).splitlines()]
 
@@ -229,7 +234,7 @@ def _geometry(shape: Shape) -> Geometry:
     return shape if isinstance(shape, Geometry) else Geometry(shape)
 
 
-def _kept_pair(first: Shape, second: Shape) -> Tuple[_library.Kept, _library.Kept]:
+def _kept_pair(first: Shape, second: Shape) -> tuple[_library.Kept, _library.Kept]:
     """Returns what the library needs of two geometries, which raises FaultError for the first that is refused."""
     return _geometry(first)._kept, _geometry(second)._kept
 
@@ -239,22 +244,28 @@ def relate(first: Shape, second: Shape) -> str:
     return _library.relate(*_kept_pair(first, second))
 
 
-def relate_many(first: Union[Iterable[Shape], Any], second: Union[Iterable[Shape], Shape]) -> List[str]:
+def relate_many(first: Union[Iterable[Shape], Any], second: Union[Iterable[Shape], Shape]) -> list[str]:
     """Returns the matrix of each pair: of the first of both, the second of both, and so on.
 
     `first` may be an array of numpy, of n rows of two numbers: these are points. `second` may be one geometry, which is then that of
     each pair. It is one call of the library for all pairs, beside the reading of texts that weren't read before. ValueError where
     one has more than the other; FaultError for the first pair that is refused, with its place from 0 in `index`.
     """
-    points = _positions.numpy_of(first)
-    ones = first if points else [_geometry(it)._kept for it in first]
-    alone = isinstance(second, (Geometry, str))
-    others = [_geometry(second)._kept] * len(ones) if alone else [_geometry(it)._kept for it in second]
-    if len(ones) != len(others):
-        raise ValueError(f"sfq: {len(ones)} geometries with {len(others)}: both have to have as many")
-    if points:
-        return _library.relate_points(_positions.buffer(first)[0], others)
-    return _library.relate_many(list(zip(ones, others)))
+    if _positions.numpy_of(first):
+        points, count = _positions.buffer(first)
+        return _library.relate_points(points, _others(second, count))
+    ones = [_geometry(it)._kept for it in first]
+    return _library.relate_many(list(zip(ones, _others(second, len(ones)))))
+
+
+def _others(second: Union[Iterable[Shape], Shape], count: int) -> list[_library.Kept]:
+    """Returns what the library needs of the second geometries of so many pairs, which may be one for all."""
+    if isinstance(second, (Geometry, str)):
+        return [_geometry(second)._kept] * count
+    others = [_geometry(it)._kept for it in second]
+    if len(others) != count:
+        raise ValueError(f"sfq: {count} geometries with {len(others)}: both have to have as many")
+    return others
 
 
 def from_shapely(shape: Any) -> Geometry:

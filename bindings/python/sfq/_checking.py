@@ -10,7 +10,7 @@ import shutil
 import subprocess
 import sys
 import tempfile
-from typing import List, Optional
+from typing import Optional, Union
 
 from . import Geometry, _library
 from ._faults import LibraryError
@@ -22,7 +22,7 @@ class ByLibrary:
     def __init__(self) -> None:
         self.call = _library.library().sfq_check
 
-    def reasons(self, texts: List[str]) -> List[Optional[str]]:
+    def reasons(self, texts: list[str]) -> list[Optional[str]]:
         """Returns the reason of each text that is refused, None for the others."""
         call, fault, found = self.call, ctypes.byref(_library.CFault()), []
         for text in texts:
@@ -41,7 +41,7 @@ class ByProgram:
     def __init__(self, program: str) -> None:
         self.program = program
 
-    def run(self, *words: str) -> subprocess.CompletedProcess:
+    def run(self, *words: str) -> subprocess.CompletedProcess[str]:
         ran = subprocess.run([self.program, *words], stdin=subprocess.DEVNULL, stdout=subprocess.PIPE, stderr=subprocess.PIPE, text=True)
         if ran.returncode == 7:
             raise MemoryError("sfq: out of memory")
@@ -49,7 +49,7 @@ class ByProgram:
             raise LibraryError(f"sfq: {self.program} {words[0]} ended with status {ran.returncode}: {ran.stderr.strip()}")
         return ran
 
-    def reasons(self, texts: List[str]) -> List[Optional[str]]:
+    def reasons(self, texts: list[str]) -> list[Optional[str]]:
         """Returns the reason of each text that is refused, None for the others: one run for all, and one for each that is refused."""
         with tempfile.NamedTemporaryFile("w", suffix=".csv", encoding="utf-8") as file:
             file.write("".join(f'"{it}",POINT EMPTY\n' for it in texts))
@@ -65,11 +65,13 @@ class ByProgram:
             file.write(text)
             file.flush()
             ran = self.run("why", f"@{file.name}")
-        said = ran.stdout or ran.stderr.rpartition("sfq: first ")[2]
-        return said.strip()
+        return (ran.stdout or ran.stderr.rpartition("sfq: first ")[2]).strip()
 
 
-def checker(program: str = ""):
+Checker = Union[ByLibrary, ByProgram]
+
+
+def checker(program: str = "") -> Checker:
     """Returns what checks: the program if one is named, else the library, else the program beside this command or on the path.
 
     LibraryError if none is there.

@@ -77,7 +77,7 @@ class FaultError(ValueError):
         place = "" if index is None else f", pair {index}"
         super().__init__(f"sfq: {which} {fault}{place}")
 
-    def __reduce__(self):
+    def __reduce__(self) -> tuple[type[FaultError], tuple[Fault, str, Optional[int]]]:
         return type(self), (self.fault, self.which, self.index)
 
 

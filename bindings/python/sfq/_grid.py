@@ -9,7 +9,7 @@ from __future__ import annotations
 import math
 from decimal import Decimal, InvalidOperation
 from fractions import Fraction
-from typing import Any, Iterable, List, Sequence, Tuple
+from typing import Any, Iterable, Sequence
 
 # The greatest coordinate of sfq, either way.
 MOST = 10_000_000
@@ -44,7 +44,7 @@ class Axis:
         # A quotient of doubles is off by less than 8 * 2**-53 of this sum.
         self.doubt = float((abs(self.origin) / self.step + QUICK) / 2**50)
 
-    def nearest(self, value: float) -> Tuple[int, float]:
+    def nearest(self, value: float) -> tuple[int, float]:
         """Returns the nearest coordinate of a double, by fractions, and how many steps the double is past it."""
         quotient = (Fraction(value) - self.origin) / self.step
         found = math.floor(quotient + Fraction(1, 2))
@@ -94,7 +94,7 @@ class Grid:
         """Returns the grid that a grid.json describes."""
         return cls(found["step"], found["origin"])
 
-    def rounded(self, numbers: Sequence[float], shift: Shift, merges: bool = True) -> List[Tuple[int, int]]:
+    def rounded(self, numbers: Sequence[float], shift: Shift, merges: bool = True) -> list[tuple[int, int]]:
         """Returns the positions of doubles, an x and a y for each, and counts how far they moved.
 
         `merges` drops a position that is the same as the one before it. NotANumber where a double is none.
@@ -104,11 +104,11 @@ class Grid:
         except (ValueError, OverflowError):
             raise NotANumber("a coordinate is infinite or no number") from None
 
-    def merged(self, numbers: Sequence[float], shift: Shift, merges: bool) -> List[Tuple[int, int]]:
+    def merged(self, numbers: Sequence[float], shift: Shift, merges: bool) -> list[tuple[int, int]]:
         """The same, with the error that Python has for a double that is no number."""
         (step, left), (_, low) = self.x.of_doubles, self.y.of_doubles
         doubt_x, doubt_y, floor = self.x.doubt, self.y.doubt, math.floor
-        found: List[Tuple[int, int]] = []
+        found: list[tuple[int, int]] = []
         before, greatest, total = None, shift.greatest / step, 0.0
         for x, y in zip(numbers[::2], numbers[1::2]):
             past_x, past_y = (x - left) / step, (y - low) / step
@@ -137,6 +137,6 @@ class Grid:
         return found
 
 
-def spelled(positions: Iterable[Tuple[int, int]]) -> str:
+def spelled(positions: Iterable[tuple[int, int]]) -> str:
     """Returns positions as well-known text has them."""
     return ",".join(["%d %d" % it for it in positions])

@@ -12,7 +12,7 @@ import ctypes
 import functools
 import os
 import threading
-from typing import Callable, List, Optional, Tuple
+from typing import Any, Callable, Iterable, Iterator, Optional, Sequence
 
 from ._faults import Fault, FaultError, LibraryError, PositionFault
 
@@ -34,11 +34,11 @@ class CFault(ctypes.Structure):
         ("letter", ctypes.c_uint8), ("number", ctypes.c_uint8), ("first", ctypes.c_size_t), ("second", ctypes.c_size_t),
     ]
 
-    def read(self, kind=Fault) -> Fault:
+    def read(self, kind: type[Fault] = Fault) -> Fault:
         return kind(f"{chr(self.letter)}{self.number}", self.first, self.second)
 
 
-def places() -> Tuple[str, ...]:
+def places() -> tuple[str, ...]:
     """Returns where the library is looked for: SFQ_LIBRARY alone if it is set, else the prefix of this package, else the system."""
     if os.environ.get("SFQ_LIBRARY"):
         return (os.environ["SFQ_LIBRARY"],)
@@ -86,9 +86,9 @@ def declare(found: ctypes.CDLL) -> ctypes.CDLL:
     found.sfq_relate.argtypes = [geometry, geometry, ctypes.c_char * 10]
     found.sfq_holds.argtypes = [ctypes.c_uint32, geometry, geometry, ctypes.POINTER(ctypes.c_bool)]
     found.sfq_text.argtypes = [geometry, ctypes.c_char_p, ctypes.c_size_t, ctypes.POINTER(ctypes.c_size_t)]
-    room = [ctypes.c_char_p, ctypes.c_size_t, ctypes.POINTER(ctypes.c_size_t)]
-    found.sfq_why.argtypes = [geometry, geometry, *room]
-    found.sfq_reason.argtypes = [ctypes.c_char_p, ctypes.c_size_t, *room, fault]
+    room: list[Any] = [ctypes.c_char_p, ctypes.c_size_t, ctypes.POINTER(ctypes.c_size_t)]
+    found.sfq_why.argtypes = [geometry, geometry] + room
+    found.sfq_reason.argtypes = [ctypes.c_char_p, ctypes.c_size_t] + room + [fault]
     found.sfq_free.argtypes, found.sfq_free.restype = [geometry], None
     for name in ("check", "read", "read_positions", "relate", "relate_many", "relate_points", "holds", "text", "locate_many", "dimension",
                  "is_empty", "envelope", "why", "reason"):
@@ -105,7 +105,7 @@ class Kept:
     def __init__(self, text: str) -> None:
         # A text with half a surrogate pair isn't UTF-8, and is refused as any other text.
         self.text, self.geometry, self.lock = text.encode("utf-8", "surrogatepass"), CGeometry(), threading.Lock()
-        self._found: Optional[Tuple[Optional[Fault]]] = None
+        self._found: Optional[tuple[Optional[Fault]]] = None
 
     def __del__(self) -> None:
         if self.geometry.kept is not None:
@@ -120,8 +120,8 @@ class Kept:
                 self._found = (fault.read(self.FAULT) if is_refused(self._read(ctypes.byref(fault))) else None,)
             return self._found[0]
 
-    def _read(self, fault) -> int:
-        return library().sfq_read(self.text, len(self.text), ctypes.byref(self.geometry), fault)
+    def _read(self, fault: Any) -> int:
+        return int(library().sfq_read(self.text, len(self.text), ctypes.byref(self.geometry), fault))
 
     def canonical(self) -> str:
         """Returns the canonical text of a valid geometry."""
@@ -135,10 +135,11 @@ class Kept:
 
 def handed_out(call: Callable[..., int]) -> str:
     """Returns the text that a call of the library writes into a room, whose size it is asked for first."""
-    length, room = ctypes.c_size_t(), None
+    length = ctypes.c_size_t()
+    room: Optional[ctypes.Array[ctypes.c_char]] = None
     while is_refused(call(room, length.value, ctypes.byref(length))):
         room = ctypes.create_string_buffer(length.value)
-    return room.raw.decode("ascii")
+    return room.raw.decode("ascii") if room else ""
 
 
 class KeptNumbers(Kept):
@@ -150,16 +151,16 @@ class KeptNumbers(Kept):
     __slots__ = ("numbers",)
     FAULT = PositionFault
 
-    def __init__(self, name: str, coordinates, lines, polygons) -> None:
+    def __init__(self, name: str, coordinates: tuple[Any, int], lines: Sequence[int], polygons: Sequence[int]) -> None:
         super().__init__("")
-        self.numbers = (TYPES.index(name) + 1, coordinates, lines, polygons)
+        self.numbers: Any = (TYPES.index(name) + 1, coordinates, lines, polygons)
 
-    def _read(self, fault) -> int:
+    def _read(self, fault: Any) -> int:
         number, (coordinates, count), lines, polygons = self.numbers
-        parts = []
+        parts: list[Any] = []
         for sizes in (lines, polygons):
             parts += [(ctypes.c_size_t * len(sizes))(*sizes), len(sizes)]
-        status = library().sfq_read_positions(number, coordinates, count, *parts, ctypes.byref(self.geometry), fault)
+        status = int(library().sfq_read_positions(number, coordinates, count, *parts, ctypes.byref(self.geometry), fault))
         if status == UNKNOWN:
             raise ValueError("sfq: the parts don't have these positions, or the type has no such parts")
         self.numbers = None
@@ -185,7 +186,7 @@ def need_valid(first: Kept, second: Kept, index: Optional[int] = None) -> None:
 
 
 @contextlib.contextmanager
-def held(all_kept):
+def held(all_kept: Iterable[Kept]) -> Iterator[None]:
     """Has these geometries serve no other call meanwhile. All are taken in one order, so that no two calls wait for each other."""
     with contextlib.ExitStack() as locks:
         for kept in sorted({id(it): it for it in all_kept}.values(), key=id):
@@ -193,7 +194,7 @@ def held(all_kept):
         yield
 
 
-def ask(first: Kept, second: Kept, call, *words) -> None:
+def ask(first: Kept, second: Kept, call: Callable[..., int], *words: Any) -> None:
     """Calls the library with two geometries. FaultError for the first that is refused."""
     need_valid(first, second)
     with held((first, second)):
@@ -206,10 +207,10 @@ def need_ok(status: int) -> None:
         raise LibraryError(f"sfq: the library returned the status {status}, which is none of this call")
 
 
-def relate_many(pairs) -> List[str]:
+def relate_many(pairs: Sequence[tuple[Kept, Kept]]) -> list[str]:
     """Returns the matrix of each pair of geometries, by one call. FaultError for the first pair that has a refused one."""
     for index, pair in enumerate(pairs):
-        need_valid(*pair, index)
+        need_valid(pair[0], pair[1], index)
     count = len(pairs)
     room, done = ctypes.create_string_buffer(9 * count + 1), ctypes.c_size_t()
     with held(kept for pair in pairs for kept in pair):
@@ -218,7 +219,7 @@ def relate_many(pairs) -> List[str]:
     return matrices(room, count)
 
 
-def relate_points(coordinates, others) -> List[str]:
+def relate_points(coordinates: Any, others: Sequence[Kept]) -> list[str]:
     """Returns the matrix of each point and geometry, by one call. FaultError for the first refused geometry, else for the first point."""
     for index, kept in enumerate(others):
         if kept.fault:
@@ -234,12 +235,12 @@ def relate_points(coordinates, others) -> List[str]:
     return matrices(room, count)
 
 
-def matrices(room, count: int) -> List[str]:
+def matrices(room: ctypes.Array[ctypes.c_char], count: int) -> list[str]:
     text = room.raw.decode("ascii")
     return [text[at:at + 9] for at in range(0, 9 * count, 9)]
 
 
-def locate_many(kept: Kept, coordinates, count: int, places) -> None:
+def locate_many(kept: Kept, coordinates: Any, count: int, places: Any) -> None:
     """Writes the place of each position. ValueError for the first that is past the limit, FaultError of a refused geometry."""
     if kept.fault:
         raise FaultError(kept.fault)
@@ -251,7 +252,7 @@ def locate_many(kept: Kept, coordinates, count: int, places) -> None:
     need_ok(status)
 
 
-def ask_one(kept: Kept, call, found) -> int:
+def ask_one(kept: Kept, call: Callable[..., int], found: Any) -> int:
     """Calls the library with one geometry. FaultError where it is refused."""
     if kept.fault:
         raise FaultError(kept.fault)
@@ -271,14 +272,14 @@ def is_empty(kept: Kept) -> bool:
     return found.value
 
 
-def envelope(kept: Kept) -> Optional[Tuple[int, int, int, int]]:
+def envelope(kept: Kept) -> Optional[tuple[int, int, int, int]]:
     """Returns the least x, the greatest x, the least y and the greatest y; None where there are none."""
     found = (ctypes.c_int32 * 4)()
     status = ask_one(kept, library().sfq_envelope, found)
     if status == NONE:
         return None
     need_ok(status)
-    return tuple(found)
+    return found[0], found[1], found[2], found[3]
 
 
 def relate(first: Kept, second: Kept) -> str:

@@ -6,7 +6,7 @@ from __future__ import annotations
 
 import ctypes
 import sys
-from typing import Any, Callable, Tuple
+from typing import Any, Callable
 
 from ._faults import GridError
 from ._texts import whole
@@ -20,7 +20,7 @@ def numpy_of(positions: Any) -> Any:
     return numpy if numpy is not None and isinstance(positions, numpy.ndarray) else None
 
 
-def buffer(positions: Any) -> Tuple[Any, int]:
+def buffer(positions: Any) -> tuple[Any, int]:
     """Returns the coordinates, an x and a y for each position, and how many positions there are."""
     numpy = numpy_of(positions)
     if numpy:
@@ -45,7 +45,7 @@ def of_array(numpy: Any, positions: Any) -> Any:
     return (ctypes.c_int32 * values.size).from_buffer(values) if values.size else (ctypes.c_int32 * 0)()
 
 
-def places(positions: Any, count: int) -> Tuple[Any, Callable[[], Any]]:
+def places(positions: Any, count: int) -> tuple[Any, Callable[[], Any]]:
     """Returns room for a number for each position, and what gives the numbers, as a list or as an array."""
     room = (ctypes.c_uint32 * count)()
     numpy = numpy_of(positions)

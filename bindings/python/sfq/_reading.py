@@ -4,7 +4,7 @@ from __future__ import annotations
 import re
 import sys
 from collections import Counter
-from typing import Any, Callable, Iterator, List, NamedTuple, Optional, Tuple
+from typing import Any, Callable, Iterator, NamedTuple, Optional
 
 from . import _grid, _tables, _wkb
 
@@ -45,7 +45,8 @@ class Warnings:
     """Keeps GDAL's warnings, and says each once. Errors are exceptions besides."""
 
     def __init__(self, say: Callable[[str], None]) -> None:
-        self.say, self.said, self.most = say, set(), 10
+        self.say, self.most = say, 10
+        self.said: set[str] = set()
 
     def __call__(self, level: int, number: int, text: str) -> None:
         if level == 2 and text not in self.said and len(self.said) < self.most:
@@ -65,7 +66,7 @@ class Source:
         except RuntimeError as error:
             raise OSError(without_secrets(f"{path}: {error}")) from None
 
-    def layers(self, names: List[str]) -> List[Layer]:
+    def layers(self, names: list[str]) -> list[Layer]:
         """Returns the layers of these names, in their order, or all. KeyError for a name that the source doesn't have."""
         there = [self.file.GetLayer(it) for it in range(self.file.GetLayerCount())]
         if names:
@@ -109,7 +110,7 @@ class Layer:
 
     def count(self) -> int:
         """Returns how many records there are, or -1 where counting takes a pass."""
-        return self.layer.GetFeatureCount(0)
+        return int(self.layer.GetFeatureCount(0))
 
     def has(self, name: str) -> bool:
         """Whether there is a column of this name, that of the FID too."""
@@ -163,10 +164,11 @@ class Layer:
         """Returns the type that the source says a geometry column has, or GEOMETRY."""
         return _wkb.WORDS.get(self.modules.ogr.GT_Flatten(self.shapes[at].GetType()), "GEOMETRY")
 
-    def extent(self) -> Optional[Tuple[float, float, float, float]]:
+    def extent(self) -> Optional[tuple[float, float, float, float]]:
         """Returns the least x, the greatest x, the least y and the greatest y, or None."""
         try:
-            return self.layer.GetExtent()
+            left, right, low, high = self.layer.GetExtent()
+            return left, right, low, high
         except RuntimeError:
             return None
 
@@ -176,7 +178,7 @@ class Layer:
         take, is_there = feature.GetFieldAsInteger64, feature.IsFieldSetAndNotNull
         return lambda it: take(it, at) or (0 if is_there(it, at) else None)
 
-    def reader(self, at: int, empty: Counter) -> Callable[[Any], str]:
+    def reader(self, at: int, empty: Counter[str]) -> Callable[[Any], str]:
         """Returns what reads the field of a record as CSV has it, and counts empty texts by their column."""
         ogr, field = self.modules.ogr, self.fields[at]
         name, kind, feature, quoted = field.GetName(), field.GetType(), ogr.Feature, _tables.quoted
@@ -199,11 +201,11 @@ class Layer:
 
         return read
 
-    def taking(self, kind: int) -> Tuple[Callable, Optional[Callable]]:
+    def taking(self, kind: int) -> tuple[Callable[..., Any], Optional[Callable[[Any], str]]]:
         """Returns what reads a value of a type that isn't a number, and what writes it as a text; None where it is one."""
         ogr = self.modules.ogr
         feature = ogr.Feature
-        return {
+        known: dict[int, tuple[Callable[..., Any], Callable[[Any], str]]] = {
             ogr.OFTDate: (feature.GetFieldAsDateTime, _tables.date),
             ogr.OFTTime: (feature.GetFieldAsDateTime, _tables.time),
             ogr.OFTDateTime: (feature.GetFieldAsDateTime, _tables.date_time),
@@ -212,7 +214,8 @@ class Layer:
             ogr.OFTInteger64List: (feature.GetFieldAsInteger64List, _tables.listed),
             ogr.OFTRealList: (feature.GetFieldAsDoubleList, _tables.listed),
             ogr.OFTStringList: (feature.GetFieldAsStringList, _tables.listed),
-        }.get(kind, (feature.GetFieldAsString, None))
+        }
+        return known.get(kind, (feature.GetFieldAsString, None))
 
 
 def flat(geometry: Any) -> bytes:

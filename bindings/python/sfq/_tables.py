@@ -6,7 +6,7 @@ import json
 import re
 import struct
 import unicodedata
-from typing import Any, List, NamedTuple, Optional, Set
+from typing import Any, NamedTuple, Optional
 
 RESERVED = {"select", "from", "where", "and", "or", "not", "is", "null", "join", "inner", "cross", "on", "as", "limit"}
 MOST_TABLES, MOST_COLUMNS, MOST_ROWS = 16, 32, 100_000
@@ -28,7 +28,7 @@ class Names:
     """Gives each name of a source one that sfq takes, and no two the same: case doesn't count."""
 
     def __init__(self) -> None:
-        self.taken: Set[str] = set()
+        self.taken: set[str] = set()
 
     def of(self, name: str, otherwise: str) -> str:
         """Returns the name with letters, digits and `_` alone. Accents are left out, and a number makes it differ from those before."""
@@ -72,19 +72,19 @@ def coded(value: bytes) -> str:
     return base64.b64encode(bytes(value)).decode()
 
 
-def date(parts: List[Any]) -> str:
+def date(parts: list[Any]) -> str:
     """Returns the date of a year, a month and a day (ISO 8601)."""
     return f"{parts[0]:04}-{parts[1]:02}-{parts[2]:02}"
 
 
-def time(parts: List[Any]) -> str:
+def time(parts: list[Any]) -> str:
     """Returns the time of day of seven numbers, to the millisecond where it isn't a whole second (ISO 8601)."""
     thousandths = round(parts[5] * 1000)
     fraction = f".{thousandths % 1000:03}" if thousandths % 1000 else ""
     return f"{parts[3]:02}:{parts[4]:02}:{thousandths // 1000:02}{fraction}"
 
 
-def date_time(parts: List[Any]) -> str:
+def date_time(parts: list[Any]) -> str:
     """Returns date and time of seven numbers, with Z or the hours from it where the source says them (ISO 8601)."""
     zone, behind = parts[6], ""
     if zone == 100:
@@ -95,7 +95,7 @@ def date_time(parts: List[Any]) -> str:
     return f"{date(parts)}T{time(parts)}{behind}"
 
 
-def taken(columns: List[Column], key: str) -> List[Column]:
+def taken(columns: list[Column], key: str) -> list[Column]:
     """Returns the columns that a schema has of a table: where sfq doesn't take all, the key, the geometries and the first others."""
     room = MOST_COLUMNS - sum(it.name == key or it.type not in ("INTEGER", "TEXT") for it in columns)
     found = []
@@ -107,13 +107,13 @@ def taken(columns: List[Column], key: str) -> List[Column]:
     return found[:MOST_COLUMNS]
 
 
-def schema(name: str, columns: List[Column], key: str) -> str:
+def schema(name: str, columns: list[Column], key: str) -> str:
     """Returns the CREATE TABLE of a table."""
     lines = [f"  {it.name} {it.type}{' PRIMARY KEY' if it.name == key else ''}" for it in taken(columns, key)]
     return f"CREATE TABLE {name} (\n" + ",\n".join(lines) + "\n);\n"
 
 
-def too_long(row: bytes, names: List[str], fields: List[str]) -> Optional[str]:
+def too_long(row: bytes, names: list[str], fields: list[str]) -> Optional[str]:
     """Returns which limit of a record's size a row is past, or None."""
     for name, field in zip(names, fields):
         if len(field.encode()) > MOST_BYTES:

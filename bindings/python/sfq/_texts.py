@@ -6,7 +6,7 @@ from __future__ import annotations
 
 import math
 import re
-from typing import Any, Tuple
+from typing import Any
 
 from ._faults import GridError
 
@@ -15,6 +15,8 @@ TYPES = {
     "Point": 0, "MultiPoint": 1, "LineString": 1, "MultiLineString": 2, "Polygon": 2, "MultiPolygon": 3,
 }
 OF_WORD = {it.upper(): it for it in TYPES}
+# Positions, or such parts, as GeoJSON nests them.
+Parts = tuple[Any, ...]
 
 
 def number(word: str) -> int:
@@ -23,9 +25,10 @@ def number(word: str) -> int:
     return -int(digits) if word[0] == "-" else int(digits)
 
 
-def nested(words: list, at: int) -> Tuple[Any, int]:
+def nested(words: list[str], at: int) -> tuple[Parts, int]:
     """Returns what the parenthesis at this place opens, as tuples, and the place after it."""
-    found, at = [], at + 1
+    found: list[Any] = []
+    at += 1
     while words[at] != ")":
         if words[at] == "(":
             part, at = nested(words, at)
@@ -38,12 +41,12 @@ def nested(words: list, at: int) -> Tuple[Any, int]:
     return tuple(found), at + 1
 
 
-def without_repeats(positions: tuple) -> tuple:
+def without_repeats(positions: Parts) -> Parts:
     """Drops each position that is the same as the one before it."""
     return tuple(it for at, it in enumerate(positions) if at == 0 or it != positions[at - 1])
 
 
-def coordinates(text: str) -> Tuple[str, tuple]:
+def coordinates(text: str) -> tuple[str, Parts]:
     """Returns the type and the coordinates of a valid geometry, as GeoJSON nests them (RFC 7946, 3.1); none of an empty one."""
     words = re.findall(r"[A-Za-z]+|[(),]|[-+.\d]+", text)
     name = OF_WORD[words[0].upper()]
@@ -58,7 +61,7 @@ def coordinates(text: str) -> Tuple[str, tuple]:
     return name, dropped(parts, TYPES[name])
 
 
-def dropped(parts: tuple, depth: int) -> tuple:
+def dropped(parts: Parts, depth: int) -> Parts:
     return without_repeats(parts) if depth == 1 else tuple(dropped(it, depth - 1) for it in parts)
 
 
@@ -97,7 +100,7 @@ def of_interface(shape: Any) -> str:
     """Returns the text of anything that has `__geo_interface__`, or of such a mapping."""
     if getattr(shape, "is_empty", False) and type(shape).__name__ in (*TYPES, "LinearRing"):
         # Some versions of shapely have no __geo_interface__ of an empty point, and no geom_type either.
-        found = {"type": type(shape).__name__, "coordinates": ()}
+        found: Any = {"type": type(shape).__name__, "coordinates": ()}
     else:
         found = getattr(shape, "__geo_interface__", shape)
     name = "LineString" if found["type"] == "LinearRing" else found["type"]

@@ -7,7 +7,7 @@ from __future__ import annotations
 
 import struct
 from array import array
-from typing import Iterable, List, NamedTuple, Tuple
+from typing import Iterable, NamedTuple, Sequence
 
 from . import _grid
 
@@ -28,6 +28,10 @@ class NoText(ValueError):
         self.form = form
 
 
+# An x and a y for each position.
+Numbers = Sequence[float]
+
+
 class Shape(NamedTuple):
     """The numbers of a geometry: the word of its type, and for each of its parts the rings or lines, each a list of doubles.
 
@@ -35,10 +39,10 @@ class Shape(NamedTuple):
     """
 
     word: str
-    parts: List[List[array]]
+    parts: list[list[Numbers]]
 
 
-def numbers(binary: bytes, at: int, count: int) -> array:
+def numbers(binary: bytes, at: int, count: int) -> array[float]:
     found = array("d")
     found.frombytes(binary[at:at + 16 * count])
     if SWAPS:
@@ -46,7 +50,7 @@ def numbers(binary: bytes, at: int, count: int) -> array:
     return found
 
 
-def head(binary: bytes, at: int) -> Tuple[int, int]:
+def head(binary: bytes, at: int) -> tuple[int, int]:
     """Returns the number of a flat type that sfq has, and the place after it. NoText of another."""
     (code,) = struct.unpack_from("<I", binary, at + 1)
     kind, dimensions = code % 1000, code // 1000
@@ -56,9 +60,10 @@ def head(binary: bytes, at: int) -> Tuple[int, int]:
     return kind, at + 5
 
 
-def lists(binary: bytes, at: int) -> Tuple[List[array], int]:
+def lists(binary: bytes, at: int) -> tuple[list[Numbers], int]:
     """Returns the lists of positions of a polygon, and the place after them."""
-    (count,), at, found = struct.unpack_from("<I", binary, at), at + 4, []
+    (count,), at = struct.unpack_from("<I", binary, at), at + 4
+    found: list[Numbers] = []
     for _ in range(count):
         (length,) = struct.unpack_from("<I", binary, at)
         found.append(numbers(binary, at + 4, length))
@@ -66,7 +71,7 @@ def lists(binary: bytes, at: int) -> Tuple[List[array], int]:
     return found, at
 
 
-def part(binary: bytes, at: int, kind: int) -> Tuple[List[array], int]:
+def part(binary: bytes, at: int, kind: int) -> tuple[list[Numbers], int]:
     """Returns a point, a line or a polygon, and the place after it. A point without coordinates has no list."""
     if kind == 1:
         found = numbers(binary, at, 1)
@@ -117,7 +122,7 @@ def text(given: Shape, grid: _grid.Grid, shift: _grid.Shift) -> str:
     return f"{word}({','.join(spelled)})"
 
 
-def points(parts: List[List[array]], grid: _grid.Grid, shift: _grid.Shift) -> Iterable[Tuple[int, int]]:
+def points(parts: list[list[Numbers]], grid: _grid.Grid, shift: _grid.Shift) -> Iterable[tuple[int, int]]:
     """Returns the points of a MULTIPOINT. Those that coincide are merged, wherever they are in the list."""
     found = grid.rounded(array("d", (number for each in parts for number in each[0])), shift, merges=False)
     unique = dict.fromkeys(found)

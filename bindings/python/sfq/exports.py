@@ -14,7 +14,7 @@ import os
 import re
 import sys
 import tempfile
-from typing import Any, Callable, Dict, Iterator, List, NamedTuple, Optional, TextIO, Tuple
+from typing import IO, Any, Callable, Iterator, NamedTuple, Optional, TextIO
 from xml.sax.saxutils import escape
 
 from . import __version__, _grid, _reading, _texts
@@ -39,8 +39,8 @@ class Known(NamedTuple):
     """What grid.json says: the grid, the columns by their names in lower case, and their tables' coordinate systems."""
 
     grid: _grid.Grid
-    types: Dict[str, str]
-    systems: Dict[str, Any]
+    types: dict[str, str]
+    systems: dict[str, Any]
 
 
 def known(folder: str) -> Known:
@@ -49,7 +49,8 @@ def known(folder: str) -> Known:
     with open(path, encoding="utf-8") as file:
         try:
             found = json.load(file)
-            types, systems = {}, {}
+            types: dict[str, str] = {}
+            systems: dict[str, Any] = {}
             for layer in found["layers"]:
                 for it in layer["columns"]:
                     name, kind = it["name"].lower(), it["type"]
@@ -67,7 +68,7 @@ def column_of(header: str) -> str:
     return (found[1] if found else header).rpartition(".")[2].lower()
 
 
-def geometry_in(headers: List[str], wanted: str, types: Dict[str, str]) -> int:
+def geometry_in(headers: list[str], wanted: str, types: dict[str, str]) -> int:
     """Returns the place of the geometry among the columns of an answer. Stopped where there is none, or more than one."""
     if wanted:
         found = [at for at, it in enumerate(headers) if it.lower() == wanted.lower()]
@@ -85,11 +86,11 @@ def geometry_in(headers: List[str], wanted: str, types: Dict[str, str]) -> int:
 class Row(NamedTuple):
     """A row: its fields, and its geometry's type and whole coordinates, or None."""
 
-    fields: List[str]
-    shape: Optional[Tuple[str, Any]]
+    fields: list[str]
+    shape: Optional[tuple[str, Any]]
 
 
-def rows(records: Iterator[List[str]], place: int, width: int) -> Iterator[Row]:
+def rows(records: Iterator[list[str]], place: int, width: int) -> Iterator[Row]:
     """Reads the rows below the header. Stopped at a record of another length or whose geometry isn't one."""
     for number, fields in enumerate(records, 1):
         if len(fields) != width:
@@ -122,7 +123,7 @@ def listed(parts: Any, depth: int, position: Callable[[Any], str]) -> str:
     return "[" + ",".join([listed(it, depth - 1, position) for it in parts]) + "]"
 
 
-def geometry_text(shape: Optional[Tuple[str, Any]], position: Callable[[Any], str]) -> str:
+def geometry_text(shape: Optional[tuple[str, Any]], position: Callable[[Any], str]) -> str:
     """Returns a geometry of GeoJSON (RFC 7946, 3.1); one that is EMPTY has no coordinates."""
     if shape is None:
         return "null"
@@ -173,7 +174,7 @@ def member_of_system(system: Any) -> str:
 class GeoJson:
     """A file of GeoJSON that is written row by row."""
 
-    def __init__(self, file: TextIO, headers: List[str], place: int, types: Dict[str, str]) -> None:
+    def __init__(self, file: TextIO, headers: list[str], place: int, types: dict[str, str]) -> None:
         self.file, self.place, self.count = file, place, 0
         self.numbers = [it.upper().startswith(COUNTS) or types.get(column_of(it)) == "INTEGER" for it in headers]
         self.names = [json.dumps(it, ensure_ascii=False) for it in headers]
@@ -197,7 +198,7 @@ class GeoJson:
 # ---- SVG ----
 
 
-def lines_of(shape: Tuple[str, Any]) -> List[Any]:
+def lines_of(shape: tuple[str, Any]) -> list[Any]:
     """Returns the lists of positions of a geometry that has some."""
     name, parts = shape
     depth = _texts.TYPES[name]
@@ -209,8 +210,9 @@ def lines_of(shape: Tuple[str, Any]) -> List[Any]:
 class Picture:
     """A picture of the rows. They are kept in a file until it is known where they lie."""
 
-    def __init__(self, spool: TextIO, grid: _grid.Grid) -> None:
-        self.spool, self.grid, self.count, self.bounds = spool, grid, 0, None
+    def __init__(self, spool: IO[str], grid: _grid.Grid) -> None:
+        self.spool, self.grid, self.count = spool, grid, 0
+        self.bounds: Optional[tuple[Any, Any, Any, Any]] = None
 
     def add(self, row: Row) -> None:
         if row.shape is None or not len(row.shape[1]):
@@ -233,11 +235,12 @@ class Picture:
                    '<rect width="100%" height="100%" fill="#fff"/>\n')
         self.spool.seek(0)
         for line in self.spool:
-            file.write(drawn(*json.loads(line), lambda it: (MARGIN + (it[0] - left) * scale, MARGIN + (high - it[1]) * scale)) + "\n")
+            kind, parts = json.loads(line)
+            file.write(drawn(kind, parts, lambda it: (MARGIN + (it[0] - left) * scale, MARGIN + (high - it[1]) * scale)) + "\n")
         file.write("</svg>\n")
 
 
-def drawn(name: str, parts: Any, place: Callable[[Any], Tuple[float, float]]) -> str:
+def drawn(name: str, parts: Any, place: Callable[[Any], tuple[float, float]]) -> str:
     """Returns the drawing of a geometry: a dot for a point, a path for the rest."""
     if name in ("Point", "MultiPoint"):
         dots = ["<circle cx=\"%.2f\" cy=\"%.2f\" r=\"5\"/>" % place(it) for it in ([parts] if name == "Point" else parts)]
@@ -276,7 +279,7 @@ def system_of(column: str, found: Known) -> Any:
     return systems[0] if systems and all(it == systems[0] for it in systems) else None
 
 
-def export(records: Iterator[List[str]], options: argparse.Namespace, geo: Output, svg: Output) -> None:
+def export(records: Iterator[list[str]], options: argparse.Namespace, geo: Output, svg: Output) -> None:
     """Writes the rows of an answer."""
     found = known(options.like)
     headers = next(records, None)
@@ -334,7 +337,7 @@ def run(options: argparse.Namespace) -> None:
         svg.drop()
 
 
-def main(words: Optional[List[str]] = None) -> int:
+def main(words: Optional[list[str]] = None) -> int:
     """Runs the command, and returns its status."""
     options = parser().parse_args(words)
     if not options.to and not options.svg:

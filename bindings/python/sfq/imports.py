@@ -17,7 +17,7 @@ import sys
 import tempfile
 import time
 from collections import Counter
-from typing import Any, Callable, Dict, List, NamedTuple, Optional, Set, Tuple
+from typing import Any, Callable, NamedTuple, Optional
 
 from . import __version__, _checking, _grid, _reading, _tables, _wkb
 from ._faults import MEANINGS, LibraryError
@@ -75,10 +75,10 @@ class Record:
 
     __slots__ = ("number", "fid", "fields", "texts", "reasons")
 
-    def __init__(self, number: int, fid: int, fields: List[str], texts: List[Optional[str]]) -> None:
+    def __init__(self, number: int, fid: int, fields: list[str], texts: list[Optional[str]]) -> None:
         self.number, self.fid, self.fields, self.texts = number, fid, fields, texts
         # Each with what is before it in the list: the column, where a layer has several geometries.
-        self.reasons: Tuple[Tuple[str, str], ...] = ()
+        self.reasons: tuple[tuple[str, str], ...] = ()
 
 
 class Means(NamedTuple):
@@ -101,26 +101,26 @@ class Key(NamedTuple):
 class Pass:
     """One pass over a layer, which writes its table."""
 
-    def __init__(self, means: Means, layer: _reading.Layer, key: Key, files: Tuple[Any, Any]) -> None:
+    def __init__(self, means: Means, layer: _reading.Layer, key: Key, files: tuple[Any, Any]) -> None:
         self.means, self.layer, self.key = means, layer, key
         self.table, self.left_out = files
         self.shift, self.rows, self.records, self.flattened = _grid.Shift(), 0, 0, 0
-        self.counts: Counter = Counter()
-        self.empty: Counter = Counter()
-        self.words: List[Set[str]] = [set() for _ in layer.shapes]
+        self.counts: Counter[Any] = Counter()
+        self.empty: Counter[str] = Counter()
+        self.words: list[set[str]] = [set() for _ in layer.shapes]
         self.columns = columns(layer, key)
         self.readers, self.key_of, self.places = self.in_order(), self.key_reader(), range(len(layer.shapes))
-        self.forms: Dict[str, str] = {}
+        self.forms: dict[str, str] = {}
         self.last_key = -1
 
-    def in_order(self) -> List[Callable[[Any], str]]:
+    def in_order(self) -> list[Callable[[Any], str]]:
         """Returns the readers of the columns after the key: a FID that has a name of its own first."""
         found = [self.layer.reader(at, self.empty) for at, it in enumerate(self.layer.fields) if it.GetName() != self.key.source]
         if self.key.source and self.layer.layer.GetFIDColumn():
             found.insert(0, lambda it: str(it.GetFID()))
         return found
 
-    def key_reader(self) -> Optional[Callable[[Any], int]]:
+    def key_reader(self) -> Optional[Callable[[Any], Optional[int]]]:
         """Returns what reads the key, None where it is the FID."""
         if self.key.source == "#":
             return lambda _: self.records
@@ -198,7 +198,7 @@ class Pass:
             self.forms[form] = f"{self.means.checker.reason(form)}: {form.rstrip(' (')}"
         return self.forms[form]
 
-    def write(self, batch: List[Record]) -> None:
+    def write(self, batch: list[Record]) -> None:
         """Checks records, and writes them or what they are refused for."""
         asked = [(record, at) for record in batch if record.fields for at, it in enumerate(record.texts) if it]
         reasons = self.means.checker.reasons([record.texts[at] for record, at in asked])
@@ -218,7 +218,7 @@ class Pass:
     def refuse(self, record: Record, at: int, reason: str) -> None:
         """Mends a geometry that sfq refuses where that is wanted and can be done; else refuses the record."""
         if self.means.invalid == "mend" and reason[0] == "V":
-            text, behind = self.mended(record.texts[at])
+            text, behind = self.mended(record.texts[at] or "")
             if text is None:
                 record.fields = []
             else:
@@ -228,17 +228,17 @@ class Pass:
             record.fields = []
         record.reasons += ((self.column(at), reason),)
 
-    def mended(self, text: str) -> Tuple[Optional[str], str]:
+    def mended(self, text: str) -> tuple[Optional[str], str]:
         """Returns what make-valid makes of a text, on the grid and valid there; else None and what is said of it."""
         behind = ""
         for _ in range(TIMES):
-            text = _reading.mended(self.means.source.modules, text)
-            if text is None:
+            made = _reading.mended(self.means.source.modules, text)
+            if made is None:
                 return None, behind or "; make-valid leaves nothing of it"
-            reason = self.means.checker.reasons([text])[0]
+            reason = self.means.checker.reasons([made])[0]
             if reason is None:
-                return text, ""
-            behind = f"; after make-valid {reason}"
+                return made, ""
+            text, behind = made, f"; after make-valid {reason}"
         return None, behind
 
     def row(self, record: Record) -> Optional[bytes]:
@@ -282,7 +282,7 @@ def kind(reason: str) -> str:
     return f"{code}: {MEANINGS[code] if code[0] == 'V' or code in ('W3', 'W4') else text}"
 
 
-def columns(layer: _reading.Layer, key: Key) -> List[_tables.Column]:
+def columns(layer: _reading.Layer, key: Key) -> list[_tables.Column]:
     """Returns the columns of a table: the key, those of the layer in their order, and the geometries."""
     names, fid = _tables.Names(), layer.layer.GetFIDColumn()
     if key.source == "#":
@@ -302,7 +302,7 @@ def columns(layer: _reading.Layer, key: Key) -> List[_tables.Column]:
     return found
 
 
-def type_of(words: Set[str], said: str) -> str:
+def type_of(words: set[str], said: str) -> str:
     """Returns the type of a geometry column by the types that are in it; `said` where it has none."""
     words = {it.removesuffix(" EMPTY") for it in words}
     if not words:
@@ -311,7 +311,7 @@ def type_of(words: Set[str], said: str) -> str:
     return next(iter(words if len(words) == 1 else of_many)) if len(of_many) == 1 else "GEOMETRY"
 
 
-def written_as_multi(path: str, places: Set[int]) -> None:
+def written_as_multi(path: str, places: set[int]) -> None:
     """Writes a table anew, with each geometry in these columns as one of its MULTI type."""
     csv.field_size_limit(sys.maxsize)
     with open(path, newline="", encoding="utf-8") as old, open(f"{path}.new", "w", newline="", encoding="utf-8") as new:
@@ -327,7 +327,9 @@ class Import:
 
     def __init__(self, means: Means, room: str, key: str) -> None:
         self.means, self.room, self.key = means, room, key
-        self.names, self.schemas, self.layers = _tables.Names(), [], []
+        self.names = _tables.Names()
+        self.schemas: list[str] = []
+        self.layers: list[dict[str, Any]] = []
         self.left_out = open(f"{room}/left-out.csv", "wb")
         self.left_out.write(b"layer,record,fid,reason,done\n")
 
@@ -349,7 +351,7 @@ class Import:
         if self.key in ("", layer.layer.GetFIDColumn()):
             return Key("")
         if not layer.is_whole(self.key):
-            reason = "isn't a column of whole numbers" if layer.has(self.key) else "isn't a column"
+            reason: Optional[str] = "isn't a column of whole numbers" if layer.has(self.key) else "isn't a column"
         else:
             reason = layer.repeated(layer.whole(layer.described.GetFieldIndex(self.key)))
             if reason is None:
@@ -398,7 +400,7 @@ class Import:
         report(layer, name, found, self.means)
 
 
-def described(layer: _reading.Layer, name: str, found: Pass) -> Dict[str, Any]:
+def described(layer: _reading.Layer, name: str, found: Pass) -> dict[str, Any]:
     """Returns what grid.json says of a layer."""
     shift = found.shift
     return {
@@ -464,9 +466,10 @@ def parser() -> argparse.ArgumentParser:
     return found
 
 
-def parsed(words: List[str]) -> Tuple[argparse.Namespace, _grid.Grid]:
+def parsed(words: list[str]) -> tuple[argparse.Namespace, _grid.Grid]:
     """Returns the options and the grid. An origin that begins with a minus is an option's value too."""
-    joined, found = [], parser()
+    joined: list[str] = []
+    found = parser()
     for it in words:
         if joined and joined[-1] == "--origin":
             joined[-1] = f"--origin={it}"
@@ -518,7 +521,7 @@ def run(options: argparse.Namespace, grid: _grid.Grid) -> None:
         raise
 
 
-def main(words: Optional[List[str]] = None) -> int:
+def main(words: Optional[list[str]] = None) -> int:
     """Runs the command, and returns its status."""
     options, grid = parsed(sys.argv[1:] if words is None else words)
     try:

@@ -3,4 +3,6 @@
 `command` is the way of a query: `query` reads it, `plans` says how it is split, `programs` runs sfq and sfq-tiles here,
 `cluster` runs the parts on workers, where `tasks` runs sfq, and `merging` makes one answer of theirs.
 """
-VERSION = "0.1.0"
+from sfq import __version__ as VERSION
+
+__all__ = ["VERSION"]

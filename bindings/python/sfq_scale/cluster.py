@@ -5,17 +5,21 @@ import queue
 import time
 import uuid
 import warnings
+from typing import Any, Callable, Iterable, Iterator, Union
 
 from . import tasks
 from .faults import CLUSTER, FILES, MEMORY, Ended, ended
+from .plans import Job
 
+# The output of a run, or its path and size, and the seconds of processor that sfq took, and that the worker took.
+Taken = tuple[Union[bytes, tuple[str, int]], float, float]
 # How often a run that the system refused something is tried again, and after how many seconds without news the cluster is looked at.
 RETRIES, PATIENCE = 2, 1.0
 # So many runs wait for each thread of a worker.
 AHEAD = 3
 
 
-def library():
+def library() -> Any:
     """Returns Dask's library, which then keeps its notes off standard error."""
     try:
         import cloudpickle
@@ -33,7 +37,7 @@ def library():
 class Cluster:
     """A connection with a scheduler. `most` is for how many seconds it waits for a first worker, or for a new one."""
 
-    def __init__(self, address, most):
+    def __init__(self, address: str, most: float) -> None:
         self.address, self.most = address, most
         self.name = uuid.uuid4().hex[:12]
         distributed = library()
@@ -43,21 +47,21 @@ class Cluster:
             raise ended(CLUSTER, f"no scheduler answers at {address}: {' '.join(str(error).split()) or 'it took too long'}") from error
         self.wait_for_workers()
 
-    def close(self):
+    def close(self) -> None:
         try:
             self.client.close(timeout=2)
         except Exception:
             # It is gone.
             pass
 
-    def threads(self):
+    def threads(self) -> int:
         """Returns how many threads the workers have together; none where the scheduler doesn't say."""
         try:
             return sum(it["nthreads"] for it in self.client.scheduler_info()["workers"].values())
         except Exception:
             return 0
 
-    def wait_for_workers(self):
+    def wait_for_workers(self) -> None:
         """Waits until there is a worker."""
         begun = time.monotonic()
         while not self.threads():
@@ -65,7 +69,7 @@ class Cluster:
                 raise ended(CLUSTER, f"the cluster at {self.address} has had no worker for {self.most:g} seconds")
             time.sleep(0.2)
 
-    def check(self, program, wanted, room):
+    def check(self, program: str, wanted: str, room: str) -> None:
         """Asks each worker whether it has the same program and sees the folder."""
         try:
             found = self.client.run(tasks.look, program, wanted, room, on_error="return")
@@ -75,13 +79,15 @@ class Cluster:
             if said:
                 raise ended(CLUSTER, f"worker {worker}: {said}")
 
-    def share(self, program):
+    def share(self, program: bytes) -> Any:
         """Sends the program to the cluster, and returns what means it in the arguments of runs."""
         return self.client.submit(tasks.given, program, key=f"sfq-program-{self.name}", pure=False)
 
-    def outcomes(self, jobs, call):
+    def outcomes(self, jobs: Iterable[Job], call: Callable[[Job], tuple[Any, ...]]) -> Iterator[tuple[Job, Taken]]:
         """Yields each run with its outcome, as they come. `call` gives the arguments of a run."""
-        waiting, running, ready = collections.deque(jobs), {}, queue.SimpleQueue()
+        waiting = collections.deque(jobs)
+        running: dict[str, tuple[Any, Job]] = {}
+        ready: queue.SimpleQueue[Any] = queue.SimpleQueue()
         try:
             threads = self.threads()
             while waiting or running:
@@ -104,14 +110,14 @@ class Cluster:
             for future, _ in running.values():
                 future.release()
 
-    def submit(self, arguments, key):
+    def submit(self, arguments: tuple[Any, ...], key: str) -> Any:
         """Has a run wait for a worker."""
         try:
             return self.client.submit(tasks.run, *arguments, key=key, retries=RETRIES, pure=False)
         except Exception as error:
             raise ended(CLUSTER, f"the scheduler at {self.address} takes no run: {error}") from error
 
-    def outcome(self, future, job):
+    def outcome(self, future: Any, job: Job) -> Taken:
         """Returns the outcome of a run that is done."""
         if future.status == "finished":
             try:
@@ -127,7 +133,7 @@ class Cluster:
             raise self.failure(future.exception(timeout=self.most), job)
         raise ended(CLUSTER, f"the scheduler at {self.address} is gone")
 
-    def failure(self, error, job):
+    def failure(self, error: BaseException, job: Job) -> Ended:
         """Returns the end for a run that failed whenever it was tried."""
         if isinstance(error, RuntimeError) and len(error.args) == 2:
             status, err = error.args

@@ -9,18 +9,22 @@ import signal
 import sys
 import tempfile
 import time
+from typing import Any, NoReturn, Optional, Union
 
 from . import VERSION, cluster, merging, plans, programs, query, words
 from .faults import CLUSTER, FILES, QUERY, Ended, ended
+from .schema import Table
 
 STATUSES = """exit status: that of sfq (2 the command line, 3 the schema, 4 a table, 5 the query, 6 a file, 7 memory), or 8: the cluster
 can't be reached, has no worker left, has another program, or failed at a part too often"""
 # The faults of a query's text, which sfq finds before it reads tables.
 OF_TEXT = re.compile(rb"sfq: (?:Q(?:1|2|10|11|12)\b|query unreadable)")
 MOST_PAIRS = 10_000_000_000
+# What takes the answers of parts.
+Taking = Union[merging.Count, merging.Rows]
 
 
-def read_words(given):
+def read_words(given: Optional[list[str]]) -> argparse.Namespace:
     """Reads the command line."""
     parser = argparse.ArgumentParser(prog="sfq-scale", description="One query of sfq over tables of any number of rows, by a Dask cluster.", epilog=STATUSES)
     parser.add_argument("--version", action="version", version=f"sfq-scale {VERSION}")
@@ -49,11 +53,11 @@ def read_words(given):
 class Progress:
     """How far a run is, on standard error: a line that changes on a terminal, else a line each second if it is asked for."""
 
-    def __init__(self, is_asked):
+    def __init__(self, is_asked: bool) -> None:
         self.is_terminal, self.shown = sys.stderr.isatty(), 0.0
         self.is_on = self.is_terminal or is_asked
 
-    def show(self, text, is_last=False):
+    def show(self, text: str, is_last: bool = False) -> None:
         now = time.monotonic()
         if not self.is_on or (now - self.shown < (0.1 if self.is_terminal else 1) and not is_last):
             return
@@ -61,7 +65,7 @@ class Progress:
         line = f"\rsfq-scale: {text}\x1b[K" if self.is_terminal else f"sfq-scale: {text}\n"
         print(line, end="", file=sys.stderr, flush=True)
 
-    def clear(self):
+    def clear(self) -> None:
         if self.is_terminal:
             print("\r\x1b[K", end="", file=sys.stderr, flush=True)
 
@@ -69,28 +73,28 @@ class Progress:
 class Run:
     """One query."""
 
-    def __init__(self, given, room):
+    def __init__(self, given: argparse.Namespace, room: str) -> None:
         self.given, self.room = given, room
         self.progress = Progress(given.progress)
         self.programs = programs.Programs(programs.find("sfq", given.sfq), programs.find("sfq-tiles", given.tiles), room)
         self.text = self.query_word()
 
-    def query_word(self):
+    def query_word(self) -> str:
         """Returns the query's word, standard input copied into a file."""
         if self.given.query != "@-":
-            return self.given.query
+            return str(self.given.query)
         path = f"{self.room}/input.sql"
         with open(path, "wb") as file:
             shutil.copyfileobj(sys.stdin.buffer, file)
         return f"@{path}"
 
-    def query_text(self):
+    def query_text(self) -> str:
         if not self.text.startswith("@"):
             return self.text
         with open(self.text[1:], encoding="utf-8", newline="") as file:
             return file.read()
 
-    def header(self, tables):
+    def header(self, tables: list[Table]) -> bytes:
         """Asks sfq for the header, over tables without rows; its faults end the run, in sfq's order."""
         given, folder = self.programs.without_rows("empty", tables)
         out, err, status = self.programs.run(given, folder, self.text)
@@ -102,13 +106,13 @@ class Run:
         self.check_tables(tables)
         raise Ended(status, err)
 
-    def check_tables(self, tables):
+    def check_tables(self, tables: list[Table]) -> None:
         """Reads all tables for their faults, and writes the keys of one of them."""
         small = min(tables, key=lambda it: plans.whole_size(self.given.folder, it))
         part = plans.Part("one", small, small.only([]))
         self.programs.split(self.given.schema, self.given.folder, f"{self.room}/checked", plans.MOST_ROWS, [part.word])
 
-    def run(self):
+    def run(self) -> None:
         """Runs the query, and writes its answer."""
         tables = self.programs.tables(self.given.schema)
         if not tables:
@@ -124,7 +128,9 @@ class Run:
         way = plans.choose(select, self.programs)
         keys = 0 if select.counts else len(select.sources)
         part_header = way.check(self.programs, header, keys)
-        taking = merging.Count(header, select.limit) if select.counts else merging.Rows(self.room, part_header, header, keys, select.limit)
+        taking: Taking = merging.Rows(self.room, part_header, header, keys, select.limit)
+        if select.counts:
+            taking = merging.Count(header, select.limit)
         connected = cluster.Cluster(self.given.scheduler, self.given.wait)
         try:
             way = self.take_parts(connected, way, taking, select.limit)
@@ -141,7 +147,7 @@ class Run:
         if self.given.explain:
             self.explain(way)
 
-    def take_parts(self, connected, way, taking, limit):
+    def take_parts(self, connected: cluster.Cluster, way: plans.Way, taking: Taking, limit: Optional[int]) -> plans.Way:
         """Splits the tables, has the parts run, and takes their answers. Returns the way that was taken."""
         given, wanted = self.given, programs.sum_of(self.programs.sfq)
         program = given.worker_sfq or self.programs.sfq
@@ -156,18 +162,18 @@ class Run:
         if given.send:
             program = connected.share(read(self.programs.sfq))
 
-        def call(job):
+        def call(job: plans.Job) -> tuple[Any, ...]:
             found = [(name, read(path)) for name, path in job.tables] if given.send else job.tables
             return program, wanted, job.schema, job.query, found, None if given.send else answers
 
-        self.took = []
+        self.took: list[tuple[float, float]] = []
         for job, (output, seconds, own) in connected.outcomes(jobs, call):
             self.took.append((seconds, own))
             taking.add(self.kept(output, len(self.took)))
             self.progress.show(f"{len(self.took)} of {len(jobs)} parts done", len(self.took) == len(jobs))
         return way
 
-    def kept(self, output, number):
+    def kept(self, output: Union[bytes, tuple[str, int]], number: int) -> str:
         """Returns the path of an output, which is written where it was sent."""
         if isinstance(output, tuple):
             path, size = output
@@ -179,7 +185,7 @@ class Run:
             file.write(output)
         return path
 
-    def explain(self, way):
+    def explain(self, way: plans.Way) -> None:
         """Says how the query was split, and the seconds of processor that each part took."""
         own = resource.getrusage(resource.RUSAGE_SELF)
         sfq, workers = (sum(it[at] for it in self.took) for at in (0, 1))
@@ -191,12 +197,12 @@ class Run:
             print(f"sfq-scale: {it}", file=sys.stderr)
 
 
-def read(path):
+def read(path: str) -> bytes:
     with open(path, "rb") as file:
         return file.read()
 
 
-def answer(given):
+def answer(given: argparse.Namespace) -> int:
     """Runs a query in a folder of its own, and returns the status."""
     try:
         base = given.room or tempfile.gettempdir()
@@ -223,7 +229,7 @@ def answer(given):
         shutil.rmtree(room, ignore_errors=True)
 
 
-def main(given=None):
+def main(given: Optional[list[str]] = None) -> NoReturn:
     for it in (signal.SIGTERM, signal.SIGHUP):
         signal.signal(it, lambda number, _: sys.exit(128 + number))
     try:
@@ -231,7 +237,7 @@ def main(given=None):
     except KeyboardInterrupt:
         status = 130
     except SystemExit as it:
-        status = it.code
+        status = int(it.code or 0)
     # No thread of Dask's is waited for.
     try:
         sys.stdout.flush()

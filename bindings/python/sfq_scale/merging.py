@@ -4,21 +4,25 @@ Each part's rows begin with their keys, by which they ascend.
 """
 import bisect
 import os
+from typing import IO, Any, Iterable, Iterator, Optional
 
 from .faults import CLUSTER, ended
 
+# A key or two, and what follows them.
+Row = tuple[Any, ...]
 # How many bytes of answers are in memory at a time, and the least of one part.
 MEMORY, LEAST = 16 << 20, 16 << 10
 # So many answers are merged into one while others are still to come.
 MANY = 256
 
 
-def records(text):
+def records(text: bytes) -> list[bytes]:
     """Splits text at the line feeds that aren't within quotes; what is behind the last one comes last."""
     lines = text.split(b"\n")
     if b'"' not in text:
         return lines
-    whole, parts = [], []
+    whole: list[bytes] = []
+    parts: list[bytes] = []
     for it in lines:
         is_odd = it.count(b'"') & 1
         if parts:
@@ -34,12 +38,12 @@ def records(text):
     return [*whole, b"\n".join(parts)] if parts else whole
 
 
-def of_one_key(line):
+def of_one_key(line: bytes) -> Row:
     key, _, rest = line.partition(b",")
     return int(key), rest
 
 
-def of_two_keys(line):
+def of_two_keys(line: bytes) -> Row:
     first, second, rest = line.split(b",", 2)
     return int(first), int(second), rest
 
@@ -47,17 +51,18 @@ def of_two_keys(line):
 class Part:
     """The answer of a part, in a file, whose rows are read some at a time: each its keys and what follows them."""
 
-    def __init__(self, path, header, keys):
+    def __init__(self, path: str, header: bytes, keys: int) -> None:
         self.path, self.header, self.read_row = path, header, of_one_key if keys == 1 else of_two_keys
-        self.at, self.rows, self.is_whole, self.open = 0, [], False, b""
+        self.at, self.is_whole, self.open = 0, False, b""
+        self.rows: list[Row] = []
 
-    def fill(self, size):
+    def fill(self, size: int) -> bool:
         """Reads rows until there are some, or none are left; returns whether there are some."""
         while not self.rows and not self.is_whole:
             self.read(size)
         return bool(self.rows)
 
-    def read(self, size):
+    def read(self, size: int) -> None:
         """Reads so many bytes more."""
         if self.is_whole:
             return
@@ -76,18 +81,18 @@ class Part:
         if lines:
             self.rows += map(self.read_row, lines)
 
-    def take_header(self, lines):
+    def take_header(self, lines: list[bytes]) -> None:
         if not lines or lines.pop(0) + b"\n" != self.header:
             raise ended(CLUSTER, f"an answer of a part has another header: {self.path}")
 
-    def take(self, bound):
+    def take(self, bound: Row) -> list[Row]:
         """Returns and removes the rows up to this one."""
         place = bisect.bisect_right(self.rows, bound)
         found, self.rows = self.rows[:place], self.rows[place:]
         return found
 
 
-def merged(parts, memory=MEMORY):
+def merged(parts: Iterable[Part], memory: int = MEMORY) -> Iterator[list[Row]]:
     """Yields lists of rows, which ascend by the keys."""
     live = list(parts)
     size = max(LEAST, memory // max(len(live), 1))
@@ -105,7 +110,7 @@ def merged(parts, memory=MEMORY):
         yield found
 
 
-def lines_of(rows):
+def lines_of(rows: Iterable[Row]) -> bytes:
     """Returns the text of rows without their keys. A record of one empty field is a pair of quotes."""
     return b"\n".join([it[-1] or b'""' for it in rows]) + b"\n"
 
@@ -113,11 +118,12 @@ def lines_of(rows):
 class Rows:
     """The answers of a query that lists rows. Many are merged into one as they come."""
 
-    def __init__(self, room, header, own_header, keys, limit):
+    def __init__(self, room: str, header: bytes, own_header: bytes, keys: int, limit: Optional[int]) -> None:
         self.room, self.header, self.own, self.keys, self.limit = room, header, own_header, keys, limit
-        self.parts, self.made = [], 0
+        self.made = 0
+        self.parts: list[str] = []
 
-    def add(self, path):
+    def add(self, path: str) -> None:
         self.parts.append(path)
         if len(self.parts) == MANY:
             self.made += 1
@@ -130,7 +136,7 @@ class Rows:
                 os.remove(it)
             self.parts = [path]
 
-    def limited(self):
+    def limited(self) -> Iterator[list[Row]]:
         """Yields lists of rows up to the limit."""
         left = self.limit
         for rows in merged([Part(it, self.header, self.keys) for it in self.parts]):
@@ -142,7 +148,7 @@ class Rows:
             if left == 0:
                 return
 
-    def write(self, out):
+    def write(self, out: IO[bytes]) -> None:
         """Writes the answer."""
         out.write(self.own)
         if self.limit != 0:
@@ -153,10 +159,10 @@ class Rows:
 class Count:
     """The answers of a COUNT(*)."""
 
-    def __init__(self, header, limit):
+    def __init__(self, header: bytes, limit: Optional[int]) -> None:
         self.header, self.limit, self.total = header, limit, 0
 
-    def add(self, path):
+    def add(self, path: str) -> None:
         with open(path, "rb") as file:
             text = file.read()
         if self.limit == 0 and text == self.header:
@@ -165,7 +171,7 @@ class Count:
             raise ended(CLUSTER, f"an answer of a part is no count: {path}")
         self.total += int(text[len(self.header) :])
 
-    def write(self, out):
+    def write(self, out: IO[bytes]) -> None:
         out.write(self.header)
         if self.limit != 0:
             out.write(b"%d\n" % self.total)

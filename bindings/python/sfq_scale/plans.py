@@ -1,11 +1,14 @@
 """How a query is split: by stretches of a table, by tiles, or by blocks, which are stretches of one table with those of the other."""
+from __future__ import annotations
+
 import itertools
 import os
 import shutil
-from typing import NamedTuple
+from typing import Iterable, NamedTuple, Optional
 
 from . import query, schema
 from .faults import CLUSTER, QUERY, ended
+from .programs import Programs
 
 # The most rows of a table that sfq takes.
 MOST_ROWS = 100_000
@@ -22,13 +25,13 @@ class Part(NamedTuple):
     column: str = ""
 
     @property
-    def word(self):
+    def word(self) -> str:
         columns = ",".join(it.name for it in self.copied.columns)
         is_whole = len(self.copied.columns) == len(self.whole.columns)
         return f"{self.name}={self.whole.name}{'.' * bool(self.column)}{self.column}{'' if is_whole else f':{columns}'}"
 
     @property
-    def table(self):
+    def table(self) -> schema.Table:
         """Returns the table in the tiles."""
         table = self.copied._replace(name=self.name)
         return schema.marked(table) if self.column else table
@@ -40,14 +43,14 @@ class Job(NamedTuple):
     name: str
     schema: str
     query: str
-    tables: list
+    tables: list[tuple[str, str]]
     size: int
 
 
 class Way:
     """How a query is split into runs over parts of its tables."""
 
-    def __init__(self, kind, parts, texts, said="", spare=None):
+    def __init__(self, kind: str, parts: list[Part], texts: tuple[str, str], said: str = "", spare: Optional[Way] = None) -> None:
         self.kind, self.parts, self.said, self.spare = kind, parts, said, spare
         # The query over a tile, and over a block; the schemas that these need.
         self.text, self.block_text = texts
@@ -58,7 +61,7 @@ class Way:
         self.block_schema = "".join(it.text for it in self.block_tables)
         self.counts = {it.name: 0 for it in parts}
 
-    def check(self, programs, header, keys):
+    def check(self, programs: Programs, header: bytes, keys: int) -> bytes:
         """Asks sfq whether it takes the queries of the parts, and returns the header of their answers."""
         if self.spare:
             self.spare.check(programs, header, keys)
@@ -76,12 +79,12 @@ class Way:
                 raise ended(QUERY, f"the query can't be split for sure: {text[:200]}")
         return found
 
-    def split(self, programs, given, folder, rows):
+    def split(self, programs: Programs, given: str, folder: str, rows: int) -> tuple[str, list[dict[str, str]]]:
         """Splits the tables, and returns the folder of the parts and the records of sfq-tiles."""
         to = f"{programs.room}/{self.kind}"
         return to, programs.split(given, folder, to, rows, [it.word for it in self.parts])
 
-    def jobs(self, programs, given, folder, rows, most_pairs):
+    def jobs(self, programs: Programs, given: str, folder: str, rows: int, most_pairs: int) -> tuple[Way, list[Job]]:
         """Splits the tables, and returns the way that was taken at last, and its runs, the largest first."""
         to, records = self.split(programs, given, folder, rows)
         if not self.parts[0].column:
@@ -93,32 +96,33 @@ class Way:
                     f"query looks at {self.pairs} pairs of rows; --most-pairs {self.pairs} allows that",
                 )
             return self, ordered(self.blocks(to, records, self.parts))
-        if any(self.is_crowded(it, rows) for it in records):
-            other, stretches = self.spare.split(programs, given, folder, rows)
-            self.spare.count(stretches)
+        spare = self.spare
+        if spare and any(self.is_crowded(it, rows) for it in records):
+            other, stretches = spare.split(programs, given, folder, rows)
+            spare.count(stretches)
             first, second = self.parts[0].name, self.parts[-1].name
-            if self.spare.pairs <= sum(int(it[first]) * int(it[second]) for it in records):
+            if spare.pairs <= sum(int(it[first]) * int(it[second]) for it in records):
                 shutil.rmtree(to)
-                return self.spare, ordered(self.spare.blocks(other, stretches, self.spare.parts))
+                return spare, ordered(spare.blocks(other, stretches, spare.parts))
             shutil.rmtree(other)
         return self, ordered(self.tiled(programs, to, rows, records))
 
     @property
-    def pairs(self):
+    def pairs(self) -> int:
         """Returns the number of pairs of rows of two tables."""
         return self.counts[self.parts[0].name] * self.counts[self.parts[1].name]
 
-    def is_crowded(self, record, rows):
+    def is_crowded(self, record: dict[str, str], rows: int) -> bool:
         """Whether a tile has many more rows than were asked for."""
         return max(int(record[it.name]) for it in self.parts) > min(MOST_ROWS, CROWDED * rows)
 
-    def count(self, records):
+    def count(self, records: Iterable[dict[str, str]]) -> None:
         for it in records:
             self.counts[it["part"]] += int(it["rows"])
 
-    def blocks(self, to, records, parts, name="block"):
+    def blocks(self, to: str, records: Iterable[dict[str, str]], parts: Iterable[Part], name: str = "block") -> list[Job]:
         """Returns the runs over each choice of a stretch of each part."""
-        found = []
+        found: list[Job] = []
         chosen = [[it for it in records if it["part"] == part.name] for part in parts]
         for choice in itertools.product(*chosen):
             if not all(int(it["rows"]) for it in choice):
@@ -130,13 +134,13 @@ class Way:
             found.append(Job(f"{name} {number}", self.block_schema, self.block_text, list(zip(names, paths)), size))
         return found
 
-    def tiled(self, programs, to, rows, records):
+    def tiled(self, programs: Programs, to: str, rows: int, records: Iterable[dict[str, str]]) -> list[Job]:
         """Returns the runs over tiles. One with too many rows is cut into blocks."""
         with open(f"{to}/schema.sql", encoding="utf-8") as file:
             found = schema.read(file.read())
         if [(it.name, it.key, [c.name for c in it.columns]) for it in found] != [(it.name, it.key, [c.name for c in it.columns]) for it in self.tables]:
             raise ended(CLUSTER, "sfq-tiles wrote another schema than was asked for: is it of this version?")
-        jobs = []
+        jobs: list[Job] = []
         for it in records:
             number, counts = it["tile"], [int(it[part.name]) for part in self.parts]
             for part, count in zip(self.parts, counts):
@@ -150,7 +154,7 @@ class Way:
                 jobs.append(Job(f"tile {number}", self.schema, self.text, tables, sum(counts)))
         return jobs
 
-    def crowded(self, programs, to, number, rows):
+    def crowded(self, programs: Programs, to: str, number: str, rows: int) -> list[Job]:
         """Returns the runs over the blocks of a tile that no cut makes smaller."""
         folder = f"{to}/blocks-{number}"
         parts = [f"{it.name}={it.name}" for it in self.parts]
@@ -159,12 +163,12 @@ class Way:
         return self.blocks(folder, records, pair, f"tile {number} block")
 
 
-def ordered(jobs):
+def ordered(jobs: Iterable[Job]) -> list[Job]:
     """Returns runs, the largest first, so that none is waited for at the end."""
     return sorted(jobs, key=lambda it: -it.size)
 
 
-def choose(select, programs):
+def choose(select: query.Select, programs: Programs) -> Way:
     """Returns the way to split a query."""
     used = select.used
     tables = [it.table.only(columns) for it, columns in zip(select.sources, used)]
@@ -177,7 +181,7 @@ def choose(select, programs):
     return tiles(select, meetings[0], used, plain) if meetings else plain
 
 
-def tiles(select, meeting, used, spare):
+def tiles(select: query.Select, meeting: query.Condition, used: list[set[str]], spare: Way) -> Way:
     """Returns the way by tiles of the geometries of a predicate. `spare` is that by blocks."""
     columns = [name for _, name in sorted(meeting.arguments)]
     wholes = [it.table for it in select.sources]
@@ -200,7 +204,7 @@ def tiles(select, meeting, used, spare):
     return Way("tiles", parts[: 1 if is_one else 2], texts, said, spare)
 
 
-def whole_size(folder, table):
+def whole_size(folder: str, table: schema.Table) -> int:
     """Returns the bytes of a table's file, for choosing a small one."""
     try:
         return os.path.getsize(f"{folder}/{table.name}.csv")

@@ -7,6 +7,7 @@ import resource
 import shutil
 import subprocess
 import sys
+from typing import Iterable, Optional
 
 from . import query, schema
 from .faults import CLUSTER, FILES, MEMORY, MISUSE, TABLE, Ended, ended
@@ -23,11 +24,12 @@ BUILT = {
 }
 
 
-def find(name, named):
+def find(name: str, named: Optional[str]) -> str:
     """Returns the path of a program: the one that is named, or the one beside this program, in this checkout, or on the path."""
     makes, built = BUILT[name]
     beside = os.path.dirname(os.path.realpath(sys.argv[0]))
-    found = next(filter(None, map(shutil.which, [named] if named else [f"{beside}/{name}", built, name])), None)
+    places = [named] if named else [f"{beside}/{name}", built, name]
+    found = next((path for path in (shutil.which(it) for it in places) if path), None)
     if not found:
         option = "--tiles" if name == "sfq-tiles" else "--sfq"
         where = "" if named else f" beside sfq-scale or on the path: {makes} makes it in a checkout, and {option} names another place"
@@ -35,13 +37,13 @@ def find(name, named):
     return os.path.abspath(found)
 
 
-def sum_of(path):
+def sum_of(path: str) -> str:
     """Returns the SHA-256 of a file."""
     with open(path, "rb") as file:
         return hashlib.sha256(file.read()).hexdigest()
 
 
-def write(path, text):
+def write(path: str, text: str) -> None:
     os.makedirs(os.path.dirname(path), exist_ok=True)
     with open(path, "w", encoding="utf-8", newline="") as file:
         file.write(text)
@@ -50,20 +52,20 @@ def write(path, text):
 class Programs:
     """The two programs, and a folder for what they read and write."""
 
-    def __init__(self, sfq, tiles, room):
+    def __init__(self, sfq: str, tiles: str, room: str) -> None:
         self.sfq, self.tiles, self.room = sfq, tiles, room
         self.seconds = 0.0
 
-    def call(self, words):
+    def call(self, words: list[str]) -> tuple[bytes, bytes, int]:
         """Runs a program, and returns what it wrote on its two streams and its status."""
         ran = subprocess.run(words, stdin=subprocess.DEVNULL, capture_output=True)
         return ran.stdout, ran.stderr, ran.returncode
 
-    def run(self, given, folder, text):
+    def run(self, given: str, folder: str, text: str) -> tuple[bytes, bytes, int]:
         """Runs a query by sfq."""
         return self.call([self.sfq, "run", "--", given, folder, text])
 
-    def tables(self, given):
+    def tables(self, given: str) -> list[schema.Table]:
         """Returns the tables of a schema, which sfq has to accept."""
         empty = f"{self.room}/nothing"
         os.makedirs(empty, exist_ok=True)
@@ -73,7 +75,7 @@ class Programs:
         with open(given, encoding="utf-8", errors="surrogateescape") as file:
             return schema.read(file.read())
 
-    def without_rows(self, name, tables):
+    def without_rows(self, name: str, tables: Iterable[schema.Table]) -> tuple[str, str]:
         """Makes a schema and tables without rows, and returns their paths."""
         folder = f"{self.room}/{name}"
         write(f"{folder}/schema.sql", "".join(it.text for it in tables))
@@ -81,7 +83,7 @@ class Programs:
             write(f"{folder}/tables/{it.name}.csv", it.header)
         return f"{folder}/schema.sql", f"{folder}/tables"
 
-    def forces(self, meeting):
+    def forces(self, meeting: query.Condition) -> bool:
         """Whether sfq says of a predicate that it drives a probe: it is true only where envelopes meet."""
         folder = f"{self.room}/probe"
         columns = (schema.Column("k", "INTEGER", True), schema.Column("g", "GEOMETRY"))
@@ -93,7 +95,7 @@ class Programs:
         out, _, status = self.run(f"{folder}/schema.sql", folder, f"EXPLAIN SELECT COUNT(*) FROM one, two WHERE {condition}")
         return status == 0 and b" probe 1\n" in out
 
-    def split(self, given, folder, to, rows, parts):
+    def split(self, given: str, folder: str, to: str, rows: int, parts: Iterable[str]) -> list[dict[str, str]]:
         """Runs sfq-tiles, and returns the records of its output by their names. A fault of a table ends the run as it ends sfq-tiles."""
         words = ["--rows", str(rows), *(it for part in parts for it in ("--part", part))]
         before = resource.getrusage(resource.RUSAGE_CHILDREN)

@@ -1,7 +1,7 @@
 """Reads a SELECT that sfq has accepted and bound, and writes the SELECT of its parts."""
-from typing import NamedTuple, Optional
+from typing import Iterable, Iterator, NamedTuple, Optional, Sequence
 
-from . import words
+from . import schema, words
 from .words import Token, Unsure, joined, same
 
 # How references are named in the parts of a query.
@@ -11,7 +11,7 @@ NAMES = ("one", "two")
 class Source(NamedTuple):
     """A reference of FROM: its table, and the name by which the query knows it."""
 
-    table: object
+    table: schema.Table
     name: str
 
 
@@ -20,10 +20,10 @@ class Condition(NamedTuple):
     reference and the column, and the tokens behind them."""
 
     function: str
-    arguments: tuple
-    rest: tuple
+    arguments: tuple[tuple[int, str], ...]
+    rest: tuple[Token, ...]
 
-    def text(self, names):
+    def text(self, names: Iterable[str]) -> str:
         """Returns its text where these are its arguments."""
         return f"{self.function}({', '.join(names)}{joined(self.rest)}"
 
@@ -33,26 +33,26 @@ class Select(NamedTuple):
 
     explains: bool
     counts: bool
-    items: list
-    sources: list
-    on: Optional[list]
-    where: Optional[list]
+    items: list[Token]
+    sources: list[Source]
+    on: Optional[list[Token]]
+    where: Optional[list[Token]]
     limit: Optional[int]
 
     @property
-    def used(self):
+    def used(self) -> list[set[str]]:
         """Returns the columns that each reference needs."""
         found = [{it.table.key} for it in self.sources]
         for at, name in columns_in([*self.items, *(self.on or ()), *(self.where or ())], self.sources):
             found[at].add(name)
         return found
 
-    def meetings(self):
+    def meetings(self) -> list[Condition]:
         """Returns the predicates of a geometry of each reference that are parts of ON or WHERE between ANDs at the top."""
         parts = [*conjuncts(self.on or ()), *conjuncts(self.where or ())]
         return [it for it in (meeting(part, self.sources) for part in parts) if it]
 
-    def text(self, names, with_keys=True, owner=None):
+    def text(self, names: Iterable[str], with_keys: bool = True, owner: Optional[str] = None) -> str:
         """Returns the query over these tables, in the order of the references.
 
         It lists the keys before the items, unless it counts, and `owner` is a condition more.
@@ -67,7 +67,7 @@ class Select(NamedTuple):
         parts += [f"LIMIT {self.limit}"] if self.limit is not None else []
         return " ".join(parts)
 
-    def conditions(self, owner):
+    def conditions(self, owner: Optional[str]) -> tuple[Optional[str], Optional[str]]:
         """Returns the texts of ON and WHERE, with one condition more where that nests nothing deeper, if it may."""
         on, where = (joined(it) if it else None for it in (self.on, self.where))
         if not owner:
@@ -76,20 +76,20 @@ class Select(NamedTuple):
             return owner, where
         if not where:
             return on, owner
-        if not has_or(self.where):
+        if not has_or(self.where or ()):
             return on, f"{where} AND {owner}"
-        if not has_or(self.on):
+        if not has_or(self.on or ()):
             return f"{on} AND {owner}", where
         return on, f"({where}) AND {owner}"
 
 
-def owner_condition(sources, marks):
+def owner_condition(sources: Iterable[Source], marks: Iterable[Iterable[str]]) -> str:
     """Returns the condition that a pair of rows belongs to its tile: not both begin west of it, nor both south of it."""
     (a, b), (mine, yours) = (it.name for it in sources), marks
     return " AND ".join(f"({a}.{one} = 0 OR {b}.{other} = 0)" for one, other in zip(mine, yours))
 
 
-def read(text, tables):
+def read(text: str, tables: Sequence[schema.Table]) -> Select:
     """Reads the query over tables of a schema."""
     reading = words.Reading(words.tokens(text))
     explains = reading.take("explain")
@@ -123,7 +123,7 @@ def read(text, tables):
     return Select(explains, counts, items, sources, on, where, limit)
 
 
-def source(reading, tables):
+def source(reading: words.Reading, tables: Iterable[schema.Table]) -> Source:
     """Reads a reference of FROM."""
     name = reading.name()
     table = next((it for it in tables if same(it.name, name)), None)
@@ -133,23 +133,24 @@ def source(reading, tables):
     return Source(table, alias or table.name)
 
 
-def column(name, of):
+def column(name: str, of: Source) -> list[Token]:
     """Returns the tokens of a column of a reference."""
     return [Token("word", of.name), Token("symbol", "."), Token("word", name)]
 
 
-def all_columns(sources):
+def all_columns(sources: Iterable[Source]) -> list[Token]:
     """Returns the items that `*` means."""
-    found = []
+    found: list[Token] = []
     for it in sources:
         for each in it.table.columns:
             found += [*([Token("symbol", ",")] if found else []), *column(each.name, it)]
     return found
 
 
-def qualified(tokens, sources):
+def qualified(tokens: Sequence[Token], sources: Sequence[Source]) -> list[Token]:
     """Returns the tokens with each column written with its reference."""
-    found, at = [], 0
+    found: list[Token] = []
+    at = 0
     while at < len(tokens):
         after = tokens[at + 1].text if at + 1 < len(tokens) else ""
         if not tokens[at].is_name or after == "(":
@@ -164,7 +165,7 @@ def qualified(tokens, sources):
     return found
 
 
-def named(reference, name, sources):
+def named(reference: Optional[str], name: str, sources: Iterable[Source]) -> Source:
     """Returns the only reference that has this column, or that of this name."""
     found = [it for it in sources if (not reference or same(it.name, reference)) and it.table.column(name)]
     if len(found) != 1:
@@ -172,18 +173,22 @@ def named(reference, name, sources):
     return found[0]
 
 
-def columns_in(tokens, sources):
+def columns_in(tokens: Sequence[Token], sources: Sequence[Source]) -> Iterator[tuple[int, str]]:
     """Yields each column of qualified tokens: the place of its reference, and its name in the schema."""
     places = {it.name.lower(): at for at, it in enumerate(sources)}
     for at, it in enumerate(tokens):
         if it.text == "." and it.kind == "symbol":
             place = places[tokens[at - 1].text.lower()]
-            yield place, sources[place].table.column(tokens[at + 1].text).name
+            found = sources[place].table.column(tokens[at + 1].text)
+            if not found:
+                raise Unsure(f"there is no column {tokens[at + 1].text}")
+            yield place, found.name
 
 
-def split(tokens, word):
+def split(tokens: Iterable[Token], word: str) -> list[list[Token]]:
     """Returns the parts of the tokens between this word outside parentheses."""
-    parts, depth = [[]], 0
+    parts: list[list[Token]] = [[]]
+    depth = 0
     for it in tokens:
         depth += it.has("(") - it.has(")")
         if depth == 0 and it.has(word):
@@ -193,11 +198,11 @@ def split(tokens, word):
     return parts
 
 
-def has_or(tokens):
+def has_or(tokens: Iterable[Token]) -> bool:
     return len(split(tokens, "or")) > 1
 
 
-def conjuncts(tokens):
+def conjuncts(tokens: Sequence[Token]) -> Iterator[list[Token]]:
     """Yields the parts between ANDs at the top, also within parentheses."""
     if not tokens or has_or(tokens):
         return
@@ -209,7 +214,7 @@ def conjuncts(tokens):
             yield part
 
 
-def meeting(part, sources):
+def meeting(part: list[Token], sources: Sequence[Source]) -> Optional[Condition]:
     """Returns the predicate that a part is, if it is one of a column of each of two references."""
     kinds = [it.text if it.kind == "symbol" else it.kind for it in part]
     if kinds[:9] != ["word", "(", "word", ".", "word", ",", "word", ".", "word"]:

@@ -1,5 +1,7 @@
 """Reads a schema that sfq has accepted, and writes the schemas of tiles."""
-from typing import NamedTuple
+from __future__ import annotations
+
+from typing import Iterable, NamedTuple, Optional
 
 from . import words
 
@@ -15,7 +17,7 @@ class Column(NamedTuple):
     is_required: bool = False
 
     @property
-    def text(self):
+    def text(self) -> str:
         return f"{self.name} {self.kind}{' PRIMARY KEY' * self.is_key}{' NOT NULL' * self.is_required}"
 
 
@@ -23,36 +25,38 @@ class Table(NamedTuple):
     """A table: its name and its columns."""
 
     name: str
-    columns: tuple
+    columns: tuple[Column, ...]
 
     @property
-    def key(self):
+    def key(self) -> str:
         return next(it.name for it in self.columns if it.is_key)
 
-    def column(self, name):
+    def column(self, name: str) -> Optional[Column]:
         """Returns the column of this name, or None."""
         return next((it for it in self.columns if words.same(it.name, name)), None)
 
-    def only(self, names):
+    def only(self, names: Iterable[str]) -> Table:
         """Returns the table with these columns and the key alone."""
         kept = {it.lower() for it in names}
         return self._replace(columns=tuple(it for it in self.columns if it.is_key or it.name.lower() in kept))
 
     @property
-    def text(self):
+    def text(self) -> str:
         return f"CREATE TABLE {self.name} ({', '.join(it.text for it in self.columns)});\n"
 
     @property
-    def header(self):
+    def header(self) -> str:
         return ",".join(it.name for it in self.columns) + "\n"
 
 
-def read(text):
+def read(text: str) -> list[Table]:
     """Returns the tables of a schema."""
-    reading, found = words.Reading(words.tokens(text)), []
+    reading = words.Reading(words.tokens(text))
+    found: list[Table] = []
     while reading.at < len(reading.tokens):
         reading.want("create", "table")
-        name, columns = reading.name(), []
+        name = reading.name()
+        columns: list[Column] = []
         reading.want("(")
         while not columns or reading.take(","):
             columns.append(column(reading))
@@ -64,7 +68,7 @@ def read(text):
     return found
 
 
-def column(reading):
+def column(reading: words.Reading) -> Column:
     """Reads a column with its marks."""
     name, kind = reading.name(), reading.name()
     is_key = is_required = False
@@ -78,9 +82,10 @@ def column(reading):
     return Column(name, kind, is_key, is_required)
 
 
-def marks(columns):
+def marks(columns: Iterable[Column]) -> list[str]:
     """Returns the names of the two marks beside these columns: w and s, with `_` behind until they are free."""
-    taken, found = {it.name.lower() for it in columns}, []
+    taken = {it.name.lower() for it in columns}
+    found: list[str] = []
     for name in ("w", "s"):
         while name in taken:
             name += "_"
@@ -89,6 +94,6 @@ def marks(columns):
     return found
 
 
-def marked(table):
+def marked(table: Table) -> Table:
     """Returns the table of a tile: with the two marks at the end."""
     return table._replace(columns=table.columns + tuple(Column(it, "INTEGER", False, True) for it in marks(table.columns)))

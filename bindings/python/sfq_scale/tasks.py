@@ -1,4 +1,6 @@
 """What runs on a worker. These functions are sent whole, so a worker needs no file of sfq-scale: they use the standard library alone."""
+from __future__ import annotations
+
 import errno
 import hashlib
 import os
@@ -6,9 +8,13 @@ import shutil
 import subprocess
 import tempfile
 import time
+from typing import IO, Optional, Sequence, Union
+
+# The status of sfq, the text on its standard error, its output, or its path and size, and two times in seconds of processor.
+Outcome = tuple[Union[int, str], bytes, Union[None, bytes, tuple[str, int]], float, float]
 
 
-def other_program(path, wanted):
+def other_program(path: str, wanted: str) -> Optional[str]:
     """Returns why the program at a path isn't the one that is wanted, or None.
 
     A worker keeps the sum of a file, and takes it anew where the file has changed.
@@ -27,17 +33,17 @@ def other_program(path, wanted):
     return None if sums[mark] == wanted else f"{found} has the SHA-256 {sums[mark]}, not {wanted}"
 
 
-def look(path, wanted, room):
+def look(path: str, wanted: str, room: str) -> Optional[str]:
     """Returns why this worker can't work, or None: it has another program, or doesn't see the folder of the tiles."""
     return other_program(path, wanted) or (None if os.path.isdir(room) else f"there is no folder {room}")
 
 
-def given(whole):
+def given(whole: bytes) -> bytes:
     """Returns its argument: bytes that tasks share, and that are made again where a worker with them dies."""
     return whole
 
 
-def placed(program, wanted):
+def placed(program: bytes, wanted: str) -> str:
     """Writes the program into the worker's own folder, unless it is there, and returns its path."""
     import distributed
 
@@ -51,7 +57,7 @@ def placed(program, wanted):
     return path
 
 
-def started(words, out):
+def started(words: list[str], out: IO[bytes]) -> subprocess.Popen[bytes]:
     """Starts a program whose standard output is a file."""
     for _ in range(100):
         try:
@@ -64,7 +70,9 @@ def started(words, out):
     raise OSError(errno.ETXTBSY, "the program is being written")
 
 
-def run(program, wanted, schema, query, tables, answers):
+def run(
+    program: Union[str, bytes], wanted: str, schema: str, query: str, tables: Sequence[tuple[str, Union[str, bytes]]], answers: Optional[str]
+) -> Outcome:
     """Runs sfq over tables, each a name and a path, or its bytes. Returns its status, the text on its standard error, its
     output, and the seconds of processor that it took, and that this function took.
 
@@ -88,10 +96,11 @@ def run(program, wanted, schema, query, tables, answers):
                     file.write(table)
             else:
                 os.symlink(table, f"{room}/tables/{name}.csv")
-        words = [shutil.which(program), "run", f"{room}/schema.sql", f"{room}/tables", f"@{room}/query.sql"]
+        words = [shutil.which(program) or program, "run", f"{room}/schema.sql", f"{room}/tables", f"@{room}/query.sql"]
         handle, path = tempfile.mkstemp(dir=answers or room, suffix=".csv")
         with open(handle, "wb") as out:
             child = started(words, out)
+            assert child.stderr
             with child.stderr:
                 err = child.stderr.read()
             _, ended, usage = os.wait4(child.pid, 0)
@@ -99,6 +108,7 @@ def run(program, wanted, schema, query, tables, answers):
         seconds = usage.ru_utime + usage.ru_stime
         if status < 0 or status in (6, 7):
             raise RuntimeError(status, err)
+        output: Union[bytes, tuple[str, int]]
         if answers:
             output = path, os.path.getsize(path)
         else:

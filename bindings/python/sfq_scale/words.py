@@ -1,6 +1,6 @@
 """The tokens of sfq's schemas and queries, as sfq itself has them. Only texts that sfq has accepted come here."""
 import re
-from typing import NamedTuple
+from typing import Iterable, NamedTuple, Optional
 
 # White space, a comment up to the end of its line, or a token. Words are of ASCII letters, so lower() is sfq's comparison.
 PATTERN = re.compile(
@@ -20,18 +20,19 @@ class Token(NamedTuple):
     kind: str
     text: str
 
-    def has(self, text):
+    def has(self, text: str) -> bool:
         """Whether it is this symbol, or this word in any case."""
         return self.kind != "string" and self.text.lower() == text
 
     @property
-    def is_name(self):
+    def is_name(self) -> bool:
         return self.kind == "word" and self.text.lower() not in RESERVED
 
 
-def tokens(text):
+def tokens(text: str) -> list[Token]:
     """Returns the tokens of a text, without white space and comments."""
-    found, at = [], 0
+    found: list[Token] = []
+    at = 0
     while at < len(text):
         match = PATTERN.match(text, at)
         if not match:
@@ -42,12 +43,12 @@ def tokens(text):
     return found
 
 
-def same(one, other):
+def same(one: str, other: str) -> bool:
     """Whether two names are the same."""
     return one.lower() == other.lower()
 
 
-def joined(parts):
+def joined(parts: Iterable[Token]) -> str:
     """Returns a text of these tokens: a space between each two, but around a point, within a parenthesis and before a comma."""
     text = ""
     for it in parts:
@@ -59,39 +60,39 @@ def joined(parts):
 class Reading:
     """Tokens that are read one after another."""
 
-    def __init__(self, found):
+    def __init__(self, found: list[Token]) -> None:
         self.tokens, self.at = found, 0
 
-    def peek(self, *texts):
+    def peek(self, *texts: str) -> bool:
         """Whether the next token is one of these."""
         return self.at < len(self.tokens) and any(self.tokens[self.at].has(it) for it in texts)
 
-    def take(self, *texts):
+    def take(self, *texts: str) -> bool:
         """Takes the next token if it is one of these, and returns whether it is."""
         found = self.peek(*texts)
         self.at += found
         return found
 
-    def want(self, *texts):
+    def want(self, *texts: str) -> None:
         for it in texts:
             if not self.take(it):
                 raise Unsure(f"'{it}' is missing before '{joined(self.tokens[self.at:self.at + 3])}'")
 
-    def name(self):
+    def name(self) -> str:
         """Takes a name."""
         found = self.maybe_name()
         if not found:
             raise Unsure(f"no name before '{joined(self.tokens[self.at:self.at + 3])}'")
         return found
 
-    def maybe_name(self):
+    def maybe_name(self) -> Optional[str]:
         """Takes a name if there is one next."""
         if self.at < len(self.tokens) and self.tokens[self.at].is_name:
             self.at += 1
             return self.tokens[self.at - 1].text
         return None
 
-    def until(self, *texts):
+    def until(self, *texts: str) -> list[Token]:
         """Takes all tokens up to one of these outside parentheses, or to the end."""
         begun, depth = self.at, 0
         while self.at < len(self.tokens) and (depth or not self.peek(*texts)):
@@ -99,6 +100,6 @@ class Reading:
             self.at += 1
         return self.tokens[begun : self.at]
 
-    def end(self):
+    def end(self) -> None:
         if self.at < len(self.tokens):
             raise Unsure(f"more is written: '{joined(self.tokens[self.at:self.at + 3])}'")

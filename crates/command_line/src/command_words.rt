@@ -8,7 +8,7 @@ use clap::{Arg, ArgAction, Command};
 use std::alloc::{AllocError, Global};
 
 /// What `--version` prints.
-const VERSION: &str = "0.1.0";
+const VERSION: &str = "0.2.0";
 
 /// The command line of `sfq`, which needs a subcommand. It fails only if memory runs out.
 pub fn sfq_command<'a>(alloc: Global) -> Result<Command<'a>, AllocError>

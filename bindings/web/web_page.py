@@ -1,7 +1,7 @@
 #!/usr/bin/env python3
 """Makes the web page in bindings/web/out: the modules from the proved crates sfq_c and sfq_web, the examples, and the files beside this one.
 
-usage: bindings/web/build.py [--jobs N]      or ./build --web
+usage: bindings/web/web_page.py [--jobs N]      or ./build --web
 
 The kit builds for WebAssembly only what takes no memory. So a crate is built for x86-64, as any static library, and the module
 of LLVM that the kit hands to its compiler is compiled for WebAssembly instead, with heap.c in the place of a C library. What this
@@ -17,7 +17,7 @@ import runpy
 import shutil
 import sys
 import tempfile
-from typing import NamedTuple
+from typing import Any, Iterable, NamedTuple, Optional
 
 WEB = os.path.dirname(os.path.realpath(__file__))
 runpy.run_path(f"{os.path.dirname(os.path.dirname(WEB))}/tools/paths.py")
@@ -60,9 +60,9 @@ class Module(NamedTuple):
     constant: str
     script: str
     crate: str
-    sources: tuple
-    calls: tuple
-    exports: frozenset
+    sources: tuple[str, ...]
+    calls: tuple[str, ...]
+    exports: frozenset[str]
 
 
 COMMON = frozenset({"memory", "__heap_base", "page_take", "page_give", "page_found"})
@@ -77,14 +77,14 @@ TABLES = Module(
 MODULES = (SHAPES, TABLES)
 
 
-def find_kit():
+def find_kit() -> str:
     """Returns the folder of the Rattle kit, where all is there that a module is made with."""
     if not shutil.which("wasm-opt"):
         raise Failure("the command wasm-opt isn't on the path: install the package binaryen")
     return calls.find_kit()
 
 
-def text_of_module(kit, room, module):
+def text_of_module(kit: str, room: str, module: str) -> str:
     """Returns a module of LLVM as text."""
     text = f"{room}/module.ll"
     run([
@@ -98,7 +98,7 @@ def text_of_module(kit, room, module):
 # ---- from x86-64 to WebAssembly
 
 
-def check_module(text, names):
+def check_module(text: str, names: Iterable[str]) -> None:
     """Looks for what would mean another thing on WebAssembly than on x86-64, and for the calls of these names."""
     for line, wanted in (("target datalayout", NATIVE_LAYOUT), ("target triple", NATIVE_TARGET)):
         found = re.findall(rf'^{line} = "(.*)"$', text, re.M)
@@ -114,10 +114,10 @@ def check_module(text, names):
         r"\batomicrmw\b|\bcmpxchg\b|^\s*fence\b": "threads",
     }
     for pattern, what in strange.items():
-        found = re.search(pattern, text, re.M)
-        if found:
-            line = text[: found.start()].count("\n") + 1
-            raise Failure(f"the module has {what}: line {line} of its text, {found[0]!r}")
+        match = re.search(pattern, text, re.M)
+        if match:
+            place = text[: match.start()].count("\n") + 1
+            raise Failure(f"the module has {what}: line {place} of its text, {match[0]!r}")
     declared = set(re.findall(r'^declare\b[^@\n]*@"?([^"(\s]+)', text, re.M))
     unknown = {it for it in declared if not it.startswith("llvm.") or it.startswith("llvm.x86")} - CALLED
     if unknown:
@@ -127,7 +127,7 @@ def check_module(text, names):
         raise Failure(f"the module lacks {', '.join(missing)}")
 
 
-def retarget(text, names):
+def retarget(text: str, names: Iterable[str]) -> str:
     """Returns a module's text for WebAssembly: its layout, its target and its processor. It has to define these calls."""
     check_module(text, names)
     text = text.replace(f'target datalayout = "{NATIVE_LAYOUT}"', f'target datalayout = "{LAYOUT}"')
@@ -140,9 +140,10 @@ def retarget(text, names):
     return text
 
 
-def compile_all(kit, room, text, sources):
+def compile_all(kit: str, room: str, text: str, sources: Iterable[str]) -> str:
     """Compiles a module's text and some of the C files beside this one, and returns the archive of all."""
-    clang, objects = f"{kit}/toolchain/bin/clang", []
+    clang = f"{kit}/toolchain/bin/clang"
+    objects: list[str] = []
     with open(f"{room}/wasm.ll", "w", encoding="utf-8") as file:
         file.write(text)
     shutil.copy(f"{WEB}/page.h", room)
@@ -157,7 +158,7 @@ def compile_all(kit, room, text, sources):
     return f"{room}/all.a"
 
 
-def link(kit, room, archive):
+def link(kit: str, room: str, archive: str) -> str:
     """Links an archive to a module over a memory of 64 bits, by the kit's linker, which adds its guard and its helpers."""
     words = [f"{kit}/bin/rattle-link", "--target", TARGET, "--toolchain", f"{kit}/toolchain", "-o", f"{room}/wide.wasm", archive]
     report = run(words)
@@ -166,7 +167,7 @@ def link(kit, room, archive):
     return f"{room}/wide.wasm"
 
 
-def lower(room, wide, exports):
+def lower(room: str, wide: str, exports: frozenset[str]) -> bytes:
     """Makes a module over a memory of 32 bits of one over 64 bits, and returns its bytes."""
     narrow = f"{room}/narrow.wasm"
     run(["wasm-opt", "--enable-memory64", "--enable-bulk-memory", "--memory64-lowering", wide, "-o", narrow])
@@ -176,7 +177,7 @@ def lower(room, wide, exports):
     return module
 
 
-def number(bytes_, at):
+def number(bytes_: bytes, at: int) -> tuple[int, int]:
     """Returns the unsigned number at a place of a module, and the place after it."""
     value = shift = 0
     while True:
@@ -186,11 +187,12 @@ def number(bytes_, at):
             return value, at
 
 
-def sections(module):
+def sections(module: bytes) -> dict[int, tuple[int, int]]:
     """Returns the sections of a module: of each its number, where its content begins, and where it ends."""
     if module[:8] != b"\0asm\1\0\0\0":
         raise Failure("what was made isn't a module of WebAssembly")
-    at, found = 8, {}
+    at = 8
+    found: dict[int, tuple[int, int]] = {}
     while at < len(module):
         kind = module[at]
         size, begin = number(module, at + 1)
@@ -199,7 +201,7 @@ def sections(module):
     return found
 
 
-def check_sections(module, exports):
+def check_sections(module: bytes, exports: frozenset[str]) -> None:
     """Checks that a module imports nothing, has one memory of 32 bits that may grow, and exports what the page calls."""
     found = sections(module)
     if 2 in found:
@@ -217,14 +219,14 @@ def check_sections(module, exports):
         raise Failure(f"the module exports {', '.join(sorted(names))}")
 
 
-def module_of(kit, it, compiled):
+def module_of(kit: str, it: Module, compiled: calls.Compiled) -> bytes:
     """Returns the bytes of a module that the page carries, made of the compiled calls."""
     with tempfile.TemporaryDirectory(prefix="sfq-module-") as room:
         text = retarget(text_of_module(kit, room, compiled.module), it.calls)
         return lower(room, link(kit, room, compile_all(kit, room, text, it.sources)), it.exports)
 
 
-def make_module(it, jobs=0):
+def make_module(it: Module, jobs: int = 0) -> bytes:
     """Proves the calls of a module, as far as that isn't done, and returns its bytes."""
     kit = find_kit()
     calls.prove(jobs, it.crate)
@@ -235,7 +237,7 @@ def make_module(it, jobs=0):
 # ---- the page
 
 
-def inputs(it):
+def inputs(it: Module) -> str:
     """Returns a sum over all that a module is made of: the crate with all below it, the kit's logic, and files beside this one."""
     total = hashlib.sha256(calls.crate_of(it.crate).sum.encode())
     for name in ("build.py", "page.h", *it.sources):
@@ -244,40 +246,41 @@ def inputs(it):
     return total.hexdigest()
 
 
-def carried(it, module):
+def carried(it: Module, module: bytes) -> dict[str, str]:
     """Returns what the page carries of a module: its bytes in base64, what it is, and what it was made of."""
     name = f"sfq {repository.version()}, {len(module):,} bytes, SHA-256 {hashlib.sha256(module).hexdigest()}"
     made = f"proved and compiled by {repository.kit_line()}"
     return {"about": f"{name}; {made}", "inputs": inputs(it), "bytes": base64.b64encode(module).decode()}
 
 
-def kept(it):
+def kept(it: Module) -> Optional[dict[str, str]]:
     """Returns what the page in bindings/web/out carries of a module, or None where it isn't made."""
     try:
         with open(f"{OUT}/{it.script}", encoding="utf-8") as file:
             text = file.read()
-        return json.loads(text[text.index("{") : text.rindex("}") + 1])
+        found: dict[str, str] = json.loads(text[text.index("{") : text.rindex("}") + 1])
+        return found
     except (OSError, ValueError):
         return None
 
 
-def module_script(it, what):
-    return f'// The module, made by bindings/web/build.py.\n"use strict";\nconst {it.constant} = {json.dumps(what, indent=2)};\n'
+def module_script(it: Module, what: dict[str, str]) -> str:
+    return f'// The module, made by bindings/web/web_page.py.\n"use strict";\nconst {it.constant} = {json.dumps(what, indent=2)};\n'
 
 
-def plain(text):
+def plain(text: str) -> str:
     """Returns text of a document without its marks."""
     return re.sub(r"\s+", " ", re.sub(r"[`*]", "", text)).strip()
 
 
-def pairs_elsewhere():
+def pairs_elsewhere() -> list[dict[str, str]]:
     """Returns the pairs that other engines get wrong as examples, read from the document that lists them."""
     with open(f"{repository.ROOT}/docs/WRONG-ELSEWHERE.md", encoding="utf-8") as file:
         text = file.read()
     engines = re.search(r"whole coordinates\.\s+(.*?) all print the same", text, re.S)
     rows = re.findall(r"^\| (\d+) \| `(.*?)` \| `(.*?)` \| (.*?) \|.*\| (.*?) \|$", text, re.M)
     if not engines or not rows:
-        raise Failure("docs/WRONG-ELSEWHERE.md has another form than bindings/web/build.py reads")
+        raise Failure("docs/WRONG-ELSEWHERE.md has another form than bindings/web/web_page.py reads")
     names = re.sub(r" [\d.]+", "", plain(engines[1]))
     found = []
     for place, a, b, theirs, ours in rows:
@@ -289,18 +292,19 @@ def pairs_elsewhere():
     return found
 
 
-def examples():
+def examples() -> list[dict[str, str]]:
     """Returns our own examples and the pairs that other engines get wrong."""
     with open(f"{WEB}/examples.json", encoding="utf-8") as file:
-        return json.load(file) + pairs_elsewhere()
+        own: list[dict[str, str]] = json.load(file)
+    return own + pairs_elsewhere()
 
 
-def examples_script():
+def examples_script() -> str:
     shown = json.dumps(examples(), indent=2, ensure_ascii=False)
-    return f'// Made by bindings/web/build.py of bindings/web/examples.json and docs/WRONG-ELSEWHERE.md.\n"use strict";\nconst EXAMPLES = {shown};\n'
+    return f'// Made by bindings/web/web_page.py of bindings/web/examples.json and docs/WRONG-ELSEWHERE.md.\n"use strict";\nconst EXAMPLES = {shown};\n'
 
 
-def town():
+def town() -> dict[str, Any]:
     """Returns what the page of tables shows at first: the land register of examples/parcels, with its schema, its tables and its
     queries, and what each fault means and what to do."""
     folder, tables = f"{repository.ROOT}/examples/parcels", {}
@@ -315,16 +319,16 @@ def town():
         faults = {it.code: {"means": it.means, "remedy": it.remedy} for it in reversed(fault_pages.rows_of(file.read()))}
     queries = [{"title": plain(title), "says": plain(says), "query": " ".join(query.split())} for title, says, query in asked]
     if not tables or not queries or not faults:
-        raise Failure("examples/parcels or docs/FAULTS.md has another form than bindings/web/build.py reads")
+        raise Failure("examples/parcels or docs/FAULTS.md has another form than bindings/web/web_page.py reads")
     return {"schema": schema, "tables": tables, "queries": queries, "faults": faults}
 
 
-def town_script():
+def town_script() -> str:
     shown = json.dumps(town(), indent=2, ensure_ascii=False)
-    return f'// Made by bindings/web/build.py of examples/parcels and docs/FAULTS.md.\n"use strict";\nconst TOWN = {shown};\n'
+    return f'// Made by bindings/web/web_page.py of examples/parcels and docs/FAULTS.md.\n"use strict";\nconst TOWN = {shown};\n'
 
 
-def write_page(carried_by, to=OUT):
+def write_page(carried_by: dict[Module, dict[str, str]], to: str = OUT) -> None:
     """Writes all files of the page into a folder, which a copy of is the whole site, given what it carries of each module."""
     texts = {it.script: module_script(it, what) for it, what in carried_by.items()}
     texts |= {"examples.js": examples_script(), "town.js": town_script()}
@@ -337,16 +341,16 @@ def write_page(carried_by, to=OUT):
             file.write(text)
 
 
-def build(jobs=0):
+def build(jobs: int = 0) -> int:
     """Makes the page, with the module that is there where its sources haven't changed. Returns the status to end with."""
     try:
-        found = {it: kept(it) for it in MODULES}
-        for it, what in found.items():
-            if what is None or what.get("inputs") != inputs(it):
-                found[it] = carried(it, make_module(it, jobs))
+        found = {}
+        for it in MODULES:
+            what = kept(it)
+            found[it] = what if what and what.get("inputs") == inputs(it) else carried(it, make_module(it, jobs))
         write_page(found)
-    except Failure as it:
-        print(f"sfq: no web page: {it}", file=sys.stderr)
+    except Failure as error:
+        print(f"sfq: no web page: {error}", file=sys.stderr)
         return 1
     print(f"built: {os.path.relpath(OUT, repository.ROOT)}/index.html")
     for it, what in found.items():
@@ -354,7 +358,7 @@ def build(jobs=0):
     return 0
 
 
-def main(words):
+def main(words: list[str]) -> int:
     if not words:
         return build()
     if len(words) == 2 and words[0] == "--jobs" and words[1].isdigit():

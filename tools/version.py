@@ -1,0 +1,65 @@
+#!/usr/bin/env python3
+"""Writes the version, which the file VERSION has, where a source or a tool needs it spelled.
+
+    python3 tools/version.py           writes it
+    python3 tools/version.py --check   says where another one is spelled
+"""
+import glob
+import os
+import re
+import sys
+
+import repository
+
+
+def places(root: str = repository.ROOT) -> list[tuple[str, str]]:
+    """Returns where the version is spelled: a file, and a line or a part of one with {} for the version."""
+    pages = sorted(os.path.relpath(it, root) for it in glob.glob(f"{root}/packaging/man/*.1"))
+    return [
+        ("crates/command_line/src/command_words.rt", 'const VERSION: &str = "{}";'),
+        ("crates/sfq_tiles/src/words.rt", 'const VERSION: &str = "{}";'),
+        ("bindings/c/sfq.h", "#define SFQ_VERSION {}"),
+        ("bindings/python/sfq/__init__.py", '__version__ = "{}"'),
+        ("bindings/postgresql/sfq.control", "default_version = '{}'"),
+        ("bindings/postgresql/sfq_postgis.control", "default_version = '{}'"),
+        *((it, '"sfq {}" "User Commands"') for it in pages),
+    ]
+
+
+def spelled(path: str, version: str) -> str:
+    """Returns the version as a file spells it: the header of C counts it, 1,000 times the second number and so on."""
+    if not path.endswith(".h"):
+        return version
+    first, second, third = map(int, version.split("."))
+    return str(1_000_000 * first + 1_000 * second + third)
+
+
+def renewed(path: str, form: str, text: str, version: str) -> str:
+    """Returns a file's text with this version. ValueError where the version isn't once in it."""
+    before, _, after = form.partition("{}")
+    pattern = rf"({re.escape(before)})[\d.]+({re.escape(after)})"
+    text, count = re.subn(pattern, rf"\g<1>{spelled(path, version)}\g<2>", text)
+    if count != 1:
+        raise ValueError(f"{path} has the version {count} times")
+    return text
+
+
+def main(words: list[str]) -> int:
+    version, status = repository.version(), 0
+    for path, form in places():
+        with open(f"{repository.ROOT}/{path}", encoding="utf-8") as file:
+            text = file.read()
+        new = renewed(path, form, text, version)
+        if new == text:
+            continue
+        if words == ["--check"]:
+            print(f"{path} has another version than {version}: run python3 tools/version.py")
+            status = 1
+        else:
+            with open(f"{repository.ROOT}/{path}", "w", encoding="utf-8") as file:
+                file.write(new)
+    return status
+
+
+if __name__ == "__main__":
+    sys.exit(main(sys.argv[1:]))
