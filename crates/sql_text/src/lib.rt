@@ -16,7 +16,7 @@ mod predicates;
 mod query_reader;
 mod reference_reader;
 mod schema_reader;
-pub mod schemas;
+mod schemas;
 mod select_reader;
 mod steps;
 mod terminals;
