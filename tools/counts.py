@@ -16,7 +16,7 @@ import repository
 
 MOST_CRATES = 46
 # Whether what is past these is a finding of ./lint; else they are printed as the aim.
-EDITS_ARE_BOUNDED, MOST_EDITS, MOST_CRATES_WITH_EDITS = False, 120, 20
+EDITS_ARE_BOUNDED, MOST_EDITS, MOST_CRATES_WITH_EDITS = True, 120, 20
 LINES_ARE_BOUNDED, MOST_LINES = False, 146_500
 WALKS = "tools/walks.txt"
 
