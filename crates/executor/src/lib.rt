@@ -12,7 +12,7 @@ mod orders;
 mod partners;
 mod places;
 mod referenced_tables;
-mod row_pairs;
+pub mod row_pairs;
 mod rows_by_value;
 mod stages;
 mod value_order;
