@@ -1,5 +1,7 @@
 """The Python package: the rows of the engine's own scripts, faults, what a Geometry promises, shapely, and its installation by pip."""
+import contextlib
 import csv
+import io
 import os
 import pickle
 import random
@@ -11,14 +13,14 @@ import tempfile
 import threading
 import unittest
 
-from support import ROOT, read
+from support import ROOT, needs, read, write
 
 import engine_rows
 import library
 import pairs as drawing
 import repository
 import sfq
-from sfq import _faults, _library, _texts
+from sfq import _faults, _library, _progress, _texts
 
 SQUARE = "POLYGON((0 0,4 0,4 4,0 4,0 0))"
 # The methods of a Geometry, by the names that SQL has for them.
@@ -308,6 +310,36 @@ class Package(engine_rows.WithLibrary):
             self.assertEqual((ran.stdout, ran.stderr), (output, ""), source)
 
 
+class Terminal(io.StringIO):
+    """Standard error on a terminal."""
+
+    def isatty(self):
+        return True
+
+
+class Lines(unittest.TestCase):
+    """The line that says how far sfq-import or sfq-scale is."""
+
+    def shown(self, stream, calls, **how):
+        with contextlib.redirect_stderr(stream):
+            line = _progress.Progress("it", **how)
+            for text, is_last in calls:
+                line.show(text, is_last)
+            line.clear()
+        return stream.getvalue()
+
+    def test_a_terminal_has_one_line_that_goes(self):
+        calls = [("one", False), ("two", False), ("three", True)]
+        self.assertEqual(self.shown(Terminal(), calls), "\rit: one\x1b[K\rit: three\x1b[K\r\x1b[K")
+        self.assertEqual(self.shown(Terminal(), calls, wait=60), "\rit: three\x1b[K\r\x1b[K")
+        self.assertEqual(self.shown(Terminal(), calls[:2], wait=60), "")
+
+    def test_elsewhere_there_are_lines_if_they_are_asked_for(self):
+        calls = [("one", False), ("two", False), ("three", True)]
+        self.assertEqual(self.shown(io.StringIO(), calls), "")
+        self.assertEqual(self.shown(io.StringIO(), calls, is_asked=True), "it: one\nit: three\n")
+
+
 # Debian's Python, whose packages an environment of its own can use.
 DEBIAN = "/usr/bin/python3"
 
@@ -388,10 +420,25 @@ class Installation(unittest.TestCase):
         self.assertRegex(self.loading("/nowhere/libsfq.so.0"), r"^sfq: no libsfq.so.0: install it by .*SFQ_LIBRARY.*/nowhere/libsfq.so.0")
         self.assertRegex(self.loading("libc.so.6"), r"libc.so.6 isn't the library that this package needs: .*sfq_read")
 
-    def test_meanings_are_those_of_the_other_bindings(self):
-        text = read(f"{ROOT}/bindings/c/faults.h")
-        for code, meaning in _faults.MEANINGS.items():
-            self.assertIn(f'"{meaning}"', text, code)
+    @needs("gcc", "cc")
+    def test_c_gives_the_same_words(self):
+        """The header of the extensions, of each fault and of what is none."""
+        codes = [f"{letter}{number}" for letter, most in (("W", 4), ("V", 8)) for number in range(1, most + 1)]
+        self.assertEqual(list(_faults.MEANINGS), codes)
+        calls = "".join(f"    show('{it[0]}', {it[1:]});\n" for it in [*codes, "W0", "W5", "V9", "X1"])
+        with tempfile.TemporaryDirectory(prefix="sfq-python-") as room:
+            write(f"{room}/words.c", (
+                '#include "faults.h"\n'
+                "static void show(uint8_t letter, uint8_t number)\n{\n"
+                "    sfq_fault fault = { letter, number, 3, 5 };\n    char place[FAULT_PLACE];\n    fault_place(&fault, place);\n"
+                '    printf("%s: %s\\n", place, fault_meaning(&fault));\n}\n'
+                f"int main(void)\n{{\n{calls}    return 0;\n}}\n"
+            ))
+            words = ["cc", "-std=c99", "-Wall", "-Wextra", "-Werror", f"-I{ROOT}/bindings/c", f"{room}/words.c", "-o", f"{room}/words"]
+            subprocess.run(words, check=True)
+            shown = subprocess.run([f"{room}/words"], capture_output=True, text=True, check=True).stdout.splitlines()
+        self.assertEqual(shown[:len(codes)], [str(_faults.Fault(it, 3, 5)) for it in codes])
+        self.assertEqual([it.partition(": ")[2] for it in shown[len(codes):]], ["an unknown fault"] * 4)
 
 
 if __name__ == "__main__":

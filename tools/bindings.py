@@ -23,10 +23,15 @@ SQLITE = "lib/sfq0.so"
 File = tuple[str, str, int]
 
 
+def of_package(name: str, to: str) -> list[File]:
+    """Returns the files of a package of Python's, for a folder under the prefix."""
+    found = sorted(it for it in glob.glob(f"{repository.ROOT}/bindings/python/{name}/*") if os.path.isfile(it))
+    return [(os.path.relpath(it, repository.ROOT), f"{to}/{name}/{os.path.basename(it)}", 0o644) for it in found]
+
+
 def files() -> list[File]:
-    """Returns what is copied: where it is in the repository, where under the prefix, and its mode."""
-    found = sorted(glob.glob(f"{repository.ROOT}/bindings/python/sfq/*.py")) + [f"{repository.ROOT}/bindings/python/sfq/py.typed"]
-    return [(os.path.relpath(it, repository.ROOT), f"{PACKAGES}/sfq/{os.path.basename(it)}", 0o644) for it in found]
+    """Returns what is copied for programs in Python."""
+    return of_package("sfq", PACKAGES)
 
 
 # ---- SQLite ----
@@ -73,8 +78,8 @@ def of_postgresql() -> list[str]:
 def make_postgresql(*words: str) -> None:
     """Makes the extensions in a copy of their folder, by the words of make, over the library that ./build --library made."""
     with tempfile.TemporaryDirectory(prefix="sfq-postgresql-") as room:
-        for it in ("c", "postgresql"):
-            shutil.copytree(f"{repository.ROOT}/bindings/{it}", f"{room}/{it}", ignore=shutil.ignore_patterns("out"))
+        for it in ("c", "postgresql", "python/sfq"):
+            shutil.copytree(f"{repository.ROOT}/bindings/{it}", f"{room}/{it}", ignore=shutil.ignore_patterns("out", "*.py"))
         os.makedirs(f"{room}/prefix/lib")
         shutil.copyfile(f"{library.OUT}/libsfq.a", f"{room}/prefix/lib/libsfq.a")
         calls.run(["make", "-s", "-C", f"{room}/postgresql", f"SFQ={room}/prefix", *words])

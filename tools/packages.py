@@ -1,7 +1,6 @@
 """Installs the program with its manual page and its shell completions, sfq-import and sfq-export, sfq-tiles with sfq-scale and the C
 library with what is over it where they are made; makes a tarball and a Debian package of the programs."""
 import datetime
-import glob
 import gzip
 import io
 import os
@@ -33,21 +32,15 @@ def described(name: str) -> list[bindings.File]:
     return [(source.format(name), target.format(name), 0o644) for source, target in [("packaging/man/{}.1", "share/man/man1/{}.1"), *found]]
 
 
-def modules(folder: str) -> list[bindings.File]:
-    """Returns the modules of a package of Python's, for a program that is installed without it."""
-    found = sorted(glob.glob(f"{repository.ROOT}/{folder}/*.py"))
-    return [(os.path.relpath(it, repository.ROOT), f"{SHARE}/{os.path.basename(folder)}/{os.path.basename(it)}", 0o644) for it in found]
-
-
 # What is installed: where it lies in the repository, where under the prefix, and its mode.
 PROGRAM = [("crates/sfq/out/sfq", "bin/sfq", 0o755), *described("sfq"), ("CHANGELOG.md", "share/doc/sfq/CHANGELOG.md", 0o644)]
 # sfq-scale is of no use without sfq-tiles.
 TILES = [
     (tiles.PROGRAM, "bin/sfq-tiles", 0o755), *described("sfq-tiles"),
-    ("bindings/python/bin/sfq-scale", "bin/sfq-scale", 0o755), *described("sfq-scale"), *modules("bindings/python/sfq_scale"),
+    ("bindings/python/bin/sfq-scale", "bin/sfq-scale", 0o755), *described("sfq-scale"), *bindings.of_package("sfq_scale", SHARE),
 ]
 DATA = [(f"bindings/python/bin/{it}", f"bin/{it}", 0o755) for it in bindings.COMMANDS]
-DATA += [*(file for it in bindings.COMMANDS for file in described(it)), *modules("bindings/python/sfq")]
+DATA += [*(file for it in bindings.COMMANDS for file in described(it)), *bindings.of_package("sfq", SHARE)]
 DATA.append(("bindings/python/__main__.py", f"{SHARE}/__main__.py", 0o644))
 FILES = PROGRAM + TILES + DATA
 # Debian's zsh looks elsewhere for the completions of its packages.

@@ -30,27 +30,21 @@ static void fault_place(const sfq_fault *fault, char place[FAULT_PLACE])
 /* What a fault means, and what to do. */
 static const char *fault_meaning(const sfq_fault *fault)
 {
-    static const char *const of_text[] = {
-        "the text can't go on like this at this byte, or ends too soon",
-        "the number at this byte isn't whole: scale the coordinates to a grid of whole numbers, of centimetres say",
-        "the number at this byte is past 10,000,000 either way: scale the coordinates to the grid",
-        "more than 10,000 positions, or more than 1,000 rings or elements: split the geometry",
+    static const struct {
+        uint8_t letter;
+        uint8_t number;
+        const char *words;
+    } known[] = {
+#define FAULT(letter, number, words) { letter, number, words },
+#include "../python/sfq/fault_words.h"
+#undef FAULT
     };
-    static const char *const of_geometry[] = {
-        "this line or ring has too few positions that differ",
-        "the last position of this ring isn't its first",
-        "this ring touches or crosses itself",
-        "these two rings of one polygon share a point",
-        "this hole isn't inside its outer ring",
-        "one of these two holes is inside the other",
-        "these two polygons share a point",
-        "the first of these polygons is inside the second",
-    };
-    size_t count = fault->letter == 'W' ? 4 : 8;
-    if (fault->number < 1 || fault->number > count) {
-        return "an unknown fault";
+    for (size_t at = 0; at < sizeof known / sizeof known[0]; at++) {
+        if (known[at].letter == fault->letter && known[at].number == fault->number) {
+            return known[at].words;
+        }
     }
-    return fault->letter == 'W' ? of_text[fault->number - 1] : of_geometry[fault->number - 1];
+    return "an unknown fault";
 }
 
 #endif

@@ -11,24 +11,13 @@ SELECT ST_Relate('LINESTRING(-2 2,2 -2)', 'POLYGON((0 0,4 0,4 4,0 4,0 0))', 'ft*
 SELECT ST_Relate('LINESTRING(-2 2,2 -2)', 'POLYGON((0 0,4 0,4 4,0 4,0 0))', 'T********');
 
 -- each relation, of pairs that were worked out by hand
-CREATE TABLE pair (id integer PRIMARY KEY, a text, b text);
-INSERT INTO pair VALUES
-    (1, 'POINT(1 1)', 'POLYGON((0 0,4 0,4 4,0 4,0 0))'),
-    (2, 'POLYGON((0 0,4 0,4 4,0 4,0 0))', 'POINT(1 1)'),
-    (3, 'POLYGON((0 0,4 0,4 4,0 4,0 0))', 'POLYGON((4 0,8 0,8 4,4 4,4 0))'),
-    (4, 'LINESTRING(0 0,3 1)', 'LINESTRING(0 1,2 0)'),
-    (5, 'LINESTRING(0 0,4 0)', 'POLYGON((0 0,4 0,4 4,0 4,0 0))'),
-    (6, 'POLYGON((0 0,4 0,4 4,0 4,0 0))', 'POLYGON((4 4,4 0,0 0,0 4,4 4))'),
-    (7, 'POLYGON((0 0,4 0,4 4,0 4,0 0))', 'POLYGON((2 2,6 2,6 6,2 6,2 2))'),
-    (8, 'POINT EMPTY', 'MULTIPOINT EMPTY'),
-    (9, 'POINT(1 2)', 'POINT(3 4)'),
-    (10, NULL, 'POINT(3 4)'),
-    (11, 'CIRCLE(1 1)', NULL);
-SELECT id, ST_Relate(a, b), ST_Equals(a, b) AS equals, ST_Disjoint(a, b) AS disjoint, ST_Intersects(a, b) AS intersects,
-       ST_Touches(a, b) AS touches, ST_Crosses(a, b) AS crosses, ST_Within(a, b) AS within, ST_Contains(a, b) AS contains,
-       ST_Overlaps(a, b) AS overlaps, ST_Covers(a, b) AS covers, ST_CoveredBy(a, b) AS covered_by,
-       ST_ContainsProperly(a, b) AS properly
-FROM pair ORDER BY id;
+\set shape text
+\set ECHO none
+\i sql/pairs.sql
+\set ECHO all
+
+-- NULL in, NULL out: the other text isn't read
+SELECT ST_Relate('CIRCLE(1 1)', NULL) IS NULL AS first, ST_Touches(NULL, 'CIRCLE(1 1)') IS NULL AS second;
 
 -- what is refused is an error, but for ST_IsValid and ST_IsValidReason
 SELECT ST_IsValid(text), ST_IsValidReason(text), text FROM (VALUES

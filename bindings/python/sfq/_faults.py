@@ -1,23 +1,17 @@
 """Faults, and the errors that carry them."""
 from __future__ import annotations
 
+import pkgutil
+import re
 from typing import NamedTuple, Optional
 
-# What each fault means and what to do, by its code.
-MEANINGS = {
-    "W1": "the text can't go on like this at this byte, or ends too soon",
-    "W2": "the number at this byte isn't whole: scale the coordinates to a grid of whole numbers, of centimetres say",
-    "W3": "the number at this byte is past 10,000,000 either way: scale the coordinates to the grid",
-    "W4": "more than 10,000 positions, or more than 1,000 rings or elements: split the geometry",
-    "V1": "this line or ring has too few positions that differ",
-    "V2": "the last position of this ring isn't its first",
-    "V3": "this ring touches or crosses itself",
-    "V4": "these two rings of one polygon share a point",
-    "V5": "this hole isn't inside its outer ring",
-    "V6": "one of these two holes is inside the other",
-    "V7": "these two polygons share a point",
-    "V8": "the first of these polygons is inside the second",
-}
+
+def meanings(text: str) -> dict[str, str]:
+    """Returns what each fault means and what to do, by its code, from the lines that C reads too."""
+    return {letter + number: words for letter, number, words in re.findall(r"^FAULT\('(\w)', (\d), \"(.*)\"\)$", text, re.M)}
+
+
+MEANINGS = meanings((pkgutil.get_data(__package__, "fault_words.h") or b"").decode())
 
 
 class Fault(NamedTuple):

@@ -15,12 +15,12 @@ import re
 import shutil
 import sys
 import tempfile
-import time
 from collections import Counter
 from typing import Any, Callable, NamedTuple, Optional
 
 from . import __version__, _checking, _grid, _reading, _tables, _wkb
 from ._faults import MEANINGS, LibraryError
+from ._progress import Progress
 
 DONE, MISSING, USAGE, DATA, FILES, MEMORY = 0, 1, 2, 4, 6, 7
 NAME = "sfq-import"
@@ -49,25 +49,6 @@ class Refused(Exception):
 def say(text: str) -> None:
     """Prints a line on standard error."""
     print(f"{NAME}: {text}", file=sys.stderr, flush=True)
-
-
-class Progress:
-    """A line on a terminal that says how far a layer is. Elsewhere nothing is printed."""
-
-    def __init__(self, name: str, total: int) -> None:
-        self.name, self.total, self.begun, self.shown = name, total, time.monotonic(), False
-        self.is_wanted = sys.stderr.isatty()
-
-    def show(self, count: int) -> None:
-        if self.is_wanted and time.monotonic() - self.begun > 0.5:
-            of = f" of {self.total:,}" if self.total >= 0 else ""
-            print(f"\r{NAME}: {self.name} {count:,}{of}\x1b[K", end="", file=sys.stderr, flush=True)
-            self.shown = True
-
-    def clear(self) -> None:
-        if self.shown:
-            print("\r\x1b[K", end="", file=sys.stderr, flush=True)
-            self.shown = False
 
 
 class Record:
@@ -128,7 +109,8 @@ class Pass:
 
     def run(self) -> None:
         """Reads all records. NotAscending where the key hasn't been looked at and doesn't ascend."""
-        progress = Progress(self.layer.name, self.layer.count())
+        progress, total = Progress(NAME, wait=0.5), self.layer.count()
+        of = f" of {total:,}" if total >= 0 else ""
         self.table.write(",".join(it.name for it in self.columns).encode() + b"\n")
         batch, size = [], 0
         try:
@@ -141,7 +123,7 @@ class Pass:
                 if size > BATCH_SIZE or len(batch) == BATCH:
                     self.write(batch)
                     batch, size = [], 0
-                    progress.show(self.records)
+                    progress.show(f"{self.layer.name} {self.records:,}{of}")
             self.write(batch)
         finally:
             progress.clear()

@@ -8,8 +8,9 @@ import shutil
 import signal
 import sys
 import tempfile
-import time
 from typing import Any, NoReturn, Optional, Union
+
+from sfq._progress import Progress
 
 from . import VERSION, cluster, merging, plans, programs, query, words
 from .faults import CLUSTER, FILES, QUERY, Ended, ended
@@ -50,32 +51,12 @@ def read_words(given: Optional[list[str]]) -> argparse.Namespace:
     return found
 
 
-class Progress:
-    """How far a run is, on standard error: a line that changes on a terminal, else a line each second if it is asked for."""
-
-    def __init__(self, is_asked: bool) -> None:
-        self.is_terminal, self.shown = sys.stderr.isatty(), 0.0
-        self.is_on = self.is_terminal or is_asked
-
-    def show(self, text: str, is_last: bool = False) -> None:
-        now = time.monotonic()
-        if not self.is_on or (now - self.shown < (0.1 if self.is_terminal else 1) and not is_last):
-            return
-        self.shown = now
-        line = f"\rsfq-scale: {text}\x1b[K" if self.is_terminal else f"sfq-scale: {text}\n"
-        print(line, end="", file=sys.stderr, flush=True)
-
-    def clear(self) -> None:
-        if self.is_terminal:
-            print("\r\x1b[K", end="", file=sys.stderr, flush=True)
-
-
 class Run:
     """One query."""
 
     def __init__(self, given: argparse.Namespace, room: str) -> None:
         self.given, self.room = given, room
-        self.progress = Progress(given.progress)
+        self.progress = Progress("sfq-scale", is_asked=given.progress)
         self.programs = programs.Programs(programs.find("sfq", given.sfq), programs.find("sfq-tiles", given.tiles), room)
         self.text = self.query_word()
 

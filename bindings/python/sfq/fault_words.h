@@ -1,0 +1,13 @@
+/* What each fault means and what to do: C takes the lines by its macro FAULT (faults.h), and Python reads them (_faults.py). */
+FAULT('W', 1, "the text can't go on like this at this byte, or ends too soon")
+FAULT('W', 2, "the number at this byte isn't whole: scale the coordinates to a grid of whole numbers, of centimetres say")
+FAULT('W', 3, "the number at this byte is past 10,000,000 either way: scale the coordinates to the grid")
+FAULT('W', 4, "more than 10,000 positions, or more than 1,000 rings or elements: split the geometry")
+FAULT('V', 1, "this line or ring has too few positions that differ")
+FAULT('V', 2, "the last position of this ring isn't its first")
+FAULT('V', 3, "this ring touches or crosses itself")
+FAULT('V', 4, "these two rings of one polygon share a point")
+FAULT('V', 5, "this hole isn't inside its outer ring")
+FAULT('V', 6, "one of these two holes is inside the other")
+FAULT('V', 7, "these two polygons share a point")
+FAULT('V', 8, "the first of these polygons is inside the second")
