@@ -4,11 +4,12 @@
 //! X, Y, W in least form that mean (X/W, Y/W). Nothing here takes memory.
 #![tactic(auto)]
 
-mod divisors;
+pub mod divisors;
 pub mod fractions;
 pub mod grid_points;
 pub mod rational_points;
 
+pub use divisors::common_divisor;
 pub use fractions::Frac;
 pub use grid_points::GridPoint;
 pub use rational_points::RatPoint;

@@ -13,7 +13,6 @@
 //! Whether the geometry that a text spells is valid, and if not, where it isn't: as a value, and as a line.
 #![tactic(auto)]
 
-mod divisors;
 mod elements;
 pub mod face_points;
 pub mod faces;
@@ -21,7 +20,6 @@ mod far_points;
 pub mod fault_lines;
 pub mod finding;
 pub mod fraction_laws;
-mod height_products;
 pub mod heights;
 mod insides;
 mod numbers;
