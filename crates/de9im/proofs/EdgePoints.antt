@@ -15,7 +15,9 @@ use Rattle.matrix_laws.specs.Cells.{Shows, IsPartOf, Covers}
 use Rattle.matrix_laws.proofs.Growing.{still_shown, shows_at}
 use Rattle.matrix_laws.proofs.CellTheorems.{growing_keeps}
 use Rattle.matrix_laws.specs.Covering.{ShowsEnds}
-use Rattle.de9im.specs.Raising.{IsOnBoth}
+use Rattle.de9im.specs.Raising.{IsOnBoth, IsReady}
+use Rattle.de9im.specs.declared.matrix_edges.Pass.{Pass}
+use Rattle.de9im.specs.declared.matrix_edges.Pass.TheVariants.{First, Second}
 use Rattle.de9im.proofs.Growth.{covered_kept}
 
 -- what is shown of ends stays shown
@@ -28,6 +30,10 @@ ends_kept a b m n part s = record {
 
 pub covers_kept : (a b : Geometry) (es : List Edge) (m n : Matrix) → IsPartOf m n → All (Covers a b m) es → All (Covers a b n) es
 covers_kept a b es m n part all = All-weaker (Covers a b m) (Covers a b n) (growing_keeps a b m n part) es all
+
+pub ready_kept : (pass : Pass) (a b : Geometry) (m n : Matrix) → IsPartOf m n → IsReady pass a b m → IsReady pass a b n
+ready_kept First a b m n part ready = tt
+ready_kept Second a b m n part ready = covers_kept a b (edges b) m n part ready
 
 pub points_kept : (a b : Geometry) (ps : List Point) (m n : Matrix) → IsPartOf m n → All (λ p. Shows m (locate a p) (locate b p) Zero) ps → All (λ p. Shows n (locate a p) (locate b p) Zero) ps
 points_kept a b ps m n part all = All-weaker (λ p. Shows m (locate a p) (locate b p) Zero) (λ p. Shows n (locate a p) (locate b p) Zero) (λ p s. still_shown m n part _ _ Zero s) ps all

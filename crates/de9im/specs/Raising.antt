@@ -15,8 +15,10 @@ use Rattle.geometry_model.specs.declared.point_sets.Dimension.TheVariants.{Zero,
 use Rattle.edge_boxes.specs.NearEdges.{is_near}
 use Rattle.side_labels.specs.declared.piece_sides.Sides.{Sides}
 use Rattle.matrix_laws.specs.Gaps.{IsBetween, mostly}
-use Rattle.matrix_laws.specs.Cells.{Shows, raised, IsPartOf, IsSound, CoversPosition}
+use Rattle.matrix_laws.specs.Cells.{Shows, raised, IsPartOf, IsSound, Covers, CoversPosition}
 use Rattle.de9im.specs.Cells.{of_exteriors}
+use Rattle.de9im.specs.declared.matrix_edges.Pass.{Pass}
+use Rattle.de9im.specs.declared.matrix_edges.Pass.TheVariants.{First, Second}
 use Rattle.matrix_laws.specs.Covering.{IsOffEdges, ShowsOff, ShowsAt}
 
 -- the matrix has grown just far enough to show this: every matrix that it was part of and that shows this, it is still part of
@@ -93,3 +95,8 @@ pub record ShowsGapOff (a b : Geometry) (m : Matrix) (e : Edge) (p q : Point) : 
   pub sample : Point
   pub between : IsBetween e p q sample
   pub shows : ShowsOffAt a b m e sample
+
+-- what the matrix has to show before a pass: before the second one it covers the edges of b
+abbrev pub IsReady : Pass → Geometry → Geometry → Matrix → Type 0
+IsReady First a b m = Unit {0}
+IsReady Second a b m = All (Covers a b m) (edges b)

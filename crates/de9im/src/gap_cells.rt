@@ -3,7 +3,6 @@
 ghost use Rattle.std.specs.Prelude.{◌≡◌, true, All, Contains, pos, ◌≤ℤ◌};
 ghost use Rattle.geometry_model.specs.Geometries.{edges};
 ghost use Rattle.geometry_model.specs.Pieces.{stretches};
-ghost use Rattle.edge_boxes.specs.EdgeCrossings.{AreCrossings};
 ghost use Rattle.matrix_laws.specs.Gaps.{IsGap};
 ghost use Rattle.matrix_laws.specs.Covering.{IsHeld, ShowsOff, ShowsAt, ShowsGap};
 ghost use Rattle.validity.specs.ValidGeometries.{HasLength};
@@ -12,19 +11,11 @@ ghost use Rattle.de9im.specs.Raising.{Grows, IsRaisedTo, ShowsAllAlong, ShowsOff
 
 use crate::MatrixCells;
 use crate::fullness::{is_full_along, is_full_off, is_upright, of_own_edges};
-use edge_boxes::Crossings;
 use fraction::RatPoint;
 use geometry_model::{Dimension, Kind, Location};
 use orient::Segment;
-use side_labels::{Sides, sides_at, sides_by};
+use side_labels::{Sides, crossings, sides_at, sides_by};
 use validity::Valid;
-
-/// How a point lies relative to the edges of a geometry.
-fn crossings(valid: &Valid, p: &RatPoint) -> Crossings
-    ensures { AreCrossings result (edges valid.now) p.now }
-{
-    valid.boxes().crossings(valid.segments(), p)
-}
 
 /// Where a point off the edges of a geometry of this kind lies in it, by the parity of the edges above the point.
 fn off_edges(kind: Kind, is_odd_above: bool) -> Location

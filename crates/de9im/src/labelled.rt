@@ -7,7 +7,7 @@ ghost use Rattle.geometry_model.specs.Labels.{is_pair, is_side_pair, labelled_ce
 
 use crate::MatrixCells;
 use geometry_model::{Dimension, Location};
-use side_labels::{Label, Labels, SideLabels};
+use side_labels::{Label, Labels, SideLabels, is_side_pair};
 
 /// The cells of the matrix that labels show: for each two parts the greatest dimension of what has this label, where a node has
 /// 0, a piece 1, and the side of a piece 2. The two exteriors always share an area (06-103r4, 6.1.15.2; labels: this project's
@@ -57,14 +57,4 @@ fn some_side(sides: &[Option<SideLabels>], first: Location, second: Location) ->
     sides
         .iter()
         .any(|labels| is_side_pair(labels, first, second))
-}
-
-/// Whether there are sides, and the label of one of them is this pair of parts.
-fn is_side_pair(sides: &Option<SideLabels>, first: Location, second: Location) -> bool
-    ensures { result ≡ is_side_pair first second sides.now }
-{
-    match sides {
-        Some(labels) => labels.has_pair(first, second),
-        None => false,
-    }
 }

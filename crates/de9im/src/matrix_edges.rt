@@ -1,6 +1,6 @@
 //! Raises the cells of a matrix by the edges of a geometry.
 
-ghost use Rattle.std.specs.Prelude.{◌≡◌, [], All, Contains, OnOk};
+ghost use Rattle.std.specs.Prelude.{◌≡◌, [], true, All, Contains, OnOk};
 ghost use Rattle.geometry_model.specs.Geometries.{kind, edges};
 ghost use Rattle.geometry_model.specs.Locations.{locate};
 ghost use Rattle.geometry_model.specs.Dimensions.{cell};
@@ -11,13 +11,14 @@ ghost use Rattle.matrix_laws.specs.Cells.{at_most, Shows, Covers};
 ghost use Rattle.matrix_laws.specs.Gaps.{of_own_edges};
 ghost use Rattle.matrix_laws.specs.Covering.{ShowsEnds};
 ghost use Rattle.noding.specs.Merging.{AreMerged};
-ghost use Rattle.de9im.specs.Raising.{Grows, IsOnBoth};
+ghost use Rattle.de9im.specs.Raising.{Grows, IsOnBoth, IsReady};
 
 use crate::MatrixCells;
 use crate::fullness::{is_full_along, is_full_off, is_full_on, of_own_edges};
 use crate::gap_cells::{raise_gaps, raise_gaps_off, raise_off};
 use crate::matrix_positions::raise_point;
-use crate::outside_edges::{raise_edges_near, raise_edges_off_near, small_envelope};
+use crate::outside_edges::left_to_raise;
+use crate::outside_positions::envelope_beside;
 use fraction::RatPoint;
 use geometry_model::{Dimension, Kind, Location};
 use noding::{Gaps, MergedEdges};
@@ -30,6 +31,15 @@ const MANY_MEETINGS: usize = 64;
 
 /// It pays once all edges so far have met others as often as there are edges in this part of them: a sixteenth.
 const FAIR_PART: usize = 16;
+
+/// A pass over the edges of a geometry.
+#[derive(Clone, Copy, Debug)]
+pub(crate) enum Pass {
+    /// It looks at all gaps.
+    First,
+    /// It looks at gaps off the other geometry's edges. The matrix covers these by then, so it shows what both share.
+    Second,
+}
 
 /// Whether the matrix shows a common point of the two parts in which almost all points of each geometry's own edges lie.
 fn shows_meeting(first: &Valid, second: &Valid, matrix: &MatrixCells) -> bool
@@ -83,7 +93,7 @@ fn merge_if_many(
 }
 
 /// Raises cells by an edge of the first geometry. It fails only when memory runs out.
-pub(crate) fn raise_edge(
+fn raise_all(
     first: &Valid,
     second: &Valid,
     edge: &Segment,
@@ -135,40 +145,8 @@ fn raise_apart(first: &Valid, second: &Valid, matrix: &mut MatrixCells)
     }
 }
 
-/// Raises cells by the edges of the first geometry, until no further one can raise a cell. It fails only when memory runs out.
-pub(crate) fn raise_edges(
-    alloc: Global,
-    first: &Valid,
-    second: &Valid,
-    gaps: &mut Gaps,
-    matrix: &mut MatrixCells,
-) -> Result<(), AllocError>
-    requires first_valid { IsValid first.now }
-    requires second_valid { IsValid second.now }
-    requires lengths { All HasLength (edges first.now) }
-    requires ends { ShowsEnds first.now second.now matrix.old }
-    ensures grows { OnOk result (Grows first.now second.now matrix.old matrix.new) }
-    ensures covers { OnOk result (All (Covers first.now second.now matrix.new) (edges first.now)) }
-{
-    if second.segments().is_empty() {
-        raise_apart(first, second, matrix);
-        return Ok(());
-    }
-    if let Some(around) = small_envelope(first, second) {
-        return raise_edges_near(alloc, first, second, &around, gaps, matrix);
-    }
-    let mut merged = MergedEdges::new(alloc);
-    for edge in first.segments() {
-        if is_full_off(first, second, matrix) && is_full_on(first, second, matrix) {
-            return Ok(());
-        }
-        raise_edge(first, second, edge, gaps, &mut merged, matrix)?;
-    }
-    Ok(())
-}
-
 /// Raises cells by what of an edge of the first geometry lies off the second's edges. It fails only when memory runs out.
-pub(crate) fn raise_edge_off(
+fn raise_edge_off(
     first: &Valid,
     second: &Valid,
     edge: &Segment,
@@ -199,10 +177,53 @@ pub(crate) fn raise_edge_off(
     Ok(())
 }
 
-/// Raises cells by the edges of the first geometry once the matrix covers those of the second. It then shows what both share, so
-/// only gaps off the second's edges can raise a cell. It stops when none can any more, and fails only when memory runs out.
-pub(crate) fn raise_edges_off(
+/// Raises cells by an edge of the first geometry in a pass. It fails only when memory runs out.
+fn raise_edge(
+    pass: Pass,
+    first: &Valid,
+    second: &Valid,
+    edge: &Segment,
+    gaps: &mut Gaps,
+    merged: &mut MergedEdges,
+    matrix: &mut MatrixCells,
+) -> Result<(), AllocError>
+    requires first_valid { IsValid first.now }
+    requires second_valid { IsValid second.now }
+    requires own { Contains (edges first.now) edge.now }
+    requires length { HasLength edge.now }
+    requires ends { ShowsEnds first.now second.now matrix.old }
+    requires ready { IsReady pass first.now second.now matrix.old }
+    requires merged { AreMerged (edges second.now) merged.old }
+    ensures grows { OnOk result (Grows first.now second.now matrix.old matrix.new) }
+    ensures covers { OnOk result (Covers first.now second.now matrix.new edge.now) }
+    ensures merged { OnOk result (AreMerged (edges second.now) merged.new) }
+{
+    match pass {
+        Pass::First => raise_all(first, second, edge, gaps, merged, matrix),
+        Pass::Second => raise_edge_off(first, second, edge, gaps, merged, matrix),
+    }
+}
+
+/// Whether no edge of the first geometry can raise a cell in a pass any more.
+fn is_full(pass: Pass, first: &Valid, second: &Valid, matrix: &MatrixCells) -> bool
+    requires first_valid { IsValid first.now }
+    requires second_valid { IsValid second.now }
+    requires lengths { All HasLength (edges first.now) }
+    requires ends { ShowsEnds first.now second.now matrix.now }
+    requires ready { IsReady pass first.now second.now matrix.now }
+    ensures { result ≡ true → All (Covers first.now second.now matrix.now) (edges first.now) }
+{
+    match pass {
+        Pass::First => is_full_off(first, second, matrix) && is_full_on(first, second, matrix),
+        Pass::Second => is_full_off(first, second, matrix),
+    }
+}
+
+/// Raises cells by the edges of the first geometry in a pass, from the last one back, until no further one can raise a cell. It
+/// fails only when memory runs out.
+pub(crate) fn raise_edges(
     alloc: Global,
+    pass: Pass,
     first: &Valid,
     second: &Valid,
     gaps: &mut Gaps,
@@ -212,7 +233,7 @@ pub(crate) fn raise_edges_off(
     requires second_valid { IsValid second.now }
     requires lengths { All HasLength (edges first.now) }
     requires ends { ShowsEnds first.now second.now matrix.old }
-    requires covered { All (Covers first.now second.now matrix.old) (edges second.now) }
+    requires ready { IsReady pass first.now second.now matrix.old }
     ensures grows { OnOk result (Grows first.now second.now matrix.old matrix.new) }
     ensures covers { OnOk result (All (Covers first.now second.now matrix.new) (edges first.now)) }
 {
@@ -220,15 +241,20 @@ pub(crate) fn raise_edges_off(
         raise_apart(first, second, matrix);
         return Ok(());
     }
-    if let Some(around) = small_envelope(first, second) {
-        return raise_edges_off_near(alloc, first, second, &around, gaps, matrix);
-    }
+    let around = envelope_beside(first.segments().len(), second);
     let mut merged = MergedEdges::new(alloc);
-    for edge in first.segments() {
-        if is_full_off(first, second, matrix) {
+    let mut left = first.segments().len();
+    while left > 0 {
+        if is_full(pass, first, second, matrix) {
             return Ok(());
         }
-        raise_edge_off(first, second, edge, gaps, &mut merged, matrix)?;
+        left = left_to_raise(first, second, &around, left, matrix);
+        if left == 0 {
+            return Ok(());
+        }
+        left -= 1;
+        let edge = &first.segments()[left];
+        raise_edge(pass, first, second, edge, gaps, &mut merged, matrix)?;
     }
     Ok(())
 }

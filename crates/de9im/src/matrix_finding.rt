@@ -5,7 +5,7 @@ ghost use Rattle.geometry_model.specs.Dimensions.{IsMatrix};
 ghost use Rattle.geometry_model.specs.Labels.{labelled_matrix};
 
 use crate::MatrixCells;
-use crate::matrix_edges::{raise_edges, raise_edges_off};
+use crate::matrix_edges::{Pass, raise_edges};
 use crate::matrix_positions::raise_own_ends;
 use crate::points_and_area::{find_beside_area, has_sides};
 use geometry_model::Kind;
@@ -25,9 +25,9 @@ fn find_by_edges(alloc: Global, first: &Valid, second: &Valid) -> Result<MatrixC
     raise_own_ends(second, first, &mut turned);
     let mut gaps = Gaps::new(alloc);
     // The edges of the second geometry, in the transposed matrix; then those of the first one, off these edges.
-    raise_edges(alloc, second, first, &mut gaps, &mut turned)?;
+    raise_edges(alloc, Pass::First, second, first, &mut gaps, &mut turned)?;
     matrix = turned.transposed();
-    raise_edges_off(alloc, first, second, &mut gaps, &mut matrix)?;
+    raise_edges(alloc, Pass::Second, first, second, &mut gaps, &mut matrix)?;
     Ok(matrix)
 }
 

@@ -15,12 +15,12 @@ use rtree::{Envelope, Enveloped};
 use validity::Valid;
 
 /// A geometry is large beside another if it has more edges, listed positions or lines than this.
-pub(crate) const FEW: usize = 16;
+const FEW: usize = 16;
 
 /// And at least this many times as many as the other has edges and listed positions.
-pub(crate) const TIMES: usize = 4;
+const TIMES: usize = 4;
 
-/// The envelope of the second geometry, if the first one lists so many positions, or has so many lines, that it is large beside it.
+/// The envelope of the second geometry, if the first one has so many edges, listed positions or lines that it is large beside it.
 pub(crate) fn envelope_beside(count: usize, second: &Valid) -> Option<Envelope>
     ensures around { IfSome result (λ around. envelope second.now ≡ Some around) }
     ensures valid { IsValid second.now }

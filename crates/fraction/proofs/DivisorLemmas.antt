@@ -1,12 +1,13 @@
 -- Common divisors and the least form: bounds, and that a point in range stays in range.
-use Rattle.std.proofs.Common.{◌≡◌, sym, ap, subst, ◌∙◌, ℕ, ◌*◌, ◌/◌, ◌%◌, ◌^◌, ◌<◌, ◌≤◌, ℤ, pos, negsuc, ◌*ℤ◌, ◌≤ℤ◌, ◌<ℤ◌, FitsSigned, w64, arith}
+use Rattle.std.proofs.Common.{◌≡◌, sym, ap, ◌∙◌, ℕ, ◌*◌, ◌/◌, ◌^◌, ◌<◌, ◌≤◌, ℤ, pos, negsuc, ◌*ℤ◌, ◌≤ℤ◌, ◌<ℤ◌, FitsSigned, arith}
 use Rattle.std.specs.Prelude.{unsigned_abs, int_div, true}
 use Rattle.std.proofs.lemmas.Int.{ints, unsigned_abs-mul}
 use Rattle.std.proofs.lemmas.Bool.{and_parts}
-use Rattle.std.proofs.lemmas.Nat.Gcd.{le_of_dvd, dvd_trans, same_from_IsGcd, IsGcd-from_mod}
+use Rattle.std.proofs.lemmas.Nat.Gcd.{le_of_dvd, dvd_trans, same_from_IsGcd}
 use Rattle.std.specs.Int.{IsGcd}
 use Rattle.std.specs.Ordering.{int_eq}
 use native.Mathlib.Nat.{pos_of_dvd_of_pos, div-le_self, le_of_mul-le-mul_left, mul-le-mul_left}
+use mir.Syntax.{w128}
 use Rattle.basics.proofs.Tests.{equal_from}
 use Rattle.geometry_model.specs.Points.{Point, IsPoint, gcd, least_form}
 use Rattle.geometry_model.specs.WellKnownText.{coordinate_limit}
@@ -24,10 +25,6 @@ gcd_positive a b h = pos_of_dvd_of_pos (IsGcd-gcd a b).1 h
 pub gcd_at_most : (a b : ℕ) → 0 < b → gcd a b ≤ b
 gcd_at_most a b h = le_of_dvd h (IsGcd-gcd a b).1
 
--- what divides the second number and the rest of the first divides the first
-pub gcd_by_rest : (a b : ℕ) → gcd b (a % b) ≡ gcd a b
-gcd_by_rest a b = gcd_from a b (gcd b (a % b)) (IsGcd-from_mod a b (gcd b (a % b)) (IsGcd-gcd b (a % b)))
-
 -- the divisor of three numbers, taken from the first with the last on
 pub gcd_regrouped : (x y w : ℕ) → gcd y (gcd x w) ≡ gcd (gcd x y) w
 gcd_regrouped x y w =
@@ -39,16 +36,19 @@ gcd_regrouped x y w =
       λ d h k. outer.2 d (dvd_trans _ h (IsGcd-gcd x y).1) (inner.2 d (dvd_trans _ h (IsGcd-gcd x y).0) k),
     )
 
--- the divisor of any number and one of at least 1 that fits is one too
-pub divisor_short : (a b g : ℕ) → 0 < b → b < 2 ^ 63 → g ≡ gcd a b → (0 < g) × (g < 2 ^ 63)
-divisor_short a b g above short e = (subst (λ n. 0 < n) (sym e) (gcd_positive a b above), below g (subst (λ n. n ≤ b) (sym e) (gcd_at_most a b above)))
-  where
-    below : (n : ℕ) → n ≤ b → n < 2 ^ 63
-    below n k = omega arith
+-- a number of at least 1 without its sign
+short_from : (w : ℤ) → pos 0 <ℤ w → FitsSigned w128 w → (0 < unsigned_abs w) × (unsigned_abs w < 2 ^ 127)
+short_from (pos n) above fits = (omega (arith, ints), fits.sfits)
+short_from (negsuc n) above fits = absurd (omega (arith, ints))
 
--- a denominator without its sign
-pub denominator_short : (w : ℤ) (b : ℕ) → pos 0 <ℤ w → FitsSigned w64 w → b ≡ unsigned_abs w → (0 < b) × (b < 2 ^ 63)
-denominator_short w b h fits e = (omega (arith, ints), omega (arith, ints))
+-- the greatest common divisor with a number of at least 1 is at least 1, and fits
+pub divisor_fits : (a : ℕ) (w : ℤ) → pos 0 <ℤ w → FitsSigned w128 w → (0 < gcd a (unsigned_abs w)) × (gcd a (unsigned_abs w) < 2 ^ 127)
+divisor_fits a w above fits =
+    let short = short_from w above fits in
+    (gcd_positive a (unsigned_abs w) short.0, at_most_then (gcd a (unsigned_abs w)) (unsigned_abs w) (2 ^ 127) (gcd_at_most a (unsigned_abs w) short.0) short.1)
+  where
+    at_most_then : (x y z : ℕ) → x ≤ y → y < z → x < z
+    at_most_then x y z h k = omega arith
 
 -- ---- the least form in range
 

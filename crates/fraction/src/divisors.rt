@@ -6,49 +6,48 @@ ghost use Rattle.geometry_model.specs.Points.{gcd};
 /// The greatest number without its sign that is kept in 64 bits.
 const SHORT: u128 = i64::MAX as u128;
 
+/// The rest of a division by a number of at least 1. Most numbers are short, and then 64 bits are enough.
+fn rest(number: u128, divisor: u128) -> u128
+    requires { 0 < divisor }
+    ensures { result ≡ number % divisor }
+{
+    if number <= SHORT && divisor <= SHORT {
+        u128::from(number as u64 % divisor as u64)
+    } else {
+        number % divisor
+    }
+}
+
 /// The greatest number that divides both; the other where one is 0.
-fn greatest_common_divisor(a: u64, b: u64) -> u64
+fn greatest_common_divisor(a: u128, b: u128) -> u128
     ensures { result ≡ gcd a b }
 {
     let mut last = a;
     let mut next = b;
     while next != 0 {
-        let rest = last % next;
+        let rest = rest(last, next);
         last = next;
         next = rest;
     }
     last
 }
 
-/// The rest of a division of a number of any size by one of at least 1. Most numbers are short, and then 64 bits are enough.
-fn rest(long: u128, short: u64) -> u64
-    requires { 0 < short }
-    ensures { result ≡ long % short }
+/// The greatest number that divides a number and one of at least 1.
+pub fn common_divisor(number: i128, other: i128) -> i128
+    requires { pos 0 <ℤ other }
+    ensures exact { result ≡ pos (gcd (unsigned_abs number) (unsigned_abs other)) }
+    ensures positive { pos 0 <ℤ result }
 {
-    if long <= u128::from(u64::MAX) {
-        long as u64 % short
-    } else {
-        (long % u128::from(short)) as u64
-    }
-}
-
-/// The greatest number that divides a number of any size and one of at least 1. After one remainder all
-/// numbers are short.
-fn divisor_with(long: u128, short: u64) -> u64
-    requires { 0 < short }
-    ensures { result ≡ gcd long short }
-{
-    greatest_common_divisor(short, rest(long, short))
+    greatest_common_divisor(number.unsigned_abs(), other.unsigned_abs()) as i128
 }
 
 /// The greatest number that divides all three, of which the last is at least 1.
-pub(crate) fn common_divisor(x: i128, y: i128, w: i64) -> i64
+pub(crate) fn divisor_of_three(x: i128, y: i128, w: i64) -> i64
     requires { pos 0 <ℤ w }
     ensures exact { result ≡ pos (gcd (gcd (unsigned_abs x) (unsigned_abs y)) (unsigned_abs w)) }
     ensures positive { pos 0 <ℤ result }
 {
-    let of_first = divisor_with(x.unsigned_abs(), w.unsigned_abs());
-    divisor_with(y.unsigned_abs(), of_first) as i64
+    common_divisor(y, common_divisor(x, i128::from(w))) as i64
 }
 
 /// The quotient by a number of at least 1, rounded towards 0. Most numbers are short, and then 64 bits are enough.

@@ -9,6 +9,7 @@ mod fractions;
 pub mod grid_points;
 mod rational_points;
 
+pub use divisors::common_divisor;
 pub use fractions::Frac;
 pub use grid_points::GridPoint;
 pub use rational_points::RatPoint;

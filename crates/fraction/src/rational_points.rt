@@ -12,7 +12,7 @@ ghost use Rattle.fraction.specs.OrderLaws.{point_order_total};
 ghost use Rattle.fraction.specs.Between.{IsBetween};
 ghost use Rattle.fraction.specs.Ranges.{IsInRange, IsKeptPoint, meeting_limit};
 
-use crate::divisors::{common_divisor, quotient, short_quotient};
+use crate::divisors::{divisor_of_three, quotient, short_quotient};
 use crate::fractions::Frac;
 use crate::grid_points::GridPoint;
 use std::cmp::Ordering;
@@ -59,7 +59,7 @@ impl RatPoint {
         ensures same { IsTrue (same_point result (record { X = x; Y = y; W = w })) }
         ensures kept { IsKeptPoint result }
     {
-        let divisor = common_divisor(x, y, w);
+        let divisor = divisor_of_three(x, y, w);
         RatPoint {
             numerator_x: quotient(x, divisor),
             numerator_y: quotient(y, divisor),

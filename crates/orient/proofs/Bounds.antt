@@ -10,6 +10,7 @@ use Rattle.geometry_model.specs.Points.{Position, Point}
 use Rattle.geometry_model.specs.Sides.{side}
 use Rattle.geometry_model.specs.WellKnownText.{coordinate_limit}
 use Rattle.fraction.specs.Ranges.{IsKeptPoint, denominator_limit}
+use Rattle.orient.specs.SideLimit.{side_limit}
 
 -- a product's absolute value
 pub product_within : (a b : ℤ) (m n : ℕ) → unsigned_abs a ≤ m → unsigned_abs b ≤ n → unsigned_abs (a *ℤ b) ≤ m * n
@@ -29,6 +30,12 @@ step_read d b' a' b a fd fb fa e eb ea = read w64 d (b -ℤ a) fd (e ∙ ap₂ (
 -- a numerator over a denominator
 pub product_read : (p z' w' z w : ℤ) → SFits w128 p → SFits w32 z' → SFits w64 w' → p ≡ to_z w32 (of_z w32 z') *ℤ to_z w64 (of_z w64 w') → z' ≡ z → w' ≡ w → to_z w128 (of_z w128 p) ≡ z *ℤ w
 product_read p z' w' z w fp fz fw e ez ew = read w128 p (z *ℤ w) fp (e ∙ ap₂ (λ (x y : ℤ). x *ℤ y) (read w32 z' z fz ez) (read w64 w' w fw ew))
+
+-- how far a numerator lies beyond a coordinate over the denominator
+pub beyond_read : (e n' z' w' n z w : ℤ) → SFits w128 e → SFits w128 n' → SFits w32 z' → SFits w64 w' → e ≡ to_z w128 (of_z w128 n') -ℤ to_z w32 (of_z w32 z') *ℤ to_z w64 (of_z w64 w') → n' ≡ n → z' ≡ z → w' ≡ w
+    → to_z w128 (of_z w128 e) ≡ n -ℤ z *ℤ w
+beyond_read e n' z' w' n z w fe fn fz fw i en ez ew =
+    read w128 e (n -ℤ z *ℤ w) fe (i ∙ ap₂ (λ (x y : ℤ). x -ℤ y) (read w128 n' n fn en) (ap₂ (λ (x y : ℤ). x *ℤ y) (read w32 z' z fz ez) (read w64 w' w fw ew)))
 
 -- a vector product of numbers that are equal
 pub vector_of : (p q r s a b c d : ℤ) → p ≡ a → q ≡ b → r ≡ c → s ≡ d → p *ℤ q -ℤ r *ℤ s ≡ a *ℤ b -ℤ c *ℤ d
@@ -110,6 +117,7 @@ pub record VectorFits (dx dy ex ey : ℤ) : Type 0 where
   pub first : SFits w128 (dx *ℤ ey)
   pub second : SFits w128 (dy *ℤ ex)
   pub difference : SFits w128 (dx *ℤ ey -ℤ dy *ℤ ex)
+  pub bound : unsigned_abs (dx *ℤ ey -ℤ dy *ℤ ex) ≤ side_limit
 
 -- the greatest product
 abbrev product_limit : ℕ
@@ -120,7 +128,7 @@ pub vector_fits : (dx dy ex ey : ℤ) → unsigned_abs dx ≤ 2 * coordinate_lim
 vector_fits dx dy ex ey hdx hdy hex hey =
     let y : unsigned_abs (dx *ℤ ey) ≤ product_limit = product_within dx ey (2 * coordinate_limit) (2 * coordinate_limit * denominator_limit) hdx hey in
     let z : unsigned_abs (dy *ℤ ex) ≤ product_limit = product_within dy ex (2 * coordinate_limit) (2 * coordinate_limit * denominator_limit) hdy hex in
-    record { one = widened dx hdx; other = widened dy hdy; first = fits (dx *ℤ ey) y; second = fits (dy *ℤ ex) z; difference = differ (dx *ℤ ey) (dy *ℤ ex) y z }
+    record { one = widened dx hdx; other = widened dy hdy; first = fits (dx *ℤ ey) y; second = fits (dy *ℤ ex) z; difference = differ (dx *ℤ ey) (dy *ℤ ex) y z; bound = within (dx *ℤ ey) (dy *ℤ ex) y z }
   where
     widened : (z : ℤ) → unsigned_abs z ≤ 2 * coordinate_limit → SFits w128 z
     widened z h = omega (arith, ints)
@@ -130,3 +138,6 @@ vector_fits dx dy ex ey hdx hdy hex hey =
 
     differ : (y z : ℤ) → unsigned_abs y ≤ product_limit → unsigned_abs z ≤ product_limit → SFits w128 (y -ℤ z)
     differ y z h k = omega (arith, ints)
+
+    within : (y z : ℤ) → unsigned_abs y ≤ product_limit → unsigned_abs z ≤ product_limit → unsigned_abs (y -ℤ z) ≤ side_limit
+    within y z h k = omega (arith, ints)

@@ -10,5 +10,6 @@ mod sides;
 
 pub use crossings::{Crossing, at_or_above, crosses_up, crossing_at, crossing_at_position};
 pub use positions::position_on;
+pub use products::{beyond, numerator_over, step};
 pub use segments::Segment;
-pub use sides::{on, side, side_number};
+pub use sides::{on, side, side_number, side_of_point};

@@ -1,10 +1,11 @@
 //! On which side of a segment a point lies, and whether it lies on it.
 
-ghost use Rattle.std.specs.Prelude.{◌≡◌, ◌≢◌, ◌&&◌, pos, int_le};
+ghost use Rattle.std.specs.Prelude.{◌≡◌, ◌≢◌, ◌≤◌, ◌&&◌, pos, unsigned_abs, int_le};
 ghost use Rattle.std.specs.Ordering.{int_cmp};
 ghost use Rattle.geometry_model.specs.Points.{point_at};
 ghost use Rattle.geometry_model.specs.Sides as spec;
 ghost use Rattle.fraction.specs.Ranges.{IsOnGrid};
+ghost use Rattle.orient.specs.SideLimit.{side_limit};
 
 use crate::products::{beyond, numerator_over, short_vector_product, step, vector_product};
 use crate::segments::Segment;
@@ -23,9 +24,11 @@ fn side_of_position(from: GridPoint, to: GridPoint, at: GridPoint) -> i64
     short_vector_product(dx, dy, ex, ey)
 }
 
-/// The number whose sign is the side of p, seen from `from` to `to`, whatever p's denominator.
-fn side_of_point(from: GridPoint, to: GridPoint, p: &RatPoint) -> i128
-    ensures { result ≡ spec.side from to p.now }
+/// The number whose sign is the side of p, seen from `from` to `to`, whatever p's denominator: above 0 on the left (06-103r4,
+/// 6.1.7; sides: this project's choice).
+pub fn side_of_point(from: GridPoint, to: GridPoint, p: &RatPoint) -> i128
+    ensures value { result ≡ spec.side from to p.now }
+    ensures bound { unsigned_abs result ≤ side_limit }
 {
     let dx = step(from.x(), to.x());
     let dy = step(from.y(), to.y());

@@ -4,7 +4,7 @@ use Rattle.std.proofs.lemmas.Int.{ints}
 use Rattle.std.proofs.lemmas.List.{get_or-map, length-map}
 use Rattle.geometry_model.specs.Points.{Position, Point, IsPoint, same_point, least_form}
 use Rattle.geometry_model.specs.Geometries.{Geometry, Edge, rings, listed}
-use Rattle.geometry_model.specs.CutPoints.{cut_points}
+use Rattle.geometry_model.specs.CutPoints.{IsCut, cut_points}
 use Rattle.geometry_model.specs.Pieces.{Piece, IsPiece, sample, pieces}
 use Rattle.geometry_model.specs.Labels.{Label, SideLabels, label, below, above, is_upright, side_labels, edges_of_both, labels, labels_of}
 use Rattle.geometry_model.specs.declared.point_sets.Location.{Location}
@@ -13,6 +13,7 @@ use Rattle.geometry_model.proofs.LeastFormFacts.{least_is_same}
 use Rattle.geometry_laws.proofs.Respect.{locate_respects, odd_above_respects, odd_at_or_above_respects}
 use Rattle.noding.specs.Nodings.{piece_of, HasNodeTriples}
 use Rattle.noding.proofs.NodeCuts.{cut_is_point}
+use Rattle.side_labels.specs.Noding.{AreNoded}
 use Rattle.side_labels.specs.Samples.{HasSample}
 
 -- ---- at a sample
@@ -75,21 +76,31 @@ have_samples es ps cs all e are triples k d l = subst HasSample here (record {
     here : get_or all k (piece_of d) ≡ piece_of (get_or cs k d)
     here = ap (λ (bs : List Piece). get_or bs k (piece_of d)) (sym e) ∙ get_or-map piece_of cs k d (piece_of d) l
 
--- the labels of nodes and pieces that are the cut points and pieces of both
-pub labels_are : (a b : Geometry) (es : List Edge) (ps : List Position) (nodes slice : List Point) (all : List Piece) (cs ds : List (Point × Point)) (x y : List Label) (z : List (Option SideLabels))
-    → es ≡ edges_of_both a b → ps ≡ listed a ++ listed b → slice ≡ nodes → nodes ≡ cut_points es ps → all ≡ pieces (cut_points es ps) es → map piece_of cs ≡ all → map piece_of ds ≡ all
+-- ---- of both geometries
+-- the nodes and pieces of the edges and listed positions of both
+pub noded_of : (a b : Geometry) (es : List Edge) (ps : List Position) (nodes : List Point) (cs : List Piece) → es ≡ edges_of_both a b → ps ≡ listed a ++ listed b → nodes ≡ cut_points es ps → cs ≡ pieces (cut_points es ps) es
+    → All (IsCut es ps) nodes → All (IsPiece es ps) cs → All HasNodeTriples cs → AreNoded a b nodes cs
+noded_of a b es ps nodes cs he hp hn hc are_cuts are_pieces triples = record {
+  are_cuts = subst (λ (qs : List Position). All (IsCut (edges_of_both a b) qs) nodes) hp (subst (λ (fs : List Edge). All (IsCut fs ps) nodes) he are_cuts);
+  are_pieces = subst (λ (qs : List Position). All (IsPiece (edges_of_both a b) qs) cs) hp (subst (λ (fs : List Edge). All (IsPiece fs ps) cs) he are_pieces);
+  triples = triples;
+  labels = ap₂ (λ (n : List Point) (d : List Piece). labels_of a b n d) hn hc ∙ ap₂ (λ (fs : List Edge) (qs : List Position). labels_of a b (cut_points fs qs) (pieces (cut_points fs qs) fs)) he hp;
+}
+
+-- the labels of these
+pub labels_are : (a b : Geometry) (nodes slice : List Point) (all : List Piece) (cs ds : List (Point × Point)) (x y : List Label) (z : List (Option SideLabels)) → AreNoded a b nodes all → slice ≡ nodes → map piece_of cs ≡ all → map piece_of ds ≡ all
     → x ≡ map (label a b) slice → y ≡ map (λ c. label a b (sample (piece_of c))) cs → z ≡ map (λ c. side_labels a b (piece_of c)) ds
     → record { of_points = x; of_pieces = y; of_sides = z } ≡ labels a b
-labels_are a b es ps nodes slice all cs ds x y z he hp hs hn ha hc hd hx hy hz = by_parts ∙ ap₂ (λ (fs : List Edge) (qs : List Position). labels_of a b (cut_points fs qs) (pieces (cut_points fs qs) fs)) he hp
+labels_are a b nodes slice all cs ds x y z noded hs hc hd hx hy hz = by_parts ∙ noded.labels
   where
-    of_points : x ≡ map (label a b) (cut_points es ps)
-    of_points = hx ∙ ap (map (label a b)) (hs ∙ hn)
+    of_points : x ≡ map (label a b) nodes
+    of_points = hx ∙ ap (map (label a b)) hs
 
-    of_pieces : y ≡ map (λ c. label a b (sample c)) (pieces (cut_points es ps) es)
-    of_pieces = hy ∙ of_all (λ (c : Piece). label a b (sample c)) piece_of cs ∙ ap (map (λ c. label a b (sample c))) (hc ∙ ha)
+    of_pieces : y ≡ map (λ c. label a b (sample c)) all
+    of_pieces = hy ∙ of_all (λ (c : Piece). label a b (sample c)) piece_of cs ∙ ap (map (λ c. label a b (sample c))) hc
 
-    of_sides : z ≡ map (side_labels a b) (pieces (cut_points es ps) es)
-    of_sides = hz ∙ of_all (side_labels a b) piece_of ds ∙ ap (map (side_labels a b)) (hd ∙ ha)
+    of_sides : z ≡ map (side_labels a b) all
+    of_sides = hz ∙ of_all (side_labels a b) piece_of ds ∙ ap (map (side_labels a b)) hd
 
-    by_parts : record { of_points = x; of_pieces = y; of_sides = z } ≡ labels_of a b (cut_points es ps) (pieces (cut_points es ps) es)
+    by_parts : record { of_points = x; of_pieces = y; of_sides = z } ≡ labels_of a b nodes all
     by_parts = λ i. record { of_points = of_points i; of_pieces = of_pieces i; of_sides = of_sides i }

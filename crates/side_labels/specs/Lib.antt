@@ -1,1 +1,2 @@
+pub mod Noding
 pub mod Samples

@@ -2,7 +2,7 @@
 //! this project's choice). Here are their types; `labels` finds them.
 
 ghost use Rattle.std.specs.Prelude.{◌≡◌};
-ghost use Rattle.geometry_model.specs.Labels.{same_location};
+ghost use Rattle.geometry_model.specs.Labels.{is_side_pair, same_location};
 
 use geometry_model::Location;
 use std::marker::Model;
@@ -78,6 +78,16 @@ impl SideLabels {
         ensures { result ≡ (is_pair first second self.now.lower || is_pair first second self.now.upper) }
     {
         self.lower.is_pair(first, second) || self.upper.is_pair(first, second)
+    }
+}
+
+/// Whether a piece has sides, and the label of one of them is this pair of parts, of the first and of the second geometry.
+pub fn is_side_pair(sides: &Option<SideLabels>, first: Location, second: Location) -> bool
+    ensures { result ≡ is_side_pair first second sides.now }
+{
+    match sides {
+        Some(labels) => labels.has_pair(first, second),
+        None => false,
     }
 }
 

@@ -7,13 +7,14 @@ ghost use Rattle.geometry_model.specs.Pieces.{sample};
 ghost use Rattle.geometry_model.specs.Labels as spec;
 ghost use Rattle.geometry_model.specs.Validity.{IsValid};
 ghost use Rattle.noding.specs.Nodings.{piece_of};
+ghost use Rattle.side_labels.specs.Noding.{AreNoded};
 ghost use Rattle.side_labels.specs.Samples.{HasSample};
 
 use crate::location::locate;
 use crate::piece_sides::sides_at;
 use crate::{Label, Labels, SideLabels};
 use fraction::{GridPoint, RatPoint};
-use noding::node;
+use noding::{Noded, node};
 use orient::Segment;
 use std::alloc::{AllocError, Global};
 use std::cmp::Ordering;
@@ -160,6 +161,35 @@ fn labels_of_sides(
     Ok(labels)
 }
 
+/// The nodes and the pieces of two geometries: of their segments and listed positions. It fails only when memory runs out.
+pub fn node_both(alloc: Global, first: &Valid, second: &Valid) -> Result<Noded, AllocError>
+    ensures noded { IfOk result (λ noded. AreNoded first.now second.now noded.nodes noded.pieces) }
+    ensures first_valid { OnOk result (IsValid first.now) }
+    ensures second_valid { OnOk result (IsValid second.now) }
+{
+    let segments = segments_of_both(alloc, first, second)?;
+    let listed = listed_of_both(alloc, first, second)?;
+    let noded = node(alloc, segments.as_slice(), listed.as_slice())?;
+    Ok(noded)
+}
+
+/// The labels of two geometries, whose nodes and pieces are given. It fails only when memory runs out.
+pub fn labels_of(
+    alloc: Global,
+    first: &Valid,
+    second: &Valid,
+    noded: &Noded,
+) -> Result<Labels, AllocError>
+    requires { AreNoded first.now second.now noded.now.nodes noded.now.pieces }
+    ensures { IfOk result (λ labels. labels ≡ spec.labels first.now second.now) }
+{
+    Ok(Labels::of_lists(
+        labels_of_points(alloc, first, second, noded.nodes())?,
+        labels_of_pieces(alloc, first, second, noded.pieces())?,
+        labels_of_sides(alloc, first, second, noded.pieces())?,
+    ))
+}
+
 /// The labels of two geometries: of the nodes of their segments and listed positions, of the pieces between them, each at its
 /// sample, and of the two sides of each piece that isn't vertical (06-103r4, 6.1.15.2; labels: this project's choice). It
 /// fails only when memory runs out.
@@ -168,12 +198,6 @@ pub fn labels(alloc: Global, first: &Valid, second: &Valid) -> Result<Labels, Al
     ensures first_valid { OnOk result (IsValid first.now) }
     ensures second_valid { OnOk result (IsValid second.now) }
 {
-    let segments = segments_of_both(alloc, first, second)?;
-    let listed = listed_of_both(alloc, first, second)?;
-    let noded = node(alloc, segments.as_slice(), listed.as_slice())?;
-    Ok(Labels::of_lists(
-        labels_of_points(alloc, first, second, noded.nodes())?,
-        labels_of_pieces(alloc, first, second, noded.pieces())?,
-        labels_of_sides(alloc, first, second, noded.pieces())?,
-    ))
+    let noded = node_both(alloc, first, second)?;
+    labels_of(alloc, first, second, &noded)
 }

@@ -8,7 +8,7 @@ mod location;
 pub mod piece_sides;
 
 pub use geometry_model::{Location, Location as Loc};
-pub use label_lists::{Label, Labels, SideLabels};
-pub use labelling::labels;
+pub use label_lists::{Label, Labels, SideLabels, is_side_pair};
+pub use labelling::{labels, labels_of, node_both};
 pub use location::locate;
-pub use piece_sides::{Sides, sides_at, sides_by};
+pub use piece_sides::{Sides, crossings, sides_at, sides_by};

@@ -56,8 +56,8 @@ pub fn sides_by(valid: &Valid, found: &Crossings) -> Sides
     }
 }
 
-/// How the point lies relative to the edges of a geometry.
-fn crossings(valid: &Valid, p: &RatPoint) -> Crossings
+/// How a point lies relative to the edges of a geometry. It takes no memory.
+pub fn crossings(valid: &Valid, p: &RatPoint) -> Crossings
     ensures { AreCrossings result (edges valid.now) p.now }
 {
     valid.boxes().crossings(valid.segments(), p)

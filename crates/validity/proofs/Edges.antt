@@ -1,5 +1,5 @@
 -- The edges of a line, one after another.
-use Rattle.std.proofs.Common.{◌≡◌, ◌≢◌, sym, ap, subst, ℕ, suc, ◌+◌, ◌<◌, arith, drop, get_or, drop-cons, length, List, [], ◌∷◌, ◌++◌, append_assoc, ◌∙◌}
+use Rattle.std.proofs.Common.{◌≡◌, ◌≢◌, subst, ℕ, ◌+◌, ◌<◌, drop, get_or, length, List, [], ◌∷◌, ◌++◌, append_assoc, ◌∙◌}
 use Rattle.std.specs.List.{All}
 use Rattle.std.proofs.lemmas.List.Elements.{All-head, All-tail}
 use Rattle.geometry_model.specs.Points.{Position}

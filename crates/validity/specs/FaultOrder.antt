@@ -5,6 +5,8 @@ use Rattle.geometry_model.specs.Geometries.{Geometry, lines, rings, elements}
 use Rattle.geometry_model.specs.FirstFaults.{has_fault, numbers, of_pairs, of_every_two, of_elements, rings_end, test_of_both}
 use Rattle.geometry_model.specs.declared.validity_faults.ValidityFault.{ValidityFault}
 use Rattle.geometry_model.specs.declared.validity_faults.ValidityFault.TheVariants.{RingsMeet, HoleOutside, HolesNested}
+use Rattle.validity.specs.declared.first_faults.RingTest.{RingTest}
+use Rattle.validity.specs.declared.first_faults.RingTest.TheVariants.{Meeting, Outside, Nested}
 
 -- the first of some faults that applies to a geometry
 abbrev pub first_of : Geometry → List ValidityFault → Option ValidityFault
@@ -26,17 +28,27 @@ with_later fault number end = map (fault number) (numbers (number + 1) end)
 abbrev pub with_later_elements : (ℕ → ℕ → ValidityFault) → ℕ → Geometry → List ValidityFault
 with_later_elements fault element g = with_later fault element (length (elements g))
 
--- that two rings of one polygon meet, polygon by polygon (06-103r4, 6.1.11.1)
+-- what a test looks for among the rings of one polygon, by their numbers (06-103r4, 6.1.11.1)
+abbrev pub of_polygon : RingTest → ℕ → ℕ → List ValidityFault
+of_polygon Meeting first end = of_pairs RingsMeet first end
+of_polygon Outside first end = map HoleOutside (numbers (first + 1) end)
+of_polygon Nested first end = of_pairs HolesNested (first + 1) end
+
+-- the same, polygon by polygon
+abbrev pub of_polygons : RingTest → Geometry → List ValidityFault
+of_polygons test g = of_elements (λ e. of_polygon test e.first (rings_end e)) g
+
+-- that two rings of one polygon meet
 abbrev pub rings_meeting : Geometry → List ValidityFault
-rings_meeting g = of_elements (λ e. of_pairs RingsMeet e.first (rings_end e)) g
+rings_meeting g = of_polygons Meeting g
 
--- that a hole isn't inside the outer ring, polygon by polygon (06-103r4, 6.1.11.1)
+-- that a hole isn't inside the outer ring
 abbrev pub holes_outside : Geometry → List ValidityFault
-holes_outside g = of_elements (λ e. map HoleOutside (numbers (e.first + 1) (rings_end e))) g
+holes_outside g = of_polygons Outside g
 
--- that of two holes one is inside the other, polygon by polygon (06-103r4, 6.1.11.1)
+-- that of two holes one is inside the other
 abbrev pub nested_holes : Geometry → List ValidityFault
-nested_holes g = of_elements (λ e. of_pairs HolesNested (e.first + 1) (rings_end e)) g
+nested_holes g = of_polygons Nested g
 
 -- the faults of two of a geometry's polygons, the first one before the second (06-103r4, 6.1.14)
 abbrev pub of_two_elements : (ℕ → ℕ → ValidityFault) → Geometry → List ValidityFault

@@ -5,7 +5,7 @@ ghost use Rattle.geometry_model.specs.Geometries as spec;
 ghost use Rattle.geometry_model.specs.FirstFaults.{numbers, of_pairs, validity_fault};
 ghost use Rattle.geometry_laws.specs.PieceLaws.{HasClosedRings};
 ghost use Rattle.edge_boxes.specs.BoxLists.{BoxesOf};
-ghost use Rattle.validity.specs.FaultOrder.{first_of, of_lines, of_rings, with_later, with_later_elements, of_elements_and};
+ghost use Rattle.validity.specs.FaultOrder.{first_of, of_lines, of_rings, with_later, with_later_elements, of_elements_and, of_polygon, of_polygons};
 ghost use Rattle.validity.specs.FaultOrder.{rings_meeting, holes_outside, nested_holes, of_two_elements, of_other_elements};
 ghost use Rattle.validity.specs.Neighbours.{near_one, ring_envelopes, element_envelopes};
 ghost use Rattle.validity.specs.Outlines.{AreRings, IsRing, IsHole};
@@ -106,26 +106,6 @@ fn rings_of_one_meet(
     Ok(None)
 }
 
-/// The first two rings of one polygon that meet, polygon by polygon.
-fn rings_meet(
-    alloc: Global,
-    outline: &Outline,
-    rings: &Neighbours,
-) -> Result<Option<ValidityFault>, AllocError>
-    requires closed { HasClosedRings outline.now }
-    requires rings { rings.now ≡ ring_envelopes outline.now }
-    ensures { IfOk result (λ fault. fault ≡ first_of outline.now (rings_meeting outline.now)) }
-{
-    for element in 0..outline.geometry().element_count() {
-        let (first, end) = outline.ring_numbers(element);
-        let fault = rings_of_one_meet(alloc, outline, rings, first, end)?;
-        if fault.is_some() {
-            return Ok(fault);
-        }
-    }
-    Ok(None)
-}
-
 /// The first hole of a polygon that isn't inside its outer ring.
 fn hole_of_one_outside(
     alloc: Global,
@@ -144,20 +124,6 @@ fn hole_of_one_outside(
     for hole in first + 1..end {
         if outline.is_outside_ring(first, &boxes, hole) {
             return Ok(Some(ValidityFault::HoleOutside(hole)));
-        }
-    }
-    Ok(None)
-}
-
-/// The first hole that isn't inside the outer ring of its polygon.
-fn hole_outside(alloc: Global, outline: &Outline) -> Result<Option<ValidityFault>, AllocError>
-    ensures { IfOk result (λ fault. fault ≡ first_of outline.now (holes_outside outline.now)) }
-{
-    for element in 0..outline.geometry().element_count() {
-        let (first, end) = outline.ring_numbers(element);
-        let fault = hole_of_one_outside(alloc, outline, first, end)?;
-        if fault.is_some() {
-            return Ok(fault);
         }
     }
     Ok(None)
@@ -210,19 +176,52 @@ fn holes_of_one_nested(
     Ok(None)
 }
 
-/// The first two holes of one polygon of which one is inside the other, polygon by polygon.
-fn holes_nested(
+/// What is tested of the rings of a polygon.
+#[derive(Clone, Copy, Debug)]
+enum RingTest {
+    /// Whether two of them meet.
+    Meeting,
+    /// Whether a hole isn't inside the outer one.
+    Outside,
+    /// Whether of two holes one is inside the other.
+    Nested,
+}
+
+/// The first fault that a test finds of the rings of a polygon.
+fn fault_of_one(
     alloc: Global,
     outline: &Outline,
     rings: &Neighbours,
+    test: RingTest,
+    first: usize,
+    end: usize,
 ) -> Result<Option<ValidityFault>, AllocError>
     requires closed { HasClosedRings outline.now }
     requires rings { rings.now ≡ ring_envelopes outline.now }
-    ensures { IfOk result (λ fault. fault ≡ first_of outline.now (nested_holes outline.now)) }
+    requires are { AreRings outline.now first end }
+    ensures { IfOk result (λ fault. fault ≡ first_of outline.now (of_polygon test first end)) }
+{
+    match test {
+        RingTest::Meeting => rings_of_one_meet(alloc, outline, rings, first, end),
+        RingTest::Outside => hole_of_one_outside(alloc, outline, first, end),
+        RingTest::Nested => holes_of_one_nested(alloc, outline, rings, first, end),
+    }
+}
+
+/// The first fault that a test finds of the rings of one polygon, polygon by polygon.
+fn fault_by(
+    alloc: Global,
+    outline: &Outline,
+    rings: &Neighbours,
+    test: RingTest,
+) -> Result<Option<ValidityFault>, AllocError>
+    requires closed { HasClosedRings outline.now }
+    requires rings { rings.now ≡ ring_envelopes outline.now }
+    ensures { IfOk result (λ fault. fault ≡ first_of outline.now (of_polygons test outline.now)) }
 {
     for element in 0..outline.geometry().element_count() {
         let (first, end) = outline.ring_numbers(element);
-        let fault = holes_of_one_nested(alloc, outline, rings, first, end)?;
+        let fault = fault_of_one(alloc, outline, rings, test, first, end)?;
         if fault.is_some() {
             return Ok(fault);
         }
@@ -327,15 +326,15 @@ fn fault_among_rings(
     ensures { IfOk result (λ fault. fault ≡ first_of outline.now
         (rings_meeting outline.now ++ holes_outside outline.now ++ nested_holes outline.now)) }
 {
-    let meeting = rings_meet(alloc, outline, rings)?;
+    let meeting = fault_by(alloc, outline, rings, RingTest::Meeting)?;
     if meeting.is_some() {
         return Ok(meeting);
     }
-    let outside = hole_outside(alloc, outline)?;
+    let outside = fault_by(alloc, outline, rings, RingTest::Outside)?;
     if outside.is_some() {
         return Ok(outside);
     }
-    holes_nested(alloc, outline, rings)
+    fault_by(alloc, outline, rings, RingTest::Nested)
 }
 
 /// The first fault of the rings of polygons: V4 to V6.

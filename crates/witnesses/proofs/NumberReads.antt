@@ -8,13 +8,7 @@ use Rattle.orient.proofs.Bounds.{read, product_within}
 use Rattle.fraction.specs.Ranges.{denominator_limit}
 use Rattle.witnesses.specs.Heights.{rise_limit}
 
--- how far a numerator lies beyond a coordinate over the denominator
-pub beyond_read : (e n' z' w' n z w : ℤ) → SFits w128 e → SFits w128 n' → SFits w32 z' → SFits w64 w' → e ≡ to_z w128 (of_z w128 n') -ℤ to_z w32 (of_z w32 z') *ℤ to_z w64 (of_z w64 w') → n' ≡ n → z' ≡ z → w' ≡ w
-    → to_z w128 (of_z w128 e) ≡ n -ℤ z *ℤ w
-beyond_read e n' z' w' n z w fe fn fz fw i en ez ew =
-    read w128 e (n -ℤ z *ℤ w) fe (i ∙ ap₂ (λ (x y : ℤ). x -ℤ y) (read w128 n' n fn en) (ap₂ (λ (x y : ℤ). x *ℤ y) (read w32 z' z fz ez) (read w64 w' w fw ew)))
-
--- and how far before it
+-- how far a numerator lies before a coordinate over the denominator
 pub before_read : (e n' z' w' n z w : ℤ) → SFits w128 e → SFits w128 n' → SFits w32 z' → SFits w64 w' → e ≡ to_z w32 (of_z w32 z') *ℤ to_z w64 (of_z w64 w') -ℤ to_z w128 (of_z w128 n') → n' ≡ n → z' ≡ z → w' ≡ w
     → to_z w128 (of_z w128 e) ≡ z *ℤ w -ℤ n
 before_read e n' z' w' n z w fe fn fz fw i en ez ew =

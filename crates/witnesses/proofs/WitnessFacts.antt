@@ -1,5 +1,5 @@
 -- What the labels of nodes, pieces and sides say of witnesses.
-use Rattle.std.proofs.Common.{ℕ, ◌<◌, ◌≤◌, ◌≡◌, Bool, true, false, ◌||◌, refl, sym, ap, ap₂, subst, ◌∙◌, List, ◌++◌, length, get_or, map, All, Option, Some, None, if◌then◌else◌, arith}
+use Rattle.std.proofs.Common.{ℕ, ◌<◌, ◌≤◌, ◌≡◌, Bool, true, false, ◌||◌, refl, sym, ap, subst, ◌∙◌, List, ◌++◌, length, get_or, map, Option, Some, None, if◌then◌else◌, arith}
 use Rattle.std.proofs.lemmas.List.{get_or-map, length-map, get_or_default}
 use Rattle.std.proofs.lemmas.List.Folds.{list_any_none}
 use Rattle.std.proofs.lemmas.List.Quantifiers.{position-Some}
@@ -10,12 +10,11 @@ use Rattle.geometry_laws.proofs.Each.{one_passes}
 use Rattle.geometry_laws.proofs.Cuts.{among_from_contains}
 use Rattle.std.specs.List.{list_any}
 use Rattle.geometry_model.specs.Points.{Position, Point, IsPoint, point_at, same_point}
-use Rattle.geometry_model.specs.Geometries.{Edge, Geometry, edges, listed, rings}
+use Rattle.geometry_model.specs.Geometries.{Geometry, edges, listed, rings}
 use Rattle.geometry_model.specs.Locations.{is_at, locate}
 use Rattle.geometry_model.specs.Dimensions.{HasDimension, common, cell, IsMatrix}
-use Rattle.geometry_model.specs.CutPoints.{IsCut, cut_points}
-use Rattle.geometry_model.specs.Pieces.{Piece, IsPiece, pieces, sample}
-use Rattle.geometry_model.specs.Labels.{Label, SideLabels, Labels, label, labels, labels_of, side_labels, above, below, is_upright, edges_of_both, same_location, is_pair, is_side_pair, labelled_cell, labelled_matrix}
+use Rattle.geometry_model.specs.Pieces.{Piece, sample}
+use Rattle.geometry_model.specs.Labels.{Label, SideLabels, Labels, label, labels, side_labels, above, below, is_upright, edges_of_both, same_location, is_pair, is_side_pair, labelled_cell, labelled_matrix}
 use Rattle.geometry_model.specs.declared.point_sets.Location.{Location}
 use Rattle.geometry_model.specs.declared.point_sets.Location.TheVariants.{Interior, Boundary, Exterior}
 use Rattle.geometry_model.specs.declared.point_sets.Dimension.{Dimension}
@@ -40,18 +39,6 @@ use Rattle.witnesses.specs.declared.witness.Witness.TheVariants as kinds
 use Rattle.witnesses.specs.declared.witness.Witnesses.{Witnesses}
 use Rattle.noding.proofs.NodeCuts.{cut_is_point}
 use Rattle.witnesses.specs.Shown.{witness_at, shown_matrix, ShowsAll, Shows, shown_dimension, IsWitnessOf, HasPairOn, IsBeside, AreLabelled}
-
--- ---- nodes and pieces of both, and their labels
-pub labelled_of : (a b : Geometry) (es : List Edge) (ps : List Position) (nodes : List Point) (cs : List Piece) → HasClosedRings a → HasClosedRings b → es ≡ edges_of_both a b → ps ≡ listed a ++ listed b → nodes ≡ cut_points es ps → cs ≡ pieces (cut_points es ps) es
-    → All (IsCut es ps) nodes → All (IsPiece es ps) cs → All HasNodeTriples cs → AreLabelled a b nodes cs (labels a b)
-labelled_of a b es ps nodes cs ca cb he hp hn hc are_cuts are_pieces triples = record {
-  first_closed = ca;
-  second_closed = cb;
-  are_cuts = subst (λ (qs : List Position). All (IsCut (edges_of_both a b) qs) nodes) hp (subst (λ (fs : List Edge). All (IsCut fs ps) nodes) he are_cuts);
-  are_pieces = subst (λ (qs : List Position). All (IsPiece (edges_of_both a b) qs) cs) hp (subst (λ (fs : List Edge). All (IsPiece fs ps) cs) he are_pieces);
-  triples = triples;
-  labels = sym (ap₂ (λ (n : List Point) (d : List Piece). labels_of a b n d) hn hc ∙ ap₂ (λ (fs : List Edge) (qs : List Position). labels_of a b (cut_points fs qs) (pieces (cut_points fs qs) fs)) he hp);
-}
 
 -- ---- pairs
 pub same_is : (l k : Location) → same_location l k ≡ true → l ≡ k

@@ -4,7 +4,7 @@ use Rattle.geometry_model.specs.Points.{Position, Point, IsPoint, point_at}
 use Rattle.geometry_model.specs.Geometries.{Edge}
 use Rattle.geometry_model.specs.Sides.{on}
 use Rattle.geometry_model.specs.WellKnownText.{coordinate_limit}
-use Rattle.fraction.specs.Ranges.{denominator_limit}
+use Rattle.orient.specs.SideLimit.{side_limit}
 use Rattle.geometry_laws.specs.CoverLaws.{IsStraightOver}
 use Rattle.witnesses.specs.declared.heights.Side.{Side}
 use Rattle.witnesses.specs.declared.heights.Side.TheVariants.{Upper, Lower}
@@ -41,9 +41,9 @@ IsSlant p e = on e p ≡ true → e.start.x ≡ e.end.x → ⊥
 abbrev pub ClearsPosition : Side → Point → Height → Position → Type 0
 ClearsPosition side p h a = IsAhead side p (point_at a) → IsPast side p h (point_at a)
 
--- the greatest rise: twice the product of two steps and what lies beyond a start
+-- the greatest rise: that of the number whose sign is a side
 abbrev pub rise_limit : ℕ
-rise_limit = 8 * coordinate_limit * coordinate_limit * denominator_limit
+rise_limit = side_limit
 
 -- the rise is at least 1, the run at least 0, and both are within their limits
 pub record IsHeight (h : Height) : Type 0 where

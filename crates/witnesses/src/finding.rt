@@ -1,16 +1,15 @@
 //! Finds a witness for each cell of the matrix of two geometries.
 
-ghost use Rattle.std.specs.Prelude.{◌≡◌, ◌++◌, ◌||◌, IfOk, IfSome, OnOk, List, map, is_some, position, true, false};
+ghost use Rattle.std.specs.Prelude.{◌≡◌, ◌||◌, IfOk, IfSome, List, map, is_some, position, true, false};
 ghost use Rattle.std.specs.List.{list_any};
 ghost use Rattle.geometry_model.specs.Dimensions.{IsMatrix};
-ghost use Rattle.geometry_model.specs.Geometries.{listed};
 ghost use Rattle.geometry_model.specs.Labels as spec;
 ghost use Rattle.geometry_model.specs.Pieces.{sample};
 ghost use Rattle.geometry_model.specs.Validity.{IsValid};
 ghost use Rattle.geometry_model.specs.declared.point_sets.Location.TheVariants.{Exterior};
 ghost use Rattle.geometry_model.specs.declared.point_sets.Dimension.TheVariants.{Two};
 ghost use Rattle.geometry_laws.specs.PieceLaws.{IsPieceOf};
-ghost use Rattle.noding.specs.Nodings.{piece_of, HasNodeTriples, Noding};
+ghost use Rattle.noding.specs.Nodings.{piece_of, HasNodeTriples};
 ghost use Rattle.matrix_laws.specs.Witnessing.{IsFacePoint};
 ghost use Rattle.witnesses.specs.Shown.{AreLabelled, HasPairOn, IsBeside, IsWitnessOf, ShowsAll, shown_matrix, witness_at};
 
@@ -19,52 +18,12 @@ use crate::faces::face_point;
 use crate::far_points::far_point;
 use crate::heights::Side;
 use crate::witness::{Witness, Witnesses};
-use fraction::{GridPoint, RatPoint};
+use fraction::RatPoint;
 use geometry_model::Location;
-use noding::{Noded, node};
-use orient::Segment;
-use side_labels::{Label, Labels, SideLabels, labels};
+use noding::Noded;
+use side_labels::{Label, Labels, SideLabels, is_side_pair, labels_of, node_both};
 use std::alloc::{AllocError, Global};
 use validity::Valid;
-
-/// The segments of both geometries.
-fn segments_of_both(
-    alloc: Global,
-    first: &Valid,
-    second: &Valid,
-) -> Result<Vec<Segment>, AllocError>
-    ensures { IfOk result (λ segments. segments.items ≡ spec.edges_of_both first.now second.now) }
-{
-    let mut segments = Vec::from_slice(alloc, first.segments())?;
-    segments.extend_from_slice(second.segments())?;
-    Ok(segments)
-}
-
-/// The listed positions of both geometries.
-fn listed_of_both(
-    alloc: Global,
-    first: &Valid,
-    second: &Valid,
-) -> Result<Vec<GridPoint>, AllocError>
-    ensures exact { IfOk result (λ positions. positions.items ≡ listed first.now ++ listed second.now) }
-    ensures first_valid { OnOk result (IsValid first.now) }
-    ensures second_valid { OnOk result (IsValid second.now) }
-{
-    let mut positions = Vec::from_slice(alloc, first.geometry().listed())?;
-    positions.extend_from_slice(second.geometry().listed())?;
-    Ok(positions)
-}
-
-/// The nodes and the pieces of both geometries.
-fn node_both(alloc: Global, first: &Valid, second: &Valid) -> Result<Noded, AllocError>
-    ensures labelled { IfOk result (λ noded.
-        AreLabelled first.now second.now noded.nodes noded.pieces (spec.labels first.now second.now)) }
-{
-    let segments = segments_of_both(alloc, first, second)?;
-    let positions = listed_of_both(alloc, first, second)?;
-    let noded = node(alloc, segments.as_slice(), positions.as_slice())?;
-    Ok(noded)
-}
 
 /// The place of the first label that is this pair of parts.
 fn find_pair(labels: &[Label], first: Location, second: Location) -> Option<usize>
@@ -73,21 +32,13 @@ fn find_pair(labels: &[Label], first: Location, second: Location) -> Option<usiz
     labels.iter().position(|label| label.is_pair(first, second))
 }
 
-/// Whether one of the sides of a piece has this pair of parts.
-fn has_pair(sides: &Option<SideLabels>, first: Location, second: Location) -> bool
-    ensures { result ≡ spec.is_side_pair first second sides.now }
-{
-    match sides {
-        Some(both) => both.has_pair(first, second),
-        None => false,
-    }
-}
-
 /// The place of the first piece that has a side with this pair of parts.
 fn find_sides(sides: &[Option<SideLabels>], first: Location, second: Location) -> Option<usize>
     ensures { result ≡ position (spec.is_side_pair first second) sides.now }
 {
-    sides.iter().position(|both| has_pair(both, first, second))
+    sides
+        .iter()
+        .position(|both| is_side_pair(both, first, second))
 }
 
 /// The side of a piece that has this pair of parts: the upper one where both have it.
@@ -182,8 +133,8 @@ pub fn find_witnesses(alloc: Global, first: &Valid, second: &Valid) -> Result<Wi
     ensures matrix { IfOk result (λ w. IsMatrix first.now second.now (shown_matrix (witness_at w))) }
     ensures shows { IfOk result (λ w. ShowsAll first.now second.now (witness_at w)) }
 {
-    let found = labels(alloc, first, second)?;
     let noded = node_both(alloc, first, second)?;
+    let found = labels_of(alloc, first, second, &noded)?;
     Ok(of_labels(first, second, &noded, &found))
 }
 

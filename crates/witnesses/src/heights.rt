@@ -7,9 +7,8 @@ ghost use Rattle.geometry_model.specs.WellKnownText.{coordinate_limit};
 ghost use Rattle.fraction.specs.Ranges.{denominator_limit};
 ghost use Rattle.witnesses.specs.Heights as spec;
 
-use crate::height_products::{beyond, numerator_over, side_of_point, step};
 use fraction::{GridPoint, RatPoint};
-use orient::Segment;
+use orient::{Segment, beyond, numerator_over, side_of_point, step};
 use std::cmp::Ordering;
 
 /// A side of a piece that isn't vertical (sides: this project's choice).

@@ -4,7 +4,6 @@
 //! text is valid. And the lines that say these.
 #![tactic(auto)]
 
-mod divisors;
 mod elements;
 mod face_points;
 mod faces;
@@ -12,7 +11,6 @@ mod far_points;
 mod fault_lines;
 mod finding;
 pub mod fraction_laws;
-mod height_products;
 mod heights;
 mod insides;
 mod numbers;

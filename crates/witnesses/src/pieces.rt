@@ -1,6 +1,6 @@
 //! Lines of several pieces: words, numbers and points.
 
-ghost use Rattle.std.specs.Prelude.{◌≡◌, ◌++◌, codes, decimal, map, pos, ◌<ℤ◌, OnOk, OnErr};
+ghost use Rattle.std.specs.Prelude.{◌≡◌, ◌++◌, codes, decimal, map, pos, ◌<ℤ◌, int_div, OnOk, OnErr};
 ghost use Rattle.std.specs.Fmt.{signed_decimal};
 ghost use Rattle.std.specs.List.{concat};
 ghost use Rattle.std.specs.Io.KnownBytes.{Appends};
@@ -9,8 +9,7 @@ ghost use Rattle.geometry_model.specs.CanonicalText.{position_text};
 ghost use Rattle.witnesses.specs.PointTexts.{fraction_text, piece_text, point_text, quotient_text};
 
 use crate::FacePoint;
-use crate::divisors::{common_divisor, quotient};
-use fraction::{GridPoint, RatPoint};
+use fraction::{GridPoint, RatPoint, common_divisor};
 use itoa::Buffer;
 use streams::{Sink, SinkFault, put_all, put_parts};
 
@@ -141,6 +140,14 @@ fn put_fraction<S: Sink>(sink: &mut S, numerator: i128, denominator: i128) -> Re
         quotient(numerator, divisor),
         quotient(denominator, divisor),
     )
+}
+
+/// The quotient by a number of at least 1, rounded towards 0.
+fn quotient(number: i128, divisor: i128) -> i128
+    requires { pos 0 <ℤ divisor }
+    ensures { result ≡ int_div number divisor }
+{
+    number / divisor
 }
 
 /// Writes a whole number over another, or alone if the other is 1.

@@ -11,13 +11,13 @@ pub raise_edges-requires-clause-ends : goal.raise_edges-requires-clause-ends
 raise_edges-requires-clause-ends c = ends_turned c.args.first.now c.args.second.now c.raise_own_ends.new.matrix c.raise_own_ends-2.new.matrix c.raise_own_ends.ensures.shows
     (subst (λ (m : Matrix). IsPartOf m c.raise_own_ends-2.new.matrix) c.transposed-turned.ensures c.raise_own_ends-2.ensures.grows.grown) c.raise_own_ends-2.ensures.shows
 
-pub raise_edges_off-requires-clause-ends : goal.raise_edges_off-requires-clause-ends
-raise_edges_off-requires-clause-ends c = subst (ShowsEnds c.args.first.now c.args.second.now) (sym c.transposed-matrix.ensures)
+pub raise_edges-requires-2-clause-ends : goal.raise_edges-requires-2-clause-ends
+raise_edges-requires-2-clause-ends c = subst (ShowsEnds c.args.first.now c.args.second.now) (sym c.transposed-matrix.ensures)
     (ends_again c.args.first.now c.args.second.now c.raise_own_ends.new.matrix c.raise_own_ends-2.new.matrix c.raise_edges.new.matrix c.raise_own_ends.ensures.shows
     (subst (λ (m : Matrix). IsPartOf m c.raise_own_ends-2.new.matrix) c.transposed-turned.ensures c.raise_own_ends-2.ensures.grows.grown) c.raise_own_ends-2.ensures.shows c.in_ok-raise_edges.ensures.grows.grown)
 
-pub raise_edges_off-requires-clause-covered : goal.raise_edges_off-requires-clause-covered
-raise_edges_off-requires-clause-covered c =
+pub raise_edges-requires-2-clause-ready : goal.raise_edges-requires-2-clause-ready
+raise_edges-requires-2-clause-ready c =
     let a = c.args.first.now in
     let b = c.args.second.now in
     subst (λ (m : Matrix). All (Covers a b m) (edges b)) (sym c.transposed-matrix.ensures) (covered_turned a b c.raise_edges.new.matrix c.in_ok-raise_edges.ensures.covers)
@@ -26,11 +26,11 @@ pub returns-clause-labelled : goal.returns-clause-labelled
 returns-clause-labelled c =
     let a = c.args.first.now in
     let b = c.args.second.now in
-    passes_give a b c.raise_own_ends.new.matrix c.raise_own_ends-2.new.matrix c.raise_edges.new.matrix c.raise_edges_off.new.matrix c.raise_own_ends.ensures.valid c.raise_own_ends-2.ensures.valid
+    passes_give a b c.raise_own_ends.new.matrix c.raise_own_ends-2.new.matrix c.raise_edges.new.matrix c.raise_edges-2.new.matrix c.raise_own_ends.ensures.valid c.raise_own_ends-2.ensures.valid
     (subst (λ (m : Matrix). Grows a b m c.raise_own_ends.new.matrix) c.of_exteriors-matrix.ensures c.raise_own_ends.ensures.grows) c.raise_own_ends.ensures.shows
     (subst (λ (m : Matrix). Grows b a m c.raise_own_ends-2.new.matrix) c.transposed-turned.ensures c.raise_own_ends-2.ensures.grows) c.raise_own_ends-2.ensures.shows
     c.in_ok-raise_edges.ensures.grows c.in_ok-raise_edges.ensures.covers
-    (subst (λ (m : Matrix). Grows a b m c.raise_edges_off.new.matrix) c.transposed-matrix.ensures c.in_ok-raise_edges_off.ensures.grows) c.in_ok-raise_edges_off.ensures.covers
+    (subst (λ (m : Matrix). Grows a b m c.raise_edges-2.new.matrix) c.transposed-matrix.ensures c.in_ok-raise_edges-2.ensures.grows) c.in_ok-raise_edges-2.ensures.covers
 
 pub returns-clause-point_sets : goal.returns-clause-point_sets
-returns-clause-point_sets c = is_matrix c.args.first.now c.args.second.now c.raise_edges_off.new.matrix c.raise_own_ends.ensures.valid c.raise_own_ends-2.ensures.valid (returns-clause-labelled c)
+returns-clause-point_sets c = is_matrix c.args.first.now c.args.second.now c.raise_edges-2.new.matrix c.raise_own_ends.ensures.valid c.raise_own_ends-2.ensures.valid (returns-clause-labelled c)

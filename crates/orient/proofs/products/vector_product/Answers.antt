@@ -4,6 +4,7 @@ use mir.Syntax.{w64, w128}
 use mir.Val.{SFits}
 use Rattle.geometry_model.specs.WellKnownText.{coordinate_limit}
 use Rattle.fraction.specs.Ranges.{denominator_limit}
+use Rattle.orient.specs.SideLimit.{side_limit}
 use Rattle.orient.proofs.Bounds.{VectorFits, vector_fits, vector_read, read}
 use Rattle.orient.proofs.products.vector_product.Goals as goal
 
@@ -44,4 +45,5 @@ pub returns : goal.returns
 returns c =
     let d = difference c.from.result c.args.dx c.from-2.result c.args.dy c.args.ex c.args.ey (record { sfits = c.from.type_inv }) c.ranges.dx (record { sfits = c.from-2.type_inv }) c.ranges.dy c.ranges.ex c.ranges.ey
     c.from.ensures c.from-2.ensures c.requires.dx_bound c.requires.dy_bound c.requires.ex_bound c.requires.ey_bound in
-    ap (λ (z : ℤ). to_z w128 (of_z w128 z)) d.is ∙ to_z-of_z w128 _ d.fits.difference
+    let value = ap (λ (z : ℤ). to_z w128 (of_z w128 z)) d.is ∙ to_z-of_z w128 _ d.fits.difference in
+    record { value = value; bound = subst (λ (z : ℤ). unsigned_abs z ≤ side_limit) (sym value) d.fits.bound }

@@ -1,16 +1,9 @@
-use Rattle.std.proofs.Common.{◌≡◌, ap₂, refl, ◌∙◌, ℤ, ◌-ℤ◌, ◌*ℤ◌, ◌*◌, to_z, of_z}
+use Rattle.std.proofs.Common.{refl, ◌∙◌, ◌*◌}
 use mir.Syntax.{w32, w64, w128}
-use mir.Val.{SFits}
 use Rattle.geometry_model.specs.WellKnownText.{coordinate_limit}
 use Rattle.fraction.specs.Ranges.{denominator_limit}
-use Rattle.orient.proofs.Bounds.{point_within, read, read_within, step_read, vector_of}
+use Rattle.orient.proofs.Bounds.{point_within, read, read_within, step_read, beyond_read, vector_of}
 use Rattle.orient.proofs.sides.side_of_point.Goals as goal
-
--- how far a numerator lies beyond a coordinate over the denominator
-beyond_read : (e n' z' w' n z w : ℤ) → SFits w128 e → SFits w128 n' → SFits w32 z' → SFits w64 w' → e ≡ to_z w128 (of_z w128 n') -ℤ to_z w32 (of_z w32 z') *ℤ to_z w64 (of_z w64 w') → n' ≡ n → z' ≡ z → w' ≡ w
-    → to_z w128 (of_z w128 e) ≡ n -ℤ z *ℤ w
-beyond_read e n' z' w' n z w fe fn fz fw i en ez ew =
-    read w128 e (n -ℤ z *ℤ w) fe (i ∙ ap₂ (λ (x y : ℤ). x -ℤ y) (read w128 n' n fn en) (ap₂ (λ (x y : ℤ). x *ℤ y) (read w32 z' z fz ez) (read w64 w' w fw ew)))
 
 pub step-dx-requires : goal.step-dx-requires
 step-dx-requires c = record {
@@ -46,12 +39,12 @@ vector_product-requires c = record {
   ey_bound = read_within w128 (2 * coordinate_limit * denominator_limit) c.beyond-ey.result c.beyond-ey.result (record { sfits = c.beyond-ey.type_inv }) refl c.beyond-ey.ensures.bound;
 }
 
-pub returns : goal.returns
-returns c =
+pub returns-clause-value : goal.returns-clause-value
+returns-clause-value c =
     let dx = step_read c.step-dx.result c.x-2.result c.x.result c.args.to.x c.args.from.x (record { sfits = c.step-dx.type_inv }) (record { sfits = c.x-2.type_inv }) (record { sfits = c.x.type_inv }) c.step-dx.ensures.value c.x-2.ensures.value c.x.ensures.value in
     let dy = step_read c.step-dy.result c.y-2.result c.y.result c.args.to.y c.args.from.y (record { sfits = c.step-dy.type_inv }) (record { sfits = c.y-2.type_inv }) (record { sfits = c.y.type_inv }) c.step-dy.ensures.value c.y-2.ensures.value c.y.ensures.value in
     let ex = beyond_read c.beyond-ex.result c.numerator_x.result c.x-3.result c.denominator.result c.args.p.now.X c.args.from.x c.args.p.now.W (record { sfits = c.beyond-ex.type_inv }) (record { sfits = c.numerator_x.type_inv }) (record { sfits = c.x-3.type_inv }) (record { sfits = c.denominator.type_inv })
     c.beyond-ex.ensures.value c.numerator_x.ensures.value c.x-3.ensures.value c.denominator.ensures.value in
     let ey = beyond_read c.beyond-ey.result c.numerator_y.result c.y-3.result c.denominator-2.result c.args.p.now.Y c.args.from.y c.args.p.now.W (record { sfits = c.beyond-ey.type_inv }) (record { sfits = c.numerator_y.type_inv }) (record { sfits = c.y-3.type_inv }) (record { sfits = c.denominator-2.type_inv })
     c.beyond-ey.ensures.value c.numerator_y.ensures.value c.y-3.ensures.value c.denominator-2.ensures.value in
-    read w128 c.vector_product.result _ (record { sfits = c.vector_product.type_inv }) (c.vector_product.ensures ∙ vector_of _ _ _ _ _ _ _ _ dx ey dy ex)
+    read w128 c.vector_product.result _ (record { sfits = c.vector_product.type_inv }) (c.vector_product.ensures.value ∙ vector_of _ _ _ _ _ _ _ _ dx ey dy ex)

@@ -10,4 +10,4 @@ returns-in-Some c =
     ∙ ap (side c.args.from c.args.to) c.in-Some.ensures.at
 
 pub returns-in-None : goal.returns-in-None
-returns-in-None c = read w128 c.side_of_point.result _ (record { sfits = c.side_of_point.type_inv }) c.side_of_point.ensures
+returns-in-None c = read w128 c.side_of_point.result _ (record { sfits = c.side_of_point.type_inv }) c.side_of_point.ensures.value

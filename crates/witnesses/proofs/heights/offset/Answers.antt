@@ -1,4 +1,4 @@
-use Rattle.witnesses.proofs.NumberReads.{beyond_read}
+use Rattle.orient.proofs.Bounds.{beyond_read}
 use Rattle.witnesses.proofs.heights.offset.Goals as goal
 
 pub returns-clause-value : goal.returns-clause-value

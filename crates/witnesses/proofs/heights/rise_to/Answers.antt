@@ -2,7 +2,8 @@ use Rattle.std.proofs.Common.{◌≡◌, ℤ, pos, ◌-ℤ◌, ◌*ℤ◌, sym, 
 use Rattle.basics.proofs.Ring.{solve, var, lit, ◌⊖◌, ◌⊗◌}
 use Rattle.geometry_model.specs.Points.{point_at}
 use Rattle.witnesses.specs.Heights.{ahead}
-use Rattle.witnesses.proofs.NumberReads.{beyond_read, before_read}
+use Rattle.orient.proofs.Bounds.{beyond_read}
+use Rattle.witnesses.proofs.NumberReads.{before_read}
 use Rattle.witnesses.proofs.heights.rise_to.Goals as goal
 
 above : (a w y : ℤ) → a *ℤ w -ℤ y ≡ a *ℤ w -ℤ y *ℤ pos 1

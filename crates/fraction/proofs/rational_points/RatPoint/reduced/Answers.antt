@@ -16,14 +16,14 @@ abbrev made : goal.After-short_quotient → Point
 made c = record { X = to_z w128 (of_z w128 c.quotient.result); Y = to_z w128 (of_z w128 c.quotient-2.result); W = to_z w64 (of_z w64 c.short_quotient.result) }
 
 made_is : (c : goal.After-short_quotient) → made c ≡ least_form (given c)
-made_is c = quotients_are (given c) _ _ _ c.common_divisor-divisor.result
-    (c.common_divisor-divisor.ensures.exact ∙ ap₂ (λ n w. pos (gcd n (unsigned_abs w))) (ap₂ (λ x y. gcd (unsigned_abs x) (unsigned_abs y)) (to_z-of_z w128 c.args.x c.ranges.x) (to_z-of_z w128 c.args.y c.ranges.y)) (to_z-of_z w64 c.args.w c.ranges.w))
+made_is c = quotients_are (given c) _ _ _ c.divisor_of_three-divisor.result
+    (c.divisor_of_three-divisor.ensures.exact ∙ ap₂ (λ n w. pos (gcd n (unsigned_abs w))) (ap₂ (λ x y. gcd (unsigned_abs x) (unsigned_abs y)) (to_z-of_z w128 c.args.x c.ranges.x) (to_z-of_z w128 c.args.y c.ranges.y)) (to_z-of_z w64 c.args.w c.ranges.w))
     (to_z-of_z w128 _ (record { sfits = c.quotient.type_inv }) ∙ c.quotient.ensures ∙ ap₂ int_div (to_z-of_z w128 c.args.x c.ranges.x) divisor_fits)
     (to_z-of_z w128 _ (record { sfits = c.quotient-2.type_inv }) ∙ c.quotient-2.ensures ∙ ap₂ int_div (to_z-of_z w128 c.args.y c.ranges.y) divisor_fits)
     (to_z-of_z w64 _ (record { sfits = c.short_quotient.type_inv }) ∙ c.short_quotient.ensures ∙ ap₂ int_div (to_z-of_z w64 c.args.w c.ranges.w) divisor_fits)
   where
-    divisor_fits : to_z w64 (of_z w64 c.common_divisor-divisor.result) ≡ c.common_divisor-divisor.result
-    divisor_fits = to_z-of_z w64 _ (record { sfits = c.common_divisor-divisor.type_inv })
+    divisor_fits : to_z w64 (of_z w64 c.divisor_of_three-divisor.result) ≡ c.divisor_of_three-divisor.result
+    divisor_fits = to_z-of_z w64 _ (record { sfits = c.divisor_of_three-divisor.type_inv })
 
 pub invariant_of-result : goal.invariant_of-result
 invariant_of-result c = subst IsKeptPoint (sym (made_is c)) (least_is_kept (given c) c.requires.in_range)
