@@ -2,6 +2,7 @@
 import hashlib
 import os
 import pty
+import re
 import shutil
 import signal
 import subprocess
@@ -11,11 +12,15 @@ import unittest
 
 from support import WithCheckout, needs, read, write
 
+import pace
 import repository
 
 # The crate of sfq-tiles, for tests that make this program too.
 WITH_TILES = {"sfq_tiles": ["middle"]}
-# Proves each crate by `rt all`, and leaves a program. What was proved is kept in a file, by the texts, as the real `rt` keeps it.
+# What the checks of the small repository are said to take.
+SECONDS = "low 600\nmiddle 900\ncommand_line 300\nsfq 600\n"
+# Proves crates, one of them with those below it or all by `rt all verdict`, and leaves a program. What was proved is kept in a file,
+# by the texts, as the real `rt` keeps it.
 PROVES = """
 if words[0] == "version":
     finish("rattle-kit-99 logic 0123abcd\\n", "", 0)
@@ -26,7 +31,7 @@ if words[0] == "run":
         program.write("#!/bin/sh\\necho proved\\n# GLIBC_2.17 GLIBC_2." + ("34" if name == "sfq" else "4") + "\\n")
     os.chmod("out/" + name, 0o755)
     finish("", "", 0)
-if words[0] != "all":
+if words[0] not in ("all", "lib", "check"):
     finish("", "", 0)
 import time
 root = os.getcwd()
@@ -38,37 +43,47 @@ for line in open(root + "/crates.txt"):
     crates[name] = libraries.split()
 def below(name):
     return set().union(*({it} | below(it) for it in crates[name] if it in crates))
+def source_of(name):
+    return root + "/crates/" + name + "/src/" + ("main.rt" if name.startswith("sfq") else "lib.rt")
 def text_of(name):
-    file = root + "/crates/" + name + "/src/" + ("main.rt" if name.startswith("sfq") else "lib.rt")
-    return open(file).read() + "".join(text_of(it) for it in sorted(below(name)))
-wanted = set(crates) if os.getcwd() == root else {os.path.basename(os.getcwd())} | below(os.path.basename(os.getcwd()))
+    return open(source_of(name)).read() + "".join(text_of(it) for it in sorted(below(name)))
+def is_refused(name, verb):
+    kept = root + "/crates/" + name + "/out/kept"
+    if name == os.environ.get("BREAKS"):
+        sys.stdout.write("low.rt:1:1: error\\nlogic=not-proved\\n")
+        return True
+    if verb != "verdict" and os.path.isfile(kept) and open(kept).read() == text_of(name):
+        return False
+    with open(room + "/checked", "a") as checked:
+        checked.write(verb + " " + name + "\\n")
+    text = text_of(name)
+    if name == os.environ.get("WAITS"):
+        time.sleep(60)
+    if name == os.environ.get("EDITS"):
+        open(source_of(name), "a").write("// edited\\n")
+    sys.stdout.write("logic=proved functions=3 sum=0123abcd\\n")
+    os.makedirs(os.path.dirname(kept), exist_ok=True)
+    open(kept, "w").write(text)
+    time.sleep(0.05)
+    return False
+if words[0] != "all":
+    name = os.path.basename(os.getcwd())
+    for it in [*sorted(below(name), key=lambda it: len(below(it))), name]:
+        if is_refused(it, "check"):
+            finish("", "", 1)
+    finish("", "", 0)
 failed, summary = set(), []
-for name in sorted(wanted, key=lambda it: (len(below(it)), it)):
+for name in sorted(crates, key=lambda it: (len(below(it)), it)):
     lacking = sorted(failed & below(name))
     if lacking:
         failed.add(name)
         summary.append(name + ": not run, since " + lacking[0] + " failed")
         continue
-    kept = root + "/crates/" + name + "/out/kept"
-    is_kept = words[1] == "check" and os.path.isfile(kept) and open(kept).read() == text_of(name)
     sys.stdout.write("== " + name + "\\n")
-    if name == os.environ.get("BREAKS"):
+    if is_refused(name, words[1]):
         failed.add(name)
-        sys.stdout.write("low.rt:1:1: error\\nlogic=not-proved\\n")
-        summary.append(name + ": failed (1)")
-        continue
-    if not is_kept:
-        with open(room + "/checked", "a") as checked:
-            checked.write(words[1] + " " + name + "\\n")
-        sys.stdout.flush()
-        if name == os.environ.get("WAITS"):
-            time.sleep(60)
-        sys.stdout.write("logic=proved functions=3 sum=0123abcd\\n")
-        os.makedirs(os.path.dirname(kept), exist_ok=True)
-        open(kept, "w").write(text_of(name))
-    summary.append(name + ": ok")
+    summary.append(name + (": failed (1)" if name in failed else ": ok"))
     sys.stdout.flush()
-    time.sleep(0.05)
 sys.stdout.write("== summary\\n" + "\\n".join(summary) + "\\n")
 finish("", "", 1 if failed else 0)
 """
@@ -78,6 +93,7 @@ class WithBuild(WithCheckout):
     def setUp(self):
         super().setUp()
         self.checkout.behave(PROVES)
+        write(f"{self.checkout.root}/tools/seconds.txt", "# What checks take.\n" + SECONDS)
 
     def build(self, *words, **environment):
         os.environ.update(environment)
@@ -113,6 +129,12 @@ class Builds(WithBuild):
         self.assertTrue(text.endswith(f"built: crates/sfq/out/sfq, SHA-256 {total}\n"))
         self.assertEqual(self.checkout.run(["sfq"]).stdout, b"proved\n")
 
+    def test_says_how_far_it_is_and_how_long_it_still_takes(self):
+        said = re.findall(r"^(\d) of 4 crates proved(?:; about (\d+) min left)?; last (\w+)$", self.build("--jobs", "1").stdout.decode(), re.M)
+        self.assertEqual([it[0] for it in said], ["1", "2", "3", "4"])
+        # What is slow to begin with is begun first: 10 minutes for `low`, and 15, 5 and 10 for the others.
+        self.assertEqual([it[1:] for it in said], [("30", "low"), ("15", "middle"), ("10", "command_line"), ("", "sfq")])
+
     def test_a_second_build_checks_nothing_and_one_after_an_edit_what_it_concerns(self):
         self.build()
         before = len(self.checkout.calls())
@@ -127,7 +149,7 @@ class Builds(WithBuild):
 
     def test_a_kit_of_another_name_and_the_same_logic_proves_nothing_anew(self):
         self.build()
-        calls = lambda: [words[0] for _, words in self.checkout.calls()].count("all")
+        calls = lambda: [words[0] for _, words in self.checkout.calls()].count("lib")
         before = calls()
         self.checkout.behave(PROVES.replace("kit-99", "kit-100"))
         ran = self.build()
@@ -145,7 +167,7 @@ class Builds(WithBuild):
         self.assertIn("low.rt:1:1: error", text)
         self.assertIn("not reached: middle", text)
         self.assertIn("not reached: sfq", text)
-        self.assertRegex(text, r"1 of 4 crates proved, \d+ s: command_line")
+        self.assertRegex(text, r"1 of 4 crates proved; last command_line")
         self.assertIn(b"sfq: 1 of 4 crates proved", ran.stderr)
         self.assertEqual(self.checked(), ["command_line"])
 
@@ -164,7 +186,15 @@ class Builds(WithBuild):
             self.assertIn(b"broken off", child.stderr.read())
         before = len(self.checked())
         self.assertEqual(self.build().returncode, 0)
-        self.assertEqual(sorted(self.checked()[before:]), ["command_line", "middle", "sfq"])
+        self.assertEqual(self.checked()[before:], ["middle", "command_line", "sfq"])
+
+    def test_a_source_that_is_edited_meanwhile(self):
+        ran = self.build(EDITS="middle")
+        self.assertEqual(ran.returncode, 1)
+        self.assertTrue(ran.stderr.decode().startswith("sfq: a source was edited meanwhile: run ./build again\n"))
+        self.assertEqual(self.checked(), ["low", "middle", "command_line"])
+        self.assertEqual(self.build().returncode, 0)
+        self.assertEqual(self.checked()[3:], ["middle", "sfq"])
 
     def test_a_terminal_shows_one_line_that_renews_itself(self):
         ours, theirs = pty.openpty()
@@ -172,9 +202,9 @@ class Builds(WithBuild):
         self.assertEqual(self.checkout.run(["build"], stdout=theirs).returncode, 0)
         os.close(theirs)
         shown = os.read(ours, 1 << 16)
-        self.assertRegex(shown, rb"\r\d of 4 crates proved, \d s; now [a-z_, ]+\x1b\[K")
+        self.assertRegex(shown, rb"\r\d of 4 crates proved; about \d+ min left; now [a-z_, ]+\x1b\[K")
         self.assertNotIn(b": proved low", shown)
-        self.assertIn(b"\r\x1b[Klinking the program\r\n", shown)
+        self.assertIn(b"\r\x1b[Kproved: 4 crates, ", shown)
 
     def test_verify_proves_a_copy_from_nothing(self):
         self.build()
@@ -218,6 +248,204 @@ class Builds(WithBuild):
         ran = self.checkout.run(["bindings/python/bin/sfq-scale", "run", "s", "d", "q", "--scheduler", "tcp://127.0.0.1:1", "--sfq", "/bin/true"])
         self.assertEqual((ran.returncode, ran.stdout), (2, b""))
         self.assertRegex(ran.stderr, rb"\Asfq-scale: there is no program sfq-tiles beside sfq-scale or on the path: ./build --tiles makes it .*\n\Z")
+
+
+class Closures(WithBuild):
+    """What ./build proves of a repository that has more than the program is made of."""
+
+    MORE_CRATES = {**WITH_TILES, "rest": ["sfq_tiles_only", "low"], "sfq_tiles_only": [], "tests": ["middle"]}
+
+    def checked(self, verb="check"):
+        return sorted(it.partition(" ")[2] for it in read(f"{self.checkout.room}/bin/checked").split("\n") if it.startswith(f"{verb} "))
+
+    def test_only_what_the_program_is_made_of(self):
+        text = self.build().stdout.decode()
+        self.assertEqual(self.checked(), ["command_line", "low", "middle", "sfq"])
+        self.assertIn("proved: 4 crates, 12 functions, ", text)
+
+    def test_only_what_sfq_tiles_is_made_of(self):
+        self.build("--tiles")
+        self.assertEqual(self.checked(), ["low", "middle", "sfq_tiles"])
+        self.build()
+        self.assertEqual(self.checked(), ["command_line", "low", "middle", "sfq", "sfq_tiles"])
+
+    def test_an_edit_of_another_crate_proves_nothing_anew(self):
+        self.build()
+        before = self.checked()
+        write(f"{self.checkout.root}/crates/tests/src/lib.rt", "//! edited\n")
+        ran = self.build()
+        self.assertEqual((ran.returncode, self.checked()), (0, before))
+        self.assertIn(b"4 of 4 crates are proved already and haven't changed\n", ran.stdout)
+
+    def test_verify_proves_all(self):
+        text = self.build("--verify").stdout.decode()
+        self.assertEqual(self.checked("verdict"), sorted([*self.checkout.CRATES, *self.MORE_CRATES]))
+        self.assertIn("proved: 8 crates and their tests, 24 functions, ", text)
+        self.assertRegex(text, r"1 of 8 crates proved; about \d+ min left; last ")
+
+
+# A stand-in for the Python of the kit, as far as tools/shared_rt.py relies on it. It notes what reads, begins and ends.
+OF_THE_KIT = """
+import fcntl, hashlib, os, time
+def note(*words):
+    with open(os.path.dirname(os.path.realpath(__file__)) + "/notes", "a") as notes:
+        notes.write(" ".join(words) + "\\n")
+class Crate:
+    def __init__(self, folder):
+        self.folder, self.name, self.rlib = folder, os.path.basename(folder), folder + "/out/rlib"
+        root, crates = os.path.dirname(os.path.dirname(folder)), {}
+        for line in open(root + "/crates.txt"):
+            name, _, libraries = line.partition(":")
+            crates[name] = libraries.split()
+        self.deps = [Crate(root + "/crates/" + it) for it in crates[self.name] if it in crates]
+    def below(self):
+        found = []
+        for dep in self.deps:
+            found += [it for it in [*dep.below(), dep] if it.name not in [known.name for known in found]]
+        return found
+    def stamp(self):
+        note("read", self.name)
+        files = sorted(os.listdir(self.folder + "/src"))
+        texts = [open(self.folder + "/src/" + it).read() for it in files]
+        return hashlib.sha256(repr([texts, [it.stamp() for it in self.deps]]).encode()).hexdigest()
+    def is_built(self):
+        return os.path.isfile(self.rlib + "/stamp") and open(self.rlib + "/stamp").read() == self.stamp()
+    def build_rlib(self, flags, anew):
+        if self.is_built():
+            return 0
+        note("begin", self.name, *flags)
+        time.sleep(0.5)
+        if self.name == os.environ.get("EDITS"):
+            open(self.deps[0].folder + "/src/lib.rt", "a").write("// edited\\n")
+        note("end", self.name)
+        print("logic=proved functions=3 sum=0123abcd")
+        os.makedirs(self.rlib, exist_ok=True)
+        open(self.rlib + "/stamp", "w").write(self.stamp())
+        return 0
+def lock(crates):
+    held = [os.open(it.folder, os.O_RDONLY) for it in crates]
+    for it in held:
+        fcntl.flock(it, fcntl.LOCK_EX)
+    return held
+"""
+# The stand-in for `rt` itself, over it.
+OVER_IT = """#!{python}
+import importlib.machinery, importlib.util, os, sys
+path = os.path.dirname(os.path.realpath(__file__)) + "/rtlib.py"
+rtlib = importlib.util.module_from_spec(importlib.util.spec_from_loader("rtlib", importlib.machinery.SourceFileLoader("rtlib", path)))
+rtlib.__spec__.loader.exec_module(rtlib)
+def main(words):
+    if words[0] == "version":
+        print("rattle-kit-99 logic 0123abcd")
+        return 0
+    crate = rtlib.Crate(os.getcwd())
+    crate.held = rtlib.lock([*crate.below(), crate])
+    for dep in crate.below():
+        dep.build_rlib(["--jobs", "1"], False)
+    if words[0] == "run":
+        os.makedirs("out", exist_ok=True)
+        with open("out/" + crate.name, "w") as program:
+            program.write("#!/bin/sh\\necho proved\\n")
+        os.chmod("out/" + crate.name, 0o755)
+        return 0
+    return crate.build_rlib(words[1:], False)
+if __name__ == "__main__":
+    sys.exit(main(sys.argv[1:]))
+"""
+
+
+class SideBySide(WithBuild):
+    """./build over a kit whose checks work side by side."""
+
+    # Many ways lead down from `sfq` to `low`.
+    LAYERS = {f"layer_{at}_{side}": [f"layer_{at - 1}_{it}" for it in "ab"] if at else ["low"] for at in range(6) for side in "ab"}
+    MORE_CRATES = {**LAYERS, "middle": ["low", "layer_5_a", "layer_5_b"]}
+
+    def setUp(self):
+        super().setUp()
+        write(f"{self.checkout.room}/bin/rtlib.py", OF_THE_KIT)
+        write(f"{self.checkout.room}/bin/rt", OVER_IT.replace("{python}", sys.executable))
+        write(f"{self.checkout.root}/tools/seconds.txt", SECONDS)
+
+    def notes(self, kind):
+        return [it.split()[1:] for it in read(f"{self.checkout.room}/bin/notes").splitlines() if it.startswith(kind)]
+
+    def test_libraries_over_the_same_ones_are_proved_at_once(self):
+        ran = self.build("--jobs", "2")
+        self.assertEqual(ran.returncode, 0, ran.stderr)
+        text = read(f"{self.checkout.room}/bin/notes")
+        self.assertRegex(text, r"begin layer_0_([ab]) --jobs 1\n(read .*\n)*begin layer_0_(?!\1)[ab] ")
+        self.assertEqual(sorted(it[0] for it in self.notes("begin")), sorted([*self.checkout.CRATES, *self.LAYERS]))
+
+    def test_the_longest_chain_comes_first_and_a_crate_alone_gets_all_processes(self):
+        self.assertEqual(self.build("--jobs", "4").returncode, 0)
+        begun = self.notes("begin")
+        self.assertEqual(begun[0], ["low", "--jobs", "2"])
+        self.assertEqual(begun[1], ["command_line", "--jobs", "2"])
+        self.assertEqual([it for it in begun if it[0] in ("middle", "sfq")], [["middle", "--jobs", "4"], ["sfq", "--jobs", "4"]])
+
+    def test_each_crate_is_read_once_for_a_question(self):
+        self.build("--jobs", "2")
+        before = len(self.notes("read"))
+        os.remove(f"{self.checkout.root}/crates/sfq/out/sfq")
+        self.assertEqual(self.build("--jobs", "2").returncode, 0)
+        # Linking asks of each of 15 libraries whether it is built; over 200 ways lead down from `middle` alone.
+        self.assertLess(len(self.notes("read")) - before, 15 * 15)
+
+    def test_a_library_that_was_changed_since_it_was_proved(self):
+        ran = self.build("--jobs", "1", EDITS="middle")
+        self.assertEqual(ran.returncode, 1)
+        self.assertTrue(ran.stderr.decode().startswith("sfq: a source was edited meanwhile: run ./build again\n"), ran.stderr)
+        self.assertEqual(self.notes("begin").count(["low", "--jobs", "1"]), 1)
+        self.assertEqual(self.build("--jobs", "1").returncode, 0)
+        self.assertEqual(self.notes("begin").count(["low", "--jobs", "1"]), 2)
+
+    def test_two_builds_at_once_prove_each_crate_once(self):
+        environment = {**os.environ, "PATH": f"{self.checkout.room}/bin:{os.environ['PATH']}"}
+        both = [subprocess.Popen([f"{self.checkout.root}/build", "--jobs", "2"], env=environment, stdout=subprocess.DEVNULL) for _ in "ab"]
+        self.assertEqual([it.wait(timeout=120) for it in both], [0, 0])
+        begun = [it[0] for it in self.notes("begin")]
+        self.assertEqual(sorted(begun), sorted({*begun}))
+
+    def test_a_kit_of_another_form_is_called_as_it_is(self):
+        write(f"{self.checkout.room}/bin/rtlib.py", OF_THE_KIT.replace("def lock(crates)", "def lock(crates, how=0)"))
+        self.assertEqual(self.build("--jobs", "3").returncode, 0)
+        self.assertEqual(self.notes("begin")[0], ["low", "--jobs", "3"])
+
+
+class Paces(unittest.TestCase):
+    """The time that is left."""
+
+    def plan(self, processes=2):
+        below = {"low": [], "slow": ["low"], "quick": ["low"], "top": ["slow", "quick"]}
+        return pace.Plan(below, {"low": 100, "slow": 300, "quick": 50, "top": 100}, processes, processes, 1)
+
+    def test_the_chain_that_takes_longest_is_begun_first(self):
+        plan = self.plan()
+        self.assertEqual(plan.next(set(), {}), ("low", 1))
+        self.assertEqual(plan.next({"low"}, {}), ("slow", 1))
+        self.assertEqual(plan.next({"low"}, {"slow": 1}), ("quick", 1))
+        self.assertIsNone(plan.next({"low"}, {"slow": 1, "quick": 1}))
+
+    def test_what_is_left_goes_through_the_rest_of_the_order(self):
+        self.assertEqual(self.plan().left(set(), {}), 500)
+        self.assertEqual(self.plan(1).left(set(), {}), 550)
+        self.assertEqual(self.plan().left({"low"}, {"slow": (1, 120)}), 220)
+        self.assertEqual(self.plan().left({"low", "slow", "quick", "top"}, {}), 0)
+
+    def test_it_falls_with_the_time_and_by_the_pace(self):
+        clock = pace.Clock(self.plan())
+        clock.begin("low", 1, 0)
+        self.assertEqual([round(clock.left(set(), it)) for it in (0, 50, 95)], [500, 450, 405])
+        # 200 seconds in the place of 100: the rest takes longer too, but the first minute of the noted ones still counts.
+        clock.end("low", 200)
+        clock.begin("slow", 1, 200)
+        self.assertEqual(round(clock.left({"low"}, 200)), 650)
+        self.assertLess(clock.left({"low"}, 260), 600)
+
+    def test_it_is_said_in_words(self):
+        said = [pace.words_of(it) for it in (3, 45, 100, 14 * 60)]
+        self.assertEqual(said, ["less than a minute left", "about a minute left", "about 2 min left", "about 14 min left"])
 
 
 class Commands(WithBuild):

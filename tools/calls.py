@@ -48,12 +48,11 @@ def folder_of(name: str) -> str:
 
 def crate_of(name: str = CRATE) -> proving.Crate:
     """Returns what is known of the crate's proof."""
-    crates = proving.crates_of(repository.ROOT, repository.logic_of(repository.kit_line()))
-    crate = next((it for it in crates if it.name == name), None)
-    if crate is None:
+    crates = proving.crates_of(repository.ROOT, repository.logic_of(repository.kit_line()), [name])
+    if not crates:
         raise Failure(f"crates.txt has no crate {name}")
-    crate.read_mark()
-    return crate
+    crates[-1].read_mark()
+    return crates[-1]
 
 
 def below(crates: Optional[dict[str, list[str]]] = None, name: str = CRATE) -> list[str]:
@@ -70,12 +69,8 @@ def prove(jobs: int = 0, name: str = CRATE) -> None:
     """Proves the crate and all below it, side by side, as far as that isn't done."""
     if crate_of(name).is_done:
         return
-    run = proving.Proving(repository.ROOT, repository.logic_of(repository.kit_line()), jobs)
-    try:
-        is_proved = run.prove_in(folder_of(name))
-    finally:
-        run.end()
-    if not is_proved:
+    run = proving.Proving(repository.ROOT, repository.kit_line(), jobs, [name])
+    if not run.run():
         raise Failure(f"the crate {name} isn't proved")
 
 

@@ -1,11 +1,10 @@
-"""Proves every crate by `rt all`, as many at a time as processors and memory allow, and shows how far it is.
+"""Proves crates, as many at a time as processors and memory allow, and says how far it is and how long it still takes.
 
-`rt all` keeps what it proved, so a run that was broken off goes on where it was. A crate that is proved gets the file
-out/proved, with a sum over its files, those below it and the kit's logic, and the last line of its check. While the sums of
-all crates stay the same, nothing is called.
+The crates are those that something is made of, and each is proved once those below it are: first the one with the longest chain
+of others above it, by several processes where fewer crates than that can be proved (see pace.py). `rt` keeps what it proved, so a
+run that was broken off goes on where it was. A crate that is proved gets the file out/proved: a sum over its files, those below
+it and the kit's logic, the last line of its check, and what that took. While the sums stay the same, nothing is called.
 """
-from __future__ import annotations
-
 import hashlib
 import os
 import queue
@@ -15,15 +14,16 @@ import subprocess
 import sys
 import threading
 import time
-from typing import Optional
 
+import pace
 import repository
+import shared_rt
 
 # What a check from nothing takes at most, in bytes: two of four that ran beside each other took this much.
 MEMORY_OF_A_CHECK = 3_000_000_000
 
 
-def processors() -> int:
+def processors():
     """Returns the number of processors, or what the control group's quota leaves of them."""
     count = len(os.sched_getaffinity(0))
     try:
@@ -34,167 +34,191 @@ def processors() -> int:
         return count
 
 
-def free_memory() -> int:
+def free_memory():
     """Returns the bytes of memory that are free, by the system and by the control group."""
     with open("/proc/meminfo", encoding="ascii") as file:
-        free = number_in(r"MemAvailable:\s+(\d+)", file.read()) * 1024
+        free = int(re.search(r"MemAvailable:\s+(\d+)", file.read())[1]) * 1024
     try:
         with open("/sys/fs/cgroup/memory.max", encoding="ascii") as most:
             with open("/sys/fs/cgroup/memory.stat", encoding="ascii") as used:
-                held = number_in(r"^anon (\d+)", used.read())
+                held = int(re.search(r"^anon (\d+)", used.read(), re.M)[1])
                 return min(free, int(most.read()) - held)
-    except (OSError, ValueError):
+    except (OSError, ValueError, TypeError):
         return free
 
 
-def number_in(pattern: str, text: str) -> int:
-    """Returns the number that a pattern finds in a text. ValueError where there is none."""
-    found = re.search(pattern, text, re.M)
-    if not found:
-        raise ValueError(f"no {pattern}")
-    return int(found[1])
-
-
-def span(seconds: float) -> str:
+def span(seconds):
     minutes, seconds = divmod(int(seconds), 60)
     return f"{minutes} min {seconds} s" if minutes else f"{seconds} s"
+
+
+def rt_words():
+    """Returns the words that begin a call of `rt` in a crate's folder, and whether such calls work side by side."""
+    words = [sys.executable, "-B", os.path.realpath(shared_rt.__file__)]
+    ran = subprocess.run(words, stdout=subprocess.DEVNULL, stderr=subprocess.DEVNULL)
+    return (words, True) if ran.returncode == 0 else (["rt"], False)
+
+
+def link(root, crate):
+    """Links the program of a crate over what is proved, and returns the status and the log."""
+    log = f"{root}/crates/{crate}/out/link.log"
+    with open(log, "wb") as out:
+        words = [*rt_words()[0], "run", "--", "--version"]
+        ran = subprocess.run(words, cwd=f"{root}/crates/{crate}", stdin=subprocess.DEVNULL, stdout=out, stderr=out)
+    return ran.returncode, log
+
+
+def read_mark(name, root=repository.ROOT):
+    """Returns the lines of a crate's mark: its sum, the last line of its check, and the processor seconds of that, where it was from nothing."""
+    try:
+        with open(f"{root}/crates/{name}/out/proved", encoding="utf-8") as file:
+            return (file.read().splitlines() + ["", "", ""])[:3]
+    except (OSError, ValueError):
+        return ["", "", ""]
 
 
 class Crate:
     """A crate, and what is known of its proof."""
 
-    sum: str
-
-    def __init__(self, name: str, root: str, below: list[Crate], logic: str, libraries: list[str]) -> None:
-        self.name, self.below, self.out = name, below, f"{root}/crates/{name}/out"
-        total = hashlib.sha256(repr((logic, libraries)).encode())
-        for path in repository.files_of(name, root):
-            with open(path, "rb") as file:
-                total.update(repr((os.path.relpath(path, root), file.read())).encode())
+    def __init__(self, name, root, below, logic, libraries):
+        self.name, self.root, self.below, self.out = name, root, below, f"{root}/crates/{name}/out"
+        self.own = self.sum_of_files()
+        total = hashlib.sha256(repr((logic, libraries, self.own)).encode())
         total.update(repr([it.sum for it in below]).encode())
-        self.sum, self.text = total.hexdigest(), ""
-        self.line: Optional[str] = None
-        self.is_done, self.has_failed = False, False
+        self.every_below = {low.name: low for it in below for low in [*it.every_below.values(), it]}
+        self.sum, self.line, self.text = total.hexdigest(), None, ""
+        self.is_done, self.is_lost = False, False
 
-    def every_below(self) -> dict[str, Crate]:
-        found: dict[str, Crate] = {}
-        for it in self.below:
-            found.update({it.name: it, **it.every_below()})
-        return found
+    def sum_of_files(self):
+        total, self.lines = hashlib.sha256(), 0
+        for path in repository.files_of(self.name, self.root):
+            with open(path, "rb") as file:
+                text = file.read()
+            total.update(repr((os.path.relpath(path, self.root), text)).encode())
+            self.lines += text.count(b"\n") * path.endswith(".rt")
+        return total.hexdigest()
 
-    def read_mark(self) -> None:
-        """Takes over what an earlier run proved."""
-        try:
-            with open(f"{self.out}/proved", encoding="utf-8") as file:
-                total, line = file.read().splitlines()[:2]
-        except (OSError, ValueError):
-            return
+    def has_kept(self):
+        """Whether `rt` kept work of an earlier check."""
+        kept = f"{self.out}/incremental"
+        return os.path.isdir(kept) and bool(os.listdir(kept))
+
+    def read_mark(self):
+        """Takes over what an earlier run, or one beside this one, proved. Returns whether there is something."""
+        total, line, _ = read_mark(self.name, self.root)
         if total == self.sum:
             self.line, self.is_done = line, True
+        return self.is_done
 
-    def write_mark(self, line: str) -> None:
+    def note(self, line):
         """Notes that the crate is proved. `line` is the last one of its check; '-' where it was proved before and rt says no more."""
         self.line, self.is_done = line, True
+
+    def write_mark(self, line, seconds=""):
+        """Notes that the crate is proved, for later runs too."""
+        self.note(line)
         os.makedirs(self.out, exist_ok=True)
         with open(f"{self.out}/proved.new", "w", encoding="utf-8") as file:
-            file.write(f"{self.sum}\n{line}\n")
+            file.write(f"{self.sum}\n{line}\n{seconds}\n")
         os.replace(f"{self.out}/proved.new", f"{self.out}/proved")
 
-    def functions(self) -> int:
+    def functions(self):
         found = re.search(r"\bfunctions=(\d+)", self.line or "")
         return int(found[1]) if found else 0
 
 
-def crates_of(root: str, logic: str) -> list[Crate]:
-    """Returns the crates, each after those below it."""
-    lines = repository.read_crates(root)
-    made: dict[str, Crate] = {}
+def crates_of(root, logic, tops=()):
+    """Returns the crates that these are made of, all where none is named, each after those below it."""
+    lines, made = repository.read_crates(root), {}
 
-    def make(name: str) -> Crate:
+    def make(name):
         if name not in made:
             below = [make(it) for it in lines[name] if it in lines]
             made[name] = Crate(name, root, below, logic, lines[name])
         return made[name]
 
-    return sorted(map(make, lines), key=lambda it: len(it.every_below()))
+    for it in tops or lines:
+        if it in lines:
+            make(it)
+    return sorted(made.values(), key=lambda it: len(it.every_below))
 
 
 class Proving:
-    """One run over all crates. `verb` is check, or verdict, which takes nothing from earlier runs and proves tests too."""
+    """One run over crates: `tops` and all below them. It goes on from what earlier runs proved."""
 
-    def __init__(self, root: str, logic: str, jobs: int = 0, verb: str = "check") -> None:
-        self.root, self.verb = root, verb
-        self.crates = crates_of(root, logic)
+    # The most processes that one check gets.
+    most_jobs = pace.MOST_JOBS
+
+    def __init__(self, root, kit, jobs=0, tops=()):
+        self.root, self.kit, self.crates = root, kit, crates_of(root, repository.logic_of(kit), tops)
         self.named = {it.name: it for it in self.crates}
-        if verb == "check":
-            for it in self.crates:
-                it.read_mark()
-        self.jobs = jobs or max(1, min(processors(), free_memory() // MEMORY_OF_A_CHECK))
-        self.failed, self.begun = False, time.monotonic()
-        self.child: Optional[subprocess.Popen[str]] = None
-        self.on_terminal = sys.stdout.isatty()
+        self.jobs = jobs or max(1, min(self.processes(), free_memory() // MEMORY_OF_A_CHECK))
+        self.take_over()
+        self.children, self.events = {}, queue.Queue()
+        self.failed, self.was_edited, self.begun = False, False, time.monotonic()
+        self.on_terminal, self.clock = sys.stdout.isatty(), None
 
-    def proved(self) -> list[Crate]:
+    def processes(self):
+        # A check that several processes share leaves some of them idle at its begin and end.
+        return processors() * 5 // 4
+
+    def take_over(self):
+        for it in self.crates:
+            it.read_mark()
+
+    def make_plan(self, is_in_turn=False):
+        noted = pace.read_seconds()
+        seconds = {it.name: pace.seconds_of(it.name, it.lines, noted) for it in self.crates}
+        below = {it.name: [low.name for low in it.below] for it in self.crates}
+        self.clock = pace.Clock(pace.Plan(below, seconds, self.jobs, 1 if is_in_turn else self.jobs, self.most_jobs))
+
+    def proved(self):
         return [it for it in self.crates if it.line is not None]
 
-    def head(self) -> str:
-        done = sum(it.is_done for it in self.crates)
-        return f"{done} of {len(self.crates)} crates proved, {span(time.monotonic() - self.begun)}"
+    def ended(self):
+        """Returns the names of the crates that need no more time: proved ones, failed ones and those above these."""
+        return {it.name for it in self.crates if it.is_done or it.is_lost or self.is_above_lost(it)}
 
-    def say(self, text: str) -> None:
+    def is_above_lost(self, crate):
+        return any(it.is_lost for it in crate.every_below.values())
+
+    def head(self):
+        done = sum(it.is_done for it in self.crates)
+        text = f"{done} of {len(self.crates)} crates proved"
+        left = self.clock.left(self.ended(), time.monotonic()) if self.clock else 0
+        return f"{text}; {pace.words_of(left)}" if left else text
+
+    def say(self, text):
         if self.on_terminal:
             print("\r\x1b[K", end="")
         print(text, flush=True)
 
-    def renew(self) -> None:
+    def renew(self):
         """Renews the one line that a terminal shows."""
         if not self.on_terminal:
             return
-        waiting = [it for it in self.crates if not it.is_done and all(low.is_done for low in it.below)]
-        line = f"{self.head()}; now {', '.join(it.name for it in waiting[: self.jobs])}" if waiting else self.head()
+        now = ", ".join(self.clock.begun)
+        line = f"{self.head()}; now {now}" if now else self.head()
         width = os.get_terminal_size(1).columns or 80
         print(f"\r{line[: width - 1]}\x1b[K", end="", flush=True)
 
-    def take_block(self, name: str, text: str) -> None:
-        """Takes what rt said of a crate, once it is done with it."""
-        crate = self.named.get(name)
-        if crate is None or crate.is_done:
-            return
-        crate.text = text
-        found = [it for it in text.splitlines() if it.startswith("logic=proved ")]
-        if found:
-            crate.write_mark(found[-1])
-        elif not text.strip() or "begins with what a check kept" in text:
-            crate.is_done = True
-        if crate.is_done and not self.on_terminal:
-            self.say(f"{self.head()}: {name}")
+    def say_proved(self, crate):
+        if not self.on_terminal:
+            self.say(f"{self.head()}; last {crate.name}")
 
-    def take_summary(self, text: str) -> None:
-        """Takes the lines that rt closes with: each crate is ok, failed or wasn't run."""
-        for name, said in re.findall(r"^(\w+): (ok|failed .*|not run, .*)$", text, re.M):
-            crate = self.named.get(name)
-            if crate is None:
-                continue
-            if said == "ok":
-                if crate.line is None:
-                    crate.write_mark("-")
-                continue
-            is_known = crate.has_failed
-            self.failed, crate.line, crate.is_done = True, None, False
-            if is_known or said.startswith("not run"):
-                continue
-            crate.has_failed = True
-            os.makedirs(crate.out, exist_ok=True)
-            with open(f"{crate.out}/check.log", "w", encoding="utf-8") as log:
-                log.write(crate.text)
-            place = os.path.relpath(f"{crate.out}/check.log", self.root)
-            self.say(f"NOT PROVED: {name}; see {place}")
-            self.say("\n".join(crate.text.splitlines()[-15:]))
+    def say_not_proved(self, crate):
+        self.failed = crate.is_lost = True
+        crate.line, crate.is_done = None, False
+        os.makedirs(crate.out, exist_ok=True)
+        with open(f"{crate.out}/check.log", "w", encoding="utf-8") as log:
+            log.write(crate.text)
+        place = os.path.relpath(f"{crate.out}/check.log", self.root)
+        self.say(f"NOT PROVED: {crate.name}; see {place}")
+        self.say("\n".join(crate.text.splitlines()[-15:]))
 
-    def prove_in(self, folder: str) -> bool:
-        """Proves the crates in a folder and those below them, and returns whether all are proved."""
-        words = ["rt", "all", self.verb, "--jobs", str(self.jobs)]
-        child = self.child = subprocess.Popen(
+    def start(self, words, folder, name=""):
+        """Starts a command whose lines, and None with its status and its processor seconds at the end, come as events of this name."""
+        child = subprocess.Popen(
             words,
             cwd=folder,
             stdin=subprocess.DEVNULL,
@@ -204,74 +228,160 @@ class Proving:
             errors="replace",
             start_new_session=True,
         )
-        lines: queue.Queue[Optional[str]] = queue.Queue()
+        self.children[name] = child
 
-        def read() -> None:
-            for line in child.stdout or ():
-                lines.put(line)
-            lines.put(None)
+        def read():
+            for line in child.stdout:
+                self.events.put((name, line, None))
+            _, status, used = os.wait4(child.pid, 0)
+            child.returncode = os.waitstatus_to_exitcode(status)
+            self.events.put((name, None, (child.returncode, used.ru_utime + used.ru_stime)))
 
         threading.Thread(target=read, daemon=True).start()
-        name, begun = "", True
-        text: list[str] = []
-        while begun:
+
+    def wait(self):
+        """Returns the next event, and renews the line meanwhile."""
+        while True:
             self.renew()
             try:
-                line = lines.get(timeout=0.3)
+                return self.events.get(timeout=0.3)
             except queue.Empty:
                 continue
-            begun = line is not None
-            if line is None or line.startswith("== "):
-                if name == "summary":
-                    self.take_summary("".join(text))
-                elif name:
-                    self.take_block(name, "".join(text))
-                elif line is None:
-                    self.say("".join(text[-15:]).rstrip())
-                name, text = (line or "").removeprefix("== ").strip(), []
-            else:
-                text.append(line)
-        return child.wait() == 0 and not self.failed
 
-    def folders(self) -> list[str]:
-        """Returns where `rt all` is called, in turn.
+    def work(self):
+        """Checks each crate that isn't proved, once those below it are."""
+        self.words, is_shared = rt_words()
+        self.make_plan(is_in_turn=not is_shared)
+        self.used = {low.name for it in self.crates for low in it.below}
+        self.begin_next()
+        while self.children:
+            name, line, ended = self.wait()
+            if line is not None:
+                self.named[name].text += line
+                continue
+            del self.children[name]
+            self.clock.end(name, time.monotonic())
+            self.take(self.named[name], *ended)
+            self.begin_next()
 
-        Before its first proof `rt all` reads all that a crate needs, for each crate that no other uses. So first all is
-        proved that one library needs, the one with the most crates below, and then the rest.
-        """
-        used = {low.name: low for it in self.crates for low in it.below}
-        large = max(used.values(), key=lambda it: len(it.every_below()), default=None)
-        if self.verb == "check" and large is not None and large.line is None:
-            return [f"{self.root}/crates/{large.name}", self.root]
-        return [self.root]
+    def begin_next(self):
+        """Begins the checks for which there are processes."""
+        while True:
+            found = self.clock.plan.next(self.ended(), {it: jobs for it, (jobs, _) in self.clock.begun.items()})
+            if found is None:
+                return
+            name, jobs = found
+            crate = self.named[name]
+            crate.text, crate.is_new = "", not crate.has_kept()
+            self.clock.begin(name, jobs, time.monotonic())
+            verb = "lib" if name in self.used else "check"
+            self.start([*self.words, verb, "--jobs", str(jobs)], f"{self.root}/crates/{name}", name)
 
-    def run(self) -> bool:
+    def take(self, crate, status, seconds):
+        """Takes what rt said of a crate, once its check has ended."""
+        if status == shared_rt.CHANGED or crate.sum_of_files() != crate.own:
+            self.was_edited = crate.is_lost = True
+        elif status:
+            self.say_not_proved(crate)
+        else:
+            found = [it for it in crate.text.splitlines() if it.startswith("logic=proved ")]
+            if found:
+                crate.write_mark(found[-1], f"{seconds:.0f}" if crate.is_new else "")
+            elif not crate.read_mark():
+                crate.write_mark("-")
+            self.say_proved(crate)
+
+    def run(self):
         """Proves what isn't proved, and returns whether every crate is. Ends its checks where it is broken off."""
         kept = len(self.proved())
         if kept:
             print(f"{kept} of {len(self.crates)} crates are proved already and haven't changed", flush=True)
-        is_proved = kept == len(self.crates)
         try:
-            if not is_proved:
-                is_proved = all([self.prove_in(it) for it in self.folders()])
+            if kept < len(self.crates):
+                self.work()
         finally:
             self.end()
         if self.on_terminal:
             print("\r\x1b[K", end="")
         for it in self.crates:
-            if any(low.line is None for low in it.every_below().values()):
+            if self.is_above_lost(it):
                 print(f"not reached: {it.name}, which uses a crate that isn't proved", flush=True)
-        return is_proved and len(self.proved()) == len(self.crates)
+        if self.was_edited:
+            print("sfq: a source was edited meanwhile: run ./build again", file=sys.stderr)
+        return not self.failed and len(self.proved()) == len(self.crates)
 
-    def end(self) -> None:
-        """Ends the checks that run still: they are a group of their own, which this run started."""
-        if self.child is None or self.child.poll() is not None:
+    def end(self):
+        """Ends the checks that run still: each is a group of its own, which this run started."""
+        left = [it for it in self.children.values() if it.returncode is None]
+        for sign in (signal.SIGTERM, signal.SIGKILL):
+            for it in left:
+                try:
+                    os.killpg(it.pid, sign)
+                except ProcessLookupError:
+                    pass
+            until = time.monotonic() + 10
+            while any(it.returncode is None for it in left) and time.monotonic() < until:
+                time.sleep(0.05)
+            left = [it for it in left if it.returncode is None]
+
+
+class Verdict(Proving):
+    """A run over all crates and their tests that takes nothing from earlier runs, by `rt all verdict`. It leaves no marks: `rt` keeps
+    nothing of a verdict that something can be made of."""
+
+    most_jobs = 1
+
+    def processes(self):
+        return processors()
+
+    def take_over(self):
+        pass
+
+    def guess(self):
+        """Notes which crates `rt all` works on now: the first that wait for none."""
+        now, ended = time.monotonic(), self.ended()
+        for it in [it for it in self.clock.begun if it in ended]:
+            self.clock.end(it, now)
+        ready = [it.name for it in self.crates if it.name not in ended and all(low.is_done for low in it.below)]
+        for it in ready[: self.jobs]:
+            if it not in self.clock.begun:
+                self.clock.begin(it, 1, now)
+
+    def work(self):
+        self.make_plan()
+        self.start(["rt", "all", "verdict", "--jobs", str(self.jobs)], self.root)
+        name, text, line = "", [], ""
+        while line is not None:
+            self.guess()
+            _, line, ended = self.wait()
+            if line is not None and not line.startswith("== "):
+                text.append(line)
+                continue
+            if name == "summary":
+                self.take_summary("".join(text))
+            elif name:
+                self.take_block(name, "".join(text))
+            elif line is None:
+                self.say("".join(text[-15:]).rstrip())
+            name, text = (line or "").removeprefix("== ").strip(), []
+        self.failed = self.failed or ended[0] != 0
+
+    def take_block(self, name, text):
+        """Takes what rt said of a crate, once it is done with it."""
+        crate = self.named.get(name)
+        if crate is None or crate.is_done:
             return
-        try:
-            os.killpg(self.child.pid, signal.SIGTERM)
-            self.child.wait(timeout=10)
-        except ProcessLookupError:
-            pass
-        except subprocess.TimeoutExpired:
-            os.killpg(self.child.pid, signal.SIGKILL)
-            self.child.wait()
+        crate.text = text
+        found = [it for it in text.splitlines() if it.startswith("logic=proved ")]
+        if found:
+            crate.note(found[-1])
+            self.say_proved(crate)
+
+    def take_summary(self, text):
+        """Takes the lines that rt closes with: each crate is ok, failed or wasn't run."""
+        for name, said in re.findall(r"^(\w+): (ok|failed .*|not run, .*)$", text, re.M):
+            crate = self.named.get(name)
+            if crate is not None and said.startswith("failed"):
+                self.say_not_proved(crate)
+            elif crate is not None and said == "ok" and crate.line is None:
+                crate.note("-")

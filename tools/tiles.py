@@ -1,10 +1,10 @@
 """Makes the program sfq-tiles of its proved crate: crates/sfq_tiles/out/sfq_tiles. `./build --tiles` calls this."""
 import os
 import shutil
-import subprocess
 import sys
 
 import calls
+import proving
 import repository
 
 CRATE = "sfq_tiles"
@@ -30,11 +30,8 @@ def is_made() -> bool:
 
 def link() -> None:
     """Links the proved program."""
-    log = f"{FOLDER}/out/link.log"
-    with open(log, "wb") as out:
-        words = ["rt", "run", "--", "--version"]
-        ran = subprocess.run(words, cwd=FOLDER, stdin=subprocess.DEVNULL, stdout=out, stderr=out)
-    if ran.returncode or not os.access(PROGRAM, os.X_OK):
+    status, log = proving.link(repository.ROOT, CRATE)
+    if status or not os.access(PROGRAM, os.X_OK):
         raise calls.Failure(f"the program couldn't be linked; see {os.path.relpath(log, repository.ROOT)}")
     stamp()
 
