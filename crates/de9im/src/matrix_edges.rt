@@ -1,9 +1,10 @@
 //! Raises the cells of a matrix by the edges of a geometry.
 
-ghost use Rattle.std.specs.Prelude.{◌≡◌, [], true, All, Contains, OnOk};
+ghost use Rattle.std.specs.Prelude.{◌≡◌, [], true, Some, All, Contains, OnOk};
 ghost use Rattle.geometry_model.specs.Geometries.{kind, edges};
 ghost use Rattle.geometry_model.specs.Locations.{locate};
 ghost use Rattle.geometry_model.specs.Dimensions.{cell};
+ghost use Rattle.geometry_model.specs.Envelopes.{envelope};
 ghost use Rattle.geometry_model.specs.Validity.{IsValid};
 ghost use Rattle.geometry_model.specs.declared.point_sets.Dimension.TheVariants.{Zero};
 ghost use Rattle.validity.specs.ValidGeometries.{HasLength};
@@ -23,6 +24,7 @@ use fraction::RatPoint;
 use geometry_model::{Dimension, Kind, Location};
 use noding::{Gaps, MergedEdges};
 use orient::Segment;
+use rtree::Envelope;
 use std::alloc::{AllocError, Global};
 use validity::Valid;
 
@@ -219,8 +221,45 @@ fn is_full(pass: Pass, first: &Valid, second: &Valid, matrix: &MatrixCells) -> b
     }
 }
 
-/// Raises cells by the edges of the first geometry in a pass, from the last one back, until no further one can raise a cell. It
-/// fails only when memory runs out.
+/// Raises cells in a pass by the edges of the first geometry, which is large beside the second, from the last one back, until no
+/// further one can raise a cell. It fails only when memory runs out.
+fn raise_edges_near(
+    alloc: Global,
+    pass: Pass,
+    first: &Valid,
+    second: &Valid,
+    around: &Envelope,
+    gaps: &mut Gaps,
+    matrix: &mut MatrixCells,
+) -> Result<(), AllocError>
+    requires first_valid { IsValid first.now }
+    requires second_valid { IsValid second.now }
+    requires lengths { All HasLength (edges first.now) }
+    requires ends { ShowsEnds first.now second.now matrix.old }
+    requires ready { IsReady pass first.now second.now matrix.old }
+    requires around { envelope second.now ≡ Some around.now }
+    ensures grows { OnOk result (Grows first.now second.now matrix.old matrix.new) }
+    ensures covers { OnOk result (All (Covers first.now second.now matrix.new) (edges first.now)) }
+{
+    let mut merged = MergedEdges::new(alloc);
+    let mut left = first.segments().len();
+    while left > 0 {
+        if is_full(pass, first, second, matrix) {
+            return Ok(());
+        }
+        left = left_to_raise(first, second, around, left, matrix);
+        if left == 0 {
+            return Ok(());
+        }
+        left -= 1;
+        let edge = &first.segments()[left];
+        raise_edge(pass, first, second, edge, gaps, &mut merged, matrix)?;
+    }
+    Ok(())
+}
+
+/// Raises cells by the edges of the first geometry in a pass, until no further one can raise a cell. It fails only when memory
+/// runs out.
 pub(crate) fn raise_edges(
     alloc: Global,
     pass: Pass,
@@ -241,19 +280,14 @@ pub(crate) fn raise_edges(
         raise_apart(first, second, matrix);
         return Ok(());
     }
-    let around = envelope_beside(first.segments().len(), second);
+    if let Some(around) = envelope_beside(first.segments().len(), second) {
+        return raise_edges_near(alloc, pass, first, second, &around, gaps, matrix);
+    }
     let mut merged = MergedEdges::new(alloc);
-    let mut left = first.segments().len();
-    while left > 0 {
+    for edge in first.segments() {
         if is_full(pass, first, second, matrix) {
             return Ok(());
         }
-        left = left_to_raise(first, second, &around, left, matrix);
-        if left == 0 {
-            return Ok(());
-        }
-        left -= 1;
-        let edge = &first.segments()[left];
         raise_edge(pass, first, second, edge, gaps, &mut merged, matrix)?;
     }
     Ok(())

@@ -1,6 +1,6 @@
 //! Which edges of a large geometry beside a small one can raise a cell of their matrix: those outside its envelope are passed over.
 
-ghost use Rattle.std.specs.Prelude.{◌≡◌, ◌≤◌, true, length, slice_range, All, Some, IfSome};
+ghost use Rattle.std.specs.Prelude.{◌≡◌, ◌≤◌, true, length, slice_range, All, Some};
 ghost use Rattle.geometry_model.specs.Geometries.{edges};
 ghost use Rattle.geometry_model.specs.Envelopes.{envelope};
 ghost use Rattle.geometry_model.specs.Validity.{IsValid};
@@ -37,26 +37,22 @@ fn left_upright(segments: &[Segment], around: &Envelope, end: usize) -> usize
     left
 }
 
-/// The place from which on no edge of the first geometry before the place given can raise a cell, where the second's envelope is
-/// given. Once the matrix shows all that edges outside it can show, it passes over these; once it shows what upright ones can,
-/// over those.
+/// The place from which on no edge of the first geometry before the place given can raise a cell. Once the matrix shows all that
+/// edges outside the second one's envelope can show, it passes over these; once it shows what upright ones can, over those.
 pub(crate) fn left_to_raise(
     first: &Valid,
     second: &Valid,
-    around: &Option<Envelope>,
+    around: &Envelope,
     end: usize,
     matrix: &MatrixCells,
 ) -> usize
     requires second_valid { IsValid second.now }
     requires ends { ShowsEnds first.now second.now matrix.now }
-    requires around { IfSome around.now (λ e. envelope second.now ≡ Some e) }
+    requires around { envelope second.now ≡ Some around.now }
     requires end { end ≤ length (edges first.now) }
     ensures before { result ≤ end }
     ensures covers { All (Covers first.now second.now matrix.now) (slice_range (edges first.now) result end) }
 {
-    let Some(around) = around else {
-        return end;
-    };
     if is_full_outside(first.kind(), matrix) {
         return first.boxes().last_near(first.segments(), around, end);
     }

@@ -1,7 +1,6 @@
 use Rattle.std.proofs.Common.{◌≡◌, ◌∙◌, false, ap, sym, subst, List}
-use Rattle.std.specs.Prelude.{slice_range, IfSome, Some}
+use Rattle.std.specs.Prelude.{slice_range}
 use Rattle.std.specs.List.{list_any}
-use Rattle.geometry_model.specs.Envelopes.{envelope}
 use Rattle.geometry_model.specs.Geometries.{Edge}
 use Rattle.geometry_model.specs.declared.point_sets.Location.{Location}
 use Rattle.geometry_model.specs.declared.point_sets.Location.TheVariants.{Exterior}
@@ -22,15 +21,15 @@ pub returns-then-is_full_outside-clause-covers : goal.returns-then-is_full_outsi
 returns-then-is_full_outside-clause-covers c =
     let a = c.args.first.now in
     let b = c.args.second.now in
-    let around = c.in-Some.around in
-    part_covered a b c.requires.second_valid around (subst (λ o. IfSome o (λ e. envelope b ≡ Some e)) c.in-Some.is c.requires.around) c.args.matrix.now c.requires.ends (c.is_full_outside.ensures c.if-is_full_outside.true a (sym c.kind.ensures)) c.last_near.result c.args.end
+    let around = c.args.around.now in
+    part_covered a b c.requires.second_valid around c.requires.around c.args.matrix.now c.requires.ends (c.is_full_outside.ensures c.if-is_full_outside.true a (sym c.kind.ensures)) c.last_near.result c.args.end
     (subst (λ (es : List Edge). list_any (is_near around) (slice_range es c.last_near.result c.args.end) ≡ false) c.segments.ensures c.last_near.ensures.outside)
 
 pub returns-then-shows-clause-covers : goal.returns-then-shows-clause-covers
 returns-then-shows-clause-covers c =
     let a = c.args.first.now in
     let b = c.args.second.now in
-    let around = c.in-Some.around in
+    let around = c.args.around.now in
     let shown = subst (λ (l : Location). Shows c.args.matrix.now l Exterior One) (c.of_own_edges.ensures ∙ ap of_own_edges c.kind-2.ensures) (sym c.shows.ensures ∙ c.if-shows.true) in
-    upright_covered a b c.requires.second_valid around (subst (λ o. IfSome o (λ e. envelope b ≡ Some e)) c.in-Some.is c.requires.around) c.args.matrix.now c.requires.ends shown c.left_upright.result c.args.end
+    upright_covered a b c.requires.second_valid around c.requires.around c.args.matrix.now c.requires.ends shown c.left_upright.result c.args.end
     (subst (λ (es : List Edge). All (IsUprightOutside around) (slice_range es c.left_upright.result c.args.end)) c.segments-then-shows.ensures c.left_upright.ensures.outside)
