@@ -112,7 +112,7 @@ same_is [] (j ∷ n) h = absurd h
 same_is (i ∷ m) [] h = absurd h
 same_is (i ∷ m) (j ∷ n) h = let both : T (eqb i j) × T (same_variables m n) = and_true (eqb i j) (same_variables m n) h in ap₂ (λ (k : ℕ) (l : List ℕ). k ∷ l) (eqb→eq i j both.0) (same_is m n both.1)
 
-swap_factors : (a b c : ℤ) → a *ℤ (b *ℤ c) ≡ b *ℤ (a *ℤ c)
+pub swap_factors : (a b c : ℤ) → a *ℤ (b *ℤ c) ≡ b *ℤ (a *ℤ c)
 swap_factors a b c = sym (associates a b c) ∙ ap (λ (x : ℤ). x *ℤ c) (*ℤ_comm a b) ∙ associates b a c
 
 swap_summands : (a b c : ℤ) → a +ℤ (b +ℤ c) ≡ b +ℤ (a +ℤ c)
