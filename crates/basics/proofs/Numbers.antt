@@ -18,6 +18,22 @@ less_or_more k n h = grind arith
 pub at_least_same : (n m j : ℕ) → n ≡ m → n ≤ j → m ≤ j
 at_least_same n m j e h = omega (arith, e, h)
 
+-- what is less isn't the same
+pub less_not_same : (k n : ℕ) → k < n → k ≡ n → ⊥
+less_not_same k n h e = omega (arith, h, e)
+
+-- from 0 on
+pub from_zero : (n : ℕ) → n ≡ zero + n
+from_zero n = omega arith
+
+-- up to the end
+pub to_end : (n : ℕ) → n ≡ n + 0
+to_end n = omega arith
+
+-- one further on and one less to go
+pub one_on : (k n : ℕ) → k + (n + 1) ≡ suc k + n
+one_on k n = omega arith
+
 -- one less than the next is the number
 pub one_less : (n : ℕ) → suc n - 1 ≡ n
 one_less n = omega arith

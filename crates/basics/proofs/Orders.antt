@@ -1,5 +1,5 @@
 -- The order of whole numbers, and comparisons one after another.
-use Rattle.std.proofs.Common.{◌≡◌, refl, ℕ, ◌<◌, ◌⊎◌, inl, inr, true, false, ◌&&◌, ◌||◌, ℤ, pos, ◌-ℤ◌, ◌≤ℤ◌, ◌<ℤ◌, int_le, int_lt, int_cmp, is_lt, Ordering, Less, Equal, Greater, arith}
+use Rattle.std.proofs.Common.{◌≡◌, refl, ℕ, suc, ◌<◌, ◌⊎◌, inl, inr, true, false, ◌&&◌, ◌||◌, ℤ, pos, ◌+ℤ◌, ◌-ℤ◌, ◌≤ℤ◌, ◌<ℤ◌, int_le, int_lt, int_cmp, is_lt, Ordering, Less, Equal, Greater, arith}
 use Rattle.std.specs.Int.{int_max, int_min}
 use Rattle.std.specs.Ordering.{ordering_then}
 use Rattle.std.proofs.lemmas.Int.{clamps}
@@ -14,9 +14,21 @@ weak_positive x h = omega (arith, ints)
 pub weak_negative : (x : ℤ) → x <ℤ pos 0 → x ≤ℤ pos 0
 weak_negative x h = omega (arith, ints)
 
+-- a natural number is at least 0
+pub natural_weak : (n : ℕ) → pos 0 ≤ℤ pos n
+natural_weak n = omega (arith, ints)
+
+-- the next of one is above 0
+pub next_positive : (n : ℕ) → pos 0 <ℤ pos (suc n)
+next_positive n = omega (arith, ints)
+
 -- what is above 0 isn't 0
 pub positive_not_zero : (x : ℤ) → pos 0 <ℤ x → x ≡ pos 0 → ⊥
 positive_not_zero x h e = omega (arith, ints)
+
+-- what is 0 isn't above 0
+pub zero_not_positive : (x : ℤ) → x ≡ pos 0 → pos 0 <ℤ x → ⊥
+zero_not_positive x e h = omega (arith, ints)
 
 -- what equals something above 0 is above 0
 pub positive_same : (x y : ℤ) → x ≡ y → pos 0 <ℤ y → pos 0 <ℤ x
@@ -38,7 +50,29 @@ one_not_zero e = omega (arith, ints)
 pub negative_turned : (x : ℤ) → x <ℤ pos 0 → pos 0 ≤ℤ (pos 0 -ℤ x)
 negative_turned x h = omega (arith, ints)
 
--- from a number to a greater one it is more than 0
+-- or above 0
+pub negative_flipped : (x : ℤ) → x <ℤ pos 0 → pos 0 <ℤ (pos 0 -ℤ x)
+negative_flipped x h = omega (arith, ints)
+
+-- 0 less something at most 0 is at least 0
+pub weak_turned : (x : ℤ) → x ≤ℤ pos 0 → pos 0 ≤ℤ (pos 0 -ℤ x)
+weak_turned x h = omega (arith, ints)
+
+-- sums of what is above 0, or at least 0
+pub sum_positive : (x y : ℤ) → pos 0 <ℤ x → pos 0 <ℤ y → pos 0 <ℤ (x +ℤ y)
+sum_positive x y h k = omega (arith, ints)
+
+pub sum_weak : (x y : ℤ) → pos 0 ≤ℤ x → pos 0 ≤ℤ y → pos 0 ≤ℤ (x +ℤ y)
+sum_weak x y h k = omega (arith, ints)
+
+pub sum_first_positive : (x y : ℤ) → pos 0 <ℤ x → pos 0 ≤ℤ y → pos 0 <ℤ (x +ℤ y)
+sum_first_positive x y h k = omega (arith, ints)
+
+pub sum_last_positive : (x y : ℤ) → pos 0 ≤ℤ x → pos 0 <ℤ y → pos 0 <ℤ (x +ℤ y)
+sum_last_positive x y h k = omega (arith, ints)
+
+-- ---- from a number to another
+-- to a greater one it is more than 0
 pub gap_positive : (x y : ℤ) → x <ℤ y → pos 0 <ℤ (y -ℤ x)
 gap_positive x y h = omega (arith, ints)
 
@@ -46,7 +80,29 @@ gap_positive x y h = omega (arith, ints)
 pub gap_weak : (x y : ℤ) → x ≤ℤ y → pos 0 ≤ℤ (y -ℤ x)
 gap_weak x y h = omega (arith, ints)
 
+-- and to an equal one 0
+pub gap_none : (x y : ℤ) → x ≡ y → y -ℤ x ≡ pos 0
+gap_none x y e = omega (arith, ints)
+
+-- and the other way round
+pub less_from_gap : (x y : ℤ) → pos 0 <ℤ (y -ℤ x) → x <ℤ y
+less_from_gap x y h = omega (arith, ints)
+
+pub at_most_from_gap : (x y : ℤ) → pos 0 ≤ℤ (y -ℤ x) → x ≤ℤ y
+at_most_from_gap x y h = omega (arith, ints)
+
+pub same_from_gap : (x y : ℤ) → y -ℤ x ≡ pos 0 → x ≡ y
+same_from_gap x y e = omega (arith, ints)
+
+-- numbers without a difference are equal
+pub no_difference : (x y : ℤ) → x -ℤ y ≡ pos 0 → x ≡ y
+no_difference x y e = omega (arith, ints)
+
 -- ---- two or three numbers
+-- less is at most
+pub less_weak : (x y : ℤ) → x <ℤ y → x ≤ℤ y
+less_weak x y h = omega (arith, ints)
+
 -- equal numbers aren't less
 pub same_not_less : (x y : ℤ) → x ≡ y → x <ℤ y → ⊥
 same_not_less x y e h = omega (arith, ints)

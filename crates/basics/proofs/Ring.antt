@@ -10,6 +10,7 @@ use lib.Dec.{T, leb, eqb, eqb→eq}
 use lib.IntN.{ℤ, pos, negsuc, ◌+ℤ◌, ◌-ℤ◌, ◌*ℤ◌, +ℤ_assoc, +ℤ_idl, *ℤ_comm, zero-*ℤ}
 use borrow.Author.Differences.{ints}
 use Rattle.basics.proofs.IntRing.{distributes, associates}
+use Rattle.basics.proofs.Orders.{no_difference}
 
 infixl 6 ◌⊕◌ ◌⊖◌
 infixl 7 ◌⊗◌
@@ -206,6 +207,3 @@ all_nothing_is ρ (t ∷ p) h = let both : T (is_nothing t.coefficient) × T (al
 -- two expressions are equal at all values where every coefficient of their difference is 0
 pub solve : (ρ : List ℤ) (l r : Expr) → T (all_nothing (normal (l ⊖ r))) → eval ρ l ≡ eval ρ r
 solve ρ l r h = no_difference (eval ρ l) (eval ρ r) (sym (normal_is ρ (l ⊖ r)) ∙ all_nothing_is ρ (normal (l ⊖ r)) h)
-  where
-    no_difference : (x y : ℤ) → x -ℤ y ≡ pos 0 → x ≡ y
-    no_difference x y e = omega (arith, ints)

@@ -1,5 +1,6 @@
 //! Laws of sums, products and orders of whole numbers, which the proofs of geometry use. Nothing here runs: each function has an
-//! empty body, and its contract is a law.
+//! empty body, and its contract is a law. `proofs/` has what several crates need of tests, options, lists, numbers and their order
+//! and std doesn't have.
 #![tactic(auto)]
 
 ghost use Rattle.basics.specs.Laws.{Distributes, Associates, ProductOfDifferences, LessIsTransitive, AtMostIsTransitive, ZeroProduct, SignIsKept};

@@ -1,11 +1,12 @@
 use Rattle.std.proofs.Common.{◌≡◌, sym, ap, ap₂, ◌∙◌, subst, ℤ, ◌-ℤ◌, ◌*ℤ◌, ◌≤◌, ◌*◌, unsigned_abs, to_z, of_z, arith}
 use Rattle.std.proofs.lemmas.Int.{ints, to_z-of_z}
+use Rattle.basics.proofs.Numbers.{product_within}
 use mir.Syntax.{w64, w128}
 use mir.Val.{SFits}
 use Rattle.geometry_model.specs.WellKnownText.{coordinate_limit}
 use Rattle.fraction.specs.Ranges.{denominator_limit}
 use Rattle.witnesses.specs.Heights.{rise_limit}
-use Rattle.orient.proofs.Bounds.{product_within, VectorFits, vector_fits, vector_read, read}
+use Rattle.orient.proofs.Bounds.{VectorFits, vector_fits, vector_read, read}
 use Rattle.witnesses.proofs.height_products.vector_product.Goals as goal
 
 -- the difference, each number read where it comes from, and that it fits
