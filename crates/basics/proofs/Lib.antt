@@ -3,3 +3,8 @@ pub mod Ring
 pub mod Signs
 pub mod Quotients
 pub mod Tests
+pub mod Bools
+pub mod Numbers
+pub mod Options
+pub mod Lists
+pub mod Orders

@@ -10,6 +10,7 @@ use lib.Dec.{T, leb, eqb, eqb→eq}
 use lib.IntN.{ℤ, pos, negsuc, ◌+ℤ◌, ◌-ℤ◌, ◌*ℤ◌, +ℤ_assoc, +ℤ_idl, *ℤ_comm, zero-*ℤ}
 use borrow.Author.Differences.{ints}
 use Rattle.basics.proofs.IntRing.{distributes, associates}
+use Rattle.basics.proofs.Orders.{no_difference}
 
 infixl 6 ◌⊕◌ ◌⊖◌
 infixl 7 ◌⊗◌
@@ -112,7 +113,7 @@ same_is [] (j ∷ n) h = absurd h
 same_is (i ∷ m) [] h = absurd h
 same_is (i ∷ m) (j ∷ n) h = let both : T (eqb i j) × T (same_variables m n) = and_true (eqb i j) (same_variables m n) h in ap₂ (λ (k : ℕ) (l : List ℕ). k ∷ l) (eqb→eq i j both.0) (same_is m n both.1)
 
-swap_factors : (a b c : ℤ) → a *ℤ (b *ℤ c) ≡ b *ℤ (a *ℤ c)
+pub swap_factors : (a b c : ℤ) → a *ℤ (b *ℤ c) ≡ b *ℤ (a *ℤ c)
 swap_factors a b c = sym (associates a b c) ∙ ap (λ (x : ℤ). x *ℤ c) (*ℤ_comm a b) ∙ associates b a c
 
 swap_summands : (a b c : ℤ) → a +ℤ (b +ℤ c) ≡ b +ℤ (a +ℤ c)
@@ -206,6 +207,3 @@ all_nothing_is ρ (t ∷ p) h = let both : T (is_nothing t.coefficient) × T (al
 -- two expressions are equal at all values where every coefficient of their difference is 0
 pub solve : (ρ : List ℤ) (l r : Expr) → T (all_nothing (normal (l ⊖ r))) → eval ρ l ≡ eval ρ r
 solve ρ l r h = no_difference (eval ρ l) (eval ρ r) (sym (normal_is ρ (l ⊖ r)) ∙ all_nothing_is ρ (normal (l ⊖ r)) h)
-  where
-    no_difference : (x y : ℤ) → x -ℤ y ≡ pos 0 → x ≡ y
-    no_difference x y e = omega (arith, ints)

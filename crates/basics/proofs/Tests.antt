@@ -10,6 +10,7 @@ use Rattle.std.specs.declared.cmp.Ordering.TheVariants.{Less, Equal, Greater}
 use Rattle.std.specs.Ordering.{int_cmp, int_eq, is_eq}
 use Rattle.basics.proofs.Quotients.{less_scaled}
 use Rattle.basics.proofs.Signs.{less_yes, less_no, three_ways, same_less, same_at_most, strict_plus_plus, strict_plus_minus, plus_plus, plus_minus, cancel_positive, cancel_negative, cancel_nonnegative, cancel_nonpositive}
+use Rattle.basics.proofs.Orders.{weak_positive}
 
 -- ---- which of three
 -- a comparison answers with the order of the two numbers
@@ -102,28 +103,16 @@ same_cmp a b c d f g h = go (three_ways a b)
 
 -- ---- a number times one above 0 has its sign
 pub positive_scaled : (k a : ℤ) → pos 0 <ℤ k → int_lt (pos 0) (k *ℤ a) ≡ int_lt (pos 0) a
-positive_scaled k a h = same_less (pos 0) (k *ℤ a) (pos 0) a (λ l. cancel_positive k a (weak k h) l) (λ l. strict_plus_plus k a h l)
-  where
-    weak : (x : ℤ) → pos 0 <ℤ x → pos 0 ≤ℤ x
-    weak x h = omega (arith, ints)
+positive_scaled k a h = same_less (pos 0) (k *ℤ a) (pos 0) a (λ l. cancel_positive k a (weak_positive k h) l) (λ l. strict_plus_plus k a h l)
 
 pub negative_scaled : (k a : ℤ) → pos 0 <ℤ k → int_lt (k *ℤ a) (pos 0) ≡ int_lt a (pos 0)
-negative_scaled k a h = same_less (k *ℤ a) (pos 0) a (pos 0) (λ l. cancel_negative k a (weak k h) l) (λ l. strict_plus_minus k a h l)
-  where
-    weak : (x : ℤ) → pos 0 <ℤ x → pos 0 ≤ℤ x
-    weak x h = omega (arith, ints)
+negative_scaled k a h = same_less (k *ℤ a) (pos 0) a (pos 0) (λ l. cancel_negative k a (weak_positive k h) l) (λ l. strict_plus_minus k a h l)
 
 pub nonnegative_scaled : (k a : ℤ) → pos 0 <ℤ k → int_le (pos 0) (k *ℤ a) ≡ int_le (pos 0) a
-nonnegative_scaled k a h = same_at_most (pos 0) (k *ℤ a) (pos 0) a (λ l. cancel_nonnegative k a h l) (λ l. plus_plus k a (weak k h) l)
-  where
-    weak : (x : ℤ) → pos 0 <ℤ x → pos 0 ≤ℤ x
-    weak x h = omega (arith, ints)
+nonnegative_scaled k a h = same_at_most (pos 0) (k *ℤ a) (pos 0) a (λ l. cancel_nonnegative k a h l) (λ l. plus_plus k a (weak_positive k h) l)
 
 pub nonpositive_scaled : (k a : ℤ) → pos 0 <ℤ k → int_le (k *ℤ a) (pos 0) ≡ int_le a (pos 0)
-nonpositive_scaled k a h = same_at_most (k *ℤ a) (pos 0) a (pos 0) (λ l. cancel_nonpositive k a h l) (λ l. plus_minus k a (weak k h) l)
-  where
-    weak : (x : ℤ) → pos 0 <ℤ x → pos 0 ≤ℤ x
-    weak x h = omega (arith, ints)
+nonpositive_scaled k a h = same_at_most (k *ℤ a) (pos 0) a (pos 0) (λ l. cancel_nonpositive k a h l) (λ l. plus_minus k a (weak_positive k h) l)
 
 -- so it compares with 0 as that number does
 pub cmp_scaled : (k a : ℤ) → pos 0 <ℤ k → int_cmp (k *ℤ a) (pos 0) ≡ int_cmp a (pos 0)

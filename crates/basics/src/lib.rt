@@ -1,5 +1,6 @@
-//! The arithmetic of proofs: laws of sums, products and orders of whole numbers, and lemmas of rings, quotients and signs.
-//! Nothing here runs: each function has an empty body, and its contract is a law.
+//! The arithmetic and the common facts of proofs: laws of sums, products and orders of whole numbers, lemmas of rings, quotients
+//! and signs, and what several crates need of tests, options, lists, numbers and their order and std doesn't have. Nothing here
+//! runs: each function has an empty body, and its contract is a law.
 #![tactic(auto)]
 
 ghost use Rattle.basics.specs.Laws.{Distributes, Associates, ProductOfDifferences, LessIsTransitive, AtMostIsTransitive, ZeroProduct, SignIsKept};

@@ -4,6 +4,7 @@ use Rattle.std.specs.Prelude.{slice_range}
 use Rattle.std.specs.List.{All, list_any}
 use Rattle.std.proofs.lemmas.List.{take-append-drop}
 use Rattle.std.proofs.lemmas.List.Elements.{All-nil, All-cons, All-append, All-same}
+use Rattle.std.proofs.lemmas.List.Folds.{drop_split}
 use Rattle.geometry_model.specs.Points.{Point, IsPoint}
 use Rattle.geometry_model.specs.Geometries.{Edge, Geometry, kind, edges}
 use Rattle.geometry_model.specs.Sides.{on}
@@ -30,7 +31,6 @@ use Rattle.matrix_laws.specs.Covering.{IsOffEdges, ShowsOff, ShowsEnds}
 use Rattle.matrix_laws.proofs.GapTheorems.{off_edges_is_no_boundary}
 use Rattle.matrix_laws.proofs.Located.{on_or_off, off_is_shown}
 use Rattle.edge_boxes.specs.NearEdges.{is_near}
-use Rattle.edge_boxes.proofs.BoxFacts.{run_then_rest}
 use Rattle.de9im.proofs.EdgePoints.{Applies, no_edges, own_point}
 use Rattle.de9im.proofs.OddEnds.{odd_end_is_boundary}
 use Rattle.de9im.specs.Raising.{IsUprightOutside}
@@ -141,7 +141,7 @@ one_more P xs (suc i) end x h k l is px rest =
 
 -- what holds of a part and of the rest
 pub with_part : {X : Type 0} (P : X → Type 0) (xs : List X) (first end : ℕ) → first ≤ end → All P (slice_range xs first end) → All P (drop end xs) → All P (drop first xs)
-with_part P xs first end h part rest = All-same P (drop first xs) (slice_range xs first end ++ drop end xs) (run_then_rest xs first end h) (All-append P (slice_range xs first end) (drop end xs) part rest)
+with_part P xs first end h part rest = All-same P (drop first xs) (slice_range xs first end ++ drop end xs) (drop_split xs first end h) (All-append P (slice_range xs first end) (drop end xs) part rest)
 
 -- what holds of the element before the rest, and of the rest
 pub one_before : {X : Type 0} (P : X → Type 0) (xs : List X) (left : ℕ) (x : X) → 0 < left → left ≤ length xs → x ≡ get_or xs (left - 1) x → P x → All P (drop left xs) → All P (drop (left - 1) xs)

@@ -1,16 +1,17 @@
 -- Edges of which one lies beside the other: both its ends are on one side of that one's line.
 use Rattle.std.proofs.Common.{ℤ, pos, ◌+ℤ◌, ◌*ℤ◌, ◌≤ℤ◌, ◌<ℤ◌, int_lt, ◌≡◌, refl, ◌⊎◌, inl, inr, Bool, true, false, ◌&&◌, ◌||◌, sym, ◌∙◌, subst, arith}
+use Rattle.std.proofs.lemmas.Bool.{and_parts}
 use borrow.Author.Differences.{ints}
 use Rattle.basics.proofs.Signs.{three_ways, plus_plus, plus_minus, strict_plus_plus, strict_plus_minus, less_from}
+use Rattle.basics.proofs.Orders.{weak_positive, weak_negative}
 use Rattle.geometry_model.specs.Points.{point_at}
 use Rattle.geometry_model.specs.Geometries.{Edge}
 use Rattle.geometry_model.specs.Sides.{side}
 use Rattle.geometry_model.specs.Validity.{SharePoint}
 use Rattle.geometry_model.specs.FirstFaults.{share_point}
 use Rattle.geometry_model.proofs.DimensionFacts.{is_false}
-use Rattle.geometry_laws.proofs.Scaling.{and_parts}
 use Rattle.geometry_laws.proofs.Hulls.{OnHull, on_parts, hull_from_on}
-use Rattle.geometry_laws.proofs.SharedPoints.{side_sum, zero_scaled, shared_point_is_decided, weak}
+use Rattle.geometry_laws.proofs.SharedPoints.{side_sum, zero_scaled, shared_point_is_decided}
 
 -- both numbers are above 0, or both are below it
 abbrev pub Beside : ℤ → ℤ → Type 0
@@ -32,9 +33,6 @@ no_zero m n s t hm hn some beside e = go (three_ways (pos 0) m) beside
     clash_below_second : (a b : ℤ) → a +ℤ b ≡ pos 0 → a ≤ℤ pos 0 → b <ℤ pos 0 → ⊥
     clash_below_second a b e h k = omega (arith, ints)
 
-    weak_below : (y : ℤ) → y <ℤ pos 0 → y ≤ℤ pos 0
-    weak_below y h = omega (arith, ints)
-
     second : (m n : ℤ) → pos 0 ≡ m → pos 0 <ℤ (m +ℤ n) → pos 0 <ℤ n
     second m n e h = omega (arith, ints)
 
@@ -42,10 +40,10 @@ no_zero m n s t hm hn some beside e = go (three_ways (pos 0) m) beside
     never m h k = omega (arith, ints)
 
     go : (pos 0 <ℤ m) ⊎ ((pos 0 ≡ m) ⊎ (m <ℤ pos 0)) → Beside s t → ⊥
-    go (inl h) (inl a) = clash_above (m *ℤ s) (n *ℤ t) e (strict_plus_plus m s h a.0) (plus_plus n t hn (weak t a.1))
-    go (inl h) (inr b) = clash_below (m *ℤ s) (n *ℤ t) e (strict_plus_minus m s h b.0) (plus_minus n t hn (weak_below t b.1))
-    go (inr (inl z)) (inl a) = clash_above_second (m *ℤ s) (n *ℤ t) e (plus_plus m s hm (weak s a.0)) (strict_plus_plus n t (second m n z some) a.1)
-    go (inr (inl z)) (inr b) = clash_below_second (m *ℤ s) (n *ℤ t) e (plus_minus m s hm (weak_below s b.0)) (strict_plus_minus n t (second m n z some) b.1)
+    go (inl h) (inl a) = clash_above (m *ℤ s) (n *ℤ t) e (strict_plus_plus m s h a.0) (plus_plus n t hn (weak_positive t a.1))
+    go (inl h) (inr b) = clash_below (m *ℤ s) (n *ℤ t) e (strict_plus_minus m s h b.0) (plus_minus n t hn (weak_negative t b.1))
+    go (inr (inl z)) (inl a) = clash_above_second (m *ℤ s) (n *ℤ t) e (plus_plus m s hm (weak_positive s a.0)) (strict_plus_plus n t (second m n z some) a.1)
+    go (inr (inl z)) (inr b) = clash_below_second (m *ℤ s) (n *ℤ t) e (plus_minus m s hm (weak_negative s b.0)) (strict_plus_minus n t (second m n z some) b.1)
     go (inr (inr l)) b = never m l hm
 
 -- an edge shares no point with one beside it, since sides are weighed like the points

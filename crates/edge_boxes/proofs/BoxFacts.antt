@@ -1,18 +1,13 @@
 -- Boxes at their places, and what stays as the list grows.
-use Rattle.std.proofs.Common.{ℕ, zero, suc, ◌+◌, ◌-◌, ◌<◌, ◌≤◌, ◌≡◌, List, ◌++◌, length, drop, take, get_or, Option, Some, None, refl, sym, ap, ◌∙◌, arith}
+use Rattle.std.proofs.Common.{ℕ, zero, suc, ◌+◌, ◌-◌, ◌<◌, ◌≤◌, ◌≡◌, List, ◌++◌, length, drop, get_or, Option, Some, None, refl, sym, ap, ◌∙◌, arith}
 use Rattle.std.specs.Prelude.{slice_get, slice_range}
 use Rattle.std.proofs.lemmas.Option.{slice_get_read}
-use Rattle.std.proofs.lemmas.List.{take-append-drop, drop-drop, length-drop, append-nil, length-append}
+use Rattle.std.proofs.lemmas.List.{length-drop, append-nil, length-append}
 use Rattle.std.proofs.Math.Seq.{drop-length}
+use Rattle.std.proofs.lemmas.List.Folds.{drop_split}
 use Rattle.geometry_model.specs.Geometries.{Edge}
 use Rattle.edge_boxes.specs.BoxLists.{end_of, covered, AreBoxes}
 use Rattle.edge_boxes.specs.declared.boxes.EdgeBox.{EdgeBox}
-
--- a part of a list and what comes after it
-pub run_then_rest : {X : Type 0} (xs : List X) (first end : ℕ) → first ≤ end → drop first xs ≡ slice_range xs first end ++ drop end xs
-run_then_rest xs first end h =
-    let e : first + (end - first) ≡ end = omega (arith, h) in
-    sym (take-append-drop (end - first) (drop first xs)) ∙ ap (λ l. take (end - first) (drop first xs) ++ l) (drop-drop (end - first) first xs ∙ ap (λ n. drop n xs) e)
 
 -- ---- the box before a place
 -- the box that is read right before a place within the list is there
@@ -35,7 +30,7 @@ covered_within boxes edges (suc i) are h = go (slice_get boxes i) refl
 
 -- from a place to the end
 pub rest_is : {X : Type 0} (xs : List X) (first : ℕ) → first ≤ length xs → slice_range xs first (length xs) ≡ drop first xs
-rest_is xs first h = sym (run_then_rest xs first (length xs) h ∙ ap (λ l. slice_range xs first (length xs) ++ l) (drop-length xs) ∙ append-nil (slice_range xs first (length xs)))
+rest_is xs first h = sym (drop_split xs first (length xs) h ∙ ap (λ l. slice_range xs first (length xs) ++ l) (drop-length xs) ∙ append-nil (slice_range xs first (length xs)))
 
 -- how many edges a run has
 pub run_counted : {X : Type 0} (xs own : List X) (first end : ℕ) → drop first xs ≡ own ++ drop end xs → first ≤ end → end ≤ length xs → first + length own ≡ end

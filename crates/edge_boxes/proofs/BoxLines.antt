@@ -3,23 +3,23 @@ use Rattle.std.proofs.Common.{Bool, true, false, ◌||◌, take, ap₂, ℕ, ◌
 use Rattle.std.specs.Prelude.{slice_range}
 use Rattle.std.specs.List.{list_any}
 use Rattle.std.proofs.lemmas.List.{take-append-drop}
-use Rattle.std.proofs.lemmas.List.Folds.{list_any-append}
+use Rattle.std.proofs.lemmas.List.Folds.{list_any-append, drop_split}
+use Rattle.std.proofs.lemmas.Bool.{or_right, and_right, or_parts}
 use Rattle.geometry_model.specs.Geometries.{Edge}
 use Rattle.geometry_model.specs.Sides.{on_one_line}
 use Rattle.geometry_model.specs.FirstFaults.{share_point}
 use Rattle.edge_boxes.specs.BoxLists.{covered, AreBoxes}
 use Rattle.edge_boxes.specs.OneLine.{meet_on_one_line, SharesNone, IsLineStep}
 use Rattle.edge_boxes.specs.declared.boxes.EdgeBox.{EdgeBox}
-use Rattle.edge_boxes.proofs.BoxFacts.{run_then_rest, rest_is, found_before, covered_before}
+use Rattle.edge_boxes.proofs.BoxFacts.{rest_is, found_before, covered_before}
 use Rattle.edge_boxes.proofs.Steps.{box_before, leaf_ordered, inner_covered}
-use Rattle.edge_boxes.proofs.Sharing.{and_none, neither}
 
 -- edges that share no point aren't on one line with the edge and share one
 none_on_line : (e : Edge) (es : List Edge) → list_any (share_point e) es ≡ false → list_any (meet_on_one_line e) es ≡ false
 none_on_line e [] h = refl
 none_on_line e (f ∷ fs) h =
-    let parts = neither (share_point e f) (list_any (share_point e) fs) h in
-    ap₂ (λ (x y : Bool). x || y) (and_none (on_one_line e f) (share_point e f) parts.0) (none_on_line e fs parts.1)
+    let parts = or_parts (share_point e f) (list_any (share_point e) fs) h in
+    ap₂ (λ (x y : Bool). x || y) (and_right (on_one_line e f) (share_point e f) parts.0) (none_on_line e fs parts.1)
 
 -- ---- steps
 -- a box none of whose edges shares a point with the edge is passed over with its subtree, as none of them meets it on one line
@@ -41,7 +41,7 @@ line_leaf boxes edges e place b found are h k is leaf of =
     record {
       earlier = omega (arith, h);
       own = slice_range edges (covered boxes (place - 1)) b.end;
-      split = run_then_rest edges (covered boxes (place - 1)) b.end (leaf_ordered boxes edges place b are h k is leaf)
+      split = drop_split edges (covered boxes (place - 1)) b.end (leaf_ordered boxes edges place b are h k is leaf)
           ∙ ap (λ n. slice_range edges (covered boxes (place - 1)) b.end ++ drop n edges) (sym (covered_before boxes place b h (found_before boxes place b h k is)));
       said = of;
     }
@@ -58,14 +58,10 @@ line_inner boxes edges e place b are h k is inner =
     }
 
 -- ---- one from a place on
-or_true : (a b : Bool) → b ≡ true → (a || b) ≡ true
-or_true true b e = refl
-or_true false b e = e
-
 -- an edge found from a place on is one of all edges
 one_from : (edges : List Edge) (n : ℕ) (e : Edge) → list_any (meet_on_one_line e) (drop n edges) ≡ true → list_any (meet_on_one_line e) edges ≡ true
 one_from edges n e h = ap (list_any (meet_on_one_line e)) (sym (take-append-drop n edges)) ∙ list_any-append (meet_on_one_line e) (take n edges) (drop n edges)
-    ∙ or_true (list_any (meet_on_one_line e) (take n edges)) (list_any (meet_on_one_line e) (drop n edges)) h
+    ∙ or_right (list_any (meet_on_one_line e) (take n edges)) (list_any (meet_on_one_line e) (drop n edges)) h
 
 -- from where a step leads to, there is such an edge where the step shows one or there was one behind it
 stepped : (boxes : List EdgeBox) (edges : List Edge) (e : Edge) (place next : ℕ) (found : Bool) (s : IsLineStep boxes edges e place next found)

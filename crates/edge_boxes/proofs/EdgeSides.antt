@@ -10,6 +10,8 @@ use Rattle.geometry_model.specs.Crossings.{exactly_one, reaches, spans, side_rig
 use Rattle.basics.proofs.Ring.{solve, var, lit, ◌⊕◌, ◌⊖◌, ◌⊗◌}
 use Rattle.basics.proofs.Signs.{plus_plus, plus_minus, minus_plus, minus_minus, strict_plus_plus, strict_plus_minus, cancel_positive, cancel_negative, zero_product, less_yes, less_no, at_most_yes, at_most_no}
 use Rattle.basics.proofs.Tests.{equal_from}
+use Rattle.basics.proofs.Orders.{one_above, weak_negative, weak_positive, positive_not_zero}
+use Rattle.basics.proofs.Bools.{and_middle}
 use Rattle.geometry_laws.proofs.LineSides.{side'}
 use Rattle.geometry_laws.proofs.RingParity.{rightward_left, rightward_right}
 
@@ -32,12 +34,6 @@ level a p = solve (a.x ∷ a.y ∷ p.X ∷ p.Y ∷ p.W ∷ []) (lit (pos 1) ⊗ 
 upright : (dx dy : ℤ) (a : Position) (p : Point) → p.X -ℤ a.x *ℤ p.W ≡ pos 0 → beyond dx dy a p ≡ dx *ℤ (p.Y -ℤ a.y *ℤ p.W)
 upright dx dy a p e = ap (λ (z : ℤ). dx *ℤ (p.Y -ℤ a.y *ℤ p.W) -ℤ dy *ℤ z) e ∙ solve (dx ∷ dy ∷ (p.Y -ℤ a.y *ℤ p.W) ∷ []) (var 0 ⊗ var 2 ⊖ var 1 ⊗ lit (pos 0)) (var 0 ⊗ var 2) tt
 
-weak : (x : ℤ) → pos 0 <ℤ x → pos 0 ≤ℤ x
-weak x h = omega (arith, ints)
-
-weak_minus : (x : ℤ) → x <ℤ pos 0 → x ≤ℤ pos 0
-weak_minus x h = omega (arith, ints)
-
 -- tests of order that pass or fail, as the sign of a difference
 more_than : (x y : ℤ) → int_le y x ≡ false → pos 0 <ℤ (y -ℤ x)
 more_than x y e = omega (arith, ints)
@@ -54,14 +50,14 @@ at_greatest x y e = omega (arith, ints)
 -- ---- the side of a point that lies over or under both ends
 -- heights above 0, with weights of which one is above 0 and none below it, make a side above 0
 over : (c d u v w s : ℤ) → c *ℤ u +ℤ d *ℤ v ≡ w *ℤ s → pos 0 <ℤ w → pos 0 <ℤ c → pos 0 ≤ℤ d → pos 0 <ℤ u → pos 0 <ℤ v → pos 0 <ℤ s
-over c d u v w s e hw hc hd hu hv = cancel_positive w s (weak w hw) (sum (c *ℤ u) (d *ℤ v) (w *ℤ s) e (strict_plus_plus c u hc hu) (plus_plus d v hd (weak v hv)))
+over c d u v w s e hw hc hd hu hv = cancel_positive w s (weak_positive w hw) (sum (c *ℤ u) (d *ℤ v) (w *ℤ s) e (strict_plus_plus c u hc hu) (plus_plus d v hd (weak_positive v hv)))
   where
     sum : (x y z : ℤ) → x +ℤ y ≡ z → pos 0 <ℤ x → pos 0 ≤ℤ y → pos 0 <ℤ z
     sum x y z e h k = omega (arith, ints)
 
 -- and heights below 0 make a side below 0
 under : (c d u v w s : ℤ) → c *ℤ u +ℤ d *ℤ v ≡ w *ℤ s → pos 0 <ℤ w → pos 0 <ℤ c → pos 0 ≤ℤ d → u <ℤ pos 0 → v <ℤ pos 0 → s <ℤ pos 0
-under c d u v w s e hw hc hd hu hv = cancel_negative w s (weak w hw) (sum (c *ℤ u) (d *ℤ v) (w *ℤ s) e (strict_plus_minus c u hc hu) (plus_minus d v hd (weak_minus v hv)))
+under c d u v w s e hw hc hd hu hv = cancel_negative w s (weak_positive w hw) (sum (c *ℤ u) (d *ℤ v) (w *ℤ s) e (strict_plus_minus c u hc hu) (plus_minus d v hd (weak_negative v hv)))
   where
     sum : (x y z : ℤ) → x +ℤ y ≡ z → x <ℤ pos 0 → y ≤ℤ pos 0 → z <ℤ pos 0
     sum x y z e h k = omega (arith, ints)
@@ -94,13 +90,9 @@ past s t n w e f = neither_after (int_le (s *ℤ w) n) (int_le n (t *ℤ w)) (in
 ahead : (s t n w : ℤ) → int_le (s *ℤ w) n ≡ false → int_le (t *ℤ w) n ≡ false → between s t n w ≡ false
 ahead s t n w e f = neither_before (int_le (s *ℤ w) n) (int_le n (t *ℤ w)) (int_le (t *ℤ w) n) (int_le n (s *ℤ w)) e f
 
-off_in_x : (a b c : Bool) → b ≡ false → a && b && c ≡ false
-off_in_x true b c e = ap (λ (x : Bool). x && c) e
-off_in_x false b c e = refl
-
 -- an edge holds no point that isn't between its ends in x
 on_off_in_x : (e : Edge) (p : Point) → between e.start.x e.end.x p.X p.W ≡ false → on e p ≡ false
-on_off_in_x e p h = off_in_x (int_eq (side e.start e.end p) (pos 0)) (between e.start.x e.end.x p.X p.W) (between e.start.y e.end.y p.Y p.W) h
+on_off_in_x e p h = and_middle (int_eq (side e.start e.end p) (pos 0)) (between e.start.x e.end.x p.X p.W) (between e.start.y e.end.y p.Y p.W) h
 
 off_in_y : (a b c : Bool) → (a ≡ true → b ≡ true → c ≡ false) → a && b && c ≡ false
 off_in_y true true c h = h refl refl
@@ -160,9 +152,6 @@ applies_upright dx dy e p f g h = (zeros.1, turn (e.end.x *ℤ p.W) p.X zeros.0)
     flat : (dx *ℤ p.W) *ℤ side e.start e.end p ≡ pos 0
     flat = ap (λ (z : ℤ). (dx *ℤ p.W) *ℤ z) (equal_from (side e.start e.end p) (pos 0) f) ∙ solve ((dx *ℤ p.W) ∷ []) (var 0 ⊗ lit (pos 0)) (lit (pos 0)) tt
 
-    positive : (z : ℤ) → pos 0 <ℤ z → z ≡ pos 0 → ⊥
-    positive z l e = omega (arith, ints, l, e)
-
     negative : (z : ℤ) → z <ℤ pos 0 → z ≡ pos 0 → ⊥
     negative z l e = omega (arith, ints, l, e)
 
@@ -172,25 +161,25 @@ applies_upright dx dy e p f g h = (zeros.1, turn (e.end.x *ℤ p.W) p.X zeros.0)
         go : ((pos 0 ≤ℤ (e.end.x *ℤ p.W -ℤ p.X)) × (pos 0 ≤ℤ (p.X -ℤ e.start.x *ℤ p.W))) ⊎ (((e.end.x *ℤ p.W -ℤ p.X) ≤ℤ pos 0) × ((p.X -ℤ e.start.x *ℤ p.W) ≤ℤ pos 0))
             → ((pos 0 <ℤ beyond dx dy e.start p) × (pos 0 <ℤ beyond dx dy e.end p)) ⊎ ((beyond dx dy e.start p <ℤ pos 0) × (beyond dx dy e.end p <ℤ pos 0))
             → ((e.end.x *ℤ p.W -ℤ p.X) ≡ pos 0) × ((p.X -ℤ e.start.x *ℤ p.W) ≡ pos 0)
-        go (inl m) (inl n) = both_zero c d (beyond dx dy e.start p) (beyond dx dy e.end p) (slanted dx dy e.start e.end p ∙ flat) (positive (beyond dx dy e.start p) n.0) (positive (beyond dx dy e.end p) n.1)
-            (inl (plus_plus c (beyond dx dy e.start p) m.0 (weak (beyond dx dy e.start p) n.0), plus_plus d (beyond dx dy e.end p) m.1 (weak (beyond dx dy e.end p) n.1)))
+        go (inl m) (inl n) = both_zero c d (beyond dx dy e.start p) (beyond dx dy e.end p) (slanted dx dy e.start e.end p ∙ flat) (positive_not_zero (beyond dx dy e.start p) n.0) (positive_not_zero (beyond dx dy e.end p) n.1)
+            (inl (plus_plus c (beyond dx dy e.start p) m.0 (weak_positive (beyond dx dy e.start p) n.0), plus_plus d (beyond dx dy e.end p) m.1 (weak_positive (beyond dx dy e.end p) n.1)))
         go (inl m) (inr n) = both_zero c d (beyond dx dy e.start p) (beyond dx dy e.end p) (slanted dx dy e.start e.end p ∙ flat) (negative (beyond dx dy e.start p) n.0) (negative (beyond dx dy e.end p) n.1)
-            (inr (plus_minus c (beyond dx dy e.start p) m.0 (weak_minus (beyond dx dy e.start p) n.0), plus_minus d (beyond dx dy e.end p) m.1 (weak_minus (beyond dx dy e.end p) n.1)))
-        go (inr m) (inl n) = both_zero c d (beyond dx dy e.start p) (beyond dx dy e.end p) (slanted dx dy e.start e.end p ∙ flat) (positive (beyond dx dy e.start p) n.0) (positive (beyond dx dy e.end p) n.1)
-            (inr (minus_plus c (beyond dx dy e.start p) m.0 (weak (beyond dx dy e.start p) n.0), minus_plus d (beyond dx dy e.end p) m.1 (weak (beyond dx dy e.end p) n.1)))
+            (inr (plus_minus c (beyond dx dy e.start p) m.0 (weak_negative (beyond dx dy e.start p) n.0), plus_minus d (beyond dx dy e.end p) m.1 (weak_negative (beyond dx dy e.end p) n.1)))
+        go (inr m) (inl n) = both_zero c d (beyond dx dy e.start p) (beyond dx dy e.end p) (slanted dx dy e.start e.end p ∙ flat) (positive_not_zero (beyond dx dy e.start p) n.0) (positive_not_zero (beyond dx dy e.end p) n.1)
+            (inr (minus_plus c (beyond dx dy e.start p) m.0 (weak_positive (beyond dx dy e.start p) n.0), minus_plus d (beyond dx dy e.end p) m.1 (weak_positive (beyond dx dy e.end p) n.1)))
         go (inr m) (inr n) = both_zero c d (beyond dx dy e.start p) (beyond dx dy e.end p) (slanted dx dy e.start e.end p ∙ flat) (negative (beyond dx dy e.start p) n.0) (negative (beyond dx dy e.end p) n.1)
-            (inl (minus_minus c (beyond dx dy e.start p) m.0 (weak_minus (beyond dx dy e.start p) n.0), minus_minus d (beyond dx dy e.end p) m.1 (weak_minus (beyond dx dy e.end p) n.1)))
+            (inl (minus_minus c (beyond dx dy e.start p) m.0 (weak_negative (beyond dx dy e.start p) n.0), minus_minus d (beyond dx dy e.end p) m.1 (weak_negative (beyond dx dy e.end p) n.1)))
 
 -- straight over or under a position, a point that lies above it in a direction is higher than it
 higher : (dx dy : ℤ) (a : Position) (p : Point) → pos 0 <ℤ dx → p.X -ℤ a.x *ℤ p.W ≡ pos 0 → pos 0 <ℤ beyond dx dy a p → int_le p.Y (a.y *ℤ p.W) ≡ false
-higher dx dy a p hx e h = no_more p.Y (a.y *ℤ p.W) (cancel_positive dx (p.Y -ℤ a.y *ℤ p.W) (weak dx hx) (subst (λ (z : ℤ). pos 0 <ℤ z) (upright dx dy a p e) h))
+higher dx dy a p hx e h = no_more p.Y (a.y *ℤ p.W) (cancel_positive dx (p.Y -ℤ a.y *ℤ p.W) (weak_positive dx hx) (subst (λ (z : ℤ). pos 0 <ℤ z) (upright dx dy a p e) h))
   where
     no_more : (x y : ℤ) → pos 0 <ℤ (x -ℤ y) → int_le x y ≡ false
     no_more x y h = at_most_no x y (omega (arith, ints, h))
 
 -- and one that lies below it in a direction is lower
 lower : (dx dy : ℤ) (a : Position) (p : Point) → pos 0 <ℤ dx → p.X -ℤ a.x *ℤ p.W ≡ pos 0 → beyond dx dy a p <ℤ pos 0 → int_le (a.y *ℤ p.W) p.Y ≡ false
-lower dx dy a p hx e h = no_less p.Y (a.y *ℤ p.W) (cancel_negative dx (p.Y -ℤ a.y *ℤ p.W) (weak dx hx) (subst (λ (z : ℤ). z <ℤ pos 0) (upright dx dy a p e) h))
+lower dx dy a p hx e h = no_less p.Y (a.y *ℤ p.W) (cancel_negative dx (p.Y -ℤ a.y *ℤ p.W) (weak_positive dx hx) (subst (λ (z : ℤ). z <ℤ pos 0) (upright dx dy a p e) h))
   where
     no_less : (x y : ℤ) → (x -ℤ y) <ℤ pos 0 → int_le y x ≡ false
     no_less x y h = at_most_no y x (omega (arith, ints, h))
@@ -268,7 +257,7 @@ off_beyond dx dy e p hp hx h k =
     let sign = sign_under dx dy e p (reaches e.start p) (reaches e.end p) refl refl hp hx h k in
     record {
       on = on_off_beyond dx dy e p hx h k;
-      above = no_product (spans e p) (int_lt (side_rightward e p) (pos 0)) (λ s. less_no (side_rightward e p) (pos 0) (weak (side_rightward e p) (sign s)));
+      above = no_product (spans e p) (int_lt (side_rightward e p) (pos 0)) (λ s. less_no (side_rightward e p) (pos 0) (weak_positive (side_rightward e p) (sign s)));
       at_or_above = no_product (spans e p) (int_le (side_rightward e p) (pos 0)) (λ s. at_most_no (side_rightward e p) (pos 0) (sign s));
     }
 
@@ -279,23 +268,20 @@ over_beyond dx dy e p hp hx h k =
     record {
       on = on_off_short dx dy e p hx h k;
       above = first_factor (spans e p) (int_lt (side_rightward e p) (pos 0)) (λ s. less_yes (side_rightward e p) (pos 0) (sign s));
-      at_or_above = first_factor (spans e p) (int_le (side_rightward e p) (pos 0)) (λ s. at_most_yes (side_rightward e p) (pos 0) (weak_minus (side_rightward e p) (sign s)));
+      at_or_above = first_factor (spans e p) (int_le (side_rightward e p) (pos 0)) (λ s. at_most_yes (side_rightward e p) (pos 0) (weak_negative (side_rightward e p) (sign s)));
     }
 
 -- ---- the level direction
-one : pos 0 <ℤ pos 1
-one = omega (arith, ints)
-
 -- so an edge wholly below the point doesn't hold it and isn't counted above it
 pub off_below : (e : Edge) (p : Point) → IsPoint p → int_le p.Y (e.start.y *ℤ p.W) ≡ false → int_le p.Y (e.end.y *ℤ p.W) ≡ false → IsOff p e
-off_below e p hp h k = off_beyond (pos 1) (pos 0) e p hp one (raised e.start h) (raised e.end k)
+off_below e p hp h k = off_beyond (pos 1) (pos 0) e p hp one_above (raised e.start h) (raised e.end k)
   where
     raised : (a : Position) → int_le p.Y (a.y *ℤ p.W) ≡ false → pos 0 <ℤ beyond (pos 1) (pos 0) a p
     raised a h = subst (λ (z : ℤ). pos 0 <ℤ z) (sym (level a p)) (more_than (a.y *ℤ p.W) p.Y h)
 
 -- and an edge wholly above the point is counted exactly where it spans it
 pub is_over : (e : Edge) (p : Point) → IsPoint p → int_le (e.start.y *ℤ p.W) p.Y ≡ false → int_le (e.end.y *ℤ p.W) p.Y ≡ false → IsOver p e
-is_over e p hp h k = over_beyond (pos 1) (pos 0) e p hp one (sunk e.start h) (sunk e.end k)
+is_over e p hp h k = over_beyond (pos 1) (pos 0) e p hp one_above (sunk e.start h) (sunk e.end k)
   where
     sunk : (a : Position) → int_le (a.y *ℤ p.W) p.Y ≡ false → beyond (pos 1) (pos 0) a p <ℤ pos 0
     sunk a h = subst (λ (z : ℤ). z <ℤ pos 0) (sym (level a p)) (less_than (a.y *ℤ p.W) p.Y h)

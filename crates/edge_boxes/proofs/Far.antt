@@ -4,6 +4,7 @@ use borrow.Author.Differences.{ints}
 use Rattle.std.specs.Int.{int_min, int_max}
 use Rattle.std.proofs.lemmas.Int.{clamps}
 use Rattle.std.specs.List.{AllByRecursion, list_any}
+use Rattle.std.proofs.lemmas.Bool.{and_parts, or_cases, both_ways}
 use Rattle.geometry_model.specs.Points.{Position, Point, IsPoint}
 use Rattle.geometry_model.specs.Geometries.{Edge}
 use Rattle.geometry_model.specs.Sides.{on}
@@ -12,8 +13,7 @@ use Rattle.geometry_model.specs.FirstFaults.{share_point}
 use Rattle.geometry_model.specs.Envelopes.{Envelope, overlap}
 use Rattle.basics.proofs.Ring.{solve, var, ◌⊖◌, ◌⊗◌}
 use Rattle.basics.proofs.Signs.{plus_minus, strict_plus_plus, at_most_or_less, less_from, at_most_yes, at_most_from}
-use Rattle.geometry_laws.proofs.Scaling.{and_parts, and_from}
-use Rattle.geometry_laws.proofs.ElementFacts.{or_from}
+use Rattle.basics.proofs.Bools.{four_from}
 use Rattle.geometry_laws.proofs.SharedPoints.{shared_point_is_decided}
 use Rattle.edge_boxes.specs.RunLaws.{box_of}
 use Rattle.edge_boxes.proofs.OverlappingBoxes.{sharing_boxes_overlap}
@@ -72,18 +72,15 @@ parted d c e f p hp hx a b g h ke kf = go (at_most_or_less (c *ℤ p.W) (d.dx *�
     under : level <ℤ (c *ℤ p.W) → (q : Position) → c ≤ℤ rise d q.x q.y → beyond d.dx d.dy q p <ℤ pos 0
     under l q k = under_level level p.W c (rise d q.x q.y) (beyond d.dx d.dy q p) (beyond_is d q p) hp l k
 
-    clash : (x : Bool) → x ≡ false → x ≡ true → ⊥
-    clash x l k = let y : true ≡ false = sym k ∙ l in cc
-
     go : ((c *ℤ p.W) ≤ℤ level) ⊎ (level <ℤ (c *ℤ p.W)) → ⊥
-    go (inl l) = clash (on e p) (on_off_beyond d.dx d.dy e p hx (over l e.start a) (over l e.end b)) ke
-    go (inr l) = clash (on f p) (on_off_short d.dx d.dy f p hx (under l f.start g) (under l f.end h)) kf
+    go (inl l) = both_ways (on e p) (on_off_beyond d.dx d.dy e p hx (over l e.start a) (over l e.end b)) ke
+    go (inr l) = both_ways (on f p) (on_off_short d.dx d.dy f p hx (under l f.start g) (under l f.end h)) kf
 
 -- ---- by a strip
 -- an edge wholly below or above a strip shares no point with an edge that lies in it, since a level parts them
 beside_parts : (s : Strip) (e f : Edge) → pos 0 <ℤ s.direction.dx → LiesInStrip s f → lies_beside s e ≡ true → SharePoint e f → ⊥
 beside_parts s e f right l beside w =
-    go (or_from (int_lt (rise s.direction e.start.x e.start.y) s.least && int_lt (rise s.direction e.end.x e.end.y) s.least)
+    go (or_cases (int_lt (rise s.direction e.start.x e.start.y) s.least && int_lt (rise s.direction e.end.x e.end.y) s.least)
     (int_lt s.greatest (rise s.direction e.start.x e.start.y) && int_lt s.greatest (rise s.direction e.end.x e.end.y)) beside)
   where
     at_most : (v g : ℤ) → v ≤ℤ g → v <ℤ (g +ℤ pos 1)
@@ -113,16 +110,13 @@ edge_apart b c e l far = go (overlap (box_of e) c) refl
     greatest : (m s t g : ℤ) → s ≤ℤ m → t ≤ℤ m → int_le g (int_max s t) ≡ true → int_le g m ≡ true
     greatest m s t g h k f = let r = at_most_from g (int_max s t) f in at_most_yes g m (omega (arith, ints, clamps, h, k, r))
 
-    four : (p q r s : Bool) → p ≡ true → q ≡ true → r ≡ true → s ≡ true → p && q && r && s ≡ true
-    four p q r s a b c d = and_from (p && q && r) s (and_from (p && q) r (and_from p q a b) c) d
-
     meet : overlap (box_of e) c ≡ true → overlap b c ≡ true
     meet h =
         let x = box_of e in
         let last = and_parts (int_le x.least_x c.greatest_x && int_le c.least_x x.greatest_x && int_le x.least_y c.greatest_y) (int_le c.least_y x.greatest_y) h in
         let third = and_parts (int_le x.least_x c.greatest_x && int_le c.least_x x.greatest_x) (int_le x.least_y c.greatest_y) last.0 in
         let first = and_parts (int_le x.least_x c.greatest_x) (int_le c.least_x x.greatest_x) third.0 in
-        four _ _ _ _ (least b.least_x e.start.x e.end.x c.greatest_x l.start.left l.end.left first.0) (greatest b.greatest_x e.start.x e.end.x c.least_x l.start.right l.end.right first.1)
+        four_from _ _ _ _ (least b.least_x e.start.x e.end.x c.greatest_x l.start.left l.end.left first.0) (greatest b.greatest_x e.start.x e.end.x c.least_x l.start.right l.end.right first.1)
         (least b.least_y e.start.y e.end.y c.greatest_y l.start.low l.end.low third.1) (greatest b.greatest_y e.start.y e.end.y c.least_y l.start.high l.end.high last.1)
 
     go : (t : Bool) → overlap (box_of e) c ≡ t → overlap (box_of e) c ≡ false

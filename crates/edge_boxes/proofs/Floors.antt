@@ -4,24 +4,20 @@ use borrow.Author.Differences.{ints}
 use Rattle.std.specs.Prelude.{unsigned_abs}
 use Rattle.std.specs.Int.{int_div_euclid}
 use Rattle.std.proofs.Math.Nat.{div-add-mod, mod-lt}
+use lib.Signed.{≤ℤ_refl}
 use mir.Syntax.{w32}
 use mir.Val.{SFits}
 use Rattle.geometry_model.specs.WellKnownText.{coordinate_limit}
 use Rattle.basics.proofs.Ring.{solve, var, lit, ◌⊖◌, ◌⊗◌}
 use Rattle.basics.proofs.Signs.{plus_plus, at_most_or_less, same_at_most, at_most_yes, at_most_no, at_most_from, not_at_most_from}
+use Rattle.basics.proofs.Orders.{weak_positive, gap_weak}
 use Rattle.edge_boxes.specs.BoxCells.{IsFloor, IsCeiling}
-
-weak : (x : ℤ) → pos 0 <ℤ x → pos 0 ≤ℤ x
-weak x h = omega (arith, ints)
 
 -- a floor is what its multiple and the next one show
 by_multiples : (n w q : ℤ) → pos 0 <ℤ w → (q *ℤ w) ≤ℤ n → n <ℤ (q *ℤ w +ℤ w) → IsFloor n w q
 by_multiples n w q hw low high a = same_at_most (a *ℤ w) n a q (λ h. go h (at_most_or_less a q))
-    (λ h. into (a *ℤ w) (q *ℤ w) ((q -ℤ a) *ℤ w) (solve (q ∷ a ∷ w ∷ []) ((var 0 ⊖ var 1) ⊗ var 2) (var 0 ⊗ var 2 ⊖ var 1 ⊗ var 2) tt) (plus_plus (q -ℤ a) w (gap a q h) (weak w hw)) low)
+    (λ h. into (a *ℤ w) (q *ℤ w) ((q -ℤ a) *ℤ w) (solve (q ∷ a ∷ w ∷ []) ((var 0 ⊖ var 1) ⊗ var 2) (var 0 ⊗ var 2 ⊖ var 1 ⊗ var 2) tt) (plus_plus (q -ℤ a) w (gap_weak a q h) (weak_positive w hw)) low)
   where
-    gap : (a q : ℤ) → a ≤ℤ q → pos 0 ≤ℤ (q -ℤ a)
-    gap a q h = omega (arith, ints)
-
     into : (s t d : ℤ) → d ≡ t -ℤ s → pos 0 ≤ℤ d → t ≤ℤ n → s ≤ℤ n
     into s t d e h k = omega (arith, ints)
 
@@ -34,7 +30,7 @@ by_multiples n w q hw low high a = same_at_most (a *ℤ w) n a q (λ h. go h (at
     go : (a *ℤ w) ≤ℤ n → (a ≤ℤ q) ⊎ (q <ℤ a) → a ≤ℤ q
     go h (inl l) = l
     go h (inr l) = absurd (apart (a *ℤ w) (q *ℤ w) ((a -ℤ q -ℤ pos 1) *ℤ w) (solve (a ∷ q ∷ w ∷ []) ((var 0 ⊖ var 1 ⊖ lit (pos 1)) ⊗ var 2) (var 0 ⊗ var 2 ⊖ var 1 ⊗ var 2 ⊖ var 2) tt)
-        (plus_plus (a -ℤ q -ℤ pos 1) w (beyond a q l) (weak w hw)) h high)
+        (plus_plus (a -ℤ q -ℤ pos 1) w (beyond a q l) (weak_positive w hw)) h high)
 
 -- over the denominator 1 a number is its own floor and ceiling
 pub floor_over_one : (n w q : ℤ) → w ≡ pos 1 → q ≡ n → IsFloor n w q
@@ -94,11 +90,8 @@ short_fits q h = omega (arith, ints, h)
 -- where the quotient is exact it is the ceiling
 pub ceiling_at : (n w q : ℤ) → pos 0 <ℤ w → q *ℤ w ≡ n → IsCeiling n w q
 ceiling_at n w q hw e a = same_at_most n (a *ℤ w) q a (λ h. go h (at_most_or_less q a))
-    (λ h. into (a *ℤ w) (q *ℤ w) ((a -ℤ q) *ℤ w) (solve (a ∷ q ∷ w ∷ []) ((var 0 ⊖ var 1) ⊗ var 2) (var 0 ⊗ var 2 ⊖ var 1 ⊗ var 2) tt) (plus_plus (a -ℤ q) w (gap q a h) (weak w hw)) e)
+    (λ h. into (a *ℤ w) (q *ℤ w) ((a -ℤ q) *ℤ w) (solve (a ∷ q ∷ w ∷ []) ((var 0 ⊖ var 1) ⊗ var 2) (var 0 ⊗ var 2 ⊖ var 1 ⊗ var 2) tt) (plus_plus (a -ℤ q) w (gap_weak q a h) (weak_positive w hw)) e)
   where
-    gap : (q a : ℤ) → q ≤ℤ a → pos 0 ≤ℤ (a -ℤ q)
-    gap q a h = omega (arith, ints)
-
     into : (s t d : ℤ) → d ≡ s -ℤ t → pos 0 ≤ℤ d → t ≡ n → n ≤ℤ s
     into s t d e h k = omega (arith, ints)
 
@@ -111,7 +104,7 @@ ceiling_at n w q hw e a = same_at_most n (a *ℤ w) q a (λ h. go h (at_most_or_
     go : n ≤ℤ (a *ℤ w) → (q ≤ℤ a) ⊎ (a <ℤ q) → q ≤ℤ a
     go h (inl l) = l
     go h (inr l) = absurd (apart (a *ℤ w) (q *ℤ w) ((q -ℤ a -ℤ pos 1) *ℤ w) (solve (q ∷ a ∷ w ∷ []) ((var 0 ⊖ var 1 ⊖ lit (pos 1)) ⊗ var 2) (var 0 ⊗ var 2 ⊖ var 1 ⊗ var 2 ⊖ var 2) tt)
-        (plus_plus (q -ℤ a -ℤ pos 1) w (beyond a q l) (weak w hw)) hw e h)
+        (plus_plus (q -ℤ a -ℤ pos 1) w (beyond a q l) (weak_positive w hw)) hw e h)
 
 -- where it isn't, the ceiling is one more than the floor, as no whole number lies between the two
 pub ceiling_over : (n w q : ℤ) → pos 0 <ℤ w → IsFloor n w q → (q *ℤ w ≡ n → ⊥) → IsCeiling n w (q +ℤ pos 1)
@@ -129,16 +122,13 @@ ceiling_over n w q hw is no_whole a = same_at_most n (a *ℤ w) (q +ℤ pos 1) a
     gap : a ≤ℤ q → pos 0 ≤ℤ (q -ℤ a)
     gap h = omega (arith, ints)
 
-    least : (q : ℤ) → q ≤ℤ q
-    least q = omega (arith, ints)
-
     same : (s t d : ℤ) → d ≡ t -ℤ s → pos 0 ≤ℤ d → t ≤ℤ n → n ≤ℤ s → t ≡ n
     same s t d e h k l = omega (arith, ints)
 
     go : n ≤ℤ (a *ℤ w) → ((q +ℤ pos 1) ≤ℤ a) ⊎ (a <ℤ (q +ℤ pos 1)) → (q +ℤ pos 1) ≤ℤ a
     go h (inl l) = l
     go h (inr l) = absurd (no_whole (same (a *ℤ w) (q *ℤ w) ((q -ℤ a) *ℤ w) (solve (q ∷ a ∷ w ∷ []) ((var 0 ⊖ var 1) ⊗ var 2) (var 0 ⊗ var 2 ⊖ var 1 ⊗ var 2) tt)
-        (plus_plus (q -ℤ a) w (gap (up_to l)) (weak w hw)) (at_most_from (q *ℤ w) n (is q ∙ at_most_yes q q (least q))) h))
+        (plus_plus (q -ℤ a) w (gap (up_to l)) (weak_positive w hw)) (at_most_from (q *ℤ w) n (is q ∙ at_most_yes q q (≤ℤ_refl q))) h))
 
 -- one more than a number within the limit of coordinates still fits 32 bits
 pub next_fits : (q : ℤ) → unsigned_abs q ≤ coordinate_limit → SFits w32 (q +ℤ pos 1)

@@ -1,6 +1,7 @@
 -- Lists of boxes as they grow.
 use Rattle.std.proofs.Common.{ℕ, zero, suc, ◌+◌, ◌-◌, ◌<◌, ◌≤◌, ◌≡◌, ◌⊎◌, inl, inr, List, [], ◌∷◌, ◌++◌, length, drop, get_or, drop-cons, append_assoc, Some, None, refl, sym, ap, ◌∙◌, subst, arith}
 use Rattle.std.specs.Prelude.{slice_get}
+use Rattle.std.proofs.Math.Nat.{sub-zero}
 use Rattle.geometry_model.specs.Geometries.{Edge}
 use Rattle.edge_boxes.specs.EdgeRuns.{SumsUp}
 use Rattle.edge_boxes.specs.BoxLists.{end_of, covered, IsRun, IsBoxAt, AreBoxes}
@@ -153,14 +154,11 @@ run_and_one edges first end e old one run h is sums join r =
       within = omega (arith, h);
     }
 
-none_less : (n : ℕ) → n - 0 ≡ n
-none_less n = omega arith
-
 -- a leaf whose run begins where the boxes end belongs behind them, since it has no subtree
 pub next_leaf : (old new : List EdgeBox) (edges : List Edge) (run : Run) (first end : ℕ) (b : EdgeBox) → AreBoxes old edges → covered_by_all old ≡ first → IsRun edges run first end → b ≡ record { run = run; size = 0; end = end }
     → new ≡ old ++ b ∷ [] → AreBoxes new edges × (covered_by_all new ≡ end)
 next_leaf old new edges run first end b are from r b_is e =
-    let box : IsBoxAt edges old (length old) (record { run = run; size = 0; end = end }) = record { subtree = omega arith; run = subst (λ n. IsRun edges run n end) (sym (ap (covered old) (none_less (length old)) ∙ from)) r; last = inl refl } in
+    let box : IsBoxAt edges old (length old) (record { run = run; size = 0; end = end }) = record { subtree = omega arith; run = subst (λ n. IsRun edges run n end) (sym (ap (covered old) (sub-zero (length old)) ∙ from)) r; last = inl refl } in
     rw (e, b_is) (one_more_box old edges (record { run = run; size = 0; end = end }) are box, last_end old (record { run = run; size = 0; end = end }))
 
 -- an empty list is a list of boxes of any edges

@@ -4,7 +4,8 @@ use Rattle.std.specs.Prelude.{slice_range}
 use Rattle.std.specs.List.{AllByRecursion, list_any}
 use Rattle.std.proofs.Math.Seq.{take-add}
 use Rattle.std.proofs.lemmas.List.{drop-drop, append_cancel_right}
-use Rattle.std.proofs.lemmas.List.Folds.{list_any-append}
+use Rattle.std.proofs.lemmas.List.Folds.{list_any-append, drop_split}
+use Rattle.std.proofs.lemmas.Bool.{or_parts}
 use Rattle.geometry_model.specs.Geometries.{Edge}
 use Rattle.geometry_model.specs.Envelopes.{Envelope, overlap}
 use Rattle.edge_boxes.specs.BoxLists.{covered, AreBoxes}
@@ -12,9 +13,9 @@ use Rattle.edge_boxes.specs.EdgeRuns.{LiesIn}
 use Rattle.edge_boxes.specs.NearEdges.{is_near, IsOutside, IsStepBack}
 use Rattle.edge_boxes.specs.declared.boxes.EdgeBox.{EdgeBox}
 use Rattle.edge_boxes.specs.declared.kept_runs.Run.{Run}
-use Rattle.edge_boxes.proofs.BoxFacts.{run_then_rest, covered_before, found_before}
+use Rattle.edge_boxes.proofs.BoxFacts.{covered_before, found_before}
 use Rattle.edge_boxes.proofs.Far.{edge_apart}
-use Rattle.edge_boxes.proofs.Sharing.{edge_before, neither}
+use Rattle.edge_boxes.proofs.Sharing.{edge_before}
 use Rattle.edge_boxes.proofs.Steps.{box_before, inner_covered}
 
 -- ---- parts of a list, one behind the other
@@ -32,7 +33,7 @@ none_in_both f xs first middle end h k none others = ap (list_any f) (parts_join
 -- and where none of both passes, none of the first part does
 pub none_in_part : (f : Edge → Bool) (xs : List Edge) (first middle end : ℕ) → first ≤ middle → middle ≤ end → list_any f (slice_range xs first end) ≡ false → list_any f (slice_range xs first middle) ≡ false
 none_in_part f xs first middle end h k none =
-    (neither (list_any f (slice_range xs first middle)) (list_any f (slice_range xs middle end)) (sym (list_any-append f (slice_range xs first middle) (slice_range xs middle end)) ∙ ap (list_any f) (sym (parts_joined xs first middle end h k)) ∙ none)).0
+    (or_parts (list_any f (slice_range xs first middle)) (list_any f (slice_range xs middle end)) (sym (list_any-append f (slice_range xs first middle) (slice_range xs middle end)) ∙ ap (list_any f) (sym (parts_joined xs first middle end h k)) ∙ none)).0
 
 -- no edge is in an empty part
 none_in_none : (f : Edge → Bool) (xs : List Edge) (n : ℕ) → list_any f (slice_range xs n n) ≡ false
@@ -65,7 +66,7 @@ skip_back boxes edges around place left first b are h k is upto begins behind fa
     let box = box_before boxes edges place b are h k is in
     let ends : covered boxes place ≡ b.end = covered_before boxes place b h (found_before boxes place b h k is) in
     let own : box.run.own ≡ slice_range edges (covered boxes (place - 1 - b.size)) b.end =
-    append_cancel_right box.run.own (slice_range edges (covered boxes (place - 1 - b.size)) b.end) (drop b.end edges) (sym box.run.split ∙ run_then_rest edges (covered boxes (place - 1 - b.size)) b.end box.run.ordered) in
+    append_cancel_right box.run.own (slice_range edges (covered boxes (place - 1 - b.size)) b.end) (drop b.end edges) (sym box.run.split ∙ drop_split edges (covered boxes (place - 1 - b.size)) b.end box.run.ordered) in
     let none : list_any (is_near around) (slice_range edges first b.end) ≡ false =
     ap (λ n. list_any (is_near around) (slice_range edges n b.end)) begins ∙ ap (list_any (is_near around)) (sym own) ∙ far box.run.own box.run.sums in
     record {

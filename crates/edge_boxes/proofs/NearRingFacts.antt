@@ -1,19 +1,20 @@
 -- Edges near an edge: those that aren't found pass no test that edges pass only where they share a point with it.
-use Rattle.std.proofs.Common.{◌≡◌, refl, sym, ap, ◌∙◌, subst, ℕ, zero, suc, ◌+◌, ◌-◌, ◌<◌, ◌≤◌, Bool, true, false, not, ◌&&◌, ◌||◌, ◌==◌, if◌then◌else◌, cond, nat_le, List, [], ◌∷◌, map, drop, length, get_or, Option, Some, slice_get, arith}
+use Rattle.std.proofs.Common.{◌≡◌, refl, sym, ap, ◌∙◌, subst, ℕ, zero, suc, ◌+◌, ◌-◌, ◌<◌, ◌≤◌, Bool, true, false, not, ◌&&◌, ◌||◌, ◌==◌, if◌then◌else◌, cond, nat_le, List, [], ◌∷◌, map, drop, length, get_or, Option, Some, slice_get, arith, le-leb, leb-true}
 use Rattle.std.specs.List.{list_any, enumerate_from}
-use Rattle.std.proofs.lemmas.List.{length-map}
+use Rattle.std.proofs.lemmas.List.{length-map, drop_all}
+use Rattle.std.proofs.lemmas.Option.{same_Some}
+use Rattle.std.proofs.lemmas.Bool.{and_parts, lt-leb}
+use Rattle.basics.proofs.Lists.{drop_here}
 use Rattle.geometry_model.specs.Points.{Position, point_at}
 use Rattle.geometry_model.specs.WellKnownText.{same_position}
 use Rattle.geometry_model.specs.Geometries.{Edge}
 use Rattle.geometry_model.specs.Sides.{on, side}
 use Rattle.geometry_model.specs.FirstFaults.{share_point, share_other, clash, cross, opposite}
-use Rattle.geometry_laws.proofs.Scaling.{and_parts}
 use Rattle.edge_boxes.specs.RunLaws.{box_of}
 use Rattle.edge_boxes.specs.RingEdges.{edges_share}
 use Rattle.edge_boxes.proofs.Runs.{any_either, any_none}
 use Rattle.edge_boxes.specs.Sharings.{places_asked, places_sharing}
 use Rattle.edge_boxes.specs.NearRings.{is_near, numbered_from, numbered_sharing}
-use Rattle.edge_boxes.proofs.Rests.{at_place, past_all}
 
 -- ---- the places, and the edges there
 -- the places of the edges that are numbered as near are those that a search of the boxes gives
@@ -39,11 +40,8 @@ one_later asked from n e es j f h = let later = h.not_before in record {
   asked_for = h.asked_for;
 }
 
-same_some : {A : Type 0} (x y : A) → Some x ≡ Some y → x ≡ y
-same_some x y h = cc
-
 same_pair : (a b : ℕ) (x y : Edge) (p q : ℕ × Edge) → p ≡ (a, x) → q ≡ (b, y) → Some p ≡ Some q → (a ≡ b) × (x ≡ y)
-same_pair a b x y p q e f h = let s = sym e ∙ (same_some p q h ∙ f) in (ap (λ (r : ℕ × Edge). r.0) s, ap (λ (r : ℕ × Edge). r.1) s)
+same_pair a b x y p q e f h = let s = sym e ∙ (same_Some p q h ∙ f) in (ap (λ (r : ℕ × Edge). r.0) s, ap (λ (r : ℕ × Edge). r.1) s)
 
 -- each edge that is numbered as near lies at its number, isn't too early, and shares a point with the one asked about
 pub asked_at : (asked : Edge) (from : ℕ) (n : ℕ) (es : List Edge) (k j : ℕ) (f : Edge) → slice_get (numbered_from asked from n es) k ≡ Some (j, f) → IsAskedAt asked from n es j f
@@ -64,11 +62,8 @@ asked_at asked from n (e ∷ es) k j f h = go (is_near asked from n e) refl k h 
 -- ---- the tests
 -- an edge that comes late enough and still isn't near shares no point with the one asked about
 near_asked : (asked : Edge) (from : ℕ) (n : ℕ) (e : Edge) → from ≤ n → is_near asked from n e ≡ false → share_point asked e ≡ false
-near_asked asked from n e h far = go (nat_le from n) (share_point asked e) (yes from n h) far
+near_asked asked from n e h far = go (nat_le from n) (share_point asked e) (le-leb from n h) far
   where
-    yes : (a b : ℕ) → a ≤ b → nat_le a b ≡ true
-    yes a b h = grind (arith, h)
-
     go : (a b : Bool) → a ≡ true → a && b ≡ false → b ≡ false
     go true b e f = f
     go false b e f = absurd cc
@@ -94,11 +89,8 @@ passed asked from n zero es h = let e : n ≡ n + 0 = omega arith in ap (λ k. n
 passed asked from n (suc m) [] h = refl
 passed asked from n (suc m) (e ∷ es) h =
     let next : suc n + m ≡ n + suc m = omega arith in
-    ap (λ (b : Bool). cond (b && share_point asked e) ((n, e) ∷ numbered_from asked from (suc n) es) (numbered_from asked from (suc n) es)) (early from n (omega (arith, h)))
+    ap (λ (b : Bool). cond (b && share_point asked e) ((n, e) ∷ numbered_from asked from (suc n) es) (numbered_from asked from (suc n) es)) (lt-leb from n (omega (arith, h)))
     ∙ passed asked from (suc n) m es (omega (arith, h)) ∙ ap (λ k. numbered_from asked from k (drop m es)) next
-  where
-    early : (f n : ℕ) → n < f → nat_le f n ≡ false
-    early f n h = grind (arith, h)
 
 -- the same from a place on: what comes before it isn't asked for and isn't tried either
 pub any_after : (test : (ℕ × Edge) → Bool) (asked : Edge) (from : ℕ) (edges : List Edge) → ((j : ℕ) (e : Edge) → test (j, e) ≡ true → share_point asked e ≡ true)
@@ -149,14 +141,11 @@ next_found asked from edges near k n is within =
     let applies : slice_get edges j ≡ Some m.0 = ap (slice_get edges) (sym none) ∙ at.applies in
     subst (λ (l : List ℕ). IsNext asked from edges k (get_or l k n)) (sym same) record {
       edge = m.0;
-      rest = at_place pairs k (j, m.0) m.1;
+      rest = drop_here pairs k (j, m.0) m.1;
       applies = applies;
       within = is_there edges j m.0 applies;
-      later = le_from from j ((and_parts (nat_le from j) (share_point asked m.0) at.asked_for).0);
+      later = leb-true from j ((and_parts (nat_le from j) (share_point asked m.0) at.asked_for).0);
     }
-  where
-    le_from : (a b : ℕ) → nat_le a b ≡ true → a ≤ b
-    le_from a b h = grind (arith, h)
 
 same_edge : (o : Option Edge) (e f : Edge) → o ≡ Some e → o ≡ Some f → e ≡ f
 same_edge o e f g h = let s : Some e ≡ Some f = sym g ∙ h in cc
@@ -178,7 +167,7 @@ pub none_left : (test : (ℕ × Edge) → Bool) (asked : Edge) (from : ℕ) (edg
     → list_any test (drop k (numbered_sharing asked from edges)) ≡ false
 none_left test asked from edges near k is past =
     let same : near ≡ map (λ (p : ℕ × Edge). p.0) (numbered_sharing asked from edges) = is ∙ sym (places_of asked from 0 edges) in
-    ap (list_any test) (past_all (numbered_sharing asked from edges) k (omega (arith, ap (length {A = ℕ}) same, length-map (numbered_sharing asked from edges) (λ (p : ℕ × Edge). p.0), past)))
+    ap (list_any test) (drop_all k (numbered_sharing asked from edges) (omega (arith, ap (length {A = ℕ}) same, length-map (numbered_sharing asked from edges) (λ (p : ℕ × Edge). p.0), past)))
 
 -- ---- edges that clash share a point
 -- two edges share a point whichever comes first
@@ -188,9 +177,6 @@ share_turned e f = go (on e (point_at f.start)) (on e (point_at f.end)) (on f (p
   where
     go : (a b c d p q : Bool) → (a || b || c || d || (p && q)) ≡ (c || d || a || b || (q && p))
     go a b c d p q = grind arith
-
-shared_end : (p q : Bool) → p && q ≡ true → p ≡ true
-shared_end p q h = (and_parts p q h).0
 
 -- another shared end is a shared point
 other_shared : (common : Position) (e f : Edge) → share_other common e f ≡ true → share_point e f ≡ true

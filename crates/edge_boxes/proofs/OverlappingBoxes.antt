@@ -1,19 +1,19 @@
 -- Edges that share a point have rectangles that overlap.
-use Rattle.std.proofs.Common.{◌≡◌, ◌⊎◌, inl, inr, Bool, true, ◌&&◌, [], ◌∷◌, ℤ, pos, ◌-ℤ◌, ◌*ℤ◌, ◌<ℤ◌, ◌≤ℤ◌, int_le, refl, arith}
+use Rattle.std.proofs.Common.{◌≡◌, ◌⊎◌, inl, inr, true, ◌&&◌, [], ◌∷◌, ℤ, pos, ◌-ℤ◌, ◌*ℤ◌, ◌<ℤ◌, ◌≤ℤ◌, int_le, refl, arith}
 use Rattle.std.specs.Int.{int_min, int_max}
 use Rattle.std.proofs.lemmas.Int.{ints, clamps}
+use Rattle.std.proofs.lemmas.Bool.{and_parts, or_cases}
 use Rattle.geometry_model.specs.Sides.{between}
 use Rattle.basics.proofs.Ring.{var, ◌⊗◌, ◌⊖◌, solve}
 use Rattle.basics.proofs.Signs.{at_most_or_less, strict_plus_plus, at_most_yes, at_most_from}
-use Rattle.geometry_laws.proofs.Scaling.{and_parts, and_from}
+use Rattle.basics.proofs.Bools.{four_from}
 use Rattle.geometry_laws.proofs.Hulls.{on_parts}
-use Rattle.geometry_laws.proofs.ElementFacts.{or_from}
 use Rattle.geometry_laws.proofs.SharedPoints.{shared_point_is_decided}
 use Rattle.edge_boxes.specs.RunLaws.{SharingBoxesOverlap}
 
 -- one of two ends is at most the coordinate, and one at least
 low_end : (s t n w : ℤ) → between s t n w ≡ true → ((s *ℤ w) ≤ℤ n) ⊎ ((t *ℤ w) ≤ℤ n)
-low_end s t n w h = go (or_from (int_le (s *ℤ w) n && int_le n (t *ℤ w)) (int_le (t *ℤ w) n && int_le n (s *ℤ w)) h)
+low_end s t n w h = go (or_cases (int_le (s *ℤ w) n && int_le n (t *ℤ w)) (int_le (t *ℤ w) n && int_le n (s *ℤ w)) h)
   where
     go : ((int_le (s *ℤ w) n && int_le n (t *ℤ w)) ≡ true) ⊎ ((int_le (t *ℤ w) n && int_le n (s *ℤ w)) ≡ true) → ((s *ℤ w) ≤ℤ n) ⊎ ((t *ℤ w) ≤ℤ n)
     go (inl e) = inl (at_most_from (s *ℤ w) n ((and_parts (int_le (s *ℤ w) n) (int_le n (t *ℤ w)) e).0))
@@ -21,7 +21,7 @@ low_end s t n w h = go (or_from (int_le (s *ℤ w) n && int_le n (t *ℤ w)) (in
 
 -- and one of the two ends is at least the coordinate
 high_end : (s t n w : ℤ) → between s t n w ≡ true → (n ≤ℤ (s *ℤ w)) ⊎ (n ≤ℤ (t *ℤ w))
-high_end s t n w h = go (or_from (int_le (s *ℤ w) n && int_le n (t *ℤ w)) (int_le (t *ℤ w) n && int_le n (s *ℤ w)) h)
+high_end s t n w h = go (or_cases (int_le (s *ℤ w) n && int_le n (t *ℤ w)) (int_le (t *ℤ w) n && int_le n (s *ℤ w)) h)
   where
     go : ((int_le (s *ℤ w) n && int_le n (t *ℤ w)) ≡ true) ⊎ ((int_le (t *ℤ w) n && int_le n (s *ℤ w)) ≡ true) → (n ≤ℤ (s *ℤ w)) ⊎ (n ≤ℤ (t *ℤ w))
     go (inl e) = inr (at_most_from n (t *ℤ w) ((and_parts (int_le (s *ℤ w) n) (int_le n (t *ℤ w)) e).1))
@@ -65,7 +65,4 @@ sharing_boxes_overlap e f h = let w = (shared_point_is_decided e f).0 h in let m
     let b = ranges_meet f.start.x f.end.x e.start.x e.end.x w.at.X w.at.W w.is_point n.in_x m.in_x in
     let c = ranges_meet e.start.y e.end.y f.start.y f.end.y w.at.Y w.at.W w.is_point m.in_y n.in_y in
     let d = ranges_meet f.start.y f.end.y e.start.y e.end.y w.at.Y w.at.W w.is_point n.in_y m.in_y in
-    four _ _ _ _ a b c d
-  where
-    four : (p q r s : Bool) → p ≡ true → q ≡ true → r ≡ true → s ≡ true → p && q && r && s ≡ true
-    four p q r s a b c d = and_from (p && q && r) s (and_from (p && q) r (and_from p q a b) c) d
+    four_from _ _ _ _ a b c d

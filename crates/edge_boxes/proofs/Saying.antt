@@ -1,9 +1,10 @@
 -- What a run's bounds and ends show of a point.
-use Rattle.std.proofs.Common.{ℕ, ◌+◌, ◌<◌, length, take, get_or, ℤ, ◌*ℤ◌, ◌≤ℤ◌, ◌<ℤ◌, int_lt, int_le, ◌≡◌, ◌⊎◌, inl, inr, Bool, true, false, ◌||◌, refl, sym, ap₂, ◌∙◌, List, [], ◌∷◌, ◌++◌, arith}
+use Rattle.std.proofs.Common.{ℕ, ◌+◌, ◌<◌, length, take, get_or, ℤ, ◌*ℤ◌, ◌≤ℤ◌, ◌<ℤ◌, int_lt, int_le, ◌≡◌, ◌⊎◌, inl, inr, Bool, true, false, ◌||◌, sym, ap₂, ◌∙◌, List, [], ◌∷◌, ◌++◌, arith}
 use borrow.Author.Differences.{ints}
 use Rattle.std.specs.List.{AllByRecursion}
 use Rattle.std.proofs.lemmas.List.{take_more}
 use Rattle.std.proofs.lemmas.List.Folds.{list_any-append}
+use Rattle.std.proofs.lemmas.Bool.{or_cases}
 use Rattle.geometry_model.specs.Points.{Point}
 use Rattle.geometry_model.specs.Geometries.{Edge}
 use Rattle.geometry_model.specs.Sides.{on}
@@ -58,10 +59,6 @@ spanning_found es p first last b h t e =
       at_or_above = all ∙ sym (odd_count (λ f. at_or_above f p) es ∙ same_parity (λ f. at_or_above f p) (λ f. spans f p) es (each_map (IsOver p) (λ f. at_or_above f p ≡ spans f p) es (λ f o. o.at_or_above) h));
     }
 
-either : (a b : Bool) → a || b ≡ true → (a ≡ true) ⊎ (b ≡ true)
-either true b e = inl refl
-either false b e = inr e
-
 -- a run wholly left or right of the point, or below it
 pub apart_says : (run : Run) (cell : Cell) (p : Point) (es : List Edge) → IsCellOf cell p → SumsUp run es
     → (int_lt run.bounds.greatest_x cell.ceiling_x || int_lt cell.floor_x run.bounds.least_x || int_lt run.bounds.greatest_y cell.ceiling_y) ≡ true
@@ -82,11 +79,11 @@ apart_says run cell p es is sums far = none_found es p (each_of (LiesIn run.boun
     sideways (inr h) = right h
 
     any : ((int_lt run.bounds.greatest_x cell.ceiling_x || int_lt cell.floor_x run.bounds.least_x) ≡ true) ⊎ (int_lt run.bounds.greatest_y cell.ceiling_y ≡ true) → (e : Edge) → LiesIn run.bounds e → IsOff p e
-    any (inl h) = sideways (either (int_lt run.bounds.greatest_x cell.ceiling_x) (int_lt cell.floor_x run.bounds.least_x) h)
+    any (inl h) = sideways (or_cases (int_lt run.bounds.greatest_x cell.ceiling_x) (int_lt cell.floor_x run.bounds.least_x) h)
     any (inr h) = below h
 
     off : (e : Edge) → LiesIn run.bounds e → IsOff p e
-    off = any (either (int_lt run.bounds.greatest_x cell.ceiling_x || int_lt cell.floor_x run.bounds.least_x) (int_lt run.bounds.greatest_y cell.ceiling_y) far)
+    off = any (or_cases (int_lt run.bounds.greatest_x cell.ceiling_x || int_lt cell.floor_x run.bounds.least_x) (int_lt run.bounds.greatest_y cell.ceiling_y) far)
 
 -- a chain wholly above the point
 pub over_says : (run : Run) (cell : Cell) (p : Point) (es : List Edge) → IsCellOf cell p → SumsUp run es

@@ -1,8 +1,10 @@
 -- The places of edges asked for, found from the last one to the first.
-use Rattle.std.proofs.Common.{ℕ, zero, suc, ◌+◌, ◌-◌, ◌<◌, ◌≤◌, ◌≡◌, Bool, true, false, ◌&&◌, ◌||◌, cond, List, [], ◌∷◌, ◌++◌, length, drop, take, get_or, drop-cons, append_assoc, append-nil, reverse, refl, sym, ap, ap₂, ◌∙◌, subst, arith}
+use Rattle.std.proofs.Common.{ℕ, zero, suc, ◌+◌, ◌-◌, ◌<◌, ◌≤◌, ◌≡◌, Bool, true, false, ◌&&◌, cond, List, [], ◌∷◌, ◌++◌, length, drop, take, get_or, drop-cons, append_assoc, append-nil, reverse, refl, sym, ap, ap₂, ◌∙◌, subst, arith, add-zero}
 use Rattle.std.specs.Prelude.{slice_range, nat_le}
 use Rattle.std.specs.List.{list_any}
 use Rattle.std.proofs.lemmas.List.{take-append-drop, reverse-append}
+use Rattle.std.proofs.lemmas.Bool.{lt-leb, and_right, or_parts}
+use Rattle.std.proofs.lemmas.List.Folds.{drop_split}
 use Rattle.geometry_model.specs.Geometries.{Edge}
 use Rattle.geometry_model.specs.Envelopes.{overlap}
 use Rattle.geometry_model.specs.FirstFaults.{share_point}
@@ -12,7 +14,7 @@ use Rattle.edge_boxes.specs.BoxLists.{covered, AreBoxes}
 use Rattle.edge_boxes.specs.OneLine.{SharesNone}
 use Rattle.edge_boxes.specs.Sharings.{is_asked, places_asked, IsAskedStep}
 use Rattle.edge_boxes.specs.declared.boxes.EdgeBox.{EdgeBox}
-use Rattle.edge_boxes.proofs.BoxFacts.{rest_is, run_then_rest, run_counted, found_before, covered_before}
+use Rattle.edge_boxes.proofs.BoxFacts.{rest_is, run_counted, found_before, covered_before}
 use Rattle.edge_boxes.proofs.Steps.{box_before, leaf_ordered, inner_covered}
 use Rattle.edge_boxes.specs.declared.sharing_edges.Asked.{Asked}
 
@@ -37,31 +39,19 @@ apart e f far = go (share_point e f) refl
     go true h = absurd (let y : true ≡ false = sym (sharing_boxes_overlap e f h) ∙ far in cc)
     go false h = h
 
--- of two tests of which neither passes
-pub neither : (a b : Bool) → a || b ≡ false → (a ≡ false) × (b ≡ false)
-neither true b h = absurd (let y : true ≡ false = h in cc)
-neither false b h = (refl, h)
-
-pub and_none : (a b : Bool) → b ≡ false → a && b ≡ false
-and_none true b e = e
-and_none false b e = refl
-
 -- among edges none of which shares a point with the one asked about no edge is asked for
 pub none_asked : (asked : Asked) (n : ℕ) (es : List Edge) → list_any (share_point asked.edge) es ≡ false → places_asked asked n es ≡ []
 none_asked asked n [] far = refl
 none_asked asked n (e ∷ es) far =
-    let parts = neither (share_point asked.edge e) (list_any (share_point asked.edge) es) far in
-    ap (λ (t : Bool). cond t (n ∷ places_asked asked (suc n) es) (places_asked asked (suc n) es)) (and_none (nat_le asked.from n) (share_point asked.edge e) parts.0)
+    let parts = or_parts (share_point asked.edge e) (list_any (share_point asked.edge) es) far in
+    ap (λ (t : Bool). cond t (n ∷ places_asked asked (suc n) es) (places_asked asked (suc n) es)) (and_right (nat_le asked.from n) (share_point asked.edge e) parts.0)
     ∙ none_asked asked (suc n) es parts.1
-
-late : (f n : ℕ) → n < f → nat_le f n ≡ false
-late f n h = grind (arith, h)
 
 -- before the first place asked for no edge is asked for
 none_before : (asked : Asked) (n : ℕ) (es : List Edge) → n + length es ≤ asked.from → places_asked asked n es ≡ []
 none_before asked n [] h = refl
 none_before asked n (e ∷ es) h =
-    ap (λ (t : Bool). cond (t && share_point asked.edge e) (n ∷ places_asked asked (suc n) es) (places_asked asked (suc n) es)) (late asked.from n (omega (arith, h)))
+    ap (λ (t : Bool). cond (t && share_point asked.edge e) (n ∷ places_asked asked (suc n) es) (places_asked asked (suc n) es)) (lt-leb asked.from n (omega (arith, h)))
     ∙ none_before asked (suc n) es (omega (arith, h))
 
 -- ---- one edge before
@@ -136,7 +126,7 @@ pub leaf_asked : (boxes : List EdgeBox) (edges : List Edge) (asked : Asked) (pla
 leaf_asked boxes edges asked place b old new are h k is leaf grew =
     let box = box_before boxes edges place b are h k is in
     let e = covered_before boxes place b h (found_before boxes place b h k is) in
-    let split = run_then_rest edges (covered boxes (place - 1)) b.end (leaf_ordered boxes edges place b are h k is leaf) in
+    let split = drop_split edges (covered boxes (place - 1)) b.end (leaf_ordered boxes edges place b are h k is leaf) in
     record {
       earlier = omega (arith, h);
       own = slice_range edges (covered boxes (place - 1)) b.end;
@@ -154,12 +144,9 @@ inner_asked boxes edges asked place b old are h k is inner =
       earlier = omega (arith, h);
       own = [];
       split = ap (λ n. drop n edges) same;
-      count = plus_none (covered boxes (place - 1)) ∙ same;
+      count = add-zero (covered boxes (place - 1)) ∙ same;
       found = sym (append-nil old);
     }
-  where
-    plus_none : (n : ℕ) → n + 0 ≡ n
-    plus_none n = omega arith
 
 -- after a step, what was found are the places asked for among all edges from there on
 pub asked_joined : (boxes : List EdgeBox) (edges : List Edge) (asked : Asked) (place next : ℕ) (start old new : List ℕ) → IsAskedStep boxes edges asked place next old new

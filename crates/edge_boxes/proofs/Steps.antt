@@ -1,8 +1,9 @@
 -- The steps of a walk through a list of boxes.
-use Rattle.std.proofs.Common.{Bool, true, ◌||◌, take, ap₂, ℕ, ◌-◌, ◌<◌, ◌≤◌, ◌≡◌, ◌⊎◌, inl, inr, List, [], ◌++◌, length, drop, get_or, refl, sym, ap, ◌∙◌, subst, arith, false}
+use Rattle.std.proofs.Common.{Bool, true, ◌||◌, take, ap₂, ℕ, ◌-◌, ◌<◌, ◌≤◌, ◌≡◌, ◌⊎◌, inl, inr, List, [], ◌++◌, length, drop, get_or, sym, ap, ◌∙◌, subst, arith, false}
 use Rattle.std.specs.Prelude.{slice_range}
 use Rattle.std.proofs.lemmas.List.{take-append-drop}
-use Rattle.std.proofs.lemmas.List.Folds.{list_any-append}
+use Rattle.std.proofs.lemmas.List.Folds.{list_any-append, drop_split}
+use Rattle.std.proofs.lemmas.Bool.{or_right}
 use Rattle.geometry_model.specs.Points.{Point}
 use Rattle.geometry_model.specs.Sides.{on}
 use Rattle.geometry_model.specs.Geometries.{Edge}
@@ -13,7 +14,7 @@ use Rattle.edge_boxes.specs.Walks.{IsStep}
 use Rattle.edge_boxes.specs.declared.boxes.EdgeBox.{EdgeBox}
 use Rattle.edge_boxes.specs.declared.cells.Cell.{Cell}
 use Rattle.edge_boxes.specs.declared.point_crossings.Crossings.{Crossings}
-use Rattle.edge_boxes.proofs.BoxFacts.{run_then_rest, rest_is, found_before, covered_before}
+use Rattle.edge_boxes.proofs.BoxFacts.{rest_is, found_before, covered_before}
 use Rattle.edge_boxes.proofs.Saying.{none_found}
 
 -- the box that is read right before a place is one of the edges' boxes there
@@ -47,7 +48,7 @@ leaf_step boxes edges p place b c are h k is leaf of =
     record {
       earlier = omega (arith, h);
       own = slice_range edges (covered boxes (place - 1)) b.end;
-      split = run_then_rest edges (covered boxes (place - 1)) b.end (leaf_ordered boxes edges place b are h k is leaf)
+      split = drop_split edges (covered boxes (place - 1)) b.end (leaf_ordered boxes edges place b are h k is leaf)
           ∙ ap (λ n. slice_range edges (covered boxes (place - 1)) b.end ++ drop n edges) (sym (covered_before boxes place b h (found_before boxes place b h k is)));
       said = of;
     }
@@ -79,13 +80,9 @@ pub step_joined : (boxes : List EdgeBox) (edges : List Edge) (p : Point) (place 
 step_joined boxes edges p place next own found all s join h = subst (λ l. AreCrossings all l p) (sym s.split) (join p s.own (drop (covered boxes place) edges) s.said h)
 
 -- ---- on an edge
-or_true : (a b : Bool) → b ≡ true → (a || b) ≡ true
-or_true true b e = refl
-or_true false b e = e
-
 -- on one of the edges from a place on
 pub on_from : (edges : List Edge) (n : ℕ) (p : Point) → on_any (drop n edges) p ≡ true → on_any edges p ≡ true
-on_from edges n p e = ap (λ l. on_any l p) (sym (take-append-drop n edges)) ∙ list_any-append (λ s. on s p) (take n edges) (drop n edges) ∙ or_true (on_any (take n edges) p) (on_any (drop n edges) p) e
+on_from edges n p e = ap (λ l. on_any l p) (sym (take-append-drop n edges)) ∙ list_any-append (λ s. on s p) (take n edges) (drop n edges) ∙ or_right (on_any (take n edges) p) (on_any (drop n edges) p) e
 
 -- from where a step leads to, the point is on an edge where the step shows so or it was on one behind it
 stepped : (boxes : List EdgeBox) (edges : List Edge) (p : Point) (place next : ℕ) (own : Crossings) (s : IsStep boxes edges p place next own)

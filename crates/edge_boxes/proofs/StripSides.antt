@@ -1,12 +1,14 @@
 -- What a strip shows of a point in a cell.
 use Rattle.std.proofs.Common.{ℤ, pos, ◌+ℤ◌, ◌-ℤ◌, ◌*ℤ◌, ◌≤ℤ◌, ◌<ℤ◌, int_lt, int_le, ◌≡◌, ◌⊎◌, inl, inr, Bool, true, false, Option, Some, None, IfSome, sym, ap₂, ◌∙◌, subst, List, [], ◌∷◌, arith}
+use Rattle.std.proofs.lemmas.Bool.{and_parts}
+use lib.Signed.{≤ℤ_refl}
 use borrow.Author.Differences.{ints}
 use Rattle.geometry_model.specs.Points.{Position, Point}
 use Rattle.geometry_model.specs.Geometries.{Edge}
 use Rattle.geometry_model.specs.Crossings.{exactly_one as xor}
 use Rattle.basics.proofs.Ring.{solve, var, lit, ◌⊕◌, ◌⊖◌, ◌⊗◌}
 use Rattle.basics.proofs.Signs.{plus_plus, strict_plus_plus, at_most_or_less, at_most_yes, at_most_from}
-use Rattle.geometry_laws.proofs.Scaling.{and_parts}
+use Rattle.basics.proofs.Orders.{negative_turned, weak_positive, gap_weak}
 use Rattle.edge_boxes.specs.BoxCells.{IsFloor, IsCeiling, IsCellOf}
 use Rattle.edge_boxes.specs.Strips.{rise, IsInStrip, LiesInStrip, IsStripOf, lies_under, lies_over}
 use Rattle.edge_boxes.specs.EdgeRuns.{SumsUpEnds}
@@ -19,29 +21,14 @@ use Rattle.edge_boxes.specs.declared.strips.Strip.{Strip}
 use Rattle.edge_boxes.proofs.EdgeSides.{beyond, IsOff, IsOver, off_beyond, over_beyond}
 use Rattle.edge_boxes.proofs.Saying.{each_of, none_found, spanning_found}
 
-weak : (x : ℤ) → pos 0 <ℤ x → pos 0 ≤ℤ x
-weak x h = omega (arith, ints)
-
 -- ---- a point lies within its cell
 -- the point's coordinate isn't less than its floor
 over_floor : (n w f : ℤ) → IsFloor n w f → pos 0 ≤ℤ (n -ℤ f *ℤ w)
-over_floor n w f is = difference (f *ℤ w) n (at_most_from (f *ℤ w) n (is f ∙ at_most_yes f f (same f)))
-  where
-    same : (f : ℤ) → f ≤ℤ f
-    same f = omega (arith, ints)
-
-    difference : (x y : ℤ) → x ≤ℤ y → pos 0 ≤ℤ (y -ℤ x)
-    difference x y h = omega (arith, ints, h)
+over_floor n w f is = gap_weak (f *ℤ w) n (at_most_from (f *ℤ w) n (is f ∙ at_most_yes f f (≤ℤ_refl f)))
 
 -- nor is it more than its ceiling
 under_ceiling : (n w f : ℤ) → IsCeiling n w f → pos 0 ≤ℤ (f *ℤ w -ℤ n)
-under_ceiling n w f is = difference n (f *ℤ w) (at_most_from n (f *ℤ w) (is f ∙ at_most_yes f f (same f)))
-  where
-    same : (f : ℤ) → f ≤ℤ f
-    same f = omega (arith, ints)
-
-    difference : (x y : ℤ) → x ≤ℤ y → pos 0 ≤ℤ (y -ℤ x)
-    difference x y h = omega (arith, ints, h)
+under_ceiling n w f is = gap_weak n (f *ℤ w) (at_most_from n (f *ℤ w) (is f ∙ at_most_yes f f (≤ℤ_refl f)))
 
 -- ---- above all of a strip: by the corner of the cell's lower side that rises least
 -- how far a point lies above a position, given by its cell's lower right corner, which serves where the direction rises
@@ -65,9 +52,6 @@ less_rise r g t h e = omega (arith, ints, h, e)
 more_rise : (r l t : ℤ) → l ≤ℤ r → int_lt t l ≡ true → pos 0 <ℤ (r -ℤ t)
 more_rise r l t h e = omega (arith, ints, h, e)
 
-turned : (x : ℤ) → x <ℤ pos 0 → pos 0 ≤ℤ (pos 0 -ℤ x)
-turned x h = omega (arith, ints, h)
-
 -- a point in a cell that the strip is wholly below lies above each position in the strip
 above_all : (s : Strip) (cell : Cell) (p : Point) → IsCellOf cell p → pos 0 <ℤ s.direction.dx → lies_under s cell ≡ true → (a : Position) → IsInStrip s a → pos 0 <ℤ beyond s.direction.dx s.direction.dy a p
 above_all s cell p is right far a h = go (at_most_or_less (pos 0) s.direction.dy)
@@ -76,7 +60,7 @@ above_all s cell p is right far a h = go (at_most_or_less (pos 0) s.direction.dy
     parts = and_parts (int_lt s.greatest (rise s.direction cell.floor_x cell.floor_y)) (int_lt s.greatest (rise s.direction cell.ceiling_x cell.floor_y)) far
 
     up : pos 0 ≤ℤ (s.direction.dx *ℤ (p.Y -ℤ cell.floor_y *ℤ p.W))
-    up = plus_plus s.direction.dx (p.Y -ℤ cell.floor_y *ℤ p.W) (weak s.direction.dx right) (over_floor p.Y p.W cell.floor_y is.floor_y)
+    up = plus_plus s.direction.dx (p.Y -ℤ cell.floor_y *ℤ p.W) (weak_positive s.direction.dx right) (over_floor p.Y p.W cell.floor_y is.floor_y)
 
     go : (pos 0 ≤ℤ s.direction.dy) ⊎ (s.direction.dy <ℤ pos 0) → pos 0 <ℤ beyond s.direction.dx s.direction.dy a p
     go (inl d) = sum_positive (s.direction.dx *ℤ (p.Y -ℤ cell.floor_y *ℤ p.W)) (s.direction.dy *ℤ (cell.ceiling_x *ℤ p.W -ℤ p.X)) (p.W *ℤ (rise s.direction cell.ceiling_x cell.floor_y -ℤ rise s.direction a.x a.y))
@@ -85,7 +69,7 @@ above_all s cell p is right far a h = go (at_most_or_less (pos 0) s.direction.dy
         (strict_plus_plus p.W (rise s.direction cell.ceiling_x cell.floor_y -ℤ rise s.direction a.x a.y) is.positive (less_rise (rise s.direction a.x a.y) s.greatest (rise s.direction cell.ceiling_x cell.floor_y) h.greatest parts.1))
     go (inr d) = sum_positive (s.direction.dx *ℤ (p.Y -ℤ cell.floor_y *ℤ p.W)) ((pos 0 -ℤ s.direction.dy) *ℤ (p.X -ℤ cell.floor_x *ℤ p.W)) (p.W *ℤ (rise s.direction cell.floor_x cell.floor_y -ℤ rise s.direction a.x a.y))
         (beyond s.direction.dx s.direction.dy a p) (by_lower_left s.direction.dx s.direction.dy cell.floor_x cell.floor_y a p) up
-        (plus_plus (pos 0 -ℤ s.direction.dy) (p.X -ℤ cell.floor_x *ℤ p.W) (turned s.direction.dy d) (over_floor p.X p.W cell.floor_x is.floor_x))
+        (plus_plus (pos 0 -ℤ s.direction.dy) (p.X -ℤ cell.floor_x *ℤ p.W) (negative_turned s.direction.dy d) (over_floor p.X p.W cell.floor_x is.floor_x))
         (strict_plus_plus p.W (rise s.direction cell.floor_x cell.floor_y -ℤ rise s.direction a.x a.y) is.positive (less_rise (rise s.direction a.x a.y) s.greatest (rise s.direction cell.floor_x cell.floor_y) h.greatest parts.0))
 
 -- ---- below all of a strip: by the corner of the cell's upper side that rises most
@@ -112,7 +96,7 @@ below_all s cell p is right far a h = go (at_most_or_less (pos 0) s.direction.dy
     parts = and_parts (int_lt (rise s.direction cell.floor_x cell.ceiling_y) s.least) (int_lt (rise s.direction cell.ceiling_x cell.ceiling_y) s.least) far
 
     down : pos 0 ≤ℤ (s.direction.dx *ℤ (cell.ceiling_y *ℤ p.W -ℤ p.Y))
-    down = plus_plus s.direction.dx (cell.ceiling_y *ℤ p.W -ℤ p.Y) (weak s.direction.dx right) (under_ceiling p.Y p.W cell.ceiling_y is.ceiling_y)
+    down = plus_plus s.direction.dx (cell.ceiling_y *ℤ p.W -ℤ p.Y) (weak_positive s.direction.dx right) (under_ceiling p.Y p.W cell.ceiling_y is.ceiling_y)
 
     go : (pos 0 ≤ℤ s.direction.dy) ⊎ (s.direction.dy <ℤ pos 0) → beyond s.direction.dx s.direction.dy a p <ℤ pos 0
     go (inl d) = sum_negative (s.direction.dx *ℤ (cell.ceiling_y *ℤ p.W -ℤ p.Y)) (s.direction.dy *ℤ (p.X -ℤ cell.floor_x *ℤ p.W)) (p.W *ℤ (rise s.direction a.x a.y -ℤ rise s.direction cell.floor_x cell.ceiling_y))
@@ -121,7 +105,7 @@ below_all s cell p is right far a h = go (at_most_or_less (pos 0) s.direction.dy
         (strict_plus_plus p.W (rise s.direction a.x a.y -ℤ rise s.direction cell.floor_x cell.ceiling_y) is.positive (more_rise (rise s.direction a.x a.y) s.least (rise s.direction cell.floor_x cell.ceiling_y) h.least parts.0))
     go (inr d) = sum_negative (s.direction.dx *ℤ (cell.ceiling_y *ℤ p.W -ℤ p.Y)) ((pos 0 -ℤ s.direction.dy) *ℤ (cell.ceiling_x *ℤ p.W -ℤ p.X)) (p.W *ℤ (rise s.direction a.x a.y -ℤ rise s.direction cell.ceiling_x cell.ceiling_y))
         (beyond s.direction.dx s.direction.dy a p) (by_upper_right s.direction.dx s.direction.dy cell.ceiling_x cell.ceiling_y a p) down
-        (plus_plus (pos 0 -ℤ s.direction.dy) (cell.ceiling_x *ℤ p.W -ℤ p.X) (turned s.direction.dy d) (under_ceiling p.X p.W cell.ceiling_x is.ceiling_x))
+        (plus_plus (pos 0 -ℤ s.direction.dy) (cell.ceiling_x *ℤ p.W -ℤ p.X) (negative_turned s.direction.dy d) (under_ceiling p.X p.W cell.ceiling_x is.ceiling_x))
         (strict_plus_plus p.W (rise s.direction a.x a.y -ℤ rise s.direction cell.ceiling_x cell.ceiling_y) is.positive (more_rise (rise s.direction a.x a.y) s.least (rise s.direction cell.ceiling_x cell.ceiling_y) h.least parts.1))
 
 -- ---- what a strip shows

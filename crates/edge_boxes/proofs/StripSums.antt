@@ -1,7 +1,6 @@
 -- Strips that are widened position by position.
 use Rattle.std.proofs.Common.{ℕ, ◌+◌, ◌*◌, ◌<◌, ◌≤◌, ℤ, pos, negsuc, ◌-ℤ◌, ◌*ℤ◌, ◌≤ℤ◌, ◌<ℤ◌, ◌≡◌, ◌⊎◌, inl, inr, sym, ap, ◌∙◌, subst, List, [], ◌∷◌, ◌++◌, length, take, get_or, arith}
-use Rattle.std.proofs.Math.Nat.{mul-le-mul}
-use Rattle.std.proofs.lemmas.Int.{ints, clamps, unsigned_abs-mul}
+use Rattle.std.proofs.lemmas.Int.{ints, clamps}
 use Rattle.std.proofs.lemmas.List.{take_more}
 use Rattle.std.specs.Prelude.{unsigned_abs}
 use Rattle.std.specs.Int.{int_min, int_max}
@@ -11,15 +10,13 @@ use mir.Val.{SFits}
 use Rattle.geometry_model.specs.Points.{Position}
 use Rattle.geometry_model.specs.Geometries.{Edge}
 use Rattle.basics.proofs.Signs.{at_most_or_less, minus_minus}
+use Rattle.basics.proofs.Numbers.{product_within}
+use Rattle.basics.proofs.Orders.{weak_negative}
 use Rattle.edge_boxes.specs.Strips.{rise, IsInStrip, LiesInStrip, IsWider}
 use Rattle.edge_boxes.specs.declared.strips.Direction.{Direction}
 use Rattle.edge_boxes.specs.declared.strips.Strip.{Strip}
 
 -- ---- the numbers of a rise fit 64 bits
--- a product is within the product of the limits of its factors
-product_within : (a b : ℤ) (m n : ℕ) → unsigned_abs a ≤ m → unsigned_abs b ≤ n → unsigned_abs (a *ℤ b) ≤ m * n
-product_within a b m n h k = rw unsigned_abs-mul (mul-le-mul h k)
-
 -- a product of two numbers of 32 bits
 record IsShortProduct (z : ℤ) : Type 0 where
   low : negsuc 4611686016279904255 ≤ℤ z
@@ -35,9 +32,6 @@ short_product a b h k = go (at_most_or_less (pos 0) a) (at_most_or_less (pos 0) 
     less : (z : ℤ) → SFits w32 z → pos 0 ≤ℤ z → unsigned_abs z ≤ 2147483647
     less z f l = omega (arith, ints, f, l)
 
-    weak : (z : ℤ) → z <ℤ pos 0 → z ≤ℤ pos 0
-    weak z l = omega (arith, ints)
-
     small : (z : ℤ) → unsigned_abs z ≤ 2147483648 * 2147483647 → IsShortProduct z
     small z f = record { low = omega (arith, ints, f); high = omega (arith, ints, f) }
 
@@ -47,7 +41,7 @@ short_product a b h k = go (at_most_or_less (pos 0) a) (at_most_or_less (pos 0) 
     go : (pos 0 ≤ℤ a) ⊎ (a <ℤ pos 0) → (pos 0 ≤ℤ b) ⊎ (b <ℤ pos 0) → IsShortProduct (a *ℤ b)
     go (inl l) m = small (a *ℤ b) (product_within a b 2147483647 2147483648 (less a h l) (whole b k))
     go (inr l) (inl m) = small (a *ℤ b) (product_within a b 2147483648 2147483647 (whole a h) (less b k m))
-    go (inr l) (inr m) = large (a *ℤ b) (minus_minus a b (weak a l) (weak b m)) (product_within a b 2147483648 2147483648 (whole a h) (whole b k))
+    go (inr l) (inr m) = large (a *ℤ b) (minus_minus a b (weak_negative a l) (weak_negative b m)) (product_within a b 2147483648 2147483648 (whole a h) (whole b k))
 
 pub record RiseFits (dx dy x y : ℤ) : Type 0 where
   pub first : SFits w64 (dx *ℤ y)

@@ -3,13 +3,13 @@ use Rattle.std.proofs.Common.{ℕ, zero, suc, ◌-◌, ◌<◌, ◌≡◌, ◌�
 use Rattle.std.specs.Prelude.{slice_get, slice_range}
 use Rattle.std.proofs.lemmas.List.{append_cancel_right}
 use Rattle.std.proofs.lemmas.Option.{slice_get_read}
+use Rattle.std.proofs.lemmas.List.Folds.{drop_split}
 use Rattle.geometry_model.specs.Geometries.{Edge}
 use Rattle.edge_boxes.specs.Strips.{IsStripOf}
 use Rattle.edge_boxes.specs.BoxLists.{end_of, covered, IsRun, IsBoxAt, AreBoxes}
 use Rattle.edge_boxes.specs.Builds.{IsStripAt}
 use Rattle.edge_boxes.specs.declared.boxes.EdgeBox.{EdgeBox}
 use Rattle.edge_boxes.specs.declared.strips.Strip.{Strip}
-use Rattle.edge_boxes.proofs.BoxFacts.{run_then_rest}
 
 -- the box with another strip
 abbrev pub stripped : EdgeBox → Option Strip → EdgeBox
@@ -86,7 +86,7 @@ with_strip boxes edges place b strip k h = record {
 }
   where
     own_is : k.run.own ≡ slice_range edges (covered boxes (place - b.size)) b.end
-    own_is = append_cancel_right k.run.own (slice_range edges (covered boxes (place - b.size)) b.end) (drop b.end edges) (sym k.run.split ∙ run_then_rest edges (covered boxes (place - b.size)) b.end k.run.ordered)
+    own_is = append_cancel_right k.run.own (slice_range edges (covered boxes (place - b.size)) b.end) (drop b.end edges) (sym k.run.split ∙ drop_split edges (covered boxes (place - b.size)) b.end k.run.ordered)
 
 -- the boxes stay those of the edges
 pub strip_set : (boxes : List EdgeBox) (edges : List Edge) (i : ℕ) (b : EdgeBox) (strip : Option Strip) → AreBoxes boxes edges → slice_get boxes i ≡ Some b → IsStripAt boxes edges i strip

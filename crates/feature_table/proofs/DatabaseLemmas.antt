@@ -1,11 +1,11 @@
 -- The tables of a database, one after the other.
-use Rattle.std.proofs.Common.{◌≡◌, ◌∙◌, ◌+◌, ◌++◌, ◌<◌, ℕ, List, [], ◌∷◌, Option, None, Some, Result, Ok, Err, IfErr, ap, ap₂, arith, drop, get_or, length, map, refl, subst, sym, take}
+use Rattle.std.proofs.Common.{◌≡◌, ◌∙◌, ◌+◌, ◌++◌, ◌<◌, ℕ, List, [], ◌∷◌, Option, None, Some, Result, Ok, Err, IfErr, ap, ap₂, arith, drop, get_or, length, map, refl, subst, sym, take, drop_at}
 use Rattle.std.proofs.lemmas.List.{append-nil, append_assoc, drop_more, get_or-map, length-append, length-map, take-append-drop, take_all}
 use Rattle.std.proofs.lemmas.List.FromFn.{get_or-enumerate_from, length-enumerate_from}
 use Rattle.std.proofs.lemmas.Slice.Zip.{get_or-zip}
 use Rattle.std.specs.List.{enumerate_from, zip}
 use Rattle.feature_table.proofs.EachLemmas.{Passed, passed_all, passed_fault, passed_front, passed_more}
-use Rattle.feature_table.proofs.LoadingLemmas.{at_place, drop_front}
+use Rattle.feature_table.proofs.LoadingLemmas.{at_place}
 use Rattle.feature_table.specs.Outcomes.{IsFailure, LoadsTable}
 use Rattle.feature_table.proofs.ReaderRecords.{each-append, each-more, fill, length-each}
 use Rattle.feature_table.specs.Tables.{AreOfRecords, AreRecordsOf, EachRecordsOf, EarlierLoad, records_in, tables_in}
@@ -77,7 +77,7 @@ next_at : {T G : Type 0} (geometry : GeometryReader T G) (definitions : List (Ta
     (t : TableDef T) (d : Result (Table G) TableFault) → length earlier ≡ n → length definitions ≡ length (earlier ++ next ∷ more)
     → (n < length definitions) × (get_or (loaded_tables geometry definitions (earlier ++ next ∷ more)) n d ≡ at_table n (load geometry (get_or definitions n t) next))
 next_at geometry definitions earlier n next more t d count same =
-    let at = at_place (earlier ++ next ∷ more) n next more (drop_front earlier (next ∷ more) n count) in
+    let at = at_place (earlier ++ next ∷ more) n next more (drop_at earlier (next ∷ more) n count) in
     let within : n < length definitions = omega (arith, at.0, same) in (
       within,
       loaded_at geometry definitions (earlier ++ next ∷ more) n t next d same within

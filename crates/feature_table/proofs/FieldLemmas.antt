@@ -1,6 +1,6 @@
 -- Whole numbers and texts as fields spell them.
-use Rattle.std.proofs.Common.{◌≡◌, ap, sym, ◌&&◌, ◌<◌, ◌≤◌, ◌+◌, ◌++◌, ◌==◌, ◌^◌, get_or, take, ℕ, ℤ, pos, negsuc, zero, suc, Bool, true, false, List, [], ◌∷◌, Some, None, Result, Ok, Err, IsUtf8, IsAscii, arith, cond, drop, length, nat_lt, refl}
-use Rattle.std.proofs.lemmas.Bool.{false≢true, ne_eqb}
+use Rattle.std.proofs.Common.{◌≡◌, ap, sym, ◌&&◌, ◌<◌, ◌≤◌, ◌+◌, ◌++◌, ◌==◌, ◌^◌, get_or, take, ℕ, ℤ, pos, negsuc, Bool, true, false, List, [], ◌∷◌, Some, None, Result, Ok, Err, IsUtf8, IsAscii, arith, cond, drop, length, nat_lt, refl, ltb-true, lt-ltb}
+use Rattle.std.proofs.lemmas.Bool.{false≢true, ne_eqb, and_parts}
 use Rattle.std.proofs.lemmas.Bool.Decides.{nat_tests}
 use Rattle.std.proofs.lemmas.Fmt.{IsAscii-from_digits}
 use Rattle.std.proofs.lemmas.Str.{IsUtf8-from_ascii, IsUtf8-from_is_utf8, is_utf8-from_IsUtf8}
@@ -12,6 +12,7 @@ use Rattle.std.specs.Result.{result_ok}
 use Rattle.std.specs.Str.{all_ascii_digits, is_utf8}
 use Rattle.std.specs.Str.Parse.{IsNumeral, ParsesSigned, digits_value, signed_digits_value, starts_with_minus, without_leading_plus, without_leading_sign}
 use Rattle.std.specs.Prelude.{FitsSigned}
+use Rattle.std.proofs.lemmas.Str.Ascii.{IsAscii-cons}
 use Rattle.table_model.specs.Loading.{GeometryReader, filled_value, fits_64_bits, is_number, number_in, value_of}
 use Rattle.table_model.specs.declared.definitions.ColumnType.{ColumnType}
 use Rattle.table_model.specs.declared.definitions.ColumnType.TheVariants as column
@@ -22,30 +23,19 @@ use Rattle.table_model.specs.declared.values.Value.TheVariants as value
 numerals : IsNumeralModel (λ ds. all_ascii_digits ds ≡ true) (digits_value 10)
 numerals = numerals_by_value _ tells_all_ascii_digits
 
-lt-true : (m n : ℕ) → m < n → nat_lt m n ≡ true
-lt-true m n h = grind (arith, nat_tests)
-
-true-lt : (m n : ℕ) → nat_lt m n ≡ true → m < n
-true-lt m n h = grind (arith, nat_tests)
-
 -- the test of 64 bits passes the numbers that fit, and no others
 fits-true : (z : ℤ) → FitsSigned w64 z → fits_64_bits z ≡ true
-fits-true (pos n) h = lt-true n (2 ^ 63) h.sfits
-fits-true (negsuc n) h = lt-true n (2 ^ 63) h.sfits
+fits-true (pos n) h = lt-ltb n (2 ^ 63) h.sfits
+fits-true (negsuc n) h = lt-ltb n (2 ^ 63) h.sfits
 
 true-fits : (z : ℤ) → fits_64_bits z ≡ true → FitsSigned w64 z
-true-fits (pos n) h = record { sfits = true-lt n (2 ^ 63) h }
-true-fits (negsuc n) h = record { sfits = true-lt n (2 ^ 63) h }
+true-fits (pos n) h = record { sfits = ltb-true n (2 ^ 63) h }
+true-fits (negsuc n) h = record { sfits = ltb-true n (2 ^ 63) h }
 
 -- what `parse` takes is a number
 number-true : (text : List ℕ) → IsNumeral 10 (without_leading_sign text) × FitsSigned w64 (signed_digits_value 10 text) → is_number text ≡ true
 number-true text h =
-    rw (lt-true 0 (length (without_leading_sign text)) h.0.0, numerals.from (without_leading_sign text) h.0.1, fits-true (signed_digits_value 10 text) h.1) refl
-
-and-two : (a b : Bool) → (a && b) ≡ true → (a ≡ true) × (b ≡ true)
-and-two true true h = (refl, refl)
-and-two true false h = absurd (false≢true h)
-and-two false b h = absurd (false≢true h)
+    rw (lt-ltb 0 (length (without_leading_sign text)) h.0.0, numerals.from (without_leading_sign text) h.0.1, fits-true (signed_digits_value 10 text) h.1) refl
 
 digit-low : (c : ℕ) → is_ascii_digit c ≡ true → 48 ≤ c
 digit-low c d = grind (arith, nat_tests)
@@ -61,7 +51,7 @@ true-number : (text : List ℕ) → is_number text ≡ true → IsNumeral 10 (wi
 true-number text h =
     let digits = without_leading_sign text in
     let parts = and-both (nat_lt 0 (length digits)) (all_ascii_digits digits) (fits_64_bits (signed_digits_value 10 text)) h in
-    ((true-lt 0 (length digits) parts.0, numerals.to digits parts.1), true-fits (signed_digits_value 10 text) parts.2)
+    ((ltb-true 0 (length digits) parts.0, numerals.to digits parts.1), true-fits (signed_digits_value 10 text) parts.2)
 
 -- one more digit
 pub digits-more : (text : List ℕ) (i : ℕ) → i < length text → all_ascii_digits (take i text) ≡ true → is_ascii_digit (get_or text i 0) ≡ true
@@ -70,7 +60,7 @@ digits-more text i lt digits digit = rw (take_more text i 0 lt) (pushed (take i 
   where
     pushed : (xs : List ℕ) (c : ℕ) → all_ascii_digits xs ≡ true → is_ascii_digit c ≡ true → all_ascii_digits (xs ++ c ∷ []) ≡ true
     pushed [] c a d = rw d refl
-    pushed (x ∷ xs) c a d = let parts = and-two (is_ascii_digit x) (all_ascii_digits xs) a in rw parts.0 (pushed xs c parts.1 d)
+    pushed (x ∷ xs) c a d = let parts = and_parts (is_ascii_digit x) (all_ascii_digits xs) a in rw parts.0 (pushed xs c parts.1 d)
 
 -- what is digits alone is a number without a sign
 digits-unsigned : (c : ℕ) (cs : List ℕ) → is_ascii_digit c ≡ true → (starts_with_minus (c ∷ cs) ≡ false) × (without_leading_plus (c ∷ cs) ≡ c ∷ cs)
@@ -85,7 +75,7 @@ pub digits-number : (text : List ℕ) (n : ℕ) → (length text == 0) ≡ false
 digits-number [] n some digits value fits = cc
 digits-number (c ∷ cs) n some digits value fits =
     let text : List ℕ = c ∷ cs in
-    let unsigned = digits-unsigned c cs (and-two (is_ascii_digit c) (all_ascii_digits cs) digits).0 in
+    let unsigned = digits-unsigned c cs (and_parts (is_ascii_digit c) (all_ascii_digits cs) digits).0 in
     let signed : signed_digits_value 10 text ≡ pos n = rw (unsigned.0, unsigned.1) (ap pos (sym value)) in
     let filled : 0 < length text = omega arith in
     let numeral : IsNumeral 10 (without_leading_sign text) = rw (unsigned.0, unsigned.1) (filled, numerals.to text digits) in
@@ -101,21 +91,17 @@ parsed text (Err e) h = go (is_number text) refl
     go true e = absurd (h (true-number text e))
     go false e = refl
 
-ascii-cons : (c : ℕ) (cs : List ℕ) → c < 128 → IsAscii cs → IsAscii (c ∷ cs)
-ascii-cons c cs low rest zero = low
-ascii-cons c cs low rest (suc i) = rest i
-
 -- a text whose digits are ASCII is ASCII, since its sign is
 ascii-signed : (text : List ℕ) → IsAscii (without_leading_sign text) → IsAscii text
 ascii-signed [] h = h
 ascii-signed (c ∷ cs) h = minus (c == 45) refl h
   where
     plus : (b : Bool) → (c == 43) ≡ b → IsAscii (drop (cond b 1 0) (c ∷ cs)) → IsAscii (c ∷ cs)
-    plus true e h = ascii-cons c cs (grind (arith, nat_tests)) h
+    plus true e h = IsAscii-cons c cs (grind (arith, nat_tests)) h
     plus false e h = h
 
     minus : (b : Bool) → (c == 45) ≡ b → IsAscii (cond b cs (drop (cond (c == 43) 1 0) (c ∷ cs))) → IsAscii (c ∷ cs)
-    minus true e h = ascii-cons c cs (grind (arith, nat_tests)) h
+    minus true e h = IsAscii-cons c cs (grind (arith, nat_tests)) h
     minus false e h = plus (c == 43) refl h
 
 -- what is no text is no number

@@ -1,5 +1,5 @@
 -- The fields of a header that have a name, counted from the left.
-use Rattle.std.proofs.Common.{◌≡◌, ◌∙◌, ◌+◌, ◌++◌, ◌<◌, ◌≤◌, ◌==◌, ℕ, zero, suc, Bool, Bor, true, false, List, [], ◌∷◌, Option, Some, None, arith, cond, drop, get_or, is_some, length, map, nat_lt, ne_eqb, option_map, refl, sym, take, unwrap_or}
+use Rattle.std.proofs.Common.{◌≡◌, ◌∙◌, ◌+◌, ◌++◌, ◌<◌, ◌≤◌, ◌==◌, ℕ, zero, suc, Bool, true, false, List, [], ◌∷◌, Option, Some, None, arith, cond, drop, get_or, is_some, length, map, nat_lt, ne_eqb, refl, sym, take, unwrap_or}
 use Rattle.std.proofs.lemmas.Bool.{false≢true}
 use Rattle.std.proofs.lemmas.Bool.Decides.{nat_tests}
 use Rattle.std.proofs.lemmas.List.{drop_all, drop_more, map-append, take_all, take_more}
@@ -24,11 +24,6 @@ field_at-get (f ∷ fs) (suc i) = field_at-get fs i
 abbrev pub IsFound : {X : Type 0} → (X → Bool) → List X → ℕ → Option ℕ → Type 0
 IsFound p xs i None = count_by p (take i xs) ≡ 0
 IsFound p xs i (Some k) = (count_by p (take i xs) ≡ 1) × (unwrap_or (position p xs) 0 ≡ k) × (k < length xs)
-
--- what an optional loan lends
-pub lent : {X : Type 0} (o : Option (Bor X)) (d : Bor X) → (unwrap_or o d).now ≡ unwrap_or (option_map (λ s. s.now) o) d.now
-lent None d = refl
-lent (Some s) d = refl
 
 -- the first element that passes
 first_place : {X : Type 0} (p : X → Bool) (xs : List X) (i : ℕ) (d : X) → count_by p (take i xs) ≡ 0 → i < length xs → p (get_or xs i d) ≡ true

@@ -1,9 +1,10 @@
 -- The rows of the first records: those of a text, some of which are left, or those that were read where no text is known.
-use Rattle.std.proofs.Common.{◌≡◌, ◌==◌, ◌∙◌, ◌+◌, ◌++◌, ◌<◌, ◌≤◌, ℕ, zero, suc, Bool, true, false, cond, nat_lt, not, List, [], ◌∷◌, Option, Result, Ok, Err, ap, arith, drop, get_or, length, refl}
+use Rattle.std.proofs.Common.{◌≡◌, ◌==◌, ◌∙◌, ◌+◌, ◌++◌, ◌<◌, ◌≤◌, ℕ, zero, suc, Bool, true, false, cond, nat_lt, not, List, [], ◌∷◌, Option, Result, Ok, Err, ap, arith, drop, get_or, length, refl, drop_at}
 use Rattle.std.proofs.lemmas.Bool.Decides.{nat_tests}
 use Rattle.std.proofs.lemmas.List.{append_assoc, get_or-map, length-append, length-map}
 use Rattle.std.proofs.lemmas.List.FromFn.{get_or-enumerate_from, length-enumerate_from}
 use Rattle.std.specs.List.{enumerate_from}
+use Rattle.basics.proofs.Lists.{past_end}
 use Rattle.feature_table.proofs.EachLemmas.{Passed, passed_all, passed_fault, passed_more}
 use Rattle.feature_table.specs.Records.{Gives}
 use Rattle.feature_table.specs.declared.records.Records.{Records}
@@ -24,19 +25,6 @@ at_place (z ∷ zs) (suc i) x ys h =
     let more = at_place zs i x ys h in
     let next : suc i + 1 ≡ suc (i + 1) = omega arith in
     (omega (arith, more.0), more.1, rw next more.2)
-
--- where nothing is left the end is reached
-past_end : {X : Type 0} (xs : List X) (i : ℕ) → drop i xs ≡ [] → length xs ≤ i
-past_end [] i h = omega arith
-past_end (z ∷ zs) zero h = cc h
-past_end (z ∷ zs) (suc i) h = let more = past_end zs i h in omega (arith, more)
-
--- what comes after a front
-pub drop_front : {X : Type 0} (xs ys : List X) (n : ℕ) → length xs ≡ n → drop n (xs ++ ys) ≡ ys
-drop_front [] ys zero h = refl
-drop_front [] ys (suc n) h = absurd (omega (arith, h))
-drop_front (x ∷ xs) ys zero h = absurd (omega (arith, h))
-drop_front (x ∷ xs) ys (suc n) h = drop_front xs ys n (omega (arith, h))
 
 -- there are as many answers as records
 length-rows : {T G : Type 0} (geometry : GeometryReader T G) (table : TableDef T) (header : Record) (records : List Record)
@@ -137,7 +125,7 @@ read_more geometry table header place rows fields row a is = record {
   count = omega (arith, length-append a.records (fields ∷ []), a.count);
   passed = λ more.
       rw (append_assoc a.records (fields ∷ []) more)
-      (row_more geometry table header (a.records ++ fields ∷ more) place rows fields more row (a.passed (fields ∷ more)) (drop_front a.records (fields ∷ more) place a.count) is);
+      (row_more geometry table header (a.records ++ fields ∷ more) place rows fields more row (a.passed (fields ∷ more)) (drop_at a.records (fields ∷ more) place a.count) is);
 }
 
 -- the next record that was read has a fault: the records so far and this one have it first
@@ -146,14 +134,14 @@ pub read_fault : {T G : Type 0} (geometry : GeometryReader T G) (table : TableDe
     → (records : List Record) × (rows_of geometry table header records ≡ Err f)
 read_fault geometry table header place rows fields f a is = (
   a.records ++ fields ∷ [],
-  row_fault geometry table header (a.records ++ fields ∷ []) place rows fields [] f (a.passed (fields ∷ [])) (drop_front a.records (fields ∷ []) place a.count) is,
+  row_fault geometry table header (a.records ++ fields ∷ []) place rows fields [] f (a.passed (fields ∷ [])) (drop_at a.records (fields ∷ []) place a.count) is,
 )
 
 -- nothing more is read: the records so far give these rows
 pub read_end : {T G : Type 0} (geometry : GeometryReader T G) (table : TableDef T) (header : Record) (place : ℕ) (rows : List (Row G))
     → AreRead geometry table header place rows → (records : List Record) × (rows_of geometry table header records ≡ Ok rows)
 read_end geometry table header place rows a =
-    (a.records ++ [], row_end geometry table header (a.records ++ []) place rows (a.passed []) (drop_front a.records [] place a.count))
+    (a.records ++ [], row_end geometry table header (a.records ++ []) place rows (a.passed []) (drop_at a.records [] place a.count))
 
 -- the number of a record that gives a row is one of those that a table may have
 pub row_is_within : {T G : Type 0} (geometry : GeometryReader T G) (table : TableDef T) (header : Record) (number : ℕ) (fields : Record) (row : Row G)

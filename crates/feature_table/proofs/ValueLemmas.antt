@@ -1,21 +1,15 @@
 -- The values that cells name: more texts and geometries behind the others leave them as they were.
-use Rattle.std.proofs.Common.{◌≡◌, ◌∙◌, ◌*◌, ◌++◌, ◌∷◌, ◌<◌, ℕ, zero, suc, [], List, ap, ap₂, arith, drop, length, length-append, map, refl, sym, take}
+use Rattle.std.proofs.Common.{◌≡◌, ◌∙◌, ◌*◌, ◌++◌, ◌∷◌, ◌<◌, ℕ, [], List, ap, ap₂, arith, drop, length, length-append, map, refl, sym, take}
 use Rattle.std.proofs.lemmas.List.{drop-map, map-append, take-map}
 use Rattle.std.proofs.lemmas.List.Elements.{All-head, All-tail, All-weaker}
 use Rattle.std.specs.List.{All}
-use Rattle.std.specs.Prelude.{slice_get}
+use Rattle.basics.proofs.Lists.{in_front}
 use Rattle.feature_table.specs.FlatRows.{row_at}
 use Rattle.feature_table.specs.GeometryFields.{GeometryValue}
 use Rattle.feature_table.specs.Values.{IsBehind, IsKept, value_in, values_in}
 use Rattle.feature_table.specs.declared.values.Cell.{Cell}
 use Rattle.feature_table.specs.declared.values.Cell.TheVariants as cell
 use Rattle.table_model.specs.declared.values.Value.{Value}
-
--- what is at a place below the length stays there
-get_behind : {X : Type 0} (old more : List X) (k : ℕ) → k < length old → slice_get (old ++ more) k ≡ slice_get old k
-get_behind [] more k h = absurd (omega (arith, h))
-get_behind (x ∷ old) more zero h = refl
-get_behind (x ∷ old) more (suc k) h = get_behind old more k (omega (arith, h))
 
 below_behind : {X : Type 0} (old new : List X) (k : ℕ) → IsBehind old new → k < length old → k < length new
 below_behind old new k b h = let size = ap length b.1 ∙ length-append old b.0 in omega (arith, h, size)
@@ -32,8 +26,8 @@ value_more : (texts texts-2 : List (List ℕ)) (geometries geometries-2 : List G
     → IsKept texts geometries c → value_in texts-2 geometries-2 c ≡ value_in texts geometries c
 value_more texts texts-2 geometries geometries-2 cell.Null t g h = refl
 value_more texts texts-2 geometries geometries-2 (cell.Integer n) t g h = refl
-value_more texts texts-2 geometries geometries-2 (cell.Text k) t g h = rw (t.1, get_behind texts t.0 k h) refl
-value_more texts texts-2 geometries geometries-2 (cell.Geometry k) t g h = rw (g.1, get_behind geometries g.0 k h) refl
+value_more texts texts-2 geometries geometries-2 (cell.Text k) t g h = rw (t.1, in_front texts t.0 k h) refl
+value_more texts texts-2 geometries geometries-2 (cell.Geometry k) t g h = rw (g.1, in_front geometries g.0 k h) refl
 
 -- so it is for each of several
 pub all_kept : (texts texts-2 : List (List ℕ)) (geometries geometries-2 : List GeometryValue) (cells : List Cell) → IsBehind texts texts-2 → IsBehind geometries geometries-2

@@ -2,6 +2,7 @@
 use Rattle.std.proofs.Common.{◌≡◌, sym, subst, ap, ap₂, ◌∙◌, to_z, of_z, ℕ, ◌*◌, ◌≤◌, ℤ, pos, ◌+ℤ◌, ◌*ℤ◌, ◌≤ℤ◌, ◌<ℤ◌, FitsSigned, w64, arith}
 use Rattle.std.specs.Prelude.{unsigned_abs}
 use Rattle.std.proofs.lemmas.Int.{ints, to_z-of_z, unsigned_abs-mul}
+use Rattle.basics.proofs.Orders.{sum_positive}
 use native.Mathlib.Nat.{eq-one_of_dvd-one, mul-le-mul}
 use mir.Syntax.{Width, w128}
 use Rattle.geometry_model.specs.Points.{Position, Point, point_at, mediant}
@@ -30,15 +31,12 @@ grid_is_kept_from a x y e f h = subst (λ (p : Point). IsKeptPoint p) (λ i. rec
 -- the sums of two points' numbers are in range, where both denominators are small
 pub sum_in_range : (p q : Point) → IsInRange p → IsInRange q → p.W ≤ℤ pos meeting_limit → q.W ≤ℤ pos meeting_limit → IsInRange (mediant p q)
 sum_in_range p q hp hq k l = record {
-  positive = positive p.W q.W hp.positive hq.positive;
+  positive = sum_positive p.W q.W hp.positive hq.positive;
   denominator = doubled p.W q.W k l;
   x = bounded p.X q.X p.W q.W hp.positive hq.positive hp.x hq.x;
   y = bounded p.Y q.Y p.W q.W hp.positive hq.positive hp.y hq.y;
 }
   where
-    positive : (a b : ℤ) → pos 0 <ℤ a → pos 0 <ℤ b → pos 0 <ℤ (a +ℤ b)
-    positive a b h m = omega (arith, ints)
-
     doubled : (a b : ℤ) → a ≤ℤ pos meeting_limit → b ≤ℤ pos meeting_limit → (a +ℤ b) ≤ℤ pos denominator_limit
     doubled a b h m = omega (arith, ints)
 

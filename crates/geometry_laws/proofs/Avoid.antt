@@ -5,12 +5,13 @@ use Rattle.geometry_model.specs.Points.{Point, IsPoint, same_point}
 use Rattle.geometry_model.specs.Dimensions.{area, weighted, weighted_three}
 use Rattle.basics.proofs.Ring.{solve, var, lit, ◌⊕◌, ◌⊖◌, ◌⊗◌}
 use Rattle.basics.proofs.Signs.{three_ways, is_or_not, zero_product, plus_plus}
+use Rattle.basics.proofs.Bools.{by_contraries}
+use Rattle.basics.proofs.Orders.{negative_flipped, natural_weak, gap_none, same_from_gap}
 use Rattle.geometry_laws.proofs.Plane.{right}
 use Rattle.geometry_laws.proofs.Each.{Each, each_map}
 use Rattle.geometry_laws.proofs.Eventually.{Eventually, both, weaker, always, grows, each_eventually}
 use Rattle.geometry_laws.proofs.Scaling.{same_x, same_y, same_from}
 use Rattle.geometry_laws.proofs.PointOrder.{same_symmetric, same_transitive}
-use Rattle.geometry_laws.proofs.Locating.{by_contraries}
 use Rattle.geometry_laws.specs.CoverLaws.{Line, value, IsLine}
 use Rattle.geometry_laws.proofs.Lines.{value_weighted_three}
 use Rattle.geometry_laws.proofs.LineOrder.{up}
@@ -21,9 +22,6 @@ quadratic_up : (p q r : ℤ) → pos 0 <ℤ r → Eventually (λ t. pos 0 <ℤ (
 quadratic_up p q r h = weaker (λ t. (pos 0 <ℤ (pos t *ℤ r +ℤ q)) × (pos 0 <ℤ (pos t *ℤ pos 1 +ℤ p))) (λ t. pos 0 <ℤ (pos 1 *ℤ p +ℤ pos t *ℤ q +ℤ pos (t * t) *ℤ r))
     (λ t k. joined t k.0 k.1) (both (λ t. pos 0 <ℤ (pos t *ℤ r +ℤ q)) (λ t. pos 0 <ℤ (pos t *ℤ pos 1 +ℤ p)) (grows r q h) (grows (pos 1) p (omega (arith, ints))))
   where
-    natural : (t : ℕ) → pos 0 ≤ℤ pos t
-    natural t = omega (arith, ints)
-
     one_less : (z : ℤ) → pos 0 <ℤ z → pos 0 ≤ℤ (z -ℤ pos 1)
     one_less z h = omega (arith, ints)
 
@@ -33,10 +31,7 @@ quadratic_up p q r h = weaker (λ t. (pos 0 <ℤ (pos t *ℤ r +ℤ q)) × (pos 
     joined : (t : ℕ) → pos 0 <ℤ (pos t *ℤ r +ℤ q) → pos 0 <ℤ (pos t *ℤ pos 1 +ℤ p) → pos 0 <ℤ (pos 1 *ℤ p +ℤ pos t *ℤ q +ℤ pos (t * t) *ℤ r)
     joined t k l = total (pos 1 *ℤ p +ℤ pos t *ℤ q +ℤ pos (t * t) *ℤ r) (pos t *ℤ ((pos t *ℤ r +ℤ q) -ℤ pos 1)) (pos t) p
         (solve (p ∷ q ∷ r ∷ pos t ∷ []) (lit (pos 1) ⊗ var 0 ⊕ var 3 ⊗ var 1 ⊕ (var 3 ⊗ var 3) ⊗ var 2) (var 3 ⊗ ((var 3 ⊗ var 2 ⊕ var 1) ⊖ lit (pos 1)) ⊕ (var 3 ⊕ var 0)) tt)
-        (plus_plus (pos t) ((pos t *ℤ r +ℤ q) -ℤ pos 1) (natural t) (one_less (pos t *ℤ r +ℤ q) k)) l
-
-turned_positive : (z : ℤ) → z <ℤ pos 0 → pos 0 <ℤ (pos 0 -ℤ z)
-turned_positive z h = omega (arith, ints)
+        (plus_plus (pos t) ((pos t *ℤ r +ℤ q) -ℤ pos 1) (natural_weak t) (one_less (pos t *ℤ r +ℤ q) k)) l
 
 not_zero : (z : ℤ) → pos 0 <ℤ z → z ≢ pos 0
 not_zero z h e = omega (arith, ints)
@@ -64,7 +59,7 @@ linear_soon p q f = go (three_ways (pos 0) q)
     go (inl h) = weaker (λ t. pos 0 <ℤ (pos t *ℤ q +ℤ p)) (λ t. pos 1 *ℤ p +ℤ pos t *ℤ q ≢ pos 0) (λ t k. carried (pos 1 *ℤ p +ℤ pos t *ℤ q) p (pos t *ℤ q) refl k) (grows q p h)
     go (inr (inl h)) = always (λ t. pos 1 *ℤ p +ℤ pos t *ℤ q ≢ pos 0) (λ t g. f (alone (pos 1 *ℤ p +ℤ pos t *ℤ q) p (pos t *ℤ q) refl (product_zero t h) g) (sym h))
     go (inr (inr h)) = weaker (λ t. pos 0 <ℤ (pos t *ℤ (pos 0 -ℤ q) +ℤ (pos 0 -ℤ p))) (λ t. pos 1 *ℤ p +ℤ pos t *ℤ q ≢ pos 0)
-        (λ t k. carried_back (pos 1 *ℤ p +ℤ pos t *ℤ q) p (pos t *ℤ q) (pos t *ℤ (pos 0 -ℤ q)) refl (solve (pos t ∷ q ∷ []) (var 0 ⊗ (lit (pos 0) ⊖ var 1)) (lit (pos 0) ⊖ var 0 ⊗ var 1) tt) k) (grows (pos 0 -ℤ q) (pos 0 -ℤ p) (turned_positive q h))
+        (λ t k. carried_back (pos 1 *ℤ p +ℤ pos t *ℤ q) p (pos t *ℤ q) (pos t *ℤ (pos 0 -ℤ q)) refl (solve (pos t ∷ q ∷ []) (var 0 ⊗ (lit (pos 0) ⊖ var 1)) (lit (pos 0) ⊖ var 0 ⊗ var 1) tt) k) (grows (pos 0 -ℤ q) (pos 0 -ℤ p) (negative_flipped q h))
 
 -- nor is a quadratic one whose coefficients aren't all 0: the highest that isn't 0 decides
 quadratic_soon : (p q r : ℤ) → (p ≡ pos 0 → q ≡ pos 0 → r ≡ pos 0 → ⊥) → Eventually (λ t. pos 1 *ℤ p +ℤ pos t *ℤ q +ℤ pos (t * t) *ℤ r ≢ pos 0)
@@ -83,7 +78,7 @@ quadratic_soon p q r f = go (three_ways (pos 0) r)
     go (inr (inr h)) = weaker (λ t. pos 0 <ℤ (pos 1 *ℤ (pos 0 -ℤ p) +ℤ pos t *ℤ (pos 0 -ℤ q) +ℤ pos (t * t) *ℤ (pos 0 -ℤ r))) (λ t. pos 1 *ℤ p +ℤ pos t *ℤ q +ℤ pos (t * t) *ℤ r ≢ pos 0)
         (λ t k. not_zero_turned (pos 1 *ℤ p +ℤ pos t *ℤ q +ℤ pos (t * t) *ℤ r) (pos 1 *ℤ (pos 0 -ℤ p) +ℤ pos t *ℤ (pos 0 -ℤ q) +ℤ pos (t * t) *ℤ (pos 0 -ℤ r))
         (solve (p ∷ q ∷ r ∷ pos t ∷ []) (lit (pos 1) ⊗ (lit (pos 0) ⊖ var 0) ⊕ var 3 ⊗ (lit (pos 0) ⊖ var 1) ⊕ (var 3 ⊗ var 3) ⊗ (lit (pos 0) ⊖ var 2)) (lit (pos 0) ⊖ (lit (pos 1) ⊗ var 0 ⊕ var 3 ⊗ var 1 ⊕ (var 3 ⊗ var 3) ⊗ var 2)) tt) k)
-        (quadratic_up (pos 0 -ℤ p) (pos 0 -ℤ q) (pos 0 -ℤ r) (turned_positive r h))
+        (quadratic_up (pos 0 -ℤ p) (pos 0 -ℤ q) (pos 0 -ℤ r) (negative_flipped r h))
 
 -- ---- lines and a triangle
 -- by Cramer's rule: a line's values at three points give its first coefficient times their area
@@ -159,22 +154,16 @@ up_sum c p q t = solve (c.Y ∷ c.W ∷ p.Y ∷ p.W ∷ q.Y ∷ q.W ∷ pos t �
 pub avoid_points : (cs : List Point) (p q : Point) → IsPoint p → IsPoint q → same_point p q ≡ false → Each IsPoint cs → OffPoints cs p q
 avoid_points cs p q hp hq f h = go (each_eventually (λ c t. same_point c (weighted 1 p t q) ≡ false) cs (each_map IsPoint (λ c. Eventually (λ t. same_point c (weighted 1 p t q) ≡ false)) cs (λ c k. one c k) h))
   where
-    nothing : (x y : ℤ) → x ≡ y → y -ℤ x ≡ pos 0
-    nothing x y e = omega (arith, ints)
-
-    same : (x y : ℤ) → y -ℤ x ≡ pos 0 → x ≡ y
-    same x y e = omega (arith, ints)
-
     clash : (c : Point) → IsPoint c → same_point c p ≡ true → same_point c q ≡ true → ⊥
     clash c hc s t = let z : true ≡ false = sym (same_transitive p c q hc (same_symmetric p c ∙ s) t) ∙ f in absurd (cc)
 
     by_right : (c : Point) → (right c p ≡ pos 0 → right c q ≡ pos 0 → ⊥) → Eventually (λ t. same_point c (weighted 1 p t q) ≡ false)
     by_right c n = weaker (λ t. pos 1 *ℤ right c p +ℤ pos t *ℤ right c q ≢ pos 0) (λ t. same_point c (weighted 1 p t q) ≡ false)
-        (λ t k. by_contraries (same_point c (weighted 1 p t q)) false (λ e. absurd (k (sym (right_sum c p q t) ∙ nothing _ _ (same_x c (weighted 1 p t q) e)))) refl) (linear_soon (right c p) (right c q) n)
+        (λ t k. by_contraries (same_point c (weighted 1 p t q)) false (λ e. absurd (k (sym (right_sum c p q t) ∙ gap_none _ _ (same_x c (weighted 1 p t q) e)))) refl) (linear_soon (right c p) (right c q) n)
 
     by_up : (c : Point) → (up c p ≡ pos 0 → up c q ≡ pos 0 → ⊥) → Eventually (λ t. same_point c (weighted 1 p t q) ≡ false)
     by_up c n = weaker (λ t. pos 1 *ℤ up c p +ℤ pos t *ℤ up c q ≢ pos 0) (λ t. same_point c (weighted 1 p t q) ≡ false)
-        (λ t k. by_contraries (same_point c (weighted 1 p t q)) false (λ e. absurd (k (sym (up_sum c p q t) ∙ nothing _ _ (same_y c (weighted 1 p t q) e)))) refl) (linear_soon (up c p) (up c q) n)
+        (λ t k. by_contraries (same_point c (weighted 1 p t q)) false (λ e. absurd (k (sym (up_sum c p q t) ∙ gap_none _ _ (same_y c (weighted 1 p t q) e)))) refl) (linear_soon (up c p) (up c q) n)
 
     one : (c : Point) → IsPoint c → Eventually (λ t. same_point c (weighted 1 p t q) ≡ false)
     one c hc = pick (is_or_not (right c p)) (is_or_not (right c q))
@@ -182,7 +171,7 @@ avoid_points cs p q hp hq f h = go (each_eventually (λ c t. same_point c (weigh
         pick : ((right c p ≡ pos 0) ⊎ (right c p ≡ pos 0 → ⊥)) → ((right c q ≡ pos 0) ⊎ (right c q ≡ pos 0 → ⊥)) → Eventually (λ t. same_point c (weighted 1 p t q) ≡ false)
         pick (inr n) s = by_right c (λ e g. n e)
         pick (inl e) (inr n) = by_right c (λ s g. n g)
-        pick (inl e) (inl g) = by_up c (λ s u. clash c hc (same_from c p (same _ _ e) (same _ _ s)) (same_from c q (same _ _ g) (same _ _ u)))
+        pick (inl e) (inl g) = by_up c (λ s u. clash c hc (same_from c p (same_from_gap _ _ e) (same_from_gap _ _ s)) (same_from c q (same_from_gap _ _ g) (same_from_gap _ _ u)))
 
     go : Eventually (λ t. Each (λ c. same_point c (weighted 1 p t q) ≡ false) cs) → OffPoints cs p q
     go v = record { t = v.start; off = v.holds v.start (omega arith) }

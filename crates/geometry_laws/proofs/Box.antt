@@ -7,6 +7,7 @@ use Rattle.geometry_model.specs.Sides.{on}
 use Rattle.geometry_model.specs.Dimensions.{area, weighted, weighted_three}
 use Rattle.basics.proofs.Ring.{solve, var, lit, ◌⊕◌, ◌⊖◌, ◌⊗◌}
 use Rattle.basics.proofs.Signs.{strict_plus_plus}
+use Rattle.basics.proofs.Orders.{natural_positive, positive_same}
 use Rattle.geometry_laws.specs.RingLaws.{Misses}
 use Rattle.geometry_laws.proofs.Each.{Each, each_map}
 use Rattle.geometry_laws.proofs.Eventually.{Eventually, both, weaker, each_eventually, grows, from_one}
@@ -69,32 +70,23 @@ corner_area p n = solve (p.X ∷ p.Y ∷ p.W ∷ pos n ∷ [])
 -- moved to the right it is a point
 moved_is_point : (p : Point) (n : ℕ) → 0 < n → IsPoint p → IsPoint (moved n p east)
 unfolding east
-moved_is_point p n h hp = carried (pos n *ℤ p.W) (strict_plus_plus (pos n) p.W (natural n h) hp)
+moved_is_point p n h hp = carried (pos n *ℤ p.W) (strict_plus_plus (pos n) p.W (natural_positive n h) hp)
   where
-    natural : (n : ℕ) → 0 < n → pos 0 <ℤ pos n
-    natural n h = omega (arith, ints)
-
     carried : (x : ℤ) → pos 0 <ℤ x → pos 0 <ℤ (x +ℤ pos 0)
     carried x h = omega (arith, ints)
 
 -- and moved up
 moved_up_is_point : (p : Point) (n : ℕ) → 0 < n → IsPoint p → IsPoint (moved n p north)
 unfolding north
-moved_up_is_point p n h hp = carried (pos n *ℤ p.W) (strict_plus_plus (pos n) p.W (natural n h) hp)
+moved_up_is_point p n h hp = carried (pos n *ℤ p.W) (strict_plus_plus (pos n) p.W (natural_positive n h) hp)
   where
-    natural : (n : ℕ) → 0 < n → pos 0 <ℤ pos n
-    natural n h = omega (arith, ints)
-
     carried : (x : ℤ) → pos 0 <ℤ x → pos 0 <ℤ (x +ℤ pos 0)
     carried x h = omega (arith, ints)
 
 -- where a line parts an edge from all three corners, no point of the triangle is on the edge
 off_by_clear : (p : Point) (n : ℕ) → IsPoint p → IsPoint (moved n p east) → IsPoint (moved n p north) → (k m l : ℕ) → 0 < k + m + l → (e : Edge) → Clear p e n → on e (weighted_three k p m (moved n p east) l (moved n p north)) ≡ false
 off_by_clear p n hp hq hr k m l h e c = off_beyond c.line e (weighted_three k p m (moved n p east) l (moved n p north)) (weighted_three_is_point k p m (moved n p east) l (moved n p north) hp hq hr h) c.parts
-    (carried _ _ (value_weighted_three c.line k p m (moved n p east) l (moved n p north)) (sum_positive_three k m l (value c.line p) (value c.line (moved n p east)) (value c.line (moved n p north)) h c.at_p c.at_east c.at_north))
-  where
-    carried : (x y : ℤ) → x ≡ y → pos 0 <ℤ y → pos 0 <ℤ x
-    carried x y e h = omega (arith, ints)
+    (positive_same _ _ (value_weighted_three c.line k p m (moved n p east) l (moved n p north)) (sum_positive_three k m l (value c.line p) (value c.line (moved n p east)) (value c.line (moved n p north)) h c.at_p c.at_east c.at_north))
 
 -- off finitely many edges each has a line that parts it from the point, and near enough the point no such line is crossed
 pub box : (p : Point) (es : List Edge) → IsPoint p → Each (λ e. on e p ≡ false) es → Corners p es

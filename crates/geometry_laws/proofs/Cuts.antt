@@ -1,9 +1,10 @@
 -- Strictly within a piece: what the edges are there, seen from any of its points.
-use Rattle.std.proofs.Common.{ℕ, zero, suc, ◌+◌, ◌<◌, ℤ, pos, ◌+ℤ◌, ◌*ℤ◌, ◌<ℤ◌, int_lt, int_le, ◌≡◌, ◌⊎◌, inl, inr, Bool, true, false, ◌&&◌, ◌||◌, if◌then◌else◌, refl, sym, ap, subst, ◌∙◌, List, [], ◌∷◌, length, Contains, arith, slice_index_or}
+use Rattle.std.proofs.Common.{ℕ, zero, suc, ◌+◌, ◌<◌, ℤ, pos, ◌+ℤ◌, ◌*ℤ◌, ◌<ℤ◌, int_lt, int_le, ◌≡◌, ◌⊎◌, inl, inr, Bool, true, false, ◌&&◌, if◌then◌else◌, refl, sym, ap, subst, ◌∙◌, List, [], ◌∷◌, length, Contains, arith, slice_index_or}
 use borrow.Author.Differences.{ints}
 use Rattle.std.specs.Ordering.{int_eq}
 use Rattle.std.specs.declared.cmp.Ordering.{Ordering}
 use Rattle.std.specs.declared.cmp.Ordering.TheVariants.{Less, Equal, Greater}
+use Rattle.std.proofs.lemmas.Bool.{or_right, or_left, and_parts}
 use Rattle.geometry_model.specs.Points.{Position, Point, IsPoint, point_at, compare, same_point}
 use Rattle.geometry_model.specs.Geometries.{Edge}
 use Rattle.geometry_model.specs.Sides.{side, on, on_one_line}
@@ -15,17 +16,18 @@ use Rattle.geometry_model.specs.Pieces.{Piece, IsPiece}
 use Rattle.basics.proofs.Ring.{solve, var, lit, ◌⊕◌, ◌⊗◌}
 use Rattle.basics.proofs.Signs.{strict_plus_plus}
 use Rattle.basics.proofs.Tests.{equal_from}
+use Rattle.basics.proofs.Bools.{by_contraries}
 use Rattle.geometry_laws.specs.RingLaws.{Misses}
 use Rattle.geometry_laws.specs.PointLaws.{reversed}
 use Rattle.geometry_laws.specs.PieceLaws.{Inside}
 use Rattle.geometry_laws.proofs.Each.{Among}
-use Rattle.geometry_laws.proofs.Scaling.{and_parts, same_from}
+use Rattle.geometry_laws.proofs.Scaling.{same_from}
 use Rattle.geometry_laws.proofs.PointOrder.{same_symmetric, same_transitive, compare_reversed, equal_is_same, less_transitive}
 use Rattle.geometry_laws.proofs.Respect.{compare_respects}
 use Rattle.geometry_laws.proofs.Hulls.{OnHull, on_from_hull, hull_from_on, on_parts}
 use Rattle.geometry_laws.proofs.RingParity.{side_is_area, Natural, natural, position_is_point, Step, step_by_missing, step_along}
 use Rattle.geometry_laws.proofs.Lines.{weighted_is_point}
-use Rattle.geometry_laws.proofs.Locating.{start_is_on, end_is_on, by_contraries}
+use Rattle.geometry_laws.proofs.Locating.{start_is_on, end_is_on}
 use Rattle.geometry_laws.proofs.Triangles.{dot, dot_is_at}
 use Rattle.geometry_laws.proofs.LineOrder.{after_sum, before_sum, sum_between, on_sum, weighted_is_sum, area_on_line}
 
@@ -183,20 +185,13 @@ apart es ps c h d u hu s k x y i j = go (compare u c.lesser) refl (compare u c.g
 pub same_end : (a : Position) → same_point (point_at a) (point_at a) ≡ true
 same_end a = same_from (point_at a) (point_at a) refl refl
 
-pub or_first : (s t : Bool) → s ≡ true → s || t ≡ true
-or_first s t e = ap (λ (z : Bool). z || t) e
-
-pub or_last : (s t : Bool) → t ≡ true → s || t ≡ true
-or_last true t e = refl
-or_last false t e = e
-
 -- the start of an edge is a cut
 pub start_is_cut : (es : List Edge) (ps : List Position) (g : Edge) → Among g es → IsCut es ps (point_at g.start)
-start_is_cut es ps g a = AtEnd (position_is_point g.start) g (contains_of_among g es a) (or_first (same_point (point_at g.start) (point_at g.start)) (same_point (point_at g.end) (point_at g.start)) (same_end g.start))
+start_is_cut es ps g a = AtEnd (position_is_point g.start) g (contains_of_among g es a) (or_left (same_point (point_at g.start) (point_at g.start)) (same_point (point_at g.end) (point_at g.start)) (same_end g.start))
 
 -- and so is its end
 pub end_is_cut : (es : List Edge) (ps : List Position) (g : Edge) → Among g es → IsCut es ps (point_at g.end)
-end_is_cut es ps g a = AtEnd (position_is_point g.end) g (contains_of_among g es a) (or_last (same_point (point_at g.start) (point_at g.end)) (same_point (point_at g.end) (point_at g.end)) (same_end g.end))
+end_is_cut es ps g a = AtEnd (position_is_point g.end) g (contains_of_among g es a) (or_right (same_point (point_at g.start) (point_at g.end)) (same_point (point_at g.end) (point_at g.end)) (same_end g.end))
 
 -- ---- an edge holds all points within the piece or none
 -- the start of an edge is a sum of its ends

@@ -2,6 +2,7 @@
 use Rattle.std.proofs.Common.{ℤ, pos, ◌+ℤ◌, ◌-ℤ◌, ◌*ℤ◌, ◌≤ℤ◌, ◌<ℤ◌, int_lt, ◌≡◌, ◌⊎◌, inl, inr, Bool, true, false, not, cond, ◌&&◌, refl, sym, ap₂, ◌∙◌, arith}
 use Rattle.geometry_model.specs.Crossings.{exactly_one as xor}
 use borrow.Author.Differences.{ints}
+use Rattle.basics.proofs.Orders.{weak_turned}
 use Rattle.geometry_model.specs.Points.{Point, IsPoint}
 use Rattle.geometry_laws.proofs.Xor.{xor_self, xor_swap, xor_false, false_xor, xor_false_if_same}
 use Rattle.geometry_model.specs.Dimensions.{area}
@@ -19,8 +20,8 @@ meets u v p q c = record {
   k = pos 0 -ℤ area p q v;
   l = area p q u;
   from_m = c.of_b;
-  from_n = turned (area u v p) c.of_a;
-  from_k = turned (area p q v) c.of_d;
+  from_n = weak_turned (area u v p) c.of_a;
+  from_k = weak_turned (area p q v) c.of_d;
   from_l = c.of_c;
   some = sum (area u v p) (area u v q) c.some;
   in_x = common_x u v p q;
@@ -28,9 +29,6 @@ meets u v p q c = record {
   in_w = common_w u v p q;
 }
   where
-    turned : (x : ℤ) → x ≤ℤ pos 0 → pos 0 ≤ℤ (pos 0 -ℤ x)
-    turned x h = omega (arith, ints)
-
     sum : (x y : ℤ) → pos 0 <ℤ (y -ℤ x) → pos 0 <ℤ (y +ℤ (pos 0 -ℤ x))
     sum x y h = omega (arith, ints)
 
@@ -41,19 +39,16 @@ meets_back u v p q c = record {
   n = area u v p;
   k = area p q v;
   l = pos 0 -ℤ area p q u;
-  from_m = turned (area u v q) c.of_b;
+  from_m = weak_turned (area u v q) c.of_b;
   from_n = c.of_a;
   from_k = c.of_d;
-  from_l = turned (area p q u) c.of_c;
+  from_l = weak_turned (area p q u) c.of_c;
   some = sum (area u v p) (area u v q) c.some;
   in_x = common_back_x u v p q;
   in_y = common_back_y u v p q;
   in_w = common_back_w u v p q;
 }
   where
-    turned : (x : ℤ) → x ≤ℤ pos 0 → pos 0 ≤ℤ (pos 0 -ℤ x)
-    turned x h = omega (arith, ints)
-
     sum : (x y : ℤ) → pos 0 <ℤ (x -ℤ y) → pos 0 <ℤ ((pos 0 -ℤ y) +ℤ x)
     sum x y h = omega (arith, ints)
 

@@ -1,7 +1,7 @@
 -- The polygons of an area: some of a list that passes a test, and the rings that have a number.
 use Rattle.std.proofs.Common.{◌≡◌, ◌⊎◌, inl, inr, ℕ, zero, suc, ◌+◌, ◌-◌, ◌<◌, ◌≤◌, Bool, true, false, ◌||◌, List, [], ◌∷◌, length, Contains, Some, None, nat_le, slice_get, slice_index_or, if◌then◌else◌, refl, sym, ap, ◌∙◌, zero-lt-suc, suc-le-suc, le_of_suc-le-suc, leb-true, le-leb, arith}
 use Rattle.std.specs.List.{list_any}
-use Rattle.std.proofs.lemmas.Bool.{true≢false}
+use Rattle.std.proofs.lemmas.Bool.{true≢false, or_cases}
 use Rattle.geometry_model.specs.Points.{Position}
 use Rattle.geometry_model.specs.Validity.{Element, IsRing}
 use Rattle.geometry_model.specs.FirstFaults.{ring_of}
@@ -11,15 +11,11 @@ or_true true b h = refl
 or_true false b (inl e) = absurd (true≢false (sym e))
 or_true false b (inr e) = e
 
-pub or_from : (a b : Bool) → a || b ≡ true → (a ≡ true) ⊎ (b ≡ true)
-or_from true b e = inl refl
-or_from false b e = inr e
-
 -- ---- some element of a list
 -- a test that passes for some element passes for one that the list contains
 pub some_from : {A : Type 0} (t : A → Bool) (xs : List A) → list_any t xs ≡ true → (x : A) × Contains xs x × (t x ≡ true)
 some_from t [] h = absurd (true≢false (sym h))
-some_from {A = A} t (x ∷ xs) h = go (or_from (t x) (list_any t xs) h) (some_from t xs)
+some_from {A = A} t (x ∷ xs) h = go (or_cases (t x) (list_any t xs) h) (some_from t xs)
   where
     go : (t x ≡ true) ⊎ (list_any t xs ≡ true) → (list_any t xs ≡ true → (y : A) × Contains xs y × (t y ≡ true)) → (y : A) × Contains (x ∷ xs) y × (t y ≡ true)
     go (inl e) later = (x, (0, zero-lt-suc (length xs), refl), e)
@@ -55,9 +51,3 @@ later_ring first k l i j e f h = omega (arith, e, f, h)
 -- and the other way round
 pub greater_number : (first k l i j : ℕ) → i ≡ first + k → j ≡ first + l → k < l → i < j
 greater_number first k l i j e f h = omega (arith, e, f, h)
-
--- what is at a place of a list lies within it
-pub within : {A : Type 0} (xs : List A) (i : ℕ) (x : A) → slice_get xs i ≡ Some x → i < length xs
-within [] i x e = absurd cc
-within (y ∷ ys) zero x e = zero-lt-suc (length ys)
-within (y ∷ ys) (suc i) x e = suc-le-suc (within ys i x e)

@@ -1,39 +1,12 @@
 -- The polygons of an area at their places, and their rings among all rings.
-use Rattle.std.proofs.Common.{◌≡◌, ◌⊎◌, inl, inr, ℕ, zero, suc, ◌+◌, ◌<◌, List, [], ◌∷◌, ◌++◌, length, Contains, Some, slice_get, slice_index_or, refl, ap, ◌∙◌, zero-add, zero-lt-suc, suc-le-suc, le_of_suc-le-suc, arith}
-use Rattle.std.proofs.lemmas.Option.{slice_get-get_or}
+use Rattle.std.proofs.Common.{◌≡◌, ◌⊎◌, inl, inr, ℕ, zero, suc, ◌+◌, ◌<◌, List, [], ◌∷◌, ◌++◌, length, Contains, Some, slice_get, slice_index_or, refl, ap, ◌∙◌, zero-add, zero-lt-suc, le_of_suc-le-suc, arith}
+use Rattle.basics.proofs.Lists.{behind, found_in_front, contains_later, contains_at}
 use Rattle.geometry_model.specs.Points.{Position}
 use Rattle.geometry_model.specs.Geometries.{joined_rings}
 use Rattle.geometry_model.specs.Validity.{Element, elements_from}
-use Rattle.geometry_laws.proofs.ElementFacts.{within}
 
 -- ---- an element of a list and its place
-pub place_of : {A : Type 0} (xs : List A) (x : A) → Contains xs x → (k : ℕ) × (slice_get xs k ≡ Some x)
-place_of xs x c = (c.0, slice_get-get_or xs c.0 x c.1 ∙ ap Some c.2)
-
-index_at : {A : Type 0} (xs : List A) (k : ℕ) (x : A) → slice_get xs k ≡ Some x → slice_index_or xs k x ≡ x
-index_at [] k x e = absurd cc
-index_at (y ∷ ys) zero x e = cc
-index_at (y ∷ ys) (suc k) x e = index_at ys k x e
-
-pub contains_at : {A : Type 0} (xs : List A) (k : ℕ) (x : A) → slice_get xs k ≡ Some x → Contains xs x
-contains_at xs k x e = (k, within xs k x e, index_at xs k x e)
-
-pub contains_later : {A : Type 0} (y : A) (xs : List A) (x : A) → Contains xs x → Contains (y ∷ xs) x
-contains_later y xs x c = (suc c.0, suc-le-suc c.1, c.2)
-
 -- ---- two lists one behind the other
-in_front : {A : Type 0} (xs ys : List A) (p : ℕ) (r : A) → slice_get xs p ≡ Some r → slice_get (xs ++ ys) p ≡ Some r
-in_front [] ys p r e = absurd cc
-in_front (x ∷ xs) ys zero r e = e
-in_front (x ∷ xs) ys (suc p) r e = in_front xs ys p r e
-
-behind : {A : Type 0} (xs ys : List A) (p : ℕ) → slice_get (xs ++ ys) (length xs + p) ≡ slice_get ys p
-behind [] ys p = ap (slice_get ys) (zero-add p)
-behind (x ∷ xs) ys p = ap (slice_get (x ∷ (xs ++ ys))) (next (length xs) p) ∙ behind xs ys p
-  where
-    next : (n p : ℕ) → suc n + p ≡ suc (n + p)
-    next n p = omega arith
-
 -- what is in two lists together is in the first or in the second
 either : {A : Type 0} (xs ys : List A) (i : ℕ) (r : A) → slice_get (xs ++ ys) i ≡ Some r → (slice_get xs i ≡ Some r) ⊎ ((p : ℕ) × (slice_get ys p ≡ Some r))
 either [] ys i r e = inr (i, e)
@@ -56,7 +29,7 @@ placed first (x ∷ xs) zero rings e = let same : x ≡ rings = cc in record {
   contained = (0, zero-lt-suc (length (elements_from (first + length x) xs)), refl);
   same = same;
   offset = 0;
-  joined = λ p r h. ap (slice_get (x ++ joined_rings xs)) (zero-add p) ∙ in_front x (joined_rings xs) p r (ap (λ (l : List (List Position)). slice_get l p) same ∙ h);
+  joined = λ p r h. ap (slice_get (x ++ joined_rings xs)) (zero-add p) ∙ found_in_front x (joined_rings xs) p r (ap (λ (l : List (List Position)). slice_get l p) same ∙ h);
 }
 placed first (x ∷ xs) (suc n) rings e = let k = placed (first + length x) xs n rings e in record {
   element = k.element;

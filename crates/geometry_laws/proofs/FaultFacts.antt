@@ -2,7 +2,7 @@
 use Rattle.std.proofs.Common.{◌≡◌, ◌≢◌, ◌↔◌, ◌⊎◌, inl, inr, ℕ, zero, suc, ◌+◌, ◌-◌, ◌<◌, ◌==◌, Bool, true, false, not, ◌&&◌, ◌||◌, List, [], ◌∷◌, length, Option, Some, None, nat_lt, slice_get, if◌then◌else◌, refl, sym, ap, ◌∙◌, subst, ltb-true, lt-ltb, zero-add, add-zero, add-one, suc-le-suc, zero-lt-suc, le_of_suc-le-suc, arith}
 use Rattle.std.specs.List.{list_any, enumerate_from}
 use Rattle.std.specs.Ordering.{int_eq}
-use Rattle.std.proofs.lemmas.Bool.{true≢false, false_from_ne_true}
+use Rattle.std.proofs.lemmas.Bool.{true≢false, false_from_ne_true, not-true, and_parts, and_from, or_cases}
 use Rattle.std.proofs.lemmas.Bool.Decides.{Decides-eqb}
 use Rattle.geometry_model.specs.Points.{Position, same_point, point_at}
 use Rattle.geometry_model.specs.Sides.{on}
@@ -14,10 +14,10 @@ use Rattle.geometry_model.specs.FirstFaults.{share_point, share_other, clash, an
 use Rattle.geometry_model.specs.declared.validity_faults.ValidityFault.{ValidityFault}
 use Rattle.geometry_model.specs.declared.validity_faults.ValidityFault.TheVariants.{TooFewPoints, RingNotClosed, RingNotSimple, RingsMeet, HoleOutside, HolesNested, ElementsMeet, ElementInside}
 use Rattle.basics.proofs.Tests.{equal_yes}
-use Rattle.geometry_laws.proofs.Scaling.{and_parts, and_from}
+use Rattle.basics.proofs.Orders.{one_above, gap_none}
 use Rattle.geometry_laws.specs.FaultLaws.{FaultIsDecided, AreClosed}
-use Rattle.geometry_laws.proofs.SharedPoints.{shared_point_is_decided, start_on, end_on, one_above, at_both, no_difference}
-use Rattle.geometry_laws.proofs.ElementFacts.{or_true, or_from, some_from, some_yes, ring_from, ring_yes, later_ring, greater_number}
+use Rattle.geometry_laws.proofs.SharedPoints.{shared_point_is_decided, start_on, end_on, at_both}
+use Rattle.geometry_laws.proofs.ElementFacts.{or_true, some_from, some_yes, ring_from, ring_yes, later_ring, greater_number}
 use Rattle.geometry_laws.proofs.OtherPoints.{other_point_is_decided, same_from, same_yes}
 
 -- ---- the test of one list, and of two
@@ -60,7 +60,7 @@ moved n j = omega arith
 -- where a test of numbered edges passes for some, there is an edge that passes it with its number
 found_from : (t : ℕ × Edge → Bool) (n : ℕ) (es : List Edge) → list_any t (enumerate_from n es) ≡ true → Found t n es
 found_from t n [] h = absurd (true≢false (sym h))
-found_from t n (x ∷ xs) h = go (or_from (t (n, x)) (list_any t (enumerate_from (n + 1) xs)) h) (found_from t (n + 1) xs)
+found_from t n (x ∷ xs) h = go (or_cases (t (n, x)) (list_any t (enumerate_from (n + 1) xs)) h) (found_from t (n + 1) xs)
   where
     go : (t (n, x) ≡ true) ⊎ (list_any t (enumerate_from (n + 1) xs) ≡ true) → (list_any t (enumerate_from (n + 1) xs) ≡ true → Found t (n + 1) xs) → Found t n (x ∷ xs)
     go (inl e) later = (0, x, refl, subst (λ m. t (m, x) ≡ true) (sym (add-zero n)) e)
@@ -80,7 +80,7 @@ Pair t n es = (i j : ℕ) × (e f : Edge) × (i < j) × (slice_get es i ≡ Some
 -- where a test of pairs passes for some, there are an edge and a later one that pass it with their numbers
 pair_from : (t : ℕ × Edge → ℕ × Edge → Bool) (n : ℕ) (es : List Edge) → any_pair t (enumerate_from n es) ≡ true → Pair t n es
 pair_from t n [] h = absurd (true≢false (sym h))
-pair_from t n (x ∷ xs) h = go (or_from (list_any (t (n, x)) (enumerate_from (n + 1) xs)) (any_pair t (enumerate_from (n + 1) xs)) h) (pair_from t (n + 1) xs)
+pair_from t n (x ∷ xs) h = go (or_cases (list_any (t (n, x)) (enumerate_from (n + 1) xs)) (any_pair t (enumerate_from (n + 1) xs)) h) (pair_from t (n + 1) xs)
   where
     go : (list_any (t (n, x)) (enumerate_from (n + 1) xs) ≡ true) ⊎ (any_pair t (enumerate_from (n + 1) xs) ≡ true) → (any_pair t (enumerate_from (n + 1) xs) ≡ true → Pair t (n + 1) xs) → Pair t n (x ∷ xs)
     go (inl e) later = let k = found_from (t (n, x)) (n + 1) xs e in
@@ -144,7 +144,7 @@ to_and_fro e f back s = record {
   on_first = start_on e;
   on_second = subst (λ (q : Position). on f (point_at q) ≡ true) back (end_on f);
   other = false_from_ne_true (same_point (point_at e.start) (point_at e.end)) (λ same. let q : e.start ≡ e.end = same_from e.start e.end (same_yes e.start e.end same) in
-      true≢false (sym (at_both e s.at s.is_point s.on_first (no_difference e.start.x e.end.x (ap (λ (a : Position). a.x) q)) (no_difference e.start.y e.end.y (ap (λ (a : Position). a.y) q))) ∙ s.other));
+      true≢false (sym (at_both e s.at s.is_point s.on_first (gap_none e.start.x e.end.x (ap (λ (a : Position). a.x) q)) (gap_none e.start.y e.end.y (ap (λ (a : Position). a.y) q))) ∙ s.other));
 }
 
 abbrev AtNumbers : List Position → ℕ → ℕ → Edge → Edge → Type 0
@@ -227,7 +227,7 @@ simple_is ring closed = let es = edges_of_line ring in let n = length (edges_of_
 -- ---- some edge of a list
 any_from : (t : Edge → Bool) (es : List Edge) → list_any t es ≡ true → (i : ℕ) × (e : Edge) × (slice_get es i ≡ Some e) × (t e ≡ true)
 any_from t [] h = absurd (true≢false (sym h))
-any_from t (x ∷ xs) h = go (or_from (t x) (list_any t xs) h) (any_from t xs)
+any_from t (x ∷ xs) h = go (or_cases (t x) (list_any t xs) h) (any_from t xs)
   where
     go : (t x ≡ true) ⊎ (list_any t xs ≡ true) → (list_any t xs ≡ true → (i : ℕ) × (e : Edge) × (slice_get xs i ≡ Some e) × (t e ≡ true)) → (i : ℕ) × (e : Edge) × (slice_get (x ∷ xs) i ≡ Some e) × (t e ≡ true)
     go (inl e) later = (0, x, refl, e)
@@ -246,10 +246,6 @@ rings_share_is r s = (
   (λ w. any_yes (λ e. list_any (share_point e) (edges_of_line s)) (edges_of_line r) w.i w.e w.first
       (any_yes (share_point w.e) (edges_of_line s) w.j w.f w.second ((shared_point_is_decided w.e w.f).1 w.share))),
 )
-
-not_true : (b : Bool) → not b ≡ true → b ≡ false
-not_true true h = absurd (true≢false (sym h))
-not_true false h = refl
 
 -- two polygons do where a ring of the one and a ring of the other do
 elements_share_is : (d e : List (List Position)) → (elements_share d e ≡ true) ↔ ElementsShare d e
@@ -289,7 +285,7 @@ outside_is g i = (
       let parts = and_parts (nat_lt k.0.first i) (test_of_both off (ring_of k.0 k.0.first) (ring_of k.0 i)) k.2 in
       let t = (two_are off (ring_of k.0 k.0.first) (ring_of k.0 i)).0 parts.1 in
       let r = ring_from k.0 k.0.first t.0 t.2 in let s = ring_from k.0 i t.1 t.3 in
-      (k.0, i - k.0.first, t.0, t.1, k.1, behind k.0.first i (ltb-true k.0.first i parts.0), ap (slice_get k.0.rings) (nothing k.0.first) ∙ r.1, s, not_true (inside t.0 t.1) t.4)),
+      (k.0, i - k.0.first, t.0, t.1, k.1, behind k.0.first i (ltb-true k.0.first i parts.0), ap (slice_get k.0.rings) (nothing k.0.first) ∙ r.1, s, not-true (inside t.0 t.1) t.4)),
   (λ t. some_yes (outside_test i) (numbered_elements g) t.0 t.4
       (and_from (nat_lt t.0.first i) (test_of_both off (ring_of t.0 t.0.first) (ring_of t.0 i)) (lt-ltb t.0.first i (past t.0.first t.1 i t.7.0 t.5))
       ((two_are off (ring_of t.0 t.0.first) (ring_of t.0 i)).1
@@ -329,7 +325,7 @@ nested_is g i j = (
         later_ring k.0.first (i - k.0.first) (j - k.0.first) i j r.0 s.0 (ltb-true i j orders.1),
         r,
         s,
-        or_from (inside t.0 t.1) (inside t.1 t.0) t.4,
+        or_cases (inside t.0 t.1) (inside t.1 t.0) t.4,
       )),
   (λ t. some_yes (nested_test i j) (numbered_elements g) t.0 t.5
       (and_from (nat_lt t.0.first i && nat_lt i j) (test_of_both one_in_the_other (ring_of t.0 i) (ring_of t.0 j))
@@ -360,7 +356,7 @@ swallowed d e = inside_element e d
 swallowed_is : (g : Geometry) (i j : ℕ) → (has_fault g (ElementInside i j) ≡ true) ↔ HasFault g (ElementInside i j)
 swallowed_is g i j = let k = two_are swallowed (slice_get (elements g) i) (slice_get (elements g) j) in (
   (λ h. let parts = and_parts (not (i == j)) (test_of_both swallowed (slice_get (elements g) i) (slice_get (elements g) j)) h in let t = k.0 parts.1 in
-      (t.0, t.1, (λ same. true≢false (sym ((Decides-eqb i j).1 same) ∙ not_true (i == j) parts.0)), t.2, t.3, t.4)),
+      (t.0, t.1, (λ same. true≢false (sym ((Decides-eqb i j).1 same) ∙ not-true (i == j) parts.0)), t.2, t.3, t.4)),
   (λ t. and_from (not (i == j)) (test_of_both swallowed (slice_get (elements g) i) (slice_get (elements g) j))
       (ap not (false_from_ne_true (i == j) (λ same. t.2 ((Decides-eqb i j).0 same)))) (k.1 (t.0, t.1, t.3, t.4, t.5))),
 )

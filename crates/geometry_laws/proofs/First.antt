@@ -2,6 +2,8 @@
 use Rattle.std.proofs.Common.{ℤ, pos, ◌+ℤ◌, ◌-ℤ◌, ◌*ℤ◌, ◌≤ℤ◌, ◌<ℤ◌, int_lt, int_le, ◌≡◌, ◌⊎◌, inl, inr, Bool, true, false, ◌&&◌, if◌then◌else◌, refl, sym, ap, ap₂, subst, ◌∙◌, List, [], ◌∷◌, arith}
 use borrow.Author.Differences.{ints}
 use Rattle.std.specs.Ordering.{int_eq}
+use Rattle.std.proofs.lemmas.Bool.{and_parts, and_from}
+use lib.Signed.{≤ℤ_refl}
 use Rattle.geometry_model.specs.Points.{Position, Point, IsPoint}
 use Rattle.geometry_model.specs.Geometries.{Edge}
 use Rattle.geometry_model.specs.Sides.{side, on}
@@ -10,9 +12,9 @@ use Rattle.basics.proofs.Ring.{solve, var, lit, ◌⊕◌, ◌⊖◌, ◌⊗◌}
 use Rattle.basics.proofs.Signs.{strict_plus_plus, strict_plus_minus, plus_plus, minus_plus, zero_times, at_most_from, at_most_or_less, at_most_yes, at_most_no, less_yes, less_no, less_from}
 use Rattle.basics.proofs.Quotients.{trans_at_most, at_most_scaled}
 use Rattle.basics.proofs.Tests.{equal_yes}
+use Rattle.basics.proofs.Orders.{negative_flipped, less_weak, weak_positive, sum_last_positive}
 use Rattle.geometry_laws.proofs.LineSides.{side', side_turned}
 use Rattle.geometry_laws.proofs.Each.{Each, Among}
-use Rattle.geometry_laws.proofs.Scaling.{and_parts, and_from}
 use Rattle.geometry_laws.proofs.Nudge.{breadth, breadth_positive}
 use Rattle.geometry_laws.proofs.WithinPiece.{on_from_touch}
 use Rattle.geometry_laws.proofs.Plane.{right}
@@ -35,22 +37,13 @@ wide e x hx h = breadth_positive e x hx ((and_parts (spans e x) (int_lt (side_ri
 
 -- and it is higher than the point
 high : (e : Edge) (x : Point) → strictly_above e x ≡ true → pos 0 <ℤ height e x
-high e x h = turned (side_rightward e x) (less_from (side_rightward e x) (pos 0) ((and_parts (spans e x) (int_lt (side_rightward e x) (pos 0)) h).1))
-  where
-    turned : (s : ℤ) → s <ℤ pos 0 → pos 0 <ℤ (pos 0 -ℤ s)
-    turned s h = omega (arith, ints)
+high e x h = negative_flipped (side_rightward e x) (less_from (side_rightward e x) (pos 0) ((and_parts (spans e x) (int_lt (side_rightward e x) (pos 0)) h).1))
 
 -- the edges that are above x are compared at x, and the lowest is kept
 pub first : (es : List Edge) (x : Point) → IsPoint x → Each (λ e. strictly_above e x ≡ false) es ⊎ First es x
 first [] x hx = inl tt
 first (e ∷ es) x hx = go (strictly_above e x) refl (first es x hx)
   where
-    same : (z : ℤ) → z ≤ℤ z
-    same z = omega (arith, ints)
-
-    weak : (s t : ℤ) → s <ℤ t → s ≤ℤ t
-    weak s t h = omega (arith, ints)
-
     none_in : (fs : List Edge) → Each (λ f. strictly_above f x ≡ false) fs → (g : Edge) → Among g fs → strictly_above g x ≡ true → ⊥
     none_in [] h g m k = m
     none_in (f ∷ fs) h g (inl q) k = absurd (let z : false ≡ true = sym h.0 ∙ ap (λ (d : Edge). strictly_above d x) (sym q) ∙ k in cc)
@@ -60,7 +53,7 @@ first (e ∷ es) x hx = go (strictly_above e x) refl (first es x hx)
     alone f h = record { edge = e; among = inl refl; is_above = f; least = λ g m k. pick g m k }
       where
         pick : (g : Edge) → Among g (e ∷ es) → strictly_above g x ≡ true → (height e x *ℤ breadth g) ≤ℤ (height g x *ℤ breadth e)
-        pick g (inl q) k = subst (λ (d : Edge). (height e x *ℤ breadth d) ≤ℤ (height d x *ℤ breadth e)) (sym q) (same (height e x *ℤ breadth e))
+        pick g (inl q) k = subst (λ (d : Edge). (height e x *ℤ breadth d) ≤ℤ (height d x *ℤ breadth e)) (sym q) (≤ℤ_refl (height e x *ℤ breadth e))
         pick g (inr m) k = absurd (none_in es h g m k)
 
     keep : (r : First es x) → (strictly_above e x ≡ true → (height r.edge x *ℤ breadth e) ≤ℤ (height e x *ℤ breadth r.edge)) → First (e ∷ es) x
@@ -74,12 +67,12 @@ first (e ∷ es) x hx = go (strictly_above e x) refl (first es x hx)
     take r f l = record { edge = e; among = inl refl; is_above = f; least = λ g m k. pick g m k }
       where
         pick : (g : Edge) → Among g (e ∷ es) → strictly_above g x ≡ true → (height e x *ℤ breadth g) ≤ℤ (height g x *ℤ breadth e)
-        pick g (inl q) k = subst (λ (d : Edge). (height e x *ℤ breadth d) ≤ℤ (height d x *ℤ breadth e)) (sym q) (same (height e x *ℤ breadth e))
+        pick g (inl q) k = subst (λ (d : Edge). (height e x *ℤ breadth d) ≤ℤ (height d x *ℤ breadth e)) (sym q) (≤ℤ_refl (height e x *ℤ breadth e))
         pick g (inr m) k = trans_at_most (height e x) (breadth e) (height r.edge x) (breadth r.edge) (height g x) (breadth g) (wide e x hx f) (wide r.edge x hx r.is_above) (wide g x hx k) l (r.least g m k)
 
     choose : (r : First es x) → strictly_above e x ≡ true → ((height e x *ℤ breadth r.edge) ≤ℤ (height r.edge x *ℤ breadth e)) ⊎ ((height r.edge x *ℤ breadth e) <ℤ (height e x *ℤ breadth r.edge)) → First (e ∷ es) x
     choose r f (inl l) = take r f l
-    choose r f (inr l) = keep r (λ k. weak (height r.edge x *ℤ breadth e) (height e x *ℤ breadth r.edge) l)
+    choose r f (inr l) = keep r (λ k. less_weak (height r.edge x *ℤ breadth e) (height e x *ℤ breadth r.edge) l)
 
     go : (t : Bool) → strictly_above e x ≡ t → Each (λ f. strictly_above f x ≡ false) es ⊎ First es x → Each (λ f. strictly_above f x ≡ false) (e ∷ es) ⊎ First (e ∷ es) x
     go true f (inl h) = inr (alone f h)
@@ -141,17 +134,11 @@ over_on f x hx h = on_from_touch f (over_point f x) (over_is_point f x hx h) (an
 number : (d s h k : ℤ) → pos 0 <ℤ d → pos 0 <ℤ h → pos 0 <ℤ k → (s <ℤ pos 0 → (h *ℤ k) ≤ℤ ((pos 0 -ℤ s) *ℤ d)) → int_le (d *ℤ s +ℤ h *ℤ k) (pos 0) ≡ int_lt s (pos 0)
 number d s h k hd hh hk f = go (at_most_or_less (pos 0) s)
   where
-    weak : (z : ℤ) → pos 0 <ℤ z → pos 0 ≤ℤ z
-    weak z l = omega (arith, ints)
-
-    sum : (y z : ℤ) → pos 0 ≤ℤ y → pos 0 <ℤ z → pos 0 <ℤ (y +ℤ z)
-    sum y z l m = omega (arith, ints)
-
     under : (y z t : ℤ) → t ≡ pos 0 -ℤ y → z ≤ℤ t → (y +ℤ z) ≤ℤ pos 0
     under y z t e l = omega (arith, ints)
 
     go : (pos 0 ≤ℤ s) ⊎ (s <ℤ pos 0) → int_le (d *ℤ s +ℤ h *ℤ k) (pos 0) ≡ int_lt s (pos 0)
-    go (inl l) = at_most_no (d *ℤ s +ℤ h *ℤ k) (pos 0) (sum (d *ℤ s) (h *ℤ k) (plus_plus d s (weak d hd) l) (strict_plus_plus h k hh hk)) ∙ sym (less_no s (pos 0) l)
+    go (inl l) = at_most_no (d *ℤ s +ℤ h *ℤ k) (pos 0) (sum_last_positive (d *ℤ s) (h *ℤ k) (plus_plus d s (weak_positive d hd) l) (strict_plus_plus h k hh hk)) ∙ sym (less_no s (pos 0) l)
     go (inr l) = at_most_yes (d *ℤ s +ℤ h *ℤ k) (pos 0) (under (d *ℤ s) (h *ℤ k) ((pos 0 -ℤ s) *ℤ d) (solve (d ∷ s ∷ []) ((lit (pos 0) ⊖ var 1) ⊗ var 0) (lit (pos 0) ⊖ var 0 ⊗ var 1) tt) (f l)) ∙ sym (less_yes s (pos 0) l)
 
 -- at the lowest edge's point over x the edges at or above are those strictly above x
@@ -206,11 +193,8 @@ not_lower g p z hp hz h k e l = clash (side_rightward g z *ℤ p.W) (side_rightw
     flat_times : side_rightward g z *ℤ p.W ≡ pos 0
     flat_times = zero_times (side_rightward g z) p.W flat
 
-    weak : (w : ℤ) → pos 0 <ℤ w → pos 0 ≤ℤ w
-    weak w h = omega (arith, ints)
-
     times_weak : (s w : ℤ) → s ≤ℤ pos 0 → pos 0 <ℤ w → (s *ℤ w) ≤ℤ pos 0
-    times_weak s w h k = minus_plus s w h (weak w k)
+    times_weak s w h k = minus_plus s w h (weak_positive w k)
 
     clash : (x y z : ℤ) → x ≡ y +ℤ z → x ≡ pos 0 → y ≤ℤ pos 0 → z <ℤ pos 0 → ⊥
     clash x y z e f h k = omega (arith, ints)

@@ -1,15 +1,16 @@
 -- The first fault that is found applies, and none is found exactly where the geometry is valid.
-use Rattle.std.proofs.Common.{◌≡◌, ◌⊎◌, inl, inr, ℕ, zero, suc, ◌+◌, ◌-◌, ◌<◌, ◌≤◌, Bool, true, false, List, [], ◌∷◌, ◌++◌, length, map, flat_map, find, cond, Option, Some, None, Contains, slice_index_or, refl, sym, ap, ◌∙◌, subst, zero-add, arith}
+use Rattle.std.proofs.Common.{◌≡◌, ◌⊎◌, inl, inr, ℕ, zero, suc, ◌+◌, ◌-◌, ◌<◌, ◌≤◌, Bool, true, false, List, [], ◌∷◌, ◌++◌, length, map, flat_map, find, cond, Option, Some, None, Contains, slice_index_or, refl, sym, ap, ◌∙◌, subst, zero-add, arith, add-zero}
 use Rattle.std.specs.List.{range_with_len}
 use Rattle.std.proofs.lemmas.Bool.{true≢false}
 use Rattle.std.proofs.lemmas.List.{append_assoc}
+use Rattle.std.proofs.lemmas.Option.{slice_get_within}
 use Rattle.geometry_model.specs.Geometries.{Geometry, lines, rings, elements}
 use Rattle.geometry_model.specs.Validity.{Element, numbered_elements, HasFault, IsValid}
 use Rattle.geometry_model.specs.FirstFaults.{has_fault, numbers, of_pairs, rings_end, of_every_two, of_elements, in_order, validity_fault}
 use Rattle.geometry_model.specs.declared.validity_faults.ValidityFault.{ValidityFault}
 use Rattle.geometry_model.specs.declared.validity_faults.ValidityFault.TheVariants.{TooFewPoints, RingNotClosed, RingNotSimple, RingsMeet, HoleOutside, HolesNested, ElementsMeet, ElementInside}
 use Rattle.geometry_laws.specs.FaultLaws.{AreClosed, FirstFaultApplies, NoneIsFoundWhereValid}
-use Rattle.geometry_laws.proofs.ElementFacts.{greater_number, within}
+use Rattle.geometry_laws.proofs.ElementFacts.{greater_number}
 use Rattle.geometry_laws.proofs.FaultFacts.{NeedsClosed, fault_decided}
 
 -- ---- finding in a list
@@ -76,12 +77,9 @@ fails_from p f start n i e low high = ap (λ m. p (f m)) (omega (arith, low)) �
 pair_fails_at : (p : ValidityFault → Bool) (f : ℕ → ℕ → ValidityFault) (from : ℕ → ℕ) (count start n d j : ℕ) → find p (flat_map (λ i. map (f i) (numbers (from i) n)) (range_with_len start count)) ≡ None
     → d < count → from (start + d) ≤ j → j < n → p (f (start + d) j) ≡ false
 pair_fails_at p f from zero start n d j e h low high = absurd (omega (arith, h))
-pair_fails_at p f from (suc count) start n zero j e h low high = ap (λ m. p (f m j)) (unmoved start)
+pair_fails_at p f from (suc count) start n zero j e h low high = ap (λ m. p (f m j)) (add-zero start)
     ∙ fails_from p (f start) (from start) n j (none_in_two p (map (f start) (numbers (from start) n)) (flat_map (λ i. map (f i) (numbers (from i) n)) (range_with_len (start + 1) count)) e).0
-    (subst (λ m. from m ≤ j) (unmoved start) low) high
-  where
-    unmoved : (start : ℕ) → start + 0 ≡ start
-    unmoved start = omega arith
+    (subst (λ m. from m ≤ j) (add-zero start) low) high
 pair_fails_at p f from (suc count) start n (suc d) j e h low high = ap (λ m. p (f m j)) (moved start d)
     ∙ pair_fails_at p f from count (start + 1) n d j (none_in_two p (map (f start) (numbers (from start) n)) (flat_map (λ i. map (f i) (numbers (from i) n)) (range_with_len (start + 1) count)) e).1
     (omega (arith, h)) (subst (λ m. from m ≤ j) (moved start d) low) high
@@ -149,7 +147,7 @@ in_two g = regrouped (short_ones g) (open_ones g) (crossed_ones g) (meeting_ones
 
 -- where no ring is found that isn't closed, all rings are closed
 pub are_closed : (g : Geometry) → find (has_fault g) (open_ones g) ≡ None → AreClosed g
-are_closed g none i h = true≢false (sym ((fault_decided g (RingNotClosed i) tt).1 h) ∙ fails_from (has_fault g) RingNotClosed 0 (length (rings g)) i none (omega arith) (within (rings g) i h.0 h.1))
+are_closed g none i h = true≢false (sym ((fault_decided g (RingNotClosed i) tt).1 h) ∙ fails_from (has_fault g) RingNotClosed 0 (length (rings g)) i none (omega arith) (slice_get_within (rings g) i h.0 h.1))
 
 record NoneFound (g : Geometry) : Type 0 where
   short : find (has_fault g) (short_ones g) ≡ None
@@ -188,23 +186,23 @@ to_end first k i n e h = omega (arith, e, h)
 
 -- a fault that applied would have its place in the order of tests, but there each test fails
 valid_of : (g : Geometry) → NoneFound g → IsValid g
-valid_of g none (TooFewPoints i) h = applies_not g (TooFewPoints i) tt (fails_from (has_fault g) TooFewPoints 0 (length (lines g)) i none.short (omega arith) (within (lines g) i h.0 h.1)) h
+valid_of g none (TooFewPoints i) h = applies_not g (TooFewPoints i) tt (fails_from (has_fault g) TooFewPoints 0 (length (lines g)) i none.short (omega arith) (slice_get_within (lines g) i h.0 h.1)) h
 valid_of g none (RingNotClosed i) h = are_closed g none.opened i h
 valid_of g none (RingNotSimple i) h = applies_not g (RingNotSimple i) (are_closed g none.opened)
-    (fails_from (has_fault g) RingNotSimple 0 (length (rings g)) i none.crossed (omega arith) (within (rings g) i h.0 h.1)) h
+    (fails_from (has_fault g) RingNotSimple 0 (length (rings g)) i none.crossed (omega arith) (slice_get_within (rings g) i h.0 h.1)) h
 valid_of g none (RingsMeet i j) h = applies_not g (RingsMeet i j) tt
     (pair_fails (has_fault g) RingsMeet h.0.first (rings_end h.0) i j (none_of (has_fault g) (λ e. of_pairs RingsMeet e.first (rings_end e)) (numbered_elements g) h.0 none.meeting h.5)
-    (from_first h.0.first h.1 i h.7.0) (greater_number h.0.first h.1 h.2 i j h.7.0 h.8.0 h.6) (to_end h.0.first h.2 j (length h.0.rings) h.8.0 (within h.0.rings h.2 h.4 h.8.1))) h
+    (from_first h.0.first h.1 i h.7.0) (greater_number h.0.first h.1 h.2 i j h.7.0 h.8.0 h.6) (to_end h.0.first h.2 j (length h.0.rings) h.8.0 (slice_get_within h.0.rings h.2 h.4 h.8.1))) h
 valid_of g none (HoleOutside i) h = applies_not g (HoleOutside i) tt
     (fails_from (has_fault g) HoleOutside (h.0.first + 1) (rings_end h.0) i (none_of (has_fault g) (λ e. map HoleOutside (numbers (e.first + 1) (rings_end e))) (numbered_elements g) h.0 none.outside h.4)
-    (past_first h.0.first h.1 i h.7.0 h.5) (to_end h.0.first h.1 i (length h.0.rings) h.7.0 (within h.0.rings h.1 h.3 h.7.1))) h
+    (past_first h.0.first h.1 i h.7.0 h.5) (to_end h.0.first h.1 i (length h.0.rings) h.7.0 (slice_get_within h.0.rings h.1 h.3 h.7.1))) h
 valid_of g none (HolesNested i j) h = applies_not g (HolesNested i j) tt
     (pair_fails (has_fault g) HolesNested (h.0.first + 1) (rings_end h.0) i j (none_of (has_fault g) (λ e. of_pairs HolesNested (e.first + 1) (rings_end e)) (numbered_elements g) h.0 none.nested h.5)
-    (past_first h.0.first h.1 i h.8.0 h.6) (greater_number h.0.first h.1 h.2 i j h.8.0 h.9.0 h.7) (to_end h.0.first h.2 j (length h.0.rings) h.9.0 (within h.0.rings h.2 h.4 h.9.1))) h
+    (past_first h.0.first h.1 i h.8.0 h.6) (greater_number h.0.first h.1 h.2 i j h.8.0 h.9.0 h.7) (to_end h.0.first h.2 j (length h.0.rings) h.9.0 (slice_get_within h.0.rings h.2 h.4 h.9.1))) h
 valid_of g none (ElementsMeet i j) h = applies_not g (ElementsMeet i j) tt
-    (pair_fails (has_fault g) ElementsMeet 0 (length (elements g)) i j none.touching (omega arith) h.2 (within (elements g) j h.1 h.4)) h
+    (pair_fails (has_fault g) ElementsMeet 0 (length (elements g)) i j none.touching (omega arith) h.2 (slice_get_within (elements g) j h.1 h.4)) h
 valid_of g none (ElementInside i j) h = applies_not g (ElementInside i j) tt
-    (every_two_fail (has_fault g) ElementInside (length (elements g)) i j none.swallowed (within (elements g) i h.0 h.3) (within (elements g) j h.1 h.4)) h
+    (every_two_fail (has_fault g) ElementInside (length (elements g)) i j none.swallowed (slice_get_within (elements g) i h.0 h.3) (slice_get_within (elements g) j h.1 h.4)) h
 
 -- a fault of a ring that isn't simple is found only where the rings are closed
 closed_before : (g : Geometry) (i : ℕ) → validity_fault g ≡ Some (RingNotSimple i) → AreClosed g

@@ -3,6 +3,7 @@ use Rattle.std.proofs.Common.{ℤ, pos, ◌+ℤ◌, ◌-ℤ◌, ◌*ℤ◌, ◌�
 use borrow.Author.Differences.{ints}
 use Rattle.geometry_model.specs.Points.{Point, IsPoint}
 use Rattle.basics.proofs.Signs.{plus_plus, strict_plus_plus, cancel_nonnegative, cancel_positive}
+use Rattle.basics.proofs.Orders.{weak_positive}
 use Rattle.geometry_laws.proofs.Plane.{right, reaches}
 use Rattle.geometry_laws.proofs.Identities.{way, right_turned}
 
@@ -46,7 +47,4 @@ not_reaches_means a b e = turned (right a b) (right b a) (right_turned a b) e
 
 -- and so not to the left of it
 pub not_reaches_turned : (a b : Point) → reaches a b ≡ false → pos 0 ≤ℤ right b a
-not_reaches_turned a b e = weaker (right b a) (not_reaches_means a b e)
-  where
-    weaker : (x : ℤ) → pos 0 <ℤ x → pos 0 ≤ℤ x
-    weaker x h = omega (arith, ints)
+not_reaches_turned a b e = weak_positive (right b a) (not_reaches_means a b e)

@@ -8,6 +8,7 @@ use Rattle.geometry_model.specs.Sides.{side}
 use Rattle.geometry_model.specs.Dimensions.{area, weighted}
 use Rattle.basics.proofs.Ring.{Expr, solve, var, lit, ◌⊕◌, ◌⊖◌, ◌⊗◌}
 use Rattle.basics.proofs.Signs.{strict_plus_plus, plus_plus, zero_product, is_or_not}
+use Rattle.basics.proofs.Orders.{gap_positive, gap_none, less_from_gap, same_from_gap, zero_not_positive, weak_positive, sum_weak, natural_weak, no_difference}
 use Rattle.geometry_laws.proofs.Plane.{right}
 use Rattle.geometry_laws.proofs.Identities.{right', area', U, V, P, values}
 use Rattle.geometry_laws.proofs.LeftToRight.{right_trans_first, right_trans_last}
@@ -27,29 +28,17 @@ Lex s t = (pos 0 <ℤ s) ⊎ ((s ≡ pos 0) × (pos 0 <ℤ t))
 pub lex_of_less : (p q : Point) → compare p q ≡ Less → Lex (right p q) (up p q)
 lex_of_less p q e = go (before p q e)
   where
-    apart : (x y : ℤ) → x <ℤ y → pos 0 <ℤ (y -ℤ x)
-    apart x y h = omega (arith, ints)
-
-    nothing : (x y : ℤ) → x ≡ y → y -ℤ x ≡ pos 0
-    nothing x y h = omega (arith, ints)
-
     go : Before p q → Lex (right p q) (up p q)
-    go (inl h) = inl (apart (p.X *ℤ q.W) (q.X *ℤ p.W) h)
-    go (inr h) = inr (nothing (p.X *ℤ q.W) (q.X *ℤ p.W) h.0, apart (p.Y *ℤ q.W) (q.Y *ℤ p.W) h.1)
+    go (inl h) = inl (gap_positive (p.X *ℤ q.W) (q.X *ℤ p.W) h)
+    go (inr h) = inr (gap_none (p.X *ℤ q.W) (q.X *ℤ p.W) h.0, gap_positive (p.Y *ℤ q.W) (q.Y *ℤ p.W) h.1)
 
 -- and where it is so, the points compare as Less
 pub less_of_lex : (p q : Point) → Lex (right p q) (up p q) → compare p q ≡ Less
 less_of_lex p q l = less_from_before p q (go l)
   where
-    joined : (x y : ℤ) → pos 0 <ℤ (y -ℤ x) → x <ℤ y
-    joined x y h = omega (arith, ints)
-
-    same : (x y : ℤ) → y -ℤ x ≡ pos 0 → x ≡ y
-    same x y h = omega (arith, ints)
-
     go : Lex (right p q) (up p q) → Before p q
-    go (inl h) = inl (joined (p.X *ℤ q.W) (q.X *ℤ p.W) h)
-    go (inr h) = inr (same (p.X *ℤ q.W) (q.X *ℤ p.W) h.0, joined (p.Y *ℤ q.W) (q.Y *ℤ p.W) h.1)
+    go (inl h) = inl (less_from_gap (p.X *ℤ q.W) (q.X *ℤ p.W) h)
+    go (inr h) = inr (same_from_gap (p.X *ℤ q.W) (q.X *ℤ p.W) h.0, less_from_gap (p.Y *ℤ q.W) (q.Y *ℤ p.W) h.1)
 
 -- ---- sums
 -- a weighted sum of two pairs that are above 0 in this order is above 0 in it
@@ -191,12 +180,6 @@ lex_weak s t (inr h) = weak s h.0
 pub sum_between : (p q x : Point) → IsPoint p → IsPoint q → IsPoint x → area p q x ≡ pos 0 → compare p x ≡ Less → compare x q ≡ Less → compare p q ≡ Less → IsSum p q x
 sum_between p q x hp hq hx a e f g = go (lex_of_less p q g) (lex_of_less p x e) (lex_of_less x q f)
   where
-    clash : (s : ℤ) → s ≡ pos 0 → pos 0 <ℤ s → ⊥
-    clash s h k = omega (arith, ints)
-
-    weak : (s : ℤ) → pos 0 <ℤ s → pos 0 ≤ℤ s
-    weak s h = omega (arith, ints)
-
     across : pos 0 <ℤ right p q → IsSum p q x
     across h = record {
       k = right p q;
@@ -225,9 +208,9 @@ sum_between p q x hp hq hx a e f g = go (lex_of_less p q g) (lex_of_less p x e) 
 
     go : Lex (right p q) (up p q) → Lex (right p x) (up p x) → Lex (right x q) (up x q) → IsSum p q x
     go (inl h) s t = across h
-    go (inr h) (inl s) t = absurd (clash (right p q) h.0 (right_trans_first p x q hp hx hq s (lex_weak (right x q) (up x q) t)))
-    go (inr h) (inr s) (inl t) = absurd (clash (right p q) h.0 (right_trans_last p x q hp hx hq (lex_weak (right p x) (up p x) (inr s)) t))
-    go (inr h) (inr s) (inr t) = upright h.1 (weak (up x q) t.1) (weak (up p x) s.1)
+    go (inr h) (inl s) t = absurd (zero_not_positive (right p q) h.0 (right_trans_first p x q hp hx hq s (lex_weak (right x q) (up x q) t)))
+    go (inr h) (inr s) (inl t) = absurd (zero_not_positive (right p q) h.0 (right_trans_last p x q hp hx hq (lex_weak (right p x) (up p x) (inr s)) t))
+    go (inr h) (inr s) (inr t) = upright h.1 (weak_positive (up x q) t.1) (weak_positive (up p x) s.1)
 
 -- ---- an edge holds the sums of its points
 -- sums put into a sum are a sum, the weights being multiplied
@@ -264,18 +247,12 @@ on_sum e p q x h g s = record {
   m = s.m *ℤ g.k *ℤ h.m +ℤ s.n *ℤ h.k *ℤ g.m;
   n = s.m *ℤ g.k *ℤ h.n +ℤ s.n *ℤ h.k *ℤ g.n;
   from_k = strict_plus_plus (s.k *ℤ h.k) g.k (strict_plus_plus s.k h.k s.from_k h.from_k) g.from_k;
-  from_m = sum _ _ (three s.m g.k h.m s.from_m (weak g.k g.from_k) h.from_m) (three s.n h.k g.m s.from_n (weak h.k h.from_k) g.from_m);
-  from_n = sum _ _ (three s.m g.k h.n s.from_m (weak g.k g.from_k) h.from_n) (three s.n h.k g.n s.from_n (weak h.k h.from_k) g.from_n);
+  from_m = sum_weak _ _ (three s.m g.k h.m s.from_m (weak_positive g.k g.from_k) h.from_m) (three s.n h.k g.m s.from_n (weak_positive h.k h.from_k) g.from_m);
+  from_n = sum_weak _ _ (three s.m g.k h.n s.from_m (weak_positive g.k g.from_k) h.from_n) (three s.n h.k g.n s.from_n (weak_positive h.k h.from_k) g.from_n);
   x_is = linear s.k s.m s.n h.k g.k e.start.x e.end.x h.m h.n g.m g.n x.X p.X q.X s.x_is h.x_is g.x_is;
   y_is = linear s.k s.m s.n h.k g.k e.start.y e.end.y h.m h.n g.m g.n x.Y p.Y q.Y s.y_is h.y_is g.y_is;
   w_is = linear_one s.k s.m s.n h.k g.k h.m h.n g.m g.n x.W p.W q.W s.w_is h.w_is g.w_is;
 }
-  where
-    weak : (s : ℤ) → pos 0 <ℤ s → pos 0 ≤ℤ s
-    weak s h = omega (arith, ints)
-
-    sum : (s t : ℤ) → pos 0 ≤ℤ s → pos 0 ≤ℤ t → pos 0 ≤ℤ (s +ℤ t)
-    sum s t h k = omega (arith, ints)
 
 -- a weighted point is such a sum
 pub weighted_is_sum : (m : ℕ) (p : Point) (n : ℕ) (q : Point) → IsSum p q (weighted m p n q)
@@ -284,16 +261,13 @@ weighted_is_sum m p n q = record {
   m = pos m;
   n = pos n;
   from_k = omega (arith, ints);
-  from_m = natural m;
-  from_n = natural n;
+  from_m = natural_weak m;
+  from_n = natural_weak n;
   x_is = one _;
   y_is = one _;
   w_is = one _;
 }
   where
-    natural : (n : ℕ) → pos 0 ≤ℤ pos n
-    natural n = omega (arith, ints)
-
     one : (x : ℤ) → pos 1 *ℤ x ≡ x
     one x = omega (arith, ints)
 
@@ -314,12 +288,6 @@ by_height a b p q r = solve (a.x ∷ a.y ∷ b.x ∷ b.y ∷ p.X ∷ p.Y ∷ p.W
 pub area_on_line : (a b : Position) (p q r : Point) → (a ≡ b → ⊥) → side a b p ≡ pos 0 → side a b q ≡ pos 0 → side a b r ≡ pos 0 → area p q r ≡ pos 0
 area_on_line a b p q r d e f g = go (is_or_not (b.x -ℤ a.x)) (is_or_not (a.y -ℤ b.y))
   where
-    same : (x y : ℤ) → y -ℤ x ≡ pos 0 → x ≡ y
-    same x y e = omega (arith, ints)
-
-    same_back : (x y : ℤ) → x -ℤ y ≡ pos 0 → x ≡ y
-    same_back x y e = omega (arith, ints)
-
     wide : (b.x -ℤ a.x) *ℤ area p q r ≡ pos 0
     wide = by_breadth a b p q r
         ∙ ap (λ (z : ℤ). p.X *ℤ (side a b q *ℤ r.W -ℤ side a b r *ℤ q.W) -ℤ z *ℤ (q.X *ℤ r.W -ℤ r.X *ℤ q.W) +ℤ p.W *ℤ (q.X *ℤ side a b r -ℤ r.X *ℤ side a b q)) e
@@ -339,4 +307,4 @@ area_on_line a b p q r d e f g = go (is_or_not (b.x -ℤ a.x)) (is_or_not (a.y -
     go : ((b.x -ℤ a.x ≡ pos 0) ⊎ (b.x -ℤ a.x ≡ pos 0 → ⊥)) → ((a.y -ℤ b.y ≡ pos 0) ⊎ (a.y -ℤ b.y ≡ pos 0 → ⊥)) → area p q r ≡ pos 0
     go (inr n) t = pick (b.x -ℤ a.x) (area p q r) n (zero_product (b.x -ℤ a.x) (area p q r) wide)
     go (inl s) (inr n) = pick (a.y -ℤ b.y) (area p q r) n (zero_product (a.y -ℤ b.y) (area p q r) high)
-    go (inl s) (inl t) = absurd (d (λ i. record { x = same a.x b.x s i; y = same_back a.y b.y t i }))
+    go (inl s) (inl t) = absurd (d (λ i. record { x = same_from_gap a.x b.x s i; y = no_difference a.y b.y t i }))

@@ -5,6 +5,7 @@ use Rattle.geometry_model.specs.Points.{Position, Point}
 use Rattle.geometry_model.specs.Sides.{side}
 use Rattle.basics.proofs.Ring.{Expr, solve, var, lit, ◌⊕◌, ◌⊖◌, ◌⊗◌}
 use Rattle.basics.proofs.Signs.{three_ways, is_or_not, cancel_zero, strict_plus_plus, strict_minus_minus, plus_plus, minus_minus, at_most_or_less}
+use Rattle.basics.proofs.Orders.{weak_negative, same_from_gap, sum_first_positive, sum_last_positive}
 use Rattle.geometry_laws.specs.SideLaws.{IsOnLine}
 
 -- a at 0 and 1, b at 2 and 3, p at 4, 5 and 6
@@ -60,12 +61,9 @@ y_of a b p = solve (a.x ∷ a.y ∷ b.x ∷ b.y ∷ p.X ∷ p.Y ∷ p.W ∷ []) 
 square_weak : (x : ℤ) → pos 0 ≤ℤ (x *ℤ x)
 square_weak x = go (at_most_or_less (pos 0) x)
   where
-    weaken : (x : ℤ) → x <ℤ pos 0 → x ≤ℤ pos 0
-    weaken x h = omega (arith, ints)
-
     go : (pos 0 ≤ℤ x) ⊎ (x <ℤ pos 0) → pos 0 ≤ℤ (x *ℤ x)
     go (inl h) = plus_plus x x h h
-    go (inr h) = minus_minus x x (weaken x h) (weaken x h)
+    go (inr h) = minus_minus x x (weak_negative x h) (weak_negative x h)
 
 -- and above 0 where the number isn't 0
 square_strict : (x : ℤ) → (x ≡ pos 0 → ⊥) → pos 0 <ℤ (x *ℤ x)
@@ -80,19 +78,10 @@ square_strict x f = go (three_ways (pos 0) x)
 pub square_positive : (a b : Position) → (a ≡ b → ⊥) → pos 0 <ℤ square a b
 square_positive a b f = go (is_or_not (b.x -ℤ a.x)) (is_or_not (b.y -ℤ a.y))
   where
-    no_difference : (x y : ℤ) → y -ℤ x ≡ pos 0 → x ≡ y
-    no_difference x y e = omega (arith, ints)
-
-    first : (s t : ℤ) → pos 0 <ℤ s → pos 0 ≤ℤ t → pos 0 <ℤ (s +ℤ t)
-    first s t h k = omega (arith, ints)
-
-    last : (s t : ℤ) → pos 0 ≤ℤ s → pos 0 <ℤ t → pos 0 <ℤ (s +ℤ t)
-    last s t h k = omega (arith, ints)
-
     go : ((b.x -ℤ a.x ≡ pos 0) ⊎ (b.x -ℤ a.x ≡ pos 0 → ⊥)) → ((b.y -ℤ a.y ≡ pos 0) ⊎ (b.y -ℤ a.y ≡ pos 0 → ⊥)) → pos 0 <ℤ square a b
-    go (inl e) (inl g) = absurd (f (λ i. record { x = no_difference a.x b.x e i; y = no_difference a.y b.y g i }))
-    go (inr e) h = first ((b.x -ℤ a.x) *ℤ (b.x -ℤ a.x)) ((b.y -ℤ a.y) *ℤ (b.y -ℤ a.y)) (square_strict (b.x -ℤ a.x) e) (square_weak (b.y -ℤ a.y))
-    go (inl e) (inr g) = last ((b.x -ℤ a.x) *ℤ (b.x -ℤ a.x)) ((b.y -ℤ a.y) *ℤ (b.y -ℤ a.y)) (square_weak (b.x -ℤ a.x)) (square_strict (b.y -ℤ a.y) g)
+    go (inl e) (inl g) = absurd (f (λ i. record { x = same_from_gap a.x b.x e i; y = same_from_gap a.y b.y g i }))
+    go (inr e) h = sum_first_positive ((b.x -ℤ a.x) *ℤ (b.x -ℤ a.x)) ((b.y -ℤ a.y) *ℤ (b.y -ℤ a.y)) (square_strict (b.x -ℤ a.x) e) (square_weak (b.y -ℤ a.y))
+    go (inl e) (inr g) = sum_last_positive ((b.x -ℤ a.x) *ℤ (b.x -ℤ a.x)) ((b.y -ℤ a.y) *ℤ (b.y -ℤ a.y)) (square_weak (b.x -ℤ a.x)) (square_strict (b.y -ℤ a.y) g)
 
 -- where the side is 0 its multiples fall out, and the weights of the ends give the point
 on_line : (a b : Position) (p : Point) → (a ≡ b → ⊥) → side a b p ≡ pos 0 → IsOnLine a b p

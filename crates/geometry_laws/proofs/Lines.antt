@@ -2,6 +2,7 @@
 use Rattle.std.proofs.Common.{ℕ, ◌+◌, ◌<◌, ℤ, pos, ◌+ℤ◌, ◌-ℤ◌, ◌*ℤ◌, ◌≤ℤ◌, ◌<ℤ◌, int_le, ◌≡◌, ◌⊎◌, inl, inr, Bool, true, false, ◌&&◌, ◌||◌, refl, sym, ap, ap₂, ◌∙◌, [], ◌∷◌, arith}
 use borrow.Author.Differences.{ints}
 use Rattle.std.specs.Ordering.{int_eq}
+use lib.Signed.{≤ℤ_refl}
 use Rattle.geometry_model.specs.Points.{Position, Point, IsPoint, point_at}
 use Rattle.geometry_model.specs.Geometries.{Edge}
 use Rattle.geometry_model.specs.Sides.{side, on, between}
@@ -9,6 +10,7 @@ use Rattle.geometry_model.specs.Dimensions.{weighted, weighted_three}
 use Rattle.basics.proofs.Ring.{solve, var, lit, ◌⊕◌, ◌⊖◌, ◌⊗◌}
 use Rattle.basics.proofs.Signs.{plus_plus, plus_minus, strict_plus_plus, at_most_or_less, three_ways}
 use Rattle.basics.proofs.Tests.{not_equal_from}
+use Rattle.basics.proofs.Orders.{weak_positive, natural_weak, sum_last_positive, sum_first_positive, less_weak, positive_same}
 use Rattle.geometry_laws.specs.CoverLaws.{Line, value}
 use Rattle.geometry_laws.proofs.LineSides.{side', side_turned}
 use Rattle.geometry_laws.proofs.Hulls.{OnHull, hull_from_on}
@@ -30,47 +32,26 @@ value_weighted_three l k p m q n r = solve (l.a ∷ l.b ∷ l.c ∷ p.X ∷ p.Y 
 pub sum_positive : (m n : ℕ) (x y : ℤ) → 0 < m + n → pos 0 <ℤ x → pos 0 <ℤ y → pos 0 <ℤ (pos m *ℤ x +ℤ pos n *ℤ y)
 sum_positive m n x y h hx hy = go (at_most_or_less (pos m) (pos 0))
   where
-    weak : (x : ℤ) → pos 0 <ℤ x → pos 0 ≤ℤ x
-    weak x h = omega (arith, ints)
-
-    natural : (n : ℕ) → pos 0 ≤ℤ pos n
-    natural n = omega (arith, ints)
-
-    last : (s t : ℤ) → pos 0 ≤ℤ s → pos 0 <ℤ t → pos 0 <ℤ (s +ℤ t)
-    last s t h k = omega (arith, ints)
-
-    first : (s t : ℤ) → pos 0 <ℤ s → pos 0 ≤ℤ t → pos 0 <ℤ (s +ℤ t)
-    first s t h k = omega (arith, ints)
-
     rest : (m n : ℕ) → 0 < m + n → pos m ≤ℤ pos 0 → pos 0 <ℤ pos n
     rest m n h k = omega (arith, ints)
 
     go : (pos m ≤ℤ pos 0) ⊎ (pos 0 <ℤ pos m) → pos 0 <ℤ (pos m *ℤ x +ℤ pos n *ℤ y)
-    go (inl k) = last (pos m *ℤ x) (pos n *ℤ y) (plus_plus (pos m) x (natural m) (weak x hx)) (strict_plus_plus (pos n) y (rest m n h k) hy)
-    go (inr k) = first (pos m *ℤ x) (pos n *ℤ y) (strict_plus_plus (pos m) x k hx) (plus_plus (pos n) y (natural n) (weak y hy))
+    go (inl k) = sum_last_positive (pos m *ℤ x) (pos n *ℤ y) (plus_plus (pos m) x (natural_weak m) (weak_positive x hx)) (strict_plus_plus (pos n) y (rest m n h k) hy)
+    go (inr k) = sum_first_positive (pos m *ℤ x) (pos n *ℤ y) (strict_plus_plus (pos m) x k hx) (plus_plus (pos n) y (natural_weak n) (weak_positive y hy))
 
 -- and of three
 pub sum_positive_three : (k m n : ℕ) (x y z : ℤ) → 0 < k + m + n → pos 0 <ℤ x → pos 0 <ℤ y → pos 0 <ℤ z → pos 0 <ℤ (pos k *ℤ x +ℤ pos m *ℤ y +ℤ pos n *ℤ z)
 sum_positive_three k m n x y z h hx hy hz = go (at_most_or_less (pos n) (pos 0))
   where
-    weak : (x : ℤ) → pos 0 <ℤ x → pos 0 ≤ℤ x
-    weak x h = omega (arith, ints)
-
-    natural : (n : ℕ) → pos 0 ≤ℤ pos n
-    natural n = omega (arith, ints)
-
     last : (s t r : ℤ) → pos 0 ≤ℤ s → pos 0 ≤ℤ t → pos 0 <ℤ r → pos 0 <ℤ (s +ℤ t +ℤ r)
     last s t r h k l = omega (arith, ints)
-
-    first : (s t : ℤ) → pos 0 <ℤ s → pos 0 ≤ℤ t → pos 0 <ℤ (s +ℤ t)
-    first s t h k = omega (arith, ints)
 
     rest : (m n : ℕ) → 0 < m + n → pos n ≤ℤ pos 0 → 0 < m
     rest m n h k = omega (arith, ints)
 
     go : (pos n ≤ℤ pos 0) ⊎ (pos 0 <ℤ pos n) → pos 0 <ℤ (pos k *ℤ x +ℤ pos m *ℤ y +ℤ pos n *ℤ z)
-    go (inl l) = first (pos k *ℤ x +ℤ pos m *ℤ y) (pos n *ℤ z) (sum_positive k m x y (rest (k + m) n h l) hx hy) (plus_plus (pos n) z (natural n) (weak z hz))
-    go (inr l) = last (pos k *ℤ x) (pos m *ℤ y) (pos n *ℤ z) (plus_plus (pos k) x (natural k) (weak x hx)) (plus_plus (pos m) y (natural m) (weak y hy)) (strict_plus_plus (pos n) z l hz)
+    go (inl l) = sum_first_positive (pos k *ℤ x +ℤ pos m *ℤ y) (pos n *ℤ z) (sum_positive k m x y (rest (k + m) n h l) hx hy) (plus_plus (pos n) z (natural_weak n) (weak_positive z hz))
+    go (inr l) = last (pos k *ℤ x) (pos m *ℤ y) (pos n *ℤ z) (plus_plus (pos k) x (natural_weak k) (weak_positive x hx)) (plus_plus (pos m) y (natural_weak m) (weak_positive y hy)) (strict_plus_plus (pos n) z l hz)
 
 -- a weighted sum of points is a point where not all weights are 0: its denominator is above 0
 pub weighted_is_point : (m : ℕ) (p : Point) (n : ℕ) (q : Point) → IsPoint p → IsPoint q → 0 < m + n → IsPoint (weighted m p n q)
@@ -176,15 +157,9 @@ pub record Range (a b : ℤ) : Type 0 where
 pub range : (a b : ℤ) → Range a b
 range a b = go (at_most_or_less a b)
   where
-    same : (x : ℤ) → x ≤ℤ x
-    same x = omega (arith, ints)
-
-    weak : (x y : ℤ) → x <ℤ y → x ≤ℤ y
-    weak x y h = omega (arith, ints)
-
     go : (a ≤ℤ b) ⊎ (b <ℤ a) → Range a b
-    go (inl h) = record { low = a; high = b; low_a = same a; low_b = h; high_a = h; high_b = same b; is_end = inl (refl, refl) }
-    go (inr h) = record { low = b; high = a; low_a = weak b a h; low_b = same b; high_a = same a; high_b = weak b a h; is_end = inr (refl, refl) }
+    go (inl h) = record { low = a; high = b; low_a = ≤ℤ_refl a; low_b = h; high_a = h; high_b = ≤ℤ_refl b; is_end = inl (refl, refl) }
+    go (inr h) = record { low = b; high = a; low_a = less_weak b a h; low_b = ≤ℤ_refl b; high_a = ≤ℤ_refl a; high_b = less_weak b a h; is_end = inr (refl, refl) }
 
 -- a point outside an edge's range of x is parted from it by the vertical line through the nearer end
 by_x : (e : Edge) (p : Point) → between e.start.x e.end.x p.X p.W ≡ false → Parted e p
@@ -255,16 +230,13 @@ at_most_zero x y e f = omega (arith, ints)
 by_side : (e : Edge) (p : Point) → (side e.start e.end p ≡ pos 0 → ⊥) → Parted e p
 by_side e p f = go (three_ways (pos 0) (side e.start e.end p))
   where
-    carried : (x y : ℤ) → x ≡ y → pos 0 <ℤ y → pos 0 <ℤ x
-    carried x y e h = omega (arith, ints)
-
     turned : (x y : ℤ) → x ≡ pos 0 -ℤ y → y <ℤ pos 0 → pos 0 <ℤ x
     turned x y e h = omega (arith, ints)
 
     go : (pos 0 <ℤ side e.start e.end p) ⊎ ((pos 0 ≡ side e.start e.end p) ⊎ (side e.start e.end p <ℤ pos 0)) → Parted e p
     go (inl h) = record {
       line = line_side e.start e.end;
-      above_at = carried _ _ (value_is_side e.start e.end p) h;
+      above_at = positive_same _ _ (value_is_side e.start e.end p) h;
       parts = record { at_start = at_most_zero _ _ (value_is_side e.start e.end (point_at e.start)) (side_at_start e.start e.end); at_end = at_most_zero _ _ (value_is_side e.start e.end (point_at e.end)) (side_at_end e.start e.end) };
     }
     go (inr (inl h)) = absurd (f (sym h))

@@ -1,5 +1,5 @@
 -- Off the edges and listed positions of a geometry a point is interior or exterior by the parity of its rings alone.
-use Rattle.std.proofs.Common.{ℤ, pos, ◌+ℤ◌, ◌*ℤ◌, ◌≤ℤ◌, ◌<ℤ◌, ◌≡◌, Bool, true, false, if◌then◌else◌, refl, sym, ap, ap₂, ◌∙◌, List, [], ◌∷◌, flat_map, option_to_list, arith}
+use Rattle.std.proofs.Common.{ℤ, pos, ◌+ℤ◌, ◌*ℤ◌, ◌≡◌, Bool, true, false, if◌then◌else◌, refl, sym, ap, ap₂, ◌∙◌, List, [], ◌∷◌, flat_map, option_to_list, arith}
 use borrow.Author.Differences.{ints}
 use Rattle.geometry_model.specs.Points.{Position, Point, IsPoint, point_at}
 use Rattle.geometry_model.specs.Geometries.{Edge, Geometry, edges, edges_of_line, edges_of_lines, listed, joined_rings}
@@ -9,15 +9,14 @@ use Rattle.geometry_model.specs.Locations.{is_at, last_after, ends, in_points, i
 use Rattle.geometry_model.specs.Labels.{above}
 use Rattle.geometry_model.specs.declared.point_sets.Location.TheVariants.{Interior, Boundary, Exterior}
 use Rattle.basics.proofs.Ring.{solve, var, lit, ◌⊕◌, ◌⊗◌}
+use Rattle.basics.proofs.Bools.{by_contraries}
+use Rattle.basics.proofs.Orders.{weak_positive}
 use Rattle.geometry_laws.proofs.Each.{Each, each_map, none_passes, parity, odd_count, parity_append, each_left, each_right}
 use Rattle.geometry_laws.proofs.Xor.{xor_self, xor_false}
 use Rattle.geometry_laws.proofs.Scaling.{same_x, same_y}
 use Rattle.geometry_laws.proofs.Hulls.{on_from_hull}
 
 -- ---- an end of an edge is on it
-weak : (w : ℤ) → pos 0 <ℤ w → pos 0 ≤ℤ w
-weak w h = omega (arith, ints)
-
 at_start : (x w a b : ℤ) → a *ℤ w ≡ x *ℤ pos 1 → pos 1 *ℤ x ≡ w *ℤ a +ℤ pos 0 *ℤ b
 at_start x w a b e = solve (x ∷ []) (lit (pos 1) ⊗ var 0) (var 0 ⊗ lit (pos 1)) tt ∙ sym e ∙ solve (a ∷ b ∷ w ∷ []) (var 0 ⊗ var 2) (var 2 ⊗ var 0 ⊕ lit (pos 0) ⊗ var 1) tt
 
@@ -31,7 +30,7 @@ start_is_on e p hp h = on_from_hull e p (record {
   m = p.W;
   n = pos 0;
   from_k = omega (arith, ints);
-  from_m = weak p.W hp;
+  from_m = weak_positive p.W hp;
   from_n = omega (arith, ints);
   x_is = at_start p.X p.W e.start.x e.end.x (same_x (point_at e.start) p h);
   y_is = at_start p.Y p.W e.start.y e.end.y (same_y (point_at e.start) p h);
@@ -49,7 +48,7 @@ end_is_on e p hp h = on_from_hull e p (record {
   n = p.W;
   from_k = omega (arith, ints);
   from_m = omega (arith, ints);
-  from_n = weak p.W hp;
+  from_n = weak_positive p.W hp;
   x_is = at_end p.X p.W e.start.x e.end.x (same_x (point_at e.end) p h);
   y_is = at_end p.Y p.W e.start.y e.end.y (same_y (point_at e.end) p h);
   w_is = no_weight p.W;
@@ -57,11 +56,6 @@ end_is_on e p hp h = on_from_hull e p (record {
   where
     no_weight : (w : ℤ) → pos 1 *ℤ w ≡ pos 0 +ℤ w
     no_weight w = omega (arith, ints)
-
--- where a test implies another, it fails wherever that one fails
-pub by_contraries : (a b : Bool) → (a ≡ true → b ≡ true) → b ≡ false → a ≡ false
-by_contraries true b f e = absurd (let g : true ≡ false = sym (f refl) ∙ e in cc)
-by_contraries false b f e = refl
 
 -- a point off an edge isn't at its start
 start_off : (e : Edge) (p : Point) → IsPoint p → on e p ≡ false → is_at p e.start ≡ false

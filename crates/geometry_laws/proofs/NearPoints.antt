@@ -9,6 +9,7 @@ use Rattle.geometry_model.specs.Locations.{locate}
 use Rattle.geometry_model.specs.Labels.{above, below}
 use Rattle.basics.proofs.Ring.{solve, var, lit, ◌⊕◌, ◌⊖◌, ◌⊗◌}
 use Rattle.basics.proofs.Signs.{strict_plus_plus, plus_plus, plus_minus, cancel_positive, zero_product, at_most_or_less, less_yes, less_no, at_most_yes, at_most_no}
+use Rattle.basics.proofs.Orders.{one_not_zero, weak_positive, natural_weak, gap_positive, gap_weak, negative_flipped}
 use Rattle.geometry_laws.specs.CoverLaws.{value, IsJustBelow, AreAllNear}
 use Rattle.geometry_laws.proofs.Each.{Each, each_map, each_of}
 use Rattle.geometry_laws.proofs.Scaling.{same_from}
@@ -25,15 +26,6 @@ record Nearly (e w : ℤ) (P : ℤ → ℕ → Type 0) : Type 0 where
   bound : ℕ
   holds : (m : ℤ) (n : ℕ) → pos 0 <ℤ m → 0 < n → (pos bound *ℤ m) <ℤ (pos n *ℤ w) → P (e *ℤ m) n
 
-from_natural : (k : ℕ) → pos 0 ≤ℤ pos k
-from_natural k = omega (arith, ints)
-
-positive_natural : (n : ℕ) → 0 < n → pos 0 <ℤ pos n
-positive_natural n h = omega (arith, ints)
-
-weak : (z : ℤ) → pos 0 <ℤ z → pos 0 ≤ℤ z
-weak z h = omega (arith, ints)
-
 -- two things that hold near enough hold together where the point is nearer than both bounds ask
 both_near : (e w : ℤ) (P Q : ℤ → ℕ → Type 0) → Nearly e w P → Nearly e w Q → Nearly e w (λ d n. P d n × Q d n)
 both_near e w P Q p q = record { bound = p.bound + q.bound; holds = λ m n hm hn h. (p.holds m n hm hn (first m n hm h), q.holds m n hm hn (second m n hm h)) }
@@ -48,10 +40,10 @@ both_near e w P Q p q = record { bound = p.bound + q.bound; holds = λ m n hm hn
     spread k l m z h = subst (λ (x : ℤ). x <ℤ z) (solve (pos k ∷ pos l ∷ m ∷ []) ((var 0 ⊕ var 1) ⊗ var 2) (var 0 ⊗ var 2 ⊕ var 1 ⊗ var 2) tt) h
 
     first : (m : ℤ) (n : ℕ) → pos 0 <ℤ m → (pos (p.bound + q.bound) *ℤ m) <ℤ (pos n *ℤ w) → (pos p.bound *ℤ m) <ℤ (pos n *ℤ w)
-    first m n hm h = part (pos p.bound *ℤ m) (pos q.bound *ℤ m) (pos n *ℤ w) (plus_plus (pos q.bound) m (from_natural q.bound) (weak m hm)) (spread p.bound q.bound m (pos n *ℤ w) h)
+    first m n hm h = part (pos p.bound *ℤ m) (pos q.bound *ℤ m) (pos n *ℤ w) (plus_plus (pos q.bound) m (natural_weak q.bound) (weak_positive m hm)) (spread p.bound q.bound m (pos n *ℤ w) h)
 
     second : (m : ℤ) (n : ℕ) → pos 0 <ℤ m → (pos (p.bound + q.bound) *ℤ m) <ℤ (pos n *ℤ w) → (pos q.bound *ℤ m) <ℤ (pos n *ℤ w)
-    second m n hm h = part_last (pos p.bound *ℤ m) (pos q.bound *ℤ m) (pos n *ℤ w) (plus_plus (pos p.bound) m (from_natural p.bound) (weak m hm)) (spread p.bound q.bound m (pos n *ℤ w) h)
+    second m n hm h = part_last (pos p.bound *ℤ m) (pos q.bound *ℤ m) (pos n *ℤ w) (plus_plus (pos p.bound) m (natural_weak p.bound) (weak_positive m hm)) (spread p.bound q.bound m (pos n *ℤ w) h)
 
 -- and so do finitely many
 each_near : {X : Type 0} (e w : ℤ) (P : X → ℤ → ℕ → Type 0) (xs : List X) → Each (λ x. Nearly e w (P x)) xs → Nearly e w (λ d n. Each (λ x. P x d n) xs)
@@ -65,18 +57,12 @@ at_most_some (negsuc n) = (0, omega (arith, ints))
 
 -- a value above 0 outweighs what a small enough move takes from it
 outweighs : (b u w m : ℤ) (k n : ℕ) → pos 0 <ℤ u → pos 0 <ℤ w → pos 0 <ℤ m → (b *ℤ w) ≤ℤ pos k → (pos k *ℤ m) <ℤ (pos n *ℤ w) → pos 0 <ℤ (pos n *ℤ u -ℤ b *ℤ m)
-outweighs b u w m k n hu hw hm hk h = cancel_positive w (pos n *ℤ u -ℤ b *ℤ m) (weak w hw) (sum (w *ℤ (pos n *ℤ u -ℤ b *ℤ m)) ((pos n *ℤ w) *ℤ (u -ℤ pos 1)) (pos n *ℤ w -ℤ pos k *ℤ m) ((pos k -ℤ b *ℤ w) *ℤ m)
+outweighs b u w m k n hu hw hm hk h = cancel_positive w (pos n *ℤ u -ℤ b *ℤ m) (weak_positive w hw) (sum (w *ℤ (pos n *ℤ u -ℤ b *ℤ m)) ((pos n *ℤ w) *ℤ (u -ℤ pos 1)) (pos n *ℤ w -ℤ pos k *ℤ m) ((pos k -ℤ b *ℤ w) *ℤ m)
     (solve (b ∷ u ∷ w ∷ m ∷ pos k ∷ pos n ∷ []) (var 2 ⊗ (var 5 ⊗ var 1 ⊖ var 0 ⊗ var 3)) ((var 5 ⊗ var 2) ⊗ (var 1 ⊖ lit (pos 1)) ⊕ (var 5 ⊗ var 2 ⊖ var 4 ⊗ var 3) ⊕ (var 4 ⊖ var 0 ⊗ var 2) ⊗ var 3) tt)
-    (plus_plus (pos n *ℤ w) (u -ℤ pos 1) (plus_plus (pos n) w (from_natural n) (weak w hw)) (one_less u hu)) (gap (pos k *ℤ m) (pos n *ℤ w) h) (plus_plus (pos k -ℤ b *ℤ w) m (gap_weak (b *ℤ w) (pos k) hk) (weak m hm)))
+    (plus_plus (pos n *ℤ w) (u -ℤ pos 1) (plus_plus (pos n) w (natural_weak n) (weak_positive w hw)) (one_less u hu)) (gap_positive (pos k *ℤ m) (pos n *ℤ w) h) (plus_plus (pos k -ℤ b *ℤ w) m (gap_weak (b *ℤ w) (pos k) hk) (weak_positive m hm)))
   where
     one_less : (z : ℤ) → pos 0 <ℤ z → pos 0 ≤ℤ (z -ℤ pos 1)
     one_less z h = omega (arith, ints)
-
-    gap : (x y : ℤ) → x <ℤ y → pos 0 <ℤ (y -ℤ x)
-    gap x y h = omega (arith, ints)
-
-    gap_weak : (x y : ℤ) → x ≤ℤ y → pos 0 ≤ℤ (y -ℤ x)
-    gap_weak x y h = omega (arith, ints)
 
     sum : (t x y z : ℤ) → t ≡ x +ℤ y +ℤ z → pos 0 ≤ℤ x → pos 0 <ℤ y → pos 0 ≤ℤ z → pos 0 <ℤ t
     sum t x y z e h k l = omega (arith, ints)
@@ -123,7 +109,7 @@ sinks_at g s hs = go (spans g s) refl
     number σ b m k n hb hm hk h = pick (at_most_or_less σ (pos 0))
       where
         pick : (σ ≤ℤ pos 0) ⊎ (pos 0 <ℤ σ) → int_lt (pos n *ℤ σ +ℤ (down *ℤ m) *ℤ b) (pos 0) ≡ int_le σ (pos 0)
-        pick (inl l) = less_yes (pos n *ℤ σ +ℤ (down *ℤ m) *ℤ b) (pos 0) (under (pos n *ℤ σ) ((down *ℤ m) *ℤ b) b m (plus_minus (pos n) σ (from_natural n) l) (solve (down ∷ m ∷ b ∷ []) ((var 0 ⊗ var 1) ⊗ var 2) (var 0 ⊗ (var 1 ⊗ var 2)) tt) (strict_plus_plus m b hm hb))
+        pick (inl l) = less_yes (pos n *ℤ σ +ℤ (down *ℤ m) *ℤ b) (pos 0) (under (pos n *ℤ σ) ((down *ℤ m) *ℤ b) b m (plus_minus (pos n) σ (natural_weak n) l) (solve (down ∷ m ∷ b ∷ []) ((var 0 ⊗ var 1) ⊗ var 2) (var 0 ⊗ (var 1 ⊗ var 2)) tt) (strict_plus_plus m b hm hb))
             ∙ sym (at_most_yes σ (pos 0) l)
         pick (inr l) = less_no (pos n *ℤ σ +ℤ (down *ℤ m) *ℤ b) (pos 0) (kept (pos n *ℤ σ) ((down *ℤ m) *ℤ b) (b *ℤ m) (solve (down ∷ m ∷ b ∷ []) ((var 0 ⊗ var 1) ⊗ var 2) (var 0 ⊗ (var 2 ⊗ var 1)) tt) (outweighs b σ s.W m k n l hs hm hk h))
             ∙ sym (at_most_no σ (pos 0) l)
@@ -146,17 +132,14 @@ rises_at g s hs = go (spans g s) refl
     kept : (x y t z : ℤ) → y ≡ z → t ≡ pos 0 -ℤ x → pos 0 <ℤ (t -ℤ z) → (x +ℤ y) <ℤ pos 0
     kept x y t z e f h = omega (arith, ints)
 
-    turned : (z : ℤ) → z <ℤ pos 0 → pos 0 <ℤ (pos 0 -ℤ z)
-    turned z h = omega (arith, ints)
-
     number : (σ b m : ℤ) (k n : ℕ) → pos 0 <ℤ b → pos 0 <ℤ m → (b *ℤ s.W) ≤ℤ pos k → (pos k *ℤ m) <ℤ (pos n *ℤ s.W) → int_lt (pos n *ℤ σ +ℤ (pos 1 *ℤ m) *ℤ b) (pos 0) ≡ int_lt σ (pos 0)
     number σ b m k n hb hm hk h = pick (at_most_or_less (pos 0) σ)
       where
         pick : (pos 0 ≤ℤ σ) ⊎ (σ <ℤ pos 0) → int_lt (pos n *ℤ σ +ℤ (pos 1 *ℤ m) *ℤ b) (pos 0) ≡ int_lt σ (pos 0)
-        pick (inl l) = less_no (pos n *ℤ σ +ℤ (pos 1 *ℤ m) *ℤ b) (pos 0) (over (pos n *ℤ σ) ((pos 1 *ℤ m) *ℤ b) (plus_plus (pos n) σ (from_natural n) l) (subst (λ (z : ℤ). pos 0 <ℤ z) (solve (m ∷ b ∷ []) (var 0 ⊗ var 1) ((lit (pos 1) ⊗ var 0) ⊗ var 1) tt) (strict_plus_plus m b hm hb)))
+        pick (inl l) = less_no (pos n *ℤ σ +ℤ (pos 1 *ℤ m) *ℤ b) (pos 0) (over (pos n *ℤ σ) ((pos 1 *ℤ m) *ℤ b) (plus_plus (pos n) σ (natural_weak n) l) (subst (λ (z : ℤ). pos 0 <ℤ z) (solve (m ∷ b ∷ []) (var 0 ⊗ var 1) ((lit (pos 1) ⊗ var 0) ⊗ var 1) tt) (strict_plus_plus m b hm hb)))
             ∙ sym (less_no σ (pos 0) l)
         pick (inr l) = less_yes (pos n *ℤ σ +ℤ (pos 1 *ℤ m) *ℤ b) (pos 0) (kept (pos n *ℤ σ) ((pos 1 *ℤ m) *ℤ b) (pos n *ℤ (pos 0 -ℤ σ)) (b *ℤ m) (solve (m ∷ b ∷ []) ((lit (pos 1) ⊗ var 0) ⊗ var 1) (var 1 ⊗ var 0) tt)
-            (solve (pos n ∷ σ ∷ []) (var 0 ⊗ (lit (pos 0) ⊖ var 1)) (lit (pos 0) ⊖ var 0 ⊗ var 1) tt) (outweighs b (pos 0 -ℤ σ) s.W m k n (turned σ l) hs hm hk h))
+            (solve (pos n ∷ σ ∷ []) (var 0 ⊗ (lit (pos 0) ⊖ var 1)) (lit (pos 0) ⊖ var 0 ⊗ var 1) tt) (outweighs b (pos 0 -ℤ σ) s.W m k n (negative_flipped σ l) hs hm hk h))
             ∙ sym (less_yes σ (pos 0) l)
 
     go : (t : Bool) → spans g s ≡ t → Nearly (pos 1) s.W (λ d n. strictly_above g (lifted d n s) ≡ strictly_above g s)
@@ -193,25 +176,19 @@ kept_near e f h g s he hs slant near = go (both_near e s.W (λ d n. Each (λ k. 
 not_down : down ≡ pos 0 → ⊥
 not_down e = omega (arith, ints)
 
-not_up : pos 1 ≡ pos 0 → ⊥
-not_up e = omega (arith, ints)
-
 some_natural : (z : ℤ) (n : ℕ) → z ≡ pos n → pos 0 <ℤ z → 0 < n
 some_natural z n e h = omega (arith, ints)
 
 -- near enough, a point straight below or above is off all edges, so it lies by the parity above it,
 -- and that is the parity of the point's own lower or upper side
 pub are_all_near : (g : Geometry) (s : Point) → IsPoint s → Each (IsSlant s) (marks g g) → AreAllNear g s
-are_all_near g s hs h = go (kept_near down strictly_above at_or_above g s not_down hs h (λ k. sinks_at k s hs)) (kept_near (pos 1) strictly_above strictly_above g s not_up hs h (λ k. rises_at k s hs))
+are_all_near g s hs h = go (kept_near down strictly_above at_or_above g s not_down hs h (λ k. sinks_at k s hs)) (kept_near (pos 1) strictly_above strictly_above g s one_not_zero hs h (λ k. rises_at k s hs))
   where
     applies : (t : Point) → IsPoint t → (d : ℤ) (n : ℕ) → t.W ≡ pos n → t.X *ℤ s.W ≡ s.X *ℤ t.W → t.Y *ℤ s.W -ℤ s.Y *ℤ t.W ≡ d → Each (λ e. on e (lifted d n s) ≡ false) (marks g g) → locate g t ≡ above g (lifted d n s)
     applies t ht d n e f y off = locate_respects g t (lifted d n s) ht moved (same_moved t s d n e f y) ∙ locate_off g (lifted d n s) moved (off_first g g (lifted d n s) moved off)
       where
         moved : IsPoint (lifted d n s)
         moved = lifted_is_point d n s (some_natural t.W n e ht) hs
-
-    gap : (x y : ℤ) → x <ℤ y → pos 0 <ℤ (y -ℤ x)
-    gap x y l = omega (arith, ints)
 
     sunk : (x y : ℤ) → x -ℤ y ≡ down *ℤ (y -ℤ x)
     sunk x y = omega (arith, ints)
@@ -225,12 +202,12 @@ are_all_near g s hs h = go (kept_near down strictly_above at_or_above g s not_do
     go : Nearly down s.W (Kept strictly_above at_or_above g s) → Nearly (pos 1) s.W (Kept strictly_above strictly_above g s) → AreAllNear g s
     go u o = record {
       k = u.bound + o.bound;
-      under_are = λ t ht b. under t ht (natural t.W (weak t.W ht)) b;
-      over_are = λ t ht b. over t ht (natural t.W (weak t.W ht)) b;
+      under_are = λ t ht b. under t ht (natural t.W (weak_positive t.W ht)) b;
+      over_are = λ t ht b. over t ht (natural t.W (weak_positive t.W ht)) b;
     }
       where
         part : (k l : ℕ) (m z : ℤ) → pos 0 <ℤ m → (pos (k + l) *ℤ m) <ℤ z → ((pos k *ℤ m) <ℤ z) × ((pos l *ℤ m) <ℤ z)
-        part k l m z hm r = (first (pos k *ℤ m) (pos l *ℤ m) (plus_plus (pos l) m (from_natural l) (weak m hm)) split, second (pos k *ℤ m) (pos l *ℤ m) (plus_plus (pos k) m (from_natural k) (weak m hm)) split)
+        part k l m z hm r = (first (pos k *ℤ m) (pos l *ℤ m) (plus_plus (pos l) m (natural_weak l) (weak_positive m hm)) split, second (pos k *ℤ m) (pos l *ℤ m) (plus_plus (pos k) m (natural_weak k) (weak_positive m hm)) split)
           where
             split : (pos k *ℤ m +ℤ pos l *ℤ m) <ℤ z
             split = subst (λ (x : ℤ). x <ℤ z) (solve (pos k ∷ pos l ∷ m ∷ []) ((var 0 ⊕ var 1) ⊗ var 2) (var 0 ⊗ var 2 ⊕ var 1 ⊗ var 2) tt) r
@@ -245,7 +222,7 @@ are_all_near g s hs h = go (kept_near down strictly_above at_or_above g s not_do
         under t ht n b = applies t ht (down *ℤ (s.Y *ℤ t.W -ℤ t.Y *ℤ s.W)) n.n n.is b.straight (sunk (t.Y *ℤ s.W) (s.Y *ℤ t.W)) kept.off ∙ below_from g s (lifted (down *ℤ (s.Y *ℤ t.W -ℤ t.Y *ℤ s.W)) n.n s) kept.alike
           where
             rise : pos 0 <ℤ (s.Y *ℤ t.W -ℤ t.Y *ℤ s.W)
-            rise = gap (t.Y *ℤ s.W) (s.Y *ℤ t.W) b.lower
+            rise = gap_positive (t.Y *ℤ s.W) (s.Y *ℤ t.W) b.lower
 
             kept : Kept strictly_above at_or_above g s (down *ℤ (s.Y *ℤ t.W -ℤ t.Y *ℤ s.W)) n.n
             kept = u.holds (s.Y *ℤ t.W -ℤ t.Y *ℤ s.W) n.n rise (some_natural t.W n.n n.is ht) ((part u.bound o.bound (s.Y *ℤ t.W -ℤ t.Y *ℤ s.W) (pos n.n *ℤ s.W) rise (subst (λ (z : ℤ). (pos (u.bound + o.bound) *ℤ (s.Y *ℤ t.W -ℤ t.Y *ℤ s.W)) <ℤ (z *ℤ s.W)) n.is b.near)).0)
@@ -254,7 +231,7 @@ are_all_near g s hs h = go (kept_near down strictly_above at_or_above g s not_do
         over t ht n b = applies t ht (pos 1 *ℤ (t.Y *ℤ s.W -ℤ s.Y *ℤ t.W)) n.n n.is (sym b.straight) (risen (s.Y *ℤ t.W) (t.Y *ℤ s.W)) kept.off ∙ above_from g s (lifted (pos 1 *ℤ (t.Y *ℤ s.W -ℤ s.Y *ℤ t.W)) n.n s) kept.alike
           where
             rise : pos 0 <ℤ (t.Y *ℤ s.W -ℤ s.Y *ℤ t.W)
-            rise = gap (s.Y *ℤ t.W) (t.Y *ℤ s.W) b.lower
+            rise = gap_positive (s.Y *ℤ t.W) (t.Y *ℤ s.W) b.lower
 
             kept : Kept strictly_above strictly_above g s (pos 1 *ℤ (t.Y *ℤ s.W -ℤ s.Y *ℤ t.W)) n.n
             kept = o.holds (t.Y *ℤ s.W -ℤ s.Y *ℤ t.W) n.n rise (some_natural t.W n.n n.is ht) ((part u.bound o.bound (t.Y *ℤ s.W -ℤ s.Y *ℤ t.W) (pos n.n *ℤ s.W) rise (turn (pos (u.bound + o.bound) *ℤ (t.Y *ℤ s.W -ℤ s.Y *ℤ t.W)) t.W n.n s.W n.is b.near)).1)

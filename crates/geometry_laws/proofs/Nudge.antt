@@ -9,23 +9,21 @@ use Rattle.geometry_model.specs.Dimensions.{weighted}
 use Rattle.basics.proofs.Ring.{solve, var, lit, ◌⊕◌, ◌⊖◌, ◌⊗◌}
 use Rattle.basics.proofs.Signs.{strict_plus_plus, plus_plus, plus_minus, cancel_positive, zero_product, at_most_or_less, less_yes, less_no, at_most_yes, at_most_no, at_most_from, not_at_most_from}
 use Rattle.basics.proofs.Quotients.{at_most_scaled}
+use Rattle.basics.proofs.Orders.{natural_positive, same_from_gap, weak_positive, natural_weak, negative_flipped}
+use Rattle.basics.proofs.Bools.{by_contraries}
 use Rattle.geometry_laws.proofs.LineSides.{side'}
 use Rattle.geometry_laws.proofs.Hulls.{on_parts}
 use Rattle.geometry_laws.proofs.Eventually.{Eventually, both, weaker, grows, from_one, always}
 use Rattle.geometry_laws.specs.CoverLaws.{value}
 use Rattle.geometry_laws.proofs.Lines.{value_weighted, Parted, parted, off_beyond}
-use Rattle.geometry_laws.proofs.Locating.{by_contraries}
 
 -- the point moved up by d/(n W)
 abbrev pub lifted : ℤ → ℕ → Point → Point
 lifted d n p = weighted n p 1 (record { X = pos 0; Y = d; W = pos 0 })
 
-natural : (n : ℕ) → 0 < n → pos 0 <ℤ pos n
-natural n h = omega (arith, ints)
-
 -- moved up or down it is a point
 pub lifted_is_point : (d : ℤ) (n : ℕ) (p : Point) → 0 < n → IsPoint p → IsPoint (lifted d n p)
-lifted_is_point d n p h hp = carried (pos n *ℤ p.W) (strict_plus_plus (pos n) p.W (natural n h) hp)
+lifted_is_point d n p h hp = carried (pos n *ℤ p.W) (strict_plus_plus (pos n) p.W (natural_positive n h) hp)
   where
     carried : (x : ℤ) → pos 0 <ℤ x → pos 0 <ℤ (x +ℤ pos 0)
     carried x h = omega (arith, ints)
@@ -51,12 +49,9 @@ off_by_breadth d e n p hd h f = by_contraries (on e (lifted d n p)) false (λ k.
         rest : (x t r : ℤ) → r ≡ x +ℤ t → x ≡ pos 0 → r ≡ pos 0 → t ≡ pos 0
         rest x t r e f g = omega (arith, ints)
 
-    same : (x y : ℤ) → y -ℤ x ≡ pos 0 → x ≡ y
-    same x y e = omega (arith, ints)
-
     pick : ((d ≡ pos 0) ⊎ (e.end.x -ℤ e.start.x ≡ pos 0)) → ⊥
     pick (inl g) = hd g
-    pick (inr g) = f (same e.start.x e.end.x g)
+    pick (inr g) = f (same_from_gap e.start.x e.end.x g)
 
     apart : side e.start e.end (lifted d n p) ≡ pos 0 → ⊥
     apart g = pick (zero_product d (e.end.x -ℤ e.start.x) (drop (pos n) (side e.start e.end p) (d *ℤ (e.end.x -ℤ e.start.x)) (side e.start e.end (lifted d n p)) (side_lifted e.start e.end d n p) ((on_parts e p h).on_line) g))
@@ -85,7 +80,7 @@ off_soon d e p hd hp s = go (on e p) refl
 -- moving a point upwards leaves alone which positions are to the right of it
 reaches_lifted : (d : ℤ) (a : Position) (n : ℕ) (p : Point) → 0 < n → reaches a (lifted d n p) ≡ reaches a p
 reaches_lifted d a n p h = ap₂ int_le (solve (a.x ∷ pos n ∷ p.W ∷ []) (var 0 ⊗ (var 1 ⊗ var 2 ⊕ lit (pos 1) ⊗ lit (pos 0))) (var 1 ⊗ (var 0 ⊗ var 2)) tt) (solve (pos n ∷ p.X ∷ []) (var 0 ⊗ var 1 ⊕ lit (pos 1) ⊗ lit (pos 0)) (var 0 ⊗ var 1) tt)
-    ∙ at_most_scaled (pos n) (a.x *ℤ p.W) p.X (natural n h)
+    ∙ at_most_scaled (pos n) (a.x *ℤ p.W) p.X (natural_positive n h)
 
 -- and so which edges span it
 pub spans_lifted : (d : ℤ) (e : Edge) (n : ℕ) (p : Point) → 0 < n → spans e (lifted d n p) ≡ spans e p
@@ -105,11 +100,8 @@ rightward_lifted d e n p = go (int_le e.start.x e.end.x)
 
 -- an edge that spans a point isn't vertical
 strict_order : (s t x w : ℤ) → pos 0 <ℤ w → int_le (s *ℤ w) x ≡ true → int_le (t *ℤ w) x ≡ false → pos 0 <ℤ (t -ℤ s)
-strict_order s t x w hw e f = cancel_positive w (t -ℤ s) (weak w hw) (apart (s *ℤ w) (t *ℤ w) x (w *ℤ (t -ℤ s)) (solve (s ∷ t ∷ w ∷ []) (var 1 ⊗ var 2 ⊖ var 0 ⊗ var 2) (var 2 ⊗ (var 1 ⊖ var 0)) tt) (at_most_from (s *ℤ w) x e) (not_at_most_from (t *ℤ w) x f))
+strict_order s t x w hw e f = cancel_positive w (t -ℤ s) (weak_positive w hw) (apart (s *ℤ w) (t *ℤ w) x (w *ℤ (t -ℤ s)) (solve (s ∷ t ∷ w ∷ []) (var 1 ⊗ var 2 ⊖ var 0 ⊗ var 2) (var 2 ⊗ (var 1 ⊖ var 0)) tt) (at_most_from (s *ℤ w) x e) (not_at_most_from (t *ℤ w) x f))
   where
-    weak : (w : ℤ) → pos 0 <ℤ w → pos 0 ≤ℤ w
-    weak w h = omega (arith, ints)
-
     apart : (s t x r : ℤ) → t -ℤ s ≡ r → s ≤ℤ x → x <ℤ t → pos 0 <ℤ r
     apart s t x r e h k = omega (arith, ints)
 
@@ -153,11 +145,8 @@ sinks_number s d hd = go (at_most_or_less s (pos 0))
     beyond : (x d : ℤ) → pos 0 <ℤ (x +ℤ (pos 0 -ℤ d)) → pos 0 ≤ℤ (x +ℤ down *ℤ d)
     beyond x d h = omega (arith, ints)
 
-    some : (n : ℕ) → pos 0 ≤ℤ pos n
-    some n = omega (arith, ints)
-
     go : (s ≤ℤ pos 0) ⊎ (pos 0 <ℤ s) → Eventually (λ n. int_lt (pos n *ℤ s +ℤ down *ℤ d) (pos 0) ≡ int_le s (pos 0))
-    go (inl h) = always _ (λ n. less_yes (pos n *ℤ s +ℤ down *ℤ d) (pos 0) (below (pos n *ℤ s) d (plus_minus (pos n) s (some n) h) hd) ∙ sym (at_most_yes s (pos 0) h))
+    go (inl h) = always _ (λ n. less_yes (pos n *ℤ s +ℤ down *ℤ d) (pos 0) (below (pos n *ℤ s) d (plus_minus (pos n) s (natural_weak n) h) hd) ∙ sym (at_most_yes s (pos 0) h))
     go (inr h) = weaker (λ n. pos 0 <ℤ (pos n *ℤ s +ℤ (pos 0 -ℤ d))) (λ n. int_lt (pos n *ℤ s +ℤ down *ℤ d) (pos 0) ≡ int_le s (pos 0))
         (λ n k. less_no (pos n *ℤ s +ℤ down *ℤ d) (pos 0) (beyond (pos n *ℤ s) d k) ∙ sym (at_most_no s (pos 0) h)) (grows s (pos 0 -ℤ d) h)
 
@@ -168,22 +157,16 @@ rises_number s d hd = go (at_most_or_less (pos 0) s)
     over : (x d : ℤ) → pos 0 ≤ℤ x → pos 0 <ℤ d → pos 0 ≤ℤ (x +ℤ pos 1 *ℤ d)
     over x d h k = omega (arith, ints)
 
-    turned : (s : ℤ) → s <ℤ pos 0 → pos 0 <ℤ (pos 0 -ℤ s)
-    turned s h = omega (arith, ints)
-
     product_turned : (n s : ℤ) → n *ℤ (pos 0 -ℤ s) ≡ pos 0 -ℤ n *ℤ s
     product_turned n s = solve (n ∷ s ∷ []) (var 0 ⊗ (lit (pos 0) ⊖ var 1)) (lit (pos 0) ⊖ var 0 ⊗ var 1) tt
 
     beyond : (x y d : ℤ) → y ≡ pos 0 -ℤ x → pos 0 <ℤ (y +ℤ (pos 0 -ℤ d)) → (x +ℤ pos 1 *ℤ d) <ℤ pos 0
     beyond x y d e h = omega (arith, ints)
 
-    some : (n : ℕ) → pos 0 ≤ℤ pos n
-    some n = omega (arith, ints)
-
     go : (pos 0 ≤ℤ s) ⊎ (s <ℤ pos 0) → Eventually (λ n. int_lt (pos n *ℤ s +ℤ pos 1 *ℤ d) (pos 0) ≡ int_lt s (pos 0))
-    go (inl h) = always _ (λ n. less_no (pos n *ℤ s +ℤ pos 1 *ℤ d) (pos 0) (over (pos n *ℤ s) d (plus_plus (pos n) s (some n) h) hd) ∙ sym (less_no s (pos 0) h))
+    go (inl h) = always _ (λ n. less_no (pos n *ℤ s +ℤ pos 1 *ℤ d) (pos 0) (over (pos n *ℤ s) d (plus_plus (pos n) s (natural_weak n) h) hd) ∙ sym (less_no s (pos 0) h))
     go (inr h) = weaker (λ n. pos 0 <ℤ (pos n *ℤ (pos 0 -ℤ s) +ℤ (pos 0 -ℤ d))) (λ n. int_lt (pos n *ℤ s +ℤ pos 1 *ℤ d) (pos 0) ≡ int_lt s (pos 0))
-        (λ n k. less_yes (pos n *ℤ s +ℤ pos 1 *ℤ d) (pos 0) (beyond (pos n *ℤ s) (pos n *ℤ (pos 0 -ℤ s)) d (product_turned (pos n) s) k) ∙ sym (less_yes s (pos 0) h)) (grows (pos 0 -ℤ s) (pos 0 -ℤ d) (turned s h))
+        (λ n k. less_yes (pos n *ℤ s +ℤ pos 1 *ℤ d) (pos 0) (beyond (pos n *ℤ s) (pos n *ℤ (pos 0 -ℤ s)) d (product_turned (pos n) s) k) ∙ sym (less_yes s (pos 0) h)) (grows (pos 0 -ℤ s) (pos 0 -ℤ d) (negative_flipped s h))
 
 -- moved down a little, a point has strictly above it what was at or above it
 pub sinks : (e : Edge) (p : Point) → IsPoint p → Eventually (λ n. strictly_above e (lifted down n p) ≡ at_or_above e p)

@@ -2,7 +2,7 @@
 use Rattle.std.proofs.Common.{ℤ, pos, ◌+ℤ◌, ◌-ℤ◌, ◌*ℤ◌, ◌≤ℤ◌, ◌<ℤ◌, ◌≡◌, ◌⊎◌, inl, inr, Bool, true, false, not, ◌||◌, refl, sym, ap, ap₂, ◌∙◌, subst, [], ◌∷◌, arith}
 use borrow.Author.Differences.{ints}
 use Rattle.std.specs.Ordering.{int_eq}
-use Rattle.std.proofs.lemmas.Bool.{true≢false, false_from_ne_true}
+use Rattle.std.proofs.lemmas.Bool.{true≢false, false_from_ne_true, and_parts, and_from}
 use Rattle.geometry_model.specs.Points.{Position, Point, IsPoint, same_point, point_at}
 use Rattle.geometry_model.specs.Geometries.{Edge}
 use Rattle.geometry_model.specs.Sides.{side, on}
@@ -12,11 +12,12 @@ use Rattle.geometry_model.specs.FirstFaults.{other_on}
 use Rattle.basics.proofs.Ring.{solve, var, lit, ◌⊕◌, ◌⊖◌, ◌⊗◌}
 use Rattle.basics.proofs.Signs.{at_most_or_less, three_ways, plus_plus, strict_plus_plus, cancel_zero, cancel_positive}
 use Rattle.basics.proofs.Tests.{equal_from, equal_yes}
-use Rattle.geometry_laws.proofs.Scaling.{and_parts, and_from, same_x, same_y}
+use Rattle.basics.proofs.Orders.{positive_not_zero, weak_positive, one_above, gap_none}
+use Rattle.geometry_laws.proofs.Scaling.{same_x, same_y}
 use Rattle.geometry_laws.proofs.LineSides.{square, weight, square_positive}
 use Rattle.geometry_laws.proofs.Hulls.{OnHull, on_from_hull, on_parts, hull_from_on}
 use Rattle.geometry_laws.specs.SharedPointLaws.{OtherPointIsDecided, IsEnd}
-use Rattle.geometry_laws.proofs.SharedPoints.{side_sum, weight_sum, swapped, swapped_sum, at_start, at_both, along, x_along, y_along, weak, start_on, end_on, one_above, no_difference, zero_scaled, only_second}
+use Rattle.geometry_laws.proofs.SharedPoints.{side_sum, weight_sum, swapped, swapped_sum, at_start, at_both, along, x_along, y_along, start_on, end_on, zero_scaled, only_second}
 
 abbrev edge : Position → Position → Edge
 edge a b = record { start = a; end = b }
@@ -75,12 +76,6 @@ carry s t e h = omega (arith, ints)
 difference : (s t : ℤ) → s <ℤ t → pos 0 ≤ℤ (t -ℤ s)
 difference s t h = omega (arith, ints)
 
-through : (s t : ℤ) → pos 0 <ℤ s → s <ℤ t → pos 0 <ℤ t
-through s t h k = omega (arith, ints)
-
-nonzero : (s : ℤ) → pos 0 <ℤ s → s ≡ pos 0 → ⊥
-nonzero s h e = omega (arith, ints)
-
 abbrev Beyond : Position → Position → Position → Type 0
 Beyond u v w = ((on (edge u v) (point_at w) ≡ true) × (w ≡ u → ⊥)) ⊎ ((on (edge u w) (point_at v) ≡ true) × (v ≡ u → ⊥))
 
@@ -99,7 +94,7 @@ beyond u v w p hp h1 h2 other = go (at_most_or_less (weight u v (point_at w)) (s
     s_positive = positive h2.n h2.from_n (λ none. other (at_start (edge u w) p h2 none))
 
     apart : u ≡ v → ⊥
-    apart q = other (at_both (edge u v) p hp on_first (no_difference u.x v.x (ap (λ (a : Position). a.x) q)) (no_difference u.y v.y (ap (λ (a : Position). a.y) q)))
+    apart q = other (at_both (edge u v) p hp on_first (gap_none u.x v.x (ap (λ (a : Position). a.x) q)) (gap_none u.y v.y (ap (λ (a : Position). a.y) q)))
 
     wide : pos 0 <ℤ square u v
     wide = square_positive u v apart
@@ -119,15 +114,15 @@ beyond u v w p hp h1 h2 other = go (at_most_or_less (weight u v (point_at w)) (s
         ∙ solve (h2.m ∷ h2.n ∷ weight u v (point_at w) ∷ []) (var 0 ⊗ lit (pos 0) ⊕ var 1 ⊗ var 2) (var 1 ⊗ var 2) tt
 
     weight_of_p : pos 0 <ℤ weight u v p
-    weight_of_p = cancel_positive h1.k (weight u v p) (weak h1.k h1.from_k) (carry (h1.n *ℤ square u v) (h1.k *ℤ weight u v p) (sym first_weight) (strict_plus_plus h1.n (square u v) n_positive wide))
+    weight_of_p = cancel_positive h1.k (weight u v p) (weak_positive h1.k h1.from_k) (carry (h1.n *ℤ square u v) (h1.k *ℤ weight u v p) (sym first_weight) (strict_plus_plus h1.n (square u v) n_positive wide))
 
     weight_of_w : pos 0 <ℤ weight u v (point_at w)
     weight_of_w = cancel_positive h2.n (weight u v (point_at w)) h2.from_n (carry (h2.k *ℤ weight u v p) (h2.n *ℤ weight u v (point_at w)) second_weight (strict_plus_plus h2.k (weight u v p) h2.from_k weight_of_p))
 
     go : (weight u v (point_at w) ≤ℤ square u v) ⊎ (square u v <ℤ weight u v (point_at w)) → Beyond u v w
     go (inl h) = inl (
-      along (edge u v) w wide level (weak (weight u v (point_at w)) weight_of_w) h,
-      λ q. nonzero (weight u v (point_at w)) weight_of_w (ap (λ (a : Position). weight u v (point_at a)) q ∙ weight_at_start u v),
+      along (edge u v) w wide level (weak_positive (weight u v (point_at w)) weight_of_w) h,
+      λ q. positive_not_zero (weight u v (point_at w)) weight_of_w (ap (λ (a : Position). weight u v (point_at a)) q ∙ weight_at_start u v),
     )
     go (inr h) = inr (
       on_from_hull (edge u w) (point_at v) (record {
@@ -135,8 +130,8 @@ beyond u v w p hp h1 h2 other = go (at_most_or_less (weight u v (point_at w)) (s
         m = square u v *ℤ (weight u v (point_at w) -ℤ square u v);
         n = square u v *ℤ square u v;
         from_k = strict_plus_plus (square u v) (weight u v (point_at w)) wide weight_of_w;
-        from_m = plus_plus (square u v) (weight u v (point_at w) -ℤ square u v) (weak (square u v) wide) (difference (square u v) (weight u v (point_at w)) h);
-        from_n = plus_plus (square u v) (square u v) (weak (square u v) wide) (weak (square u v) wide);
+        from_m = plus_plus (square u v) (weight u v (point_at w) -ℤ square u v) (weak_positive (square u v) wide) (difference (square u v) (weight u v (point_at w)) h);
+        from_n = plus_plus (square u v) (square u v) (weak_positive (square u v) wide) (weak_positive (square u v) wide);
         x_is = past (square u v) (weight u v (point_at w)) u.x v.x w.x (x_along (edge u v) w level);
         y_is = past (square u v) (weight u v (point_at w)) u.y v.y w.y (y_along (edge u v) w level);
         w_is = past_sum (square u v) (weight u v (point_at w));

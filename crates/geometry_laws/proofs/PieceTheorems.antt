@@ -1,5 +1,6 @@
 -- The laws of pieces and neighbourhoods, for two geometries.
 use Rattle.std.proofs.Common.{◌≡◌, false, List, [], ◌∷◌, ◌++◌, sym}
+use Rattle.basics.proofs.Bools.{by_contraries}
 use Rattle.geometry_model.specs.Points.{Position, Point, IsPoint}
 use Rattle.geometry_model.specs.Geometries.{Geometry, edges, listed, rings}
 use Rattle.geometry_model.specs.Sides.{on}
@@ -12,7 +13,7 @@ use Rattle.geometry_laws.specs.PieceLaws.{HasClosedRings, IsPieceOf, IsInside, I
 use Rattle.geometry_laws.proofs.Cuts.{Ends, piece_ends}
 use Rattle.geometry_laws.proofs.Each.{Each, among_left, among_right, each_append}
 use Rattle.geometry_laws.proofs.RingParity.{each_from_all}
-use Rattle.geometry_laws.proofs.Locating.{Off, locate_off, by_contraries}
+use Rattle.geometry_laws.proofs.Locating.{Off, locate_off}
 use Rattle.geometry_laws.proofs.Triangles.{dot, dots, dot_is_at, marks, triangle_of_off}
 use Rattle.geometry_laws.proofs.WithinPiece.{Belongs, locate_within, above_within, below_within, slant_edge}
 

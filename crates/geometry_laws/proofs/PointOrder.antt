@@ -9,6 +9,7 @@ use Rattle.basics.proofs.Ring.{solve, var, ◌⊕◌, ◌⊖◌, ◌⊗◌}
 use Rattle.basics.proofs.Signs.{three_ways}
 use Rattle.basics.proofs.Quotients.{trans_less, trans_same, trans_at_most}
 use Rattle.basics.proofs.Tests.{cmp_less, cmp_equal, cmp_greater, cmp_less_from, cmp_equal_from, same_equal}
+use Rattle.basics.proofs.Orders.{then_less, then_equal, less_weak, sum_positive}
 use Rattle.geometry_laws.specs.PointLaws.{reversed}
 use Rattle.geometry_laws.proofs.Scaling.{same_x, same_y, same_from}
 
@@ -46,12 +47,6 @@ then_reversed Greater u = refl
 pub compare_reversed : (p q : Point) → compare q p ≡ reversed (compare p q)
 compare_reversed p q = ap₂ ordering_then (cmp_reversed (p.X *ℤ q.W) (q.X *ℤ p.W)) (cmp_reversed (p.Y *ℤ q.W) (q.Y *ℤ p.W)) ∙ then_reversed (compare_x p q) (compare_y p q)
 
--- the answer for both is Equal only where each is
-then_equal : (o u : Ordering) → ordering_then o u ≡ Equal → (o ≡ Equal) × (u ≡ Equal)
-then_equal Less u e = absurd (let f : Less ≡ Equal = e in cc)
-then_equal Equal u e = (refl, e)
-then_equal Greater u e = absurd (let f : Greater ≡ Equal = e in cc)
-
 -- points are equal in the order exactly where they agree in x and in y, so where they are one point
 pub equal_is_same : (p q : Point) → (compare p q ≡ Equal) ↔ (same_point p q ≡ true)
 equal_is_same p q = (
@@ -59,12 +54,6 @@ equal_is_same p q = (
       same_from p q (cmp_equal_from (p.X *ℤ q.W) (q.X *ℤ p.W) both.0) (cmp_equal_from (p.Y *ℤ q.W) (q.Y *ℤ p.W) both.1),
   λ e. ap₂ ordering_then (cmp_equal (p.X *ℤ q.W) (q.X *ℤ p.W) (same_x p q e)) (cmp_equal (p.Y *ℤ q.W) (q.Y *ℤ p.W) (same_y p q e)),
 )
-
--- before: less in x, or equal in x and less in y
-then_less : (o u : Ordering) → ordering_then o u ≡ Less → (o ≡ Less) ⊎ ((o ≡ Equal) × (u ≡ Less))
-then_less Less u e = inl refl
-then_less Equal u e = inr (refl, e)
-then_less Greater u e = absurd (let f : Greater ≡ Less = e in cc)
 
 abbrev pub Before : Point → Point → Type 0
 Before p q = ((p.X *ℤ q.W) <ℤ (q.X *ℤ p.W)) ⊎ ((p.X *ℤ q.W ≡ q.X *ℤ p.W) × ((p.Y *ℤ q.W) <ℤ (q.Y *ℤ p.W)))
@@ -89,16 +78,13 @@ less_same a m b n c k hm hn hk h e = go (three_ways (a *ℤ k) (c *ℤ m))
     weak : (x y : ℤ) → x ≡ y → y ≤ℤ x
     weak x y e = omega (arith, ints)
 
-    weaker : (x y : ℤ) → x <ℤ y → x ≤ℤ y
-    weaker x y e = omega (arith, ints)
-
     clash : (x y : ℤ) → x <ℤ y → y ≤ℤ x → ⊥
     clash x y h l = omega (arith, ints)
 
     go : ((a *ℤ k) <ℤ (c *ℤ m)) ⊎ ((a *ℤ k ≡ c *ℤ m) ⊎ ((c *ℤ m) <ℤ (a *ℤ k))) → (a *ℤ k) <ℤ (c *ℤ m)
     go (inl l) = l
     go (inr (inl l)) = absurd (clash (a *ℤ n) (b *ℤ m) h (trans_at_most b n c k a m hn hk hm (weak (c *ℤ n) (b *ℤ k) (sym e)) (weak (a *ℤ k) (c *ℤ m) l)))
-    go (inr (inr l)) = absurd (clash (a *ℤ n) (b *ℤ m) h (trans_at_most b n c k a m hn hk hm (weak (c *ℤ n) (b *ℤ k) (sym e)) (weaker (c *ℤ m) (a *ℤ k) l)))
+    go (inr (inr l)) = absurd (clash (a *ℤ n) (b *ℤ m) h (trans_at_most b n c k a m hn hk hm (weak (c *ℤ n) (b *ℤ k) (sym e)) (less_weak (c *ℤ m) (a *ℤ k) l)))
 
 same_less : (a m b n c k : ℤ) → pos 0 <ℤ m → pos 0 <ℤ n → pos 0 <ℤ k → a *ℤ n ≡ b *ℤ m → (b *ℤ k) <ℤ (c *ℤ n) → (a *ℤ k) <ℤ (c *ℤ m)
 same_less a m b n c k hm hn hk e h = go (three_ways (a *ℤ k) (c *ℤ m))
@@ -106,16 +92,13 @@ same_less a m b n c k hm hn hk e h = go (three_ways (a *ℤ k) (c *ℤ m))
     weak : (x y : ℤ) → x ≡ y → y ≤ℤ x
     weak x y e = omega (arith, ints)
 
-    weaker : (x y : ℤ) → x <ℤ y → x ≤ℤ y
-    weaker x y e = omega (arith, ints)
-
     clash : (x y : ℤ) → x <ℤ y → y ≤ℤ x → ⊥
     clash x y h l = omega (arith, ints)
 
     go : ((a *ℤ k) <ℤ (c *ℤ m)) ⊎ ((a *ℤ k ≡ c *ℤ m) ⊎ ((c *ℤ m) <ℤ (a *ℤ k))) → (a *ℤ k) <ℤ (c *ℤ m)
     go (inl l) = l
     go (inr (inl l)) = absurd (clash (b *ℤ k) (c *ℤ n) h (trans_at_most c k a m b n hk hm hn (weak (a *ℤ k) (c *ℤ m) l) (weak (b *ℤ m) (a *ℤ n) (sym e))))
-    go (inr (inr l)) = absurd (clash (b *ℤ k) (c *ℤ n) h (trans_at_most c k a m b n hk hm hn (weaker (c *ℤ m) (a *ℤ k) l) (weak (b *ℤ m) (a *ℤ n) (sym e))))
+    go (inr (inr l)) = absurd (clash (b *ℤ k) (c *ℤ n) h (trans_at_most c k a m b n hk hm hn (less_weak (c *ℤ m) (a *ℤ k) l) (weak (b *ℤ m) (a *ℤ n) (sym e))))
 
 -- before is transitive: by x where the x of two of the three differ, by y where all three have one x
 before_trans : (p q r : Point) → IsPoint p → IsPoint q → IsPoint r → Before p q → Before q r → Before p r
@@ -161,10 +144,7 @@ mediant_before p q (inr h) = inr (
 
 -- the mediant's denominator is the sum of two that are above 0
 pub mediant_is_point : (p q : Point) → IsPoint p → IsPoint q → IsPoint (mediant p q)
-mediant_is_point p q hp hq = sum p.W q.W hp hq
-  where
-    sum : (x y : ℤ) → pos 0 <ℤ x → pos 0 <ℤ y → pos 0 <ℤ (x +ℤ y)
-    sum x y h k = omega (arith, ints)
+mediant_is_point p q hp hq = sum_positive p.W q.W hp hq
 
 -- the mediant of two points is a point strictly between them
 pub mediant_between : (p q : Point) → IsPoint p → IsPoint q → compare p q ≡ Less → IsPoint (mediant p q) × (compare p (mediant p q) ≡ Less) × (compare (mediant p q) q ≡ Less)

@@ -9,9 +9,10 @@ use Rattle.geometry_model.specs.Sides.{side, on, between}
 use Rattle.geometry_model.specs.Crossings.{exactly_one, reaches, spans, side_rightward, strictly_above, at_or_above, odd, odd_above, odd_at_or_above}
 use Rattle.geometry_model.specs.Locations.{is_at, ends, on_some, in_points, in_lines, in_rings, locate}
 use Rattle.geometry_model.specs.declared.point_sets.Location.TheVariants.{Interior, Boundary, Exterior}
-use Rattle.basics.proofs.Ring.{solve, var, ◌⊖◌, ◌⊗◌}
+use Rattle.basics.proofs.Ring.{solve, var, ◌⊖◌, ◌⊗◌, swap_factors}
 use Rattle.basics.proofs.Quotients.{at_most_scaled}
 use Rattle.basics.proofs.Tests.{cmp_scaled, negative_scaled, nonpositive_scaled, cmp_two_scaled}
+use Rattle.basics.proofs.IntRing.{associates}
 use Rattle.geometry_laws.specs.PointLaws.{Respects}
 use Rattle.geometry_laws.proofs.Scaling.{scaled, by_scaling}
 use Rattle.geometry_laws.proofs.LineSides.{side'}
@@ -21,23 +22,17 @@ use Rattle.geometry_laws.proofs.LineSides.{side'}
 side_scaled : (a b : Position) (k : ℤ) (p : Point) → side a b (scaled k p) ≡ k *ℤ side a b p
 side_scaled a b k p = solve (a.x ∷ a.y ∷ b.x ∷ b.y ∷ p.X ∷ p.Y ∷ p.W ∷ k ∷ []) ((var 2 ⊖ var 0) ⊗ (var 7 ⊗ var 5 ⊖ var 1 ⊗ (var 7 ⊗ var 6)) ⊖ (var 3 ⊖ var 1) ⊗ (var 7 ⊗ var 4 ⊖ var 0 ⊗ (var 7 ⊗ var 6))) (var 7 ⊗ side') tt
 
-moved : (s k w : ℤ) → s *ℤ (k *ℤ w) ≡ k *ℤ (s *ℤ w)
-moved s k w = solve (s ∷ k ∷ w ∷ []) (var 0 ⊗ (var 1 ⊗ var 2)) (var 1 ⊗ (var 0 ⊗ var 2)) tt
-
-moved_left : (k x w : ℤ) → (k *ℤ x) *ℤ w ≡ k *ℤ (x *ℤ w)
-moved_left k x w = solve (k ∷ x ∷ w ∷ []) ((var 0 ⊗ var 1) ⊗ var 2) (var 0 ⊗ (var 1 ⊗ var 2)) tt
-
 -- k times a triple, k above 0, is returned as the triple: both numbers of each comparison are multiplied by k; here the order
 compare_scaled : (r : Point) (k : ℤ) (p : Point) → pos 0 <ℤ k → compare (scaled k p) r ≡ compare p r
 compare_scaled r k p h = ap₂ ordering_then
-    (ap₂ int_cmp (moved_left k p.X r.W) (moved r.X k p.W) ∙ cmp_two_scaled k (p.X *ℤ r.W) (r.X *ℤ p.W) h)
-    (ap₂ int_cmp (moved_left k p.Y r.W) (moved r.Y k p.W) ∙ cmp_two_scaled k (p.Y *ℤ r.W) (r.Y *ℤ p.W) h)
+    (ap₂ int_cmp (associates k p.X r.W) (swap_factors r.X k p.W) ∙ cmp_two_scaled k (p.X *ℤ r.W) (r.X *ℤ p.W) h)
+    (ap₂ int_cmp (associates k p.Y r.W) (swap_factors r.Y k p.W) ∙ cmp_two_scaled k (p.Y *ℤ r.W) (r.Y *ℤ p.W) h)
 
 -- whether it is the same as another point
 same_point_scaled : (r : Point) (k : ℤ) (p : Point) → pos 0 <ℤ k → same_point r (scaled k p) ≡ same_point r p
 same_point_scaled r k p h = ap₂ (λ (x y : Bool). x && y)
-    (ap is_eq (ap₂ int_cmp (moved r.X k p.W) (moved_left k p.X r.W) ∙ cmp_two_scaled k (r.X *ℤ p.W) (p.X *ℤ r.W) h))
-    (ap is_eq (ap₂ int_cmp (moved r.Y k p.W) (moved_left k p.Y r.W) ∙ cmp_two_scaled k (r.Y *ℤ p.W) (p.Y *ℤ r.W) h))
+    (ap is_eq (ap₂ int_cmp (swap_factors r.X k p.W) (associates k p.X r.W) ∙ cmp_two_scaled k (r.X *ℤ p.W) (p.X *ℤ r.W) h))
+    (ap is_eq (ap₂ int_cmp (swap_factors r.Y k p.W) (associates k p.Y r.W) ∙ cmp_two_scaled k (r.Y *ℤ p.W) (p.Y *ℤ r.W) h))
 
 -- on which side of a line it lies
 side_cmp_scaled : (a b : Position) (k : ℤ) (p : Point) → pos 0 <ℤ k → int_cmp (side a b (scaled k p)) (pos 0) ≡ int_cmp (side a b p) (pos 0)
@@ -48,10 +43,10 @@ between_scaled : (s t n w k : ℤ) → pos 0 <ℤ k → between s t (k *ℤ n) (
 between_scaled s t n w k h = ap₂ (λ (x y : Bool). x || y) (ap₂ (λ (x y : Bool). x && y) (low s) (high t)) (ap₂ (λ (x y : Bool). x && y) (low t) (high s))
   where
     low : (s : ℤ) → int_le (s *ℤ (k *ℤ w)) (k *ℤ n) ≡ int_le (s *ℤ w) n
-    low s = ap (λ (z : ℤ). int_le z (k *ℤ n)) (moved s k w) ∙ at_most_scaled k (s *ℤ w) n h
+    low s = ap (λ (z : ℤ). int_le z (k *ℤ n)) (swap_factors s k w) ∙ at_most_scaled k (s *ℤ w) n h
 
     high : (t : ℤ) → int_le (k *ℤ n) (t *ℤ (k *ℤ w)) ≡ int_le n (t *ℤ w)
-    high t = ap (λ (z : ℤ). int_le (k *ℤ n) z) (moved t k w) ∙ at_most_scaled k n (t *ℤ w) h
+    high t = ap (λ (z : ℤ). int_le (k *ℤ n) z) (swap_factors t k w) ∙ at_most_scaled k n (t *ℤ w) h
 
 -- whether it is on an edge
 on_scaled : (e : Edge) (k : ℤ) (p : Point) → pos 0 <ℤ k → on e (scaled k p) ≡ on e p
@@ -61,7 +56,7 @@ on_scaled e k p h = ap₂ (λ (x y : Bool). x && y)
 
 -- whether a position isn't to the right of it
 reaches_scaled : (a : Position) (k : ℤ) (p : Point) → pos 0 <ℤ k → reaches a (scaled k p) ≡ reaches a p
-reaches_scaled a k p h = ap (λ (z : ℤ). int_le z (k *ℤ p.X)) (moved a.x k p.W) ∙ at_most_scaled k (a.x *ℤ p.W) p.X h
+reaches_scaled a k p h = ap (λ (z : ℤ). int_le z (k *ℤ p.X)) (swap_factors a.x k p.W) ∙ at_most_scaled k (a.x *ℤ p.W) p.X h
 
 -- whether an edge spans it
 spans_scaled : (e : Edge) (k : ℤ) (p : Point) → pos 0 <ℤ k → spans e (scaled k p) ≡ spans e p

@@ -9,6 +9,7 @@ use Rattle.geometry_model.specs.Dimensions.{area, weighted}
 use Rattle.geometry_model.specs.Locations.{last_after}
 use Rattle.basics.proofs.Ring.{solve, var, lit, ◌⊕◌, ◌⊖◌, ◌⊗◌}
 use Rattle.basics.proofs.Signs.{same_at_most, cancel_positive, at_most_yes, at_most_no, at_most_from, not_at_most_from}
+use Rattle.basics.proofs.Orders.{at_most_from_gap, less_weak, at_most_at_most, less_from_gap, weak_positive}
 use Rattle.std.proofs.lemmas.List.Elements.{All-head, All-tail}
 use Rattle.geometry_laws.specs.RingLaws.{IsClosed, Misses}
 use Rattle.geometry_laws.proofs.Plane.{right, reaches, above, over, Meets}
@@ -37,27 +38,12 @@ reaches_is a p = same_at_most (a.x *ℤ p.W) p.X (pos 0) (right (point_at a) p)
 
 -- where just one end isn't to the right of the point, that end is the left one
 left_first : (a b : Position) (p : Point) → IsPoint p → position_reaches a p ≡ true → position_reaches b p ≡ false → int_le a.x b.x ≡ true
-left_first a b p hp e f = at_most_yes a.x b.x (from a.x b.x (ordered a.x b.x p.W hp (through (a.x *ℤ p.W) p.X (b.x *ℤ p.W) (at_most_from (a.x *ℤ p.W) p.X e) (weak p.X (b.x *ℤ p.W) (not_at_most_from (b.x *ℤ p.W) p.X f)))))
-  where
-    from : (s t : ℤ) → pos 0 ≤ℤ (t -ℤ s) → s ≤ℤ t
-    from s t h = omega (arith, ints)
-
-    weak : (s t : ℤ) → s <ℤ t → s ≤ℤ t
-    weak s t h = omega (arith, ints)
-
-    through : (s t r : ℤ) → s ≤ℤ t → t ≤ℤ r → s ≤ℤ r
-    through s t r h k = omega (arith, ints)
+left_first a b p hp e f = at_most_yes a.x b.x (at_most_from_gap a.x b.x (ordered a.x b.x p.W hp (at_most_at_most (a.x *ℤ p.W) p.X (b.x *ℤ p.W) (at_most_from (a.x *ℤ p.W) p.X e) (less_weak p.X (b.x *ℤ p.W) (not_at_most_from (b.x *ℤ p.W) p.X f)))))
 
 -- and where the first end alone is to the right of the point it is the right one
 right_first : (a b : Position) (p : Point) → IsPoint p → position_reaches a p ≡ false → position_reaches b p ≡ true → int_le a.x b.x ≡ false
-right_first a b p hp e f = at_most_no a.x b.x (from b.x a.x (cancel_positive p.W (a.x -ℤ b.x) (weak p.W hp) (apart (b.x *ℤ p.W) p.X (a.x *ℤ p.W) (p.W *ℤ (a.x -ℤ b.x)) (solve (a.x ∷ b.x ∷ p.W ∷ []) (var 0 ⊗ var 2 ⊖ var 1 ⊗ var 2) (var 2 ⊗ (var 0 ⊖ var 1)) tt) (at_most_from (b.x *ℤ p.W) p.X f) (not_at_most_from (a.x *ℤ p.W) p.X e))))
+right_first a b p hp e f = at_most_no a.x b.x (less_from_gap b.x a.x (cancel_positive p.W (a.x -ℤ b.x) (weak_positive p.W hp) (apart (b.x *ℤ p.W) p.X (a.x *ℤ p.W) (p.W *ℤ (a.x -ℤ b.x)) (solve (a.x ∷ b.x ∷ p.W ∷ []) (var 0 ⊗ var 2 ⊖ var 1 ⊗ var 2) (var 2 ⊗ (var 0 ⊖ var 1)) tt) (at_most_from (b.x *ℤ p.W) p.X f) (not_at_most_from (a.x *ℤ p.W) p.X e))))
   where
-    from : (s t : ℤ) → pos 0 <ℤ (t -ℤ s) → s <ℤ t
-    from s t h = omega (arith, ints)
-
-    weak : (s : ℤ) → pos 0 <ℤ s → pos 0 ≤ℤ s
-    weak s h = omega (arith, ints)
-
     apart : (s t r d : ℤ) → r -ℤ s ≡ d → s ≤ℤ t → t <ℤ r → pos 0 <ℤ d
     apart s t r d e h k = omega (arith, ints)
 

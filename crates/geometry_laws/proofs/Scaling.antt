@@ -1,21 +1,14 @@
 -- A triple and its multiples stand for one point, so what doesn't change under multiples doesn't depend on the triple.
-use Rattle.std.proofs.Common.{ℤ, pos, ◌*ℤ◌, ◌<ℤ◌, ◌≡◌, Bool, true, false, ◌&&◌, refl, sym, ap, ap₂, ◌∙◌}
+use Rattle.std.proofs.Common.{ℤ, pos, ◌*ℤ◌, ◌<ℤ◌, ◌≡◌, true, sym, ap, ◌∙◌}
 use lib.IntN.{*ℤ_comm}
 use Rattle.std.specs.Ordering.{int_eq}
+use Rattle.std.proofs.lemmas.Bool.{and_from, and_parts}
 use Rattle.geometry_model.specs.Points.{Point, IsPoint, same_point}
 use Rattle.basics.proofs.Tests.{equal_from, equal_yes}
 
 -- the triple k times p
 abbrev pub scaled : ℤ → Point → Point
 scaled k p = record { X = k *ℤ p.X; Y = k *ℤ p.Y; W = k *ℤ p.W }
-
-pub and_parts : (a b : Bool) → a && b ≡ true → (a ≡ true) × (b ≡ true)
-and_parts true true e = (refl, refl)
-and_parts true false e = absurd (let f : false ≡ true = e in cc)
-and_parts false b e = absurd (let f : false ≡ true = e in cc)
-
-pub and_from : (a b : Bool) → a ≡ true → b ≡ true → a && b ≡ true
-and_from a b e f = ap₂ (λ (x y : Bool). x && y) e f
 
 -- what the test of two triples says
 pub same_x : (p q : Point) → same_point p q ≡ true → p.X *ℤ q.W ≡ q.X *ℤ p.W

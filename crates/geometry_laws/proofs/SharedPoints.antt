@@ -1,5 +1,6 @@
 -- The points that two edges share: an end of one of them, or the point where they cross.
 use Rattle.std.proofs.Common.{ℤ, pos, ◌+ℤ◌, ◌-ℤ◌, ◌*ℤ◌, ◌≤ℤ◌, ◌<ℤ◌, int_lt, ◌≡◌, ◌⊎◌, inl, inr, Bool, true, false, ◌&&◌, ◌||◌, refl, sym, ap, ap₂, ◌∙◌, subst, [], ◌∷◌, arith}
+use Rattle.std.proofs.lemmas.Bool.{or_cases, or_right, and_parts, and_from}
 use borrow.Author.Differences.{ints}
 use Rattle.geometry_model.specs.Points.{Position, Point, IsPoint, same_point, point_at}
 use Rattle.geometry_model.specs.Geometries.{Edge}
@@ -8,7 +9,8 @@ use Rattle.geometry_model.specs.Validity.{SharePoint}
 use Rattle.geometry_model.specs.FirstFaults.{opposite, cross}
 use Rattle.basics.proofs.Ring.{Expr, solve, var, lit, ◌⊕◌, ◌⊖◌, ◌⊗◌}
 use Rattle.basics.proofs.Signs.{three_ways, is_or_not, at_most_or_less, plus_plus, plus_minus, strict_plus_plus, zero_product, cancel_zero, less_yes, less_from}
-use Rattle.geometry_laws.proofs.Scaling.{and_parts, and_from, same_from}
+use Rattle.basics.proofs.Orders.{negative_turned, one_above, weak_negative, weak_positive, positive_not_zero, gap_none, no_difference}
+use Rattle.geometry_laws.proofs.Scaling.{same_from}
 use Rattle.geometry_laws.proofs.Respect.{on_respects}
 use Rattle.geometry_laws.proofs.LineSides.{square, weight, x_of, y_of, drop_zero, square_positive}
 use Rattle.geometry_laws.proofs.Hulls.{OnHull, on_from_hull, on_parts, weight_low, weight_high, hull_from_on}
@@ -88,15 +90,6 @@ no_factor n y some e = elim (zero_product n y e) [ inl n_is ↦ n_is | inr y_is 
 not_below : (y : ℤ) → y <ℤ pos 0 → y ≡ pos 0 → ⊥
 not_below y h e = omega (arith, ints)
 
-not_above : (y : ℤ) → pos 0 <ℤ y → y ≡ pos 0 → ⊥
-not_above y h e = omega (arith, ints)
-
-pub weak : (y : ℤ) → pos 0 <ℤ y → pos 0 ≤ℤ y
-weak y h = omega (arith, ints)
-
-weak_below : (y : ℤ) → y <ℤ pos 0 → y ≤ℤ pos 0
-weak_below y h = omega (arith, ints)
-
 -- a sum of two numbers of one sign is 0 only where both are
 both_below : (s t : ℤ) → s ≤ℤ pos 0 → t ≤ℤ pos 0 → pos 0 ≤ℤ (s +ℤ t) → (s ≡ pos 0) × (t ≡ pos 0)
 both_below s t h k e = (omega (arith, ints), omega (arith, ints))
@@ -110,14 +103,14 @@ no_sum m n h e f = omega (arith, ints)
 -- numbers that are both below 0 have no sum of at least 0, with weights of at least 0 that aren't both 0
 never_below : (x y m n : ℤ) → pos 0 ≤ℤ m → pos 0 ≤ℤ n → pos 0 <ℤ (m +ℤ n) → x <ℤ pos 0 → y <ℤ pos 0 → pos 0 ≤ℤ (m *ℤ x +ℤ n *ℤ y) → ⊥
 never_below x y m n hm hn some hx hy e =
-    let zero = both_below (m *ℤ x) (n *ℤ y) (plus_minus m x hm (weak_below x hx)) (plus_minus n y hn (weak_below y hy)) e in
+    let zero = both_below (m *ℤ x) (n *ℤ y) (plus_minus m x hm (weak_negative x hx)) (plus_minus n y hn (weak_negative y hy)) e in
     no_sum m n some (no_factor m x (not_below x hx) zero.0) (no_factor n y (not_below y hy) zero.1)
 
 -- and numbers that are both above 0 have none of at most 0
 never_above : (x y m n : ℤ) → pos 0 ≤ℤ m → pos 0 ≤ℤ n → pos 0 <ℤ (m +ℤ n) → pos 0 <ℤ x → pos 0 <ℤ y → (m *ℤ x +ℤ n *ℤ y) ≤ℤ pos 0 → ⊥
 never_above x y m n hm hn some hx hy e =
-    let zero = both_above (m *ℤ x) (n *ℤ y) (plus_plus m x hm (weak x hx)) (plus_plus n y hn (weak y hy)) e in
-    no_sum m n some (no_factor m x (not_above x hx) zero.0) (no_factor n y (not_above y hy) zero.1)
+    let zero = both_above (m *ℤ x) (n *ℤ y) (plus_plus m x hm (weak_positive x hx)) (plus_plus n y hn (weak_positive y hy)) e in
+    no_sum m n some (no_factor m x (positive_not_zero x hx) zero.0) (no_factor n y (positive_not_zero y hy) zero.1)
 
 abbrev Signs : ℤ → ℤ → ℤ → ℤ → Type 0
 Signs x y m n = Opposite x y ⊎ ((x ≡ pos 0) × (y ≡ pos 0)) ⊎ (n ≡ pos 0) ⊎ (m ≡ pos 0)
@@ -146,22 +139,19 @@ signs x y m n hm hn some e = go (three_ways x (pos 0)) (three_ways y (pos 0))
     go (inl hx) (inr (inr hy)) = inl (inl (hx, hy))
     go (inr (inl hx)) (inl hy) = inr (inr (inl (no_factor n y (not_below y hy) (only_second x y m n hx e))))
     go (inr (inl hx)) (inr (inl hy)) = inr (inl (hx, hy))
-    go (inr (inl hx)) (inr (inr hy)) = inr (inr (inl (no_factor n y (not_above y hy) (only_second x y m n hx e))))
+    go (inr (inl hx)) (inr (inr hy)) = inr (inr (inl (no_factor n y (positive_not_zero y hy) (only_second x y m n hx e))))
     go (inr (inr hx)) (inl hy) = inl (inr (hx, hy))
-    go (inr (inr hx)) (inr (inl hy)) = inr (inr (inr (no_factor m x (not_above x hx) (only_first x y m n hy e))))
+    go (inr (inr hx)) (inr (inl hy)) = inr (inr (inr (no_factor m x (positive_not_zero x hx) (only_first x y m n hy e))))
     go (inr (inr hx)) (inr (inr hy)) = absurd (never_above x y m n hm hn some hx hy (zero_above (m *ℤ x +ℤ n *ℤ y) e))
 
 -- ---- a point of an edge with no weight on one end is the other end
 -- without weight on the second number the sum is the first
 one_coordinate : (k x w m n c d : ℤ) → pos 0 <ℤ k → k *ℤ x ≡ m *ℤ c +ℤ n *ℤ d → k *ℤ w ≡ m +ℤ n → n ≡ pos 0 → x *ℤ pos 1 ≡ c *ℤ w
-one_coordinate k x w m n c d hk e f none = same _ _ (cancel_zero k (x *ℤ pos 1 -ℤ c *ℤ w) hk
+one_coordinate k x w m n c d hk e f none = no_difference _ _ (cancel_zero k (x *ℤ pos 1 -ℤ c *ℤ w) hk
     (solve (k ∷ x ∷ w ∷ c ∷ []) (var 0 ⊗ (var 1 ⊗ lit (pos 1) ⊖ var 3 ⊗ var 2)) (var 0 ⊗ var 1 ⊖ var 3 ⊗ (var 0 ⊗ var 2)) tt
     ∙ ap₂ (λ (s t : ℤ). s -ℤ c *ℤ t) e f
     ∙ solve (m ∷ n ∷ c ∷ d ∷ []) ((var 0 ⊗ var 2 ⊕ var 1 ⊗ var 3) ⊖ var 2 ⊗ (var 0 ⊕ var 1)) (var 1 ⊗ (var 3 ⊖ var 2)) tt
     ∙ ap (λ (z : ℤ). z *ℤ (d -ℤ c)) none ∙ solve (c ∷ d ∷ []) (lit (pos 0) ⊗ (var 1 ⊖ var 0)) (lit (pos 0)) tt))
-  where
-    same : (s t : ℤ) → s -ℤ t ≡ pos 0 → s ≡ t
-    same s t e = omega (arith, ints)
 
 pub swapped : (k x m n c d : ℤ) → k *ℤ x ≡ m *ℤ c +ℤ n *ℤ d → k *ℤ x ≡ n *ℤ d +ℤ m *ℤ c
 swapped k x m n c d e = e ∙ solve (m ∷ n ∷ c ∷ d ∷ []) (var 0 ⊗ var 2 ⊕ var 1 ⊗ var 3) (var 1 ⊗ var 3 ⊕ var 0 ⊗ var 2) tt
@@ -180,9 +170,6 @@ at_end : (f : Edge) (p : Point) (h : OnHull f p) → h.m ≡ pos 0 → same_poin
 at_end f p h none = same_from p (point_at f.end)
     (one_coordinate h.k p.X p.W h.n h.m f.end.x f.start.x h.from_k (swapped h.k p.X h.m h.n f.start.x f.end.x h.x_is) (swapped_sum h.k p.W h.m h.n h.w_is) none)
     (one_coordinate h.k p.Y p.W h.n h.m f.end.y f.start.y h.from_k (swapped h.k p.Y h.m h.n f.start.y f.end.y h.y_is) (swapped_sum h.k p.W h.m h.n h.w_is) none)
-
-pub one_above : pos 0 <ℤ pos 1
-one_above = omega (arith, ints)
 
 -- a position that is the same as a point of an edge is on the edge
 on_there : (e : Edge) (p : Point) (q : Position) → IsPoint p → on e p ≡ true → same_point p (point_at q) ≡ true → on e (point_at q) ≡ true
@@ -258,9 +245,6 @@ between_ends_back S tc td a b c d e f =
     ∙ ap₂ (λ (s t : ℤ). (pos 0 -ℤ td) *ℤ s +ℤ tc *ℤ t) (sym e) (sym f)
     ∙ solve (S ∷ tc ∷ td ∷ c ∷ d ∷ []) ((lit (pos 0) ⊖ var 2) ⊗ (var 0 ⊗ var 3) ⊕ var 1 ⊗ (var 0 ⊗ var 4)) ((var 0 ⊗ (lit (pos 0) ⊖ var 2)) ⊗ var 3 ⊕ (var 0 ⊗ var 1) ⊗ var 4) tt
 
-below_zero : (t : ℤ) → t <ℤ pos 0 → pos 0 ≤ℤ (pos 0 -ℤ t)
-below_zero t h = omega (arith, ints)
-
 span : (s t : ℤ) → s <ℤ pos 0 → pos 0 <ℤ t → pos 0 <ℤ (t -ℤ s)
 span s t h k = omega (arith, ints)
 
@@ -293,8 +277,8 @@ covers e f wide zc zd below above = let S = square e.start e.end in let tc = wei
       m = S *ℤ td;
       n = S *ℤ (pos 0 -ℤ tc);
       from_k = strict_plus_plus S (td -ℤ tc) wide (span tc td below above);
-      from_m = plus_plus S td (weak S wide) (weak td above);
-      from_n = plus_plus S (pos 0 -ℤ tc) (weak S wide) (below_zero tc below);
+      from_m = plus_plus S td (weak_positive S wide) (weak_positive td above);
+      from_n = plus_plus S (pos 0 -ℤ tc) (weak_positive S wide) (negative_turned tc below);
       x_is = between_ends S tc td e.start.x e.end.x f.start.x f.end.x (x_along e f.start zc) (x_along e f.end zd);
       y_is = between_ends S tc td e.start.y e.end.y f.start.y f.end.y (y_along e f.start zc) (y_along e f.end zd);
       w_is = weights_add S tc td;
@@ -309,8 +293,8 @@ covers_back e f wide zc zd above below = let S = square e.start e.end in let tc 
       m = S *ℤ (pos 0 -ℤ td);
       n = S *ℤ tc;
       from_k = strict_plus_plus S (tc -ℤ td) wide (span td tc below above);
-      from_m = plus_plus S (pos 0 -ℤ td) (weak S wide) (below_zero td below);
-      from_n = plus_plus S tc (weak S wide) (weak tc above);
+      from_m = plus_plus S (pos 0 -ℤ td) (weak_positive S wide) (negative_turned td below);
+      from_n = plus_plus S tc (weak_positive S wide) (weak_positive tc above);
       x_is = between_ends_back S tc td e.start.x e.end.x f.start.x f.end.x (x_along e f.start zc) (x_along e f.end zd);
       y_is = between_ends_back S tc td e.start.y e.end.y f.start.y f.end.y (y_along e f.start zc) (y_along e f.end zd);
       w_is = weights_add_back S tc td;
@@ -318,23 +302,17 @@ covers_back e f wide zc zd above below = let S = square e.start e.end in let tc 
 
 -- a sum of two equal numbers is that number
 level_coordinate : (k x w m n c d : ℤ) → pos 0 <ℤ k → k *ℤ x ≡ m *ℤ c +ℤ n *ℤ d → k *ℤ w ≡ m +ℤ n → d -ℤ c ≡ pos 0 → x *ℤ pos 1 ≡ c *ℤ w
-level_coordinate k x w m n c d hk e f level = same _ _ (cancel_zero k (x *ℤ pos 1 -ℤ c *ℤ w) hk
+level_coordinate k x w m n c d hk e f level = no_difference _ _ (cancel_zero k (x *ℤ pos 1 -ℤ c *ℤ w) hk
     (solve (k ∷ x ∷ w ∷ c ∷ []) (var 0 ⊗ (var 1 ⊗ lit (pos 1) ⊖ var 3 ⊗ var 2)) (var 0 ⊗ var 1 ⊖ var 3 ⊗ (var 0 ⊗ var 2)) tt
     ∙ ap₂ (λ (s t : ℤ). s -ℤ c *ℤ t) e f
     ∙ solve (m ∷ n ∷ c ∷ d ∷ []) ((var 0 ⊗ var 2 ⊕ var 1 ⊗ var 3) ⊖ var 2 ⊗ (var 0 ⊕ var 1)) (var 1 ⊗ (var 3 ⊖ var 2)) tt
     ∙ zero_scaled n (d -ℤ c) level))
-  where
-    same : (s t : ℤ) → s -ℤ t ≡ pos 0 → s ≡ t
-    same s t e = omega (arith, ints)
 
 -- both ends of an edge at one position: a point of it is there
 pub at_both : (e : Edge) (p : Point) → IsPoint p → on e p ≡ true → e.end.x -ℤ e.start.x ≡ pos 0 → e.end.y -ℤ e.start.y ≡ pos 0 → same_point p (point_at e.start) ≡ true
 at_both e p hp on_e level upright = let h = hull_from_on e p hp on_e in same_from p (point_at e.start)
     (level_coordinate h.k p.X p.W h.m h.n e.start.x e.end.x h.from_k h.x_is h.w_is level)
     (level_coordinate h.k p.Y p.W h.m h.n e.start.y e.end.y h.from_k h.y_is h.w_is upright)
-
-pub no_difference : (x y : ℤ) → x ≡ y → y -ℤ x ≡ pos 0
-no_difference x y e = omega (arith, ints)
 
 -- what the weight of a sum lacks to the whole is the sum of what the ends' weights lack
 rest_sum : (S W T k m n tc td : ℤ) → k *ℤ T ≡ m *ℤ tc +ℤ n *ℤ td → k *ℤ W ≡ m +ℤ n → k *ℤ (S *ℤ W -ℤ T) ≡ m *ℤ (S -ℤ tc) +ℤ n *ℤ (S -ℤ td)
@@ -361,11 +339,11 @@ collinear e f p hp on_e on_f zc zd = choose (is_or_not (e.end.x -ℤ e.start.x))
 
     low : (S T tc td : ℤ) → h.k *ℤ T ≡ h.m *ℤ tc +ℤ h.n *ℤ td → pos 0 ≤ℤ T → tc <ℤ pos 0 → td <ℤ pos 0 → ⊥
     low S T tc td sum from hc hd = never_below tc td h.m h.n h.from_m h.from_n (weights_some f p h hp) hc hd
-        (nonnegative (h.k *ℤ T) (h.m *ℤ tc +ℤ h.n *ℤ td) sum (plus_plus h.k T (weak h.k h.from_k) from))
+        (nonnegative (h.k *ℤ T) (h.m *ℤ tc +ℤ h.n *ℤ td) sum (plus_plus h.k T (weak_positive h.k h.from_k) from))
 
     high : (S T tc td : ℤ) → h.k *ℤ T ≡ h.m *ℤ tc +ℤ h.n *ℤ td → pos 0 ≤ℤ (S *ℤ p.W -ℤ T) → S <ℤ tc → S <ℤ td → ⊥
     high S T tc td sum to hc hd = never_below (S -ℤ tc) (S -ℤ td) h.m h.n h.from_m h.from_n (weights_some f p h hp) (below S tc hc) (below S td hd)
-        (nonnegative (h.k *ℤ (S *ℤ p.W -ℤ T)) (h.m *ℤ (S -ℤ tc) +ℤ h.n *ℤ (S -ℤ td)) (rest_sum S p.W T h.k h.m h.n tc td sum h.w_is) (plus_plus h.k (S *ℤ p.W -ℤ T) (weak h.k h.from_k) to))
+        (nonnegative (h.k *ℤ (S *ℤ p.W -ℤ T)) (h.m *ℤ (S -ℤ tc) +ℤ h.n *ℤ (S -ℤ td)) (rest_sum S p.W T h.k h.m h.n tc td sum h.w_is) (plus_plus h.k (S *ℤ p.W -ℤ T) (weak_positive h.k h.from_k) to))
 
     wide : pos 0 <ℤ square e.start e.end → EndOn e f
     wide some = go (at_most_or_less (pos 0) (weight e.start e.end (point_at f.start))) (at_most_or_less (weight e.start e.end (point_at f.start)) (square e.start e.end))
@@ -390,8 +368,8 @@ collinear e f p hp on_e on_f zc zd = choose (is_or_not (e.end.x -ℤ e.start.x))
 
     choose : ((e.end.x -ℤ e.start.x ≡ pos 0) ⊎ (e.end.x -ℤ e.start.x ≡ pos 0 → ⊥)) → ((e.end.y -ℤ e.start.y ≡ pos 0) ⊎ (e.end.y -ℤ e.start.y ≡ pos 0 → ⊥)) → EndOn e f
     choose (inl x0) (inl y0) = inr (inr (on_there f p e.start hp on_f (at_both e p hp on_e x0 y0)))
-    choose (inr x1) y = wide (square_positive e.start e.end (λ q. x1 (no_difference e.start.x e.end.x (ap (λ (a : Position). a.x) q))))
-    choose (inl x0) (inr y1) = wide (square_positive e.start e.end (λ q. y1 (no_difference e.start.y e.end.y (ap (λ (a : Position). a.y) q))))
+    choose (inr x1) y = wide (square_positive e.start e.end (λ q. x1 (gap_none e.start.x e.end.x (ap (λ (a : Position). a.x) q))))
+    choose (inl x0) (inr y1) = wide (square_positive e.start e.end (λ q. y1 (gap_none e.start.y e.end.y (ap (λ (a : Position). a.y) q))))
 
 -- ---- the tests
 five_true : (p q r s t : Bool) → ((p ≡ true) ⊎ (q ≡ true) ⊎ (r ≡ true) ⊎ (s ≡ true) ⊎ (t ≡ true)) → p || q || r || s || t ≡ true
@@ -413,14 +391,6 @@ five_from false false true s t h = inr (inr (inl refl))
 five_from false false false true t h = inr (inr (inr (inl refl)))
 five_from false false false false t h = inr (inr (inr (inr h)))
 
-or_right : (a b : Bool) → b ≡ true → a || b ≡ true
-or_right true b e = refl
-or_right false b e = e
-
-or_from : (a b : Bool) → a || b ≡ true → (a ≡ true) ⊎ (b ≡ true)
-or_from true b e = inl refl
-or_from false b e = inr e
-
 -- the test of opposite signs passes where the signs are opposite
 opposite_yes : (x y : ℤ) → Opposite x y → opposite x y ≡ true
 opposite_yes x y (inl h) = rw (less_yes x (pos 0) h.0, less_yes (pos 0) y h.1) refl
@@ -428,7 +398,7 @@ opposite_yes x y (inr h) = or_right (int_lt x (pos 0) && int_lt (pos 0) y) (int_
 
 -- and only there
 opposite_from : (x y : ℤ) → opposite x y ≡ true → Opposite x y
-opposite_from x y e = go (or_from (int_lt x (pos 0) && int_lt (pos 0) y) (int_lt (pos 0) x && int_lt y (pos 0)) e)
+opposite_from x y e = go (or_cases (int_lt x (pos 0) && int_lt (pos 0) y) (int_lt (pos 0) x && int_lt y (pos 0)) e)
   where
     go : ((int_lt x (pos 0) && int_lt (pos 0) y) ≡ true) ⊎ ((int_lt (pos 0) x && int_lt y (pos 0)) ≡ true) → Opposite x y
     go (inl h) = let parts = and_parts (int_lt x (pos 0)) (int_lt (pos 0) y) h in inl (less_from x (pos 0) parts.0, less_from (pos 0) y parts.1)
@@ -544,7 +514,7 @@ crossing e f o (inl h) = back o
 
     back : Opposite (A e f) (B e f) → SharePoint e f
     back (inl k) = absurd (wrong (D e f +ℤ (pos 0 -ℤ C e f)) (A e f) (B e f) (total (C e f) (D e f) h.0 h.1) (back_w e f) k.0 k.1)
-    back (inr k) = met e f (D e f) (pos 0 -ℤ C e f) (pos 0 -ℤ B e f) (A e f) (total (C e f) (D e f) h.0 h.1) (weak (D e f) h.1) (below_zero (C e f) h.0) (below_zero (B e f) k.1) (weak (A e f) k.0)
+    back (inr k) = met e f (D e f) (pos 0 -ℤ C e f) (pos 0 -ℤ B e f) (A e f) (total (C e f) (D e f) h.0 h.1) (weak_positive (D e f) h.1) (negative_turned (C e f) h.0) (negative_turned (B e f) k.1) (weak_positive (A e f) k.0)
         (back_x e f) (back_y e f) (back_w e f)
 crossing e f o (inr h) = fore o
   where
@@ -556,7 +526,7 @@ crossing e f o (inr h) = fore o
 
     fore : Opposite (A e f) (B e f) → SharePoint e f
     fore (inr k) = absurd (wrong ((pos 0 -ℤ D e f) +ℤ C e f) (A e f) (B e f) (total (C e f) (D e f) h.0 h.1) (fore_w e f) k.0 k.1)
-    fore (inl k) = met e f (pos 0 -ℤ D e f) (C e f) (B e f) (pos 0 -ℤ A e f) (total (C e f) (D e f) h.0 h.1) (below_zero (D e f) h.1) (weak (C e f) h.0) (weak (B e f) k.1) (below_zero (A e f) k.0)
+    fore (inl k) = met e f (pos 0 -ℤ D e f) (C e f) (B e f) (pos 0 -ℤ A e f) (total (C e f) (D e f) h.0 h.1) (negative_turned (D e f) h.1) (weak_positive (C e f) h.0) (weak_positive (B e f) k.1) (negative_turned (A e f) k.0)
         (fore_x e f) (fore_y e f) (fore_w e f)
 
 -- an end of one edge on the other is a shared point, and so is the crossing

@@ -17,6 +17,7 @@ use Rattle.geometry_laws.proofs.Locating.{locate_off}
 use Rattle.geometry_laws.specs.CoverLaws.{IsJustBelow, NearSides}
 use Rattle.basics.proofs.Ring.{solve, var, lit, ◌⊕◌, ◌⊖◌, ◌⊗◌}
 use Rattle.basics.proofs.Signs.{strict_plus_plus, plus_plus}
+use Rattle.basics.proofs.Orders.{one_not_zero, natural_weak, sum_first_positive}
 use Rattle.geometry_laws.proofs.Nudge.{lifted, lifted_is_point, IsSlant, off_soon, down, sinks, rises}
 
 -- where just the edges at or above s are strictly above t, what is above t is what is below s
@@ -39,9 +40,6 @@ above_from (Geometry.MultiPolygon es) s t h = ap (λ (b : Bool). if b then Inter
 
 not_zero_down : down ≡ pos 0 → ⊥
 not_zero_down e = omega (arith, ints)
-
-not_zero_one : pos 1 ≡ pos 0 → ⊥
-not_zero_one e = omega (arith, ints)
 
 -- what holds of the moved point from some n on
 pub record Moved (least : ℕ) (d : ℤ) (f g : Edge → Point → Bool) (ms es : List Edge) (s : Point) (n : ℕ) : Type 0 where
@@ -80,7 +78,7 @@ lower_triangle a b ca cb s hs h = go (moved_soon 0 down strictly_above at_or_abo
 
 -- the same a little above it
 pub upper_triangle : (a b : Geometry) → Each IsClosed (rings a) → Each IsClosed (rings b) → (s : Point) → IsPoint s → Each (IsSlant s) (marks a b) → HasTriangle (common a (above a s) b (above b s))
-upper_triangle a b ca cb s hs h = go (moved_soon 0 (pos 1) strictly_above strictly_above (marks a b) (edges_of_both a b) s not_zero_one hs h (λ e. rises e s hs))
+upper_triangle a b ca cb s hs h = go (moved_soon 0 (pos 1) strictly_above strictly_above (marks a b) (edges_of_both a b) s one_not_zero hs h (λ e. rises e s hs))
   where
     go : (n : ℕ) × Moved 0 (pos 1) strictly_above strictly_above (marks a b) (edges_of_both a b) s n → HasTriangle (common a (above a s) b (above b s))
     go r = triangle_of_off a b (lifted (pos 1) r.0 s) (above a s) (above b s) ca cb (lifted_is_point (pos 1) r.0 s (some 0 r.0 (r.1).more) hs) ((r.1).off)
@@ -100,7 +98,7 @@ rise d n s = solve (s.Y ∷ s.W ∷ pos n ∷ d ∷ []) ((var 2 ⊗ var 0 ⊕ li
 nearer : (k n : ℕ) (w : ℤ) → k < n → pos 0 <ℤ w → (pos k *ℤ w) <ℤ ((pos n *ℤ w) *ℤ w)
 nearer k n w h hw = from (pos k *ℤ w) ((pos n *ℤ w) *ℤ w) (w *ℤ ((pos n -ℤ pos k) *ℤ w +ℤ pos k *ℤ (w -ℤ pos 1)))
     (solve (pos k ∷ pos n ∷ w ∷ []) ((var 1 ⊗ var 2) ⊗ var 2 ⊖ var 0 ⊗ var 2) (var 2 ⊗ ((var 1 ⊖ var 0) ⊗ var 2 ⊕ var 0 ⊗ (var 2 ⊖ lit (pos 1)))) tt)
-    (strict_plus_plus w ((pos n -ℤ pos k) *ℤ w +ℤ pos k *ℤ (w -ℤ pos 1)) hw (sum ((pos n -ℤ pos k) *ℤ w) (pos k *ℤ (w -ℤ pos 1)) (strict_plus_plus (pos n -ℤ pos k) w (gap k n h) hw) (plus_plus (pos k) (w -ℤ pos 1) (natural k) (one_less w hw))))
+    (strict_plus_plus w ((pos n -ℤ pos k) *ℤ w +ℤ pos k *ℤ (w -ℤ pos 1)) hw (sum_first_positive ((pos n -ℤ pos k) *ℤ w) (pos k *ℤ (w -ℤ pos 1)) (strict_plus_plus (pos n -ℤ pos k) w (gap k n h) hw) (plus_plus (pos k) (w -ℤ pos 1) (natural_weak k) (one_less w hw))))
   where
     from : (s t r : ℤ) → t -ℤ s ≡ r → pos 0 <ℤ r → s <ℤ t
     from s t r e h = omega (arith, ints)
@@ -108,14 +106,8 @@ nearer k n w h hw = from (pos k *ℤ w) ((pos n *ℤ w) *ℤ w) (w *ℤ ((pos n 
     gap : (k n : ℕ) → k < n → pos 0 <ℤ (pos n -ℤ pos k)
     gap k n h = omega (arith, ints)
 
-    natural : (k : ℕ) → pos 0 ≤ℤ pos k
-    natural k = omega (arith, ints)
-
     one_less : (w : ℤ) → pos 0 <ℤ w → pos 0 ≤ℤ (w -ℤ pos 1)
     one_less w h = omega (arith, ints)
-
-    sum : (s t : ℤ) → pos 0 <ℤ s → pos 0 ≤ℤ t → pos 0 <ℤ (s +ℤ t)
-    sum s t h k = omega (arith, ints)
 
 -- moved down with an n greater than k it is straight below, nearer than 1/k
 just_below : (k n : ℕ) (s : Point) → IsPoint s → k < n → IsJustBelow k (lifted down n s) s
@@ -157,7 +149,7 @@ just_above k n s hs h = record {
 
 -- so on either side some moved point is near enough, off all edges, and lies as the side says
 pub near_sides : (g : Geometry) (s : Point) → IsPoint s → Each (IsSlant s) (marks g g) → (k : ℕ) → NearSides g s k
-near_sides g s hs h k = go (moved_soon k down strictly_above at_or_above (marks g g) (edges g) s not_zero_down hs h (λ e. sinks e s hs)) (moved_soon k (pos 1) strictly_above strictly_above (marks g g) (edges g) s not_zero_one hs h (λ e. rises e s hs))
+near_sides g s hs h k = go (moved_soon k down strictly_above at_or_above (marks g g) (edges g) s not_zero_down hs h (λ e. sinks e s hs)) (moved_soon k (pos 1) strictly_above strictly_above (marks g g) (edges g) s one_not_zero hs h (λ e. rises e s hs))
   where
     go : (n : ℕ) × Moved k down strictly_above at_or_above (marks g g) (edges g) s n → (n : ℕ) × Moved k (pos 1) strictly_above strictly_above (marks g g) (edges g) s n → NearSides g s k
     go (n, u) (m, o) = record {

@@ -1,6 +1,5 @@
 -- Around a point off two geometries there is a triangle of points that lie where it does.
-use Rattle.std.proofs.Common.{ℕ, ◌+◌, ◌<◌, ℤ, pos, ◌+ℤ◌, ◌-ℤ◌, ◌*ℤ◌, ◌<ℤ◌, ◌≡◌, Bool, true, false, if◌then◌else◌, refl, sym, ap, ap₂, ◌∙◌, List, [], ◌∷◌, ◌++◌, map, arith}
-use borrow.Author.Differences.{ints}
+use Rattle.std.proofs.Common.{ℕ, ◌+◌, ◌<◌, ℤ, pos, ◌+ℤ◌, ◌-ℤ◌, ◌*ℤ◌, ◌<ℤ◌, ◌≡◌, Bool, true, false, if◌then◌else◌, refl, sym, ap, ap₂, ◌∙◌, List, [], ◌∷◌, ◌++◌, map}
 use Rattle.geometry_model.specs.Points.{Position, Point, IsPoint, point_at}
 use Rattle.geometry_model.specs.Geometries.{Edge, Geometry, edges, listed, rings, joined_rings}
 use Rattle.geometry_model.specs.Sides.{on}
@@ -11,6 +10,8 @@ use Rattle.geometry_model.specs.declared.point_sets.Location.{Location}
 use Rattle.geometry_model.specs.declared.point_sets.Location.TheVariants.{Interior, Exterior}
 use Rattle.basics.proofs.Ring.{solve, var, lit, ◌⊕◌, ◌⊖◌, ◌⊗◌}
 use Rattle.basics.proofs.Signs.{cancel_zero}
+use Rattle.basics.proofs.Bools.{by_contraries}
+use Rattle.basics.proofs.Orders.{no_difference}
 use Rattle.geometry_laws.specs.RingLaws.{IsClosed, Misses}
 use Rattle.geometry_laws.proofs.Each.{Each, each_left, each_right}
 use Rattle.geometry_laws.proofs.RingParity.{parity_by_missing}
@@ -18,7 +19,7 @@ use Rattle.geometry_laws.proofs.Scaling.{same_from}
 use Rattle.geometry_laws.proofs.Hulls.{OnHull, hull_from_on}
 use Rattle.geometry_laws.proofs.Lines.{weighted_three_is_point}
 use Rattle.geometry_laws.proofs.Box.{Corners, box, misses_within}
-use Rattle.geometry_laws.proofs.Locating.{Off, locate_off, start_is_on, by_contraries}
+use Rattle.geometry_laws.proofs.Locating.{Off, locate_off, start_is_on}
 
 -- ---- a listed position as an edge with equal ends
 abbrev pub dot : Position → Edge
@@ -33,12 +34,9 @@ dot_off a p hp h = by_contraries (is_at p a) (on (dot a) p) (start_is_on (dot a)
 
 -- a sum of one number with itself, over the sum of the weights, is that number
 pub dot_coordinate : (k m n a x w : ℤ) → pos 0 <ℤ k → k *ℤ x ≡ m *ℤ a +ℤ n *ℤ a → k *ℤ w ≡ m +ℤ n → a *ℤ w ≡ x *ℤ pos 1
-dot_coordinate k m n a x w h e f = same (a *ℤ w) (x *ℤ pos 1) (cancel_zero k (a *ℤ w -ℤ x *ℤ pos 1) h
+dot_coordinate k m n a x w h e f = no_difference (a *ℤ w) (x *ℤ pos 1) (cancel_zero k (a *ℤ w -ℤ x *ℤ pos 1) h
     (solve (k ∷ a ∷ x ∷ w ∷ []) (var 0 ⊗ (var 1 ⊗ var 3 ⊖ var 2 ⊗ lit (pos 1))) (var 1 ⊗ (var 0 ⊗ var 3) ⊖ var 0 ⊗ var 2) tt
     ∙ ap₂ (λ (s t : ℤ). a *ℤ s -ℤ t) f e ∙ solve (a ∷ m ∷ n ∷ []) (var 0 ⊗ (var 1 ⊕ var 2) ⊖ (var 1 ⊗ var 0 ⊕ var 2 ⊗ var 0)) (lit (pos 0)) tt))
-  where
-    same : (x y : ℤ) → x -ℤ y ≡ pos 0 → x ≡ y
-    same x y e = omega (arith, ints)
 
 -- an edge without length holds its own position alone
 pub dot_is_at : (a : Position) (p : Point) → IsPoint p → on (dot a) p ≡ true → is_at p a ≡ true

@@ -1,7 +1,9 @@
 -- Valid geometries, in the words of the standard.
-use Rattle.std.proofs.Common.{◌≡◌, ◌≢◌, ◌↔◌, ◌⊎◌, inl, inr, ℕ, zero, suc, ◌+◌, ◌<◌, ◌≤◌, ◌==◌, Bool, true, false, List, [], ◌∷◌, ◌++◌, length, Contains, Some, None, nat_lt, slice_get, flat_map, refl, sym, ap, ◌∙◌, subst, ltb-true, arith}
-use Rattle.std.proofs.lemmas.Bool.{true≢false, false_from_ne_true}
+use Rattle.std.proofs.Common.{◌≡◌, ◌≢◌, ◌↔◌, ◌⊎◌, inl, inr, ℕ, zero, suc, ◌+◌, ◌<◌, ◌≤◌, ◌==◌, Bool, true, false, List, [], ◌∷◌, length, Contains, Some, None, nat_lt, slice_get, flat_map, refl, sym, ap, ◌∙◌, subst, ltb-true, arith, append-nil}
+use Rattle.std.proofs.lemmas.Bool.{true≢false, false_from_ne_true, true_from_ne_false}
 use Rattle.std.proofs.lemmas.Bool.Decides.{Decides-eqb}
+use Rattle.basics.proofs.Lists.{place_of, contains_at}
+use Rattle.basics.proofs.Numbers.{less_not_same}
 use Rattle.geometry_model.specs.Points.{Position}
 use Rattle.geometry_model.specs.Geometries.{Geometry, lines, rings, elements, joined_rings}
 use Rattle.geometry_model.specs.Envelopes.{envelope_of_positions}
@@ -9,7 +11,7 @@ use Rattle.geometry_model.specs.Validity.{is_short, RingsShare, inside, Element,
 use Rattle.geometry_model.specs.declared.validity_faults.ValidityFault.{ValidityFault}
 use Rattle.geometry_model.specs.declared.validity_faults.ValidityFault.TheVariants.{TooFewPoints, RingNotClosed, RingNotSimple, RingsMeet, HoleOutside, HolesNested, ElementsMeet, ElementInside}
 use Rattle.geometry_laws.specs.ValidPartLaws.{MakePolygon, LieApart, PolygonIsValid, MultiPolygonIsValid, LineStringIsValid, MultiLineStringIsValid, EnvelopeIsAbsentWhereEmpty}
-use Rattle.geometry_laws.proofs.ElementPlaces.{place_of, contains_at, Placed, placed, of_numbered, ring_at}
+use Rattle.geometry_laws.proofs.ElementPlaces.{Placed, placed, of_numbered, ring_at}
 
 -- ---- to share points goes both ways
 -- two rings that share a point do so in either order
@@ -38,17 +40,13 @@ either_way i j h = go (nat_lt i j) refl (nat_lt j i) refl
     go false e false f = absurd (h (grind arith))
 
 -- ---- what every valid geometry has of each of its polygons
-no_more : {A : Type 0} (xs : List A) → xs ++ [] ≡ xs
-no_more [] = refl
-no_more (x ∷ xs) = ap (λ l. x ∷ l) (no_more xs)
-
 -- the rings of its polygons are its rings
 among_rings : (g : Geometry) (i : ℕ) (r : List Position) → slice_get (joined_rings (elements g)) i ≡ Some r → slice_get (rings g) i ≡ Some r
 among_rings (Geometry.Point o) i r e = e
 among_rings (Geometry.MultiPoint ps) i r e = e
 among_rings (Geometry.LineString ps) i r e = e
 among_rings (Geometry.MultiLineString ls) i r e = e
-among_rings (Geometry.Polygon rs) i r e = ap (λ (l : List (List Position)). slice_get l i) (sym (no_more rs)) ∙ e
+among_rings (Geometry.Polygon rs) i r e = ap (λ (l : List (List Position)). slice_get l i) (sym (append-nil rs)) ∙ e
 among_rings (Geometry.MultiPolygon es) i r e = e
 
 -- a ring of an area with fewer than four positions is a part that is too short
@@ -57,7 +55,7 @@ short_ring (Geometry.Point o) i r e h = absurd cc
 short_ring (Geometry.MultiPoint ps) i r e h = absurd cc
 short_ring (Geometry.LineString ps) i r e h = absurd cc
 short_ring (Geometry.MultiLineString ls) i r e h = absurd cc
-short_ring (Geometry.Polygon rs) i r e h = (r, ap (λ (l : List (List Position)). slice_get l i) (sym (no_more rs)) ∙ e, h)
+short_ring (Geometry.Polygon rs) i r e h = (r, ap (λ (l : List (List Position)). slice_get l i) (sym (append-nil rs)) ∙ e, h)
 short_ring (Geometry.MultiPolygon es) i r e h = (r, e, h)
 
 not_less : (n m : ℕ) → (nat_lt n m ≡ true → ⊥) → m ≤ n
@@ -67,10 +65,6 @@ not_less n m h = go (nat_lt n m) refl
     go true e = absurd (h e)
     go false e = grind arith
 
-not_false : (b : Bool) → (b ≡ false → ⊥) → b ≡ true
-not_false true h = refl
-not_false false h = absurd (h refl)
-
 -- each way in which the rings of a polygon fail to make one is a fault of the geometry, at their numbers
 polygon_at : (g : Geometry) → IsValid g → (rs : List (List Position)) → Placed 0 (elements g) rs → MakePolygon rs
 polygon_at g valid rs k = record {
@@ -78,7 +72,7 @@ polygon_at g valid rs k = record {
   closed = λ ring c n. let p = place_of rs ring c in valid (RingNotClosed (k.offset + p.0)) (ring, among_rings g (k.offset + p.0) ring (k.joined p.0 ring p.1), n);
   simple = λ ring c n. let p = place_of rs ring c in valid (RingNotSimple (k.offset + p.0)) (ring, among_rings g (k.offset + p.0) ring (k.joined p.0 ring p.1), n);
   apart = λ i j r s other e f w. pair i j r s e f w (either_way i j other);
-  holes_inside = λ i outer hole later e f. not_false (inside outer hole) (λ n. valid (HoleOutside (k.element.first + i)) (k.element, i, outer, hole, k.contained, later, own 0 outer e, (refl, own i hole f), n));
+  holes_inside = λ i outer hole later e f. true_from_ne_false (inside outer hole) (λ n. valid (HoleOutside (k.element.first + i)) (k.element, i, outer, hole, k.contained, later, own 0 outer e, (refl, own i hole f), n));
   not_nested = λ i j r s later also other e f. false_from_ne_true (inside r s) (λ n. holes i j r s later also e f n (either_way i j other));
 }
   where
@@ -123,16 +117,10 @@ area_is_valid g a made apart (TooFewPoints i) h = let k = ring_at (elements g) i
     short_not n l m = omega (arith, l, m)
 area_is_valid g a made apart (RingNotClosed i) h = let k = ring_at (elements g) i h.0 (ap (λ (l : List (List Position)). slice_get l i) (sym a.rings_are) ∙ h.1) in (made k.0 k.1).closed h.0 k.2 h.2
 area_is_valid g a made apart (RingNotSimple i) h = let k = ring_at (elements g) i h.0 (ap (λ (l : List (List Position)). slice_get l i) (sym a.rings_are) ∙ h.1) in (made k.0 k.1).simple h.0 k.2 h.2
-area_is_valid g a made apart (RingsMeet i j) h = (made h.0.rings (of_numbered 0 (elements g) h.0 h.5)).apart h.1 h.2 h.3 h.4 (λ e. differ h.1 h.2 h.6 e) h.7.1 h.8.1 h.9
-  where
-    differ : (k l : ℕ) → k < l → k ≡ l → ⊥
-    differ k l h e = omega (arith, h, e)
+area_is_valid g a made apart (RingsMeet i j) h = (made h.0.rings (of_numbered 0 (elements g) h.0 h.5)).apart h.1 h.2 h.3 h.4 (λ e. less_not_same h.1 h.2 h.6 e) h.7.1 h.8.1 h.9
 area_is_valid g a made apart (HoleOutside i) h = true≢false (sym ((made h.0.rings (of_numbered 0 (elements g) h.0 h.4)).holes_inside h.1 h.2 h.3 h.5 h.6 h.7.1) ∙ h.8)
 area_is_valid g a made apart (HolesNested i j) h = go h.10
   where
-    differ : (k l : ℕ) → k < l → k ≡ l → ⊥
-    differ k l h e = omega (arith, h, e)
-
     beyond : (k l : ℕ) → 0 < k → k < l → 0 < l
     beyond k l h e = omega (arith, h, e)
 
@@ -140,17 +128,14 @@ area_is_valid g a made apart (HolesNested i j) h = go h.10
     own = made h.0.rings (of_numbered 0 (elements g) h.0 h.5)
 
     go : (inside h.3 h.4 ≡ true) ⊎ (inside h.4 h.3 ≡ true) → ⊥
-    go (inl n) = true≢false (sym n ∙ own.not_nested h.1 h.2 h.3 h.4 h.6 (beyond h.1 h.2 h.6 h.7) (λ e. differ h.1 h.2 h.7 e) h.8.1 h.9.1)
-    go (inr n) = true≢false (sym n ∙ own.not_nested h.2 h.1 h.4 h.3 (beyond h.1 h.2 h.6 h.7) h.6 (λ e. differ h.1 h.2 h.7 (sym e)) h.9.1 h.8.1)
-area_is_valid g a made apart (ElementsMeet i j) h = apart.apart i j h.0 h.1 (λ e. differ i j h.2 e) h.3 h.4 h.5
-  where
-    differ : (k l : ℕ) → k < l → k ≡ l → ⊥
-    differ k l h e = omega (arith, h, e)
+    go (inl n) = true≢false (sym n ∙ own.not_nested h.1 h.2 h.3 h.4 h.6 (beyond h.1 h.2 h.6 h.7) (λ e. less_not_same h.1 h.2 h.7 e) h.8.1 h.9.1)
+    go (inr n) = true≢false (sym n ∙ own.not_nested h.2 h.1 h.4 h.3 (beyond h.1 h.2 h.6 h.7) h.6 (λ e. less_not_same h.1 h.2 h.7 (sym e)) h.9.1 h.8.1)
+area_is_valid g a made apart (ElementsMeet i j) h = apart.apart i j h.0 h.1 (λ e. less_not_same i j h.2 e) h.3 h.4 h.5
 area_is_valid g a made apart (ElementInside i j) h = true≢false (sym h.5 ∙ apart.outside i j h.0 h.1 h.2 h.3 h.4)
 
 -- a polygon: its parts are the rings of its one element
 polygon_area : (rs : List (List Position)) → IsArea (Geometry.Polygon rs)
-polygon_area rs = record { lines_are = sym (no_more rs); rings_are = sym (no_more rs); short_is = λ part. refl }
+polygon_area rs = record { lines_are = sym (append-nil rs); rings_are = sym (append-nil rs); short_is = λ part. refl }
 
 -- a MultiPolygon: its parts are the rings of all its elements
 multi_polygon_area : (es : List (List (List Position))) → IsArea (Geometry.MultiPolygon es)
@@ -252,8 +237,8 @@ there_from n m h = omega (arith, h)
 pub envelope_is_absent_where_empty : EnvelopeIsAbsentWhereEmpty
 envelope_is_absent_where_empty (Geometry.Point None) valid = ((λ e. refl), (λ e. refl))
 envelope_is_absent_where_empty (Geometry.Point (Some p)) valid = ((λ e. absurd cc), (λ e. absurd (true≢false (sym e))))
-envelope_is_absent_where_empty (Geometry.MultiPoint ps) valid = let k = envelope_of_list ps in let same = ap envelope_of_positions (no_more ps) in ((λ e. k.0 (sym same ∙ e)), (λ e. same ∙ k.1 e))
-envelope_is_absent_where_empty (Geometry.LineString ps) valid = let k = envelope_of_list ps in let same = ap envelope_of_positions (no_more ps) in ((λ e. k.0 (sym same ∙ e)), (λ e. same ∙ k.1 e))
+envelope_is_absent_where_empty (Geometry.MultiPoint ps) valid = let k = envelope_of_list ps in let same = ap envelope_of_positions (append-nil ps) in ((λ e. k.0 (sym same ∙ e)), (λ e. same ∙ k.1 e))
+envelope_is_absent_where_empty (Geometry.LineString ps) valid = let k = envelope_of_list ps in let same = ap envelope_of_positions (append-nil ps) in ((λ e. k.0 (sym same ∙ e)), (λ e. same ∙ k.1 e))
 envelope_is_absent_where_empty (Geometry.MultiLineString ls) valid = envelope_of_lists ls (λ line c. there_from (length line) 1 ((multi_line_string_is_valid ls).0 valid line c))
 envelope_is_absent_where_empty (Geometry.Polygon rs) valid = envelope_of_lists rs (λ ring c. there_from (length ring) 3 (((polygon_is_valid rs).0 valid).long ring c))
 envelope_is_absent_where_empty (Geometry.MultiPolygon es) valid = envelope_of_lists (joined_rings es)

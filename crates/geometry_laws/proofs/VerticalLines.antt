@@ -8,6 +8,7 @@ use Rattle.geometry_model.specs.Crossings.{exactly_one, reaches, spans, side_rig
 use Rattle.basics.proofs.Ring.{solve, var, lit, ◌⊕◌, ◌⊖◌, ◌⊗◌}
 use Rattle.basics.proofs.Quotients.{at_most_scaled}
 use Rattle.basics.proofs.Signs.{cancel_zero}
+use Rattle.basics.proofs.Orders.{no_difference, gap_none, gap_positive}
 use Rattle.geometry_laws.specs.CoverLaws.{IsStraightOver, IsLower}
 use Rattle.geometry_laws.proofs.LineSides.{side_turned}
 use Rattle.geometry_laws.proofs.Hulls.{on_parts}
@@ -19,12 +20,9 @@ pub straight_back : (p q : Point) → IsStraightOver p q → IsStraightOver q p
 straight_back p q e = sym e
 
 pub straight_through : (p q r : Point) → IsPoint q → IsStraightOver p q → IsStraightOver q r → IsStraightOver p r
-straight_through p q r hq e f = same (p.X *ℤ r.W) (r.X *ℤ p.W) (cancel_zero q.W (p.X *ℤ r.W -ℤ r.X *ℤ p.W) hq
+straight_through p q r hq e f = no_difference (p.X *ℤ r.W) (r.X *ℤ p.W) (cancel_zero q.W (p.X *ℤ r.W -ℤ r.X *ℤ p.W) hq
     (solve (p.X ∷ p.W ∷ q.W ∷ r.X ∷ r.W ∷ []) (var 2 ⊗ (var 0 ⊗ var 4 ⊖ var 3 ⊗ var 1)) ((var 0 ⊗ var 2) ⊗ var 4 ⊖ (var 3 ⊗ var 2) ⊗ var 1) tt
     ∙ ap₂ (λ (s t : ℤ). s *ℤ r.W -ℤ t *ℤ p.W) e (sym f) ∙ solve (q.X ∷ p.W ∷ r.W ∷ []) ((var 0 ⊗ var 1) ⊗ var 2 ⊖ (var 0 ⊗ var 2) ⊗ var 1) (lit (pos 0)) tt))
-  where
-    same : (x y : ℤ) → x -ℤ y ≡ pos 0 → x ≡ y
-    same x y e = omega (arith, ints)
 
 -- ---- which edges span a point depends on its vertical line alone
 reaches_along : (a : Position) (p q : Point) → IsPoint p → IsPoint q → IsStraightOver p q → reaches a p ≡ reaches a q
@@ -44,11 +42,8 @@ straight_side a b p q = solve (a.x ∷ a.y ∷ b.x ∷ b.y ∷ p.X ∷ p.Y ∷ p
     ⊕ ((var 2 ⊖ var 0) ⊗ (var 8 ⊗ var 6 ⊖ var 5 ⊗ var 9) ⊖ (var 3 ⊖ var 1) ⊗ (var 7 ⊗ var 6 ⊖ var 4 ⊗ var 9))) tt
 
 pub side_along : (a b : Position) (p q : Point) → IsStraightOver p q → side a b q *ℤ p.W ≡ side a b p *ℤ q.W +ℤ (b.x -ℤ a.x) *ℤ up p q
-side_along a b p q e = straight_side a b p q ∙ ap (λ (z : ℤ). side a b p *ℤ q.W +ℤ ((b.x -ℤ a.x) *ℤ up p q -ℤ (b.y -ℤ a.y) *ℤ z)) (none (p.X *ℤ q.W) (q.X *ℤ p.W) e)
+side_along a b p q e = straight_side a b p q ∙ ap (λ (z : ℤ). side a b p *ℤ q.W +ℤ ((b.x -ℤ a.x) *ℤ up p q -ℤ (b.y -ℤ a.y) *ℤ z)) (gap_none (p.X *ℤ q.W) (q.X *ℤ p.W) e)
     ∙ solve ((side a b p *ℤ q.W) ∷ ((b.x -ℤ a.x) *ℤ up p q) ∷ (b.y -ℤ a.y) ∷ []) (var 0 ⊕ (var 1 ⊖ var 2 ⊗ lit (pos 0))) (var 0 ⊕ var 1) tt
-  where
-    none : (x y : ℤ) → x ≡ y → y -ℤ x ≡ pos 0
-    none x y e = omega (arith, ints)
 
 pub rightward_along : (g : Edge) (p q : Point) → IsStraightOver p q → side_rightward g q *ℤ p.W ≡ side_rightward g p *ℤ q.W +ℤ breadth g *ℤ up p q
 rightward_along g p q e = go (int_le g.start.x g.end.x)
@@ -70,10 +65,7 @@ rightward_on g z k = go (int_le g.start.x g.end.x)
 
 -- ---- lower and higher as a difference
 pub up_positive : (p q : Point) → IsLower p q → pos 0 <ℤ up p q
-up_positive p q h = apart (p.Y *ℤ q.W) (q.Y *ℤ p.W) h
-  where
-    apart : (x y : ℤ) → x <ℤ y → pos 0 <ℤ (y -ℤ x)
-    apart x y h = omega (arith, ints)
+up_positive p q h = gap_positive (p.Y *ℤ q.W) (q.Y *ℤ p.W) h
 
 pub lower_from_up : (p q : Point) → up p q <ℤ pos 0 → IsLower q p
 lower_from_up p q h = apart (p.Y *ℤ q.W) (q.Y *ℤ p.W) h

@@ -1,5 +1,6 @@
 -- Where a view straight up or straight down ends, just those edges are strictly above that are above the point looked from.
 use Rattle.std.proofs.Common.{ℤ, pos, ◌+ℤ◌, ◌*ℤ◌, ◌≤ℤ◌, ◌<ℤ◌, int_lt, int_le, ◌≡◌, ◌⊎◌, inl, inr, Bool, true, false, ◌&&◌, refl, sym, ap, ap₂, ◌∙◌, [], ◌∷◌, arith}
+use Rattle.std.proofs.lemmas.Bool.{and_from}
 use borrow.Author.Differences.{ints}
 use Rattle.geometry_model.specs.Points.{Position, Point, IsPoint, point_at}
 use Rattle.geometry_model.specs.Geometries.{Edge, Geometry, edges, listed}
@@ -10,27 +11,26 @@ use Rattle.geometry_model.specs.Labels.{above, below}
 use Rattle.basics.proofs.Ring.{solve, var, ◌⊗◌}
 use Rattle.basics.proofs.Signs.{strict_plus_plus, plus_plus, cancel_positive, cancel_negative, at_most_or_less, less_yes, less_no, less_from, at_most_yes, at_most_no, zero_times}
 use Rattle.basics.proofs.Quotients.{less_scaled}
+use Rattle.basics.proofs.Orders.{same_not_less, weak_positive}
+use Rattle.basics.proofs.Bools.{not_both, by_contraries}
 use Rattle.geometry_laws.specs.PieceLaws.{IsOff}
 use Rattle.geometry_laws.specs.CoverLaws.{IsStraightOver, IsLower}
 use Rattle.geometry_laws.proofs.Each.{each_map}
 use Rattle.geometry_laws.proofs.RingParity.{each_from_all, position_is_point}
 use Rattle.geometry_laws.proofs.CoverTheorems.{all_from_each, over_straight}
-use Rattle.geometry_laws.proofs.Scaling.{and_from, same_x, same_y}
+use Rattle.geometry_laws.proofs.Scaling.{same_x, same_y}
 use Rattle.geometry_laws.proofs.Nudge.{breadth, breadth_positive}
 use Rattle.geometry_laws.proofs.LineOrder.{up}
-use Rattle.geometry_laws.proofs.Locating.{Off, locate_off, by_contraries}
+use Rattle.geometry_laws.proofs.Locating.{Off, locate_off}
 use Rattle.geometry_laws.proofs.SideTriangles.{below_from, above_from}
 use Rattle.geometry_laws.proofs.First.{over_point, over_is_point, over_on, over_higher}
 use Rattle.geometry_laws.specs.FaceLaws.{IsOnTheWayUp, IsOnTheWayDown, SeesUp, SeesDown}
 use Rattle.geometry_laws.proofs.VerticalLines.{straight_through, spans_along, rightward_along, rightward_on, up_positive, lower_from_up}
 
 -- ---- over plain numbers: r w = s v + b u, with denominators v and w above 0
-weak : (z : ℤ) → pos 0 <ℤ z → pos 0 ≤ℤ z
-weak z l = omega (arith, ints)
-
 -- where s is at least 0 and b and u are above 0, r is above 0
 grows : (r w s v b u : ℤ) → r *ℤ w ≡ s *ℤ v +ℤ b *ℤ u → pos 0 <ℤ w → pos 0 <ℤ v → pos 0 <ℤ b → pos 0 <ℤ u → pos 0 ≤ℤ s → pos 0 <ℤ r
-grows r w s v b u e hw hv hb hu hs = cancel_positive w r (weak w hw) (turned (more (r *ℤ w) (s *ℤ v) (b *ℤ u) e (plus_plus s v hs (weak v hv)) (strict_plus_plus b u hb hu)))
+grows r w s v b u e hw hv hb hu hs = cancel_positive w r (weak_positive w hw) (turned (more (r *ℤ w) (s *ℤ v) (b *ℤ u) e (plus_plus s v hs (weak_positive v hv)) (strict_plus_plus b u hb hu)))
   where
     more : (x y z : ℤ) → x ≡ y +ℤ z → pos 0 ≤ℤ y → pos 0 <ℤ z → pos 0 <ℤ x
     more x y z e h k = omega (arith, ints)
@@ -40,13 +40,10 @@ grows r w s v b u e hw hv hb hu hs = cancel_positive w r (weak w hw) (turned (mo
 
 -- where r is 0 and s and b are above 0, u is below 0
 falls : (r w s v b u : ℤ) → r *ℤ w ≡ s *ℤ v +ℤ b *ℤ u → r ≡ pos 0 → pos 0 <ℤ v → pos 0 <ℤ b → pos 0 <ℤ s → u <ℤ pos 0
-falls r w s v b u e z hv hb hs = cancel_negative b u (weak b hb) (less (r *ℤ w) (s *ℤ v) (b *ℤ u) e (zero_times r w z) (strict_plus_plus s v hs hv))
+falls r w s v b u e z hv hb hs = cancel_negative b u (weak_positive b hb) (less (r *ℤ w) (s *ℤ v) (b *ℤ u) e (zero_times r w z) (strict_plus_plus s v hs hv))
   where
     less : (x y z : ℤ) → x ≡ y +ℤ z → x ≡ pos 0 → pos 0 <ℤ y → z <ℤ pos 0
     less x y z e f h = omega (arith, ints)
-
-differ : (t : Bool) → t ≡ true → t ≡ false → ⊥
-differ t e f = let z : true ≡ false = sym e ∙ f in absurd cc
 
 -- ---- straight up
 -- an edge strictly above s that isn't strictly above m has a point on the way
@@ -57,7 +54,7 @@ up_alike e s m hs hm str low clear = go (spans e s) refl
     same = spans_along e m s hm hs str
 
     met : strictly_above e s ≡ true → spans e s ≡ true → pos 0 ≤ℤ side_rightward e m → ⊥
-    met f h k = differ (on e (over_point e s)) (over_on e s hs f) (clear (over_point e s) (over_is_point e s hs f) (record {
+    met f h k = not_both (on e (over_point e s)) (over_on e s hs f) (clear (over_point e s) (over_is_point e s hs f) (record {
       straight = over_straight e s;
       higher = over_higher e s hs f;
       not_past = λ l. past (grows (side_rightward e (over_point e s)) m.W (side_rightward e m) (over_point e s).W (breadth e) (up m (over_point e s))
@@ -69,7 +66,7 @@ up_alike e s m hs hm str low clear = go (spans e s) refl
         past {r} h e = omega (arith, ints, h, e)
 
     tests : spans e s ≡ true → (side_rightward e s <ℤ pos 0) ⊎ (pos 0 ≤ℤ side_rightward e s) → int_lt (side_rightward e m) (pos 0) ≡ int_lt (side_rightward e s) (pos 0)
-    tests h (inr k) = less_no (side_rightward e m) (pos 0) (weak (side_rightward e m) (grows (side_rightward e m) s.W (side_rightward e s) m.W (breadth e) (up s m) (rightward_along e s m (sym str)) hs hm (breadth_positive e s hs h) (up_positive s m low) k))
+    tests h (inr k) = less_no (side_rightward e m) (pos 0) (weak_positive (side_rightward e m) (grows (side_rightward e m) s.W (side_rightward e s) m.W (breadth e) (up s m) (rightward_along e s m (sym str)) hs hm (breadth_positive e s hs h) (up_positive s m low) k))
         ∙ sym (less_no (side_rightward e s) (pos 0) k)
     tests h (inl k) = below_too (at_most_or_less (pos 0) (side_rightward e m)) ∙ sym (less_yes (side_rightward e s) (pos 0) k)
       where
@@ -97,7 +94,7 @@ down_alike e s m hs hm str low clear = go (spans e s) refl
     above_less x y h k = omega (arith, ints)
 
     met : strictly_above e m ≡ true → spans e m ≡ true → pos 0 <ℤ side_rightward e s → ⊥
-    met f h k = differ (on e (over_point e m)) (over_on e m hm f) (clear (over_point e m) (over_is_point e m hm f) (record {
+    met f h k = not_both (on e (over_point e m)) (over_on e m hm f) (clear (over_point e m) (over_is_point e m hm f) (record {
       straight = straight_through (over_point e m) m s hm (over_straight e m) str;
       lower = lower_from_up s (over_point e m) (falls (side_rightward e (over_point e m)) s.W (side_rightward e s) (over_point e m).W (breadth e) (up s (over_point e m))
           (rightward_along e s (over_point e m) (sym (straight_through (over_point e m) m s hm (over_straight e m) str))) (rightward_on e (over_point e m) (over_on e m hm f)) (over_is_point e m hm f) (breadth_positive e m hm h) k);
@@ -132,22 +129,19 @@ same_is_lower p q r hp hq e h = less_from (p.Y *ℤ r.W) (r.Y *ℤ p.W) (sym (le
     (solve (r.Y ∷ p.W ∷ q.W ∷ []) (var 2 ⊗ (var 0 ⊗ var 1)) (var 1 ⊗ (var 0 ⊗ var 2)) tt)
     ∙ less_scaled p.W (q.Y *ℤ r.W) (r.Y *ℤ q.W) hp ∙ less_yes (q.Y *ℤ r.W) (r.Y *ℤ q.W) h)
 
-no_more : (x y : ℤ) → x ≡ y → x <ℤ y → ⊥
-no_more x y e h = omega (arith, ints)
-
 -- a position where m is would be on the way
 up_away : (s m : Point) → IsPoint s → IsPoint m → IsStraightOver m s → IsLower s m → (a : Position) → (IsOnTheWayUp s m (point_at a) → ⊥) → is_at m a ≡ false
 up_away s m hs hm str low a clear = by_contraries (is_at m a) false (λ h. absurd (clear (record {
   straight = straight_through (point_at a) m s hm (same_x (point_at a) m h) str;
   higher = lower_than_same (point_at a) m s (position_is_point a) hm (same_y (point_at a) m h) low;
-  not_past = λ l. no_more (m.Y *ℤ pos 1) (a.y *ℤ m.W) (sym (same_y (point_at a) m h)) l;
+  not_past = λ l. same_not_less (m.Y *ℤ pos 1) (a.y *ℤ m.W) (sym (same_y (point_at a) m h)) l;
 }))) refl
 
 down_away : (s m : Point) → IsPoint s → IsPoint m → IsStraightOver m s → IsLower m s → (a : Position) → (IsOnTheWayDown s m (point_at a) → ⊥) → is_at m a ≡ false
 down_away s m hs hm str low a clear = by_contraries (is_at m a) false (λ h. absurd (clear (record {
   straight = straight_through (point_at a) m s hm (same_x (point_at a) m h) str;
   lower = same_is_lower (point_at a) m s (position_is_point a) hm (same_y (point_at a) m h) low;
-  not_past = λ l. no_more (a.y *ℤ m.W) (m.Y *ℤ pos 1) (same_y (point_at a) m h) l;
+  not_past = λ l. same_not_less (a.y *ℤ m.W) (m.Y *ℤ pos 1) (same_y (point_at a) m h) l;
 }))) refl
 
 self : (x : ℤ) → x <ℤ x → ⊥

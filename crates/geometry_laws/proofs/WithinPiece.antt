@@ -3,6 +3,7 @@ use Rattle.std.proofs.Common.{ℤ, pos, ◌+ℤ◌, ◌-ℤ◌, ◌*ℤ◌, ◌�
 use borrow.Author.Differences.{ints}
 use Rattle.std.specs.Ordering.{int_eq}
 use Rattle.std.specs.declared.cmp.Ordering.TheVariants.{Less}
+use Rattle.std.proofs.lemmas.Bool.{and_parts, or_left, or_right}
 use Rattle.geometry_model.specs.Points.{Position, Point, IsPoint, point_at, compare}
 use Rattle.geometry_model.specs.Geometries.{Edge, Geometry, edges, edges_of_lines, listed, rings, joined_rings}
 use Rattle.geometry_model.specs.Sides.{side, on, on_one_line}
@@ -16,19 +17,20 @@ use Rattle.geometry_model.specs.declared.point_sets.Location.TheVariants.{Interi
 use Rattle.basics.proofs.Ring.{solve, var, lit, ◌⊕◌, ◌⊖◌, ◌⊗◌}
 use Rattle.basics.proofs.Signs.{zero_product, three_ways, less_yes, less_no, at_most_yes, at_most_no}
 use Rattle.basics.proofs.Tests.{equal_from, equal_yes, equal_no, not_equal_from}
+use Rattle.basics.proofs.Bools.{by_contraries}
+use Rattle.basics.proofs.Orders.{weak_positive, same_from_gap, zero_not_positive}
 use Rattle.geometry_laws.specs.RingLaws.{IsClosed}
 use Rattle.geometry_laws.specs.PieceLaws.{Inside}
 use Rattle.geometry_laws.proofs.Plane.{right}
 use Rattle.geometry_laws.proofs.Each.{Each, Among, each_of, same_any, none_passes, parity, odd_count, same_parity, parity_xor}
-use Rattle.geometry_laws.proofs.Scaling.{and_parts}
 use Rattle.geometry_laws.proofs.LeftToRight.{reaches_means, not_reaches_means, right_trans_last}
 use Rattle.geometry_laws.proofs.Identities.{right_turned}
 use Rattle.geometry_laws.proofs.Hulls.{OnHull, on_from_hull, hull_from_on}
 use Rattle.geometry_laws.proofs.RingParity.{side_is_area, reaches_is, position_is_point, Step, parity_by_steps, parity_of_rings, rightward_left, rightward_right}
-use Rattle.geometry_laws.proofs.Locating.{all_ends_even, by_contraries}
+use Rattle.geometry_laws.proofs.Locating.{all_ends_even}
 use Rattle.geometry_laws.proofs.Triangles.{dot_coordinate}
 use Rattle.geometry_laws.proofs.LineOrder.{up, Lex, lex_of_less, lex_weak, IsSum, on_sum, x_across, y_across, w_across, drop_area}
-use Rattle.geometry_laws.proofs.Cuts.{Ends, contains_of_among, OneLine, one_line, off_within, rightward_on_line, step_within, same_on, Apart, apart, start_is_cut, end_is_cut, inside_on_line, hull_of_start, hull_of_end, or_first, or_last}
+use Rattle.geometry_laws.proofs.Cuts.{Ends, contains_of_among, OneLine, one_line, off_within, rightward_on_line, step_within, same_on, Apart, apart, start_is_cut, end_is_cut, inside_on_line, hull_of_start, hull_of_end}
 
 -- ---- what is at a point within
 -- a listed position is a cut, so none is at a point strictly within a piece
@@ -38,8 +40,8 @@ no_position_within es ps c h x i a m = by_contraries (is_at x a) false (λ k. ab
 -- and so is an end of an edge
 no_end_within : (es : List Edge) (ps : List Position) (c : Piece) (h : IsPiece es ps c) (x : Point) → Inside es ps c h x → (g : Edge) → Among g es → (is_at x g.start ≡ false) × (is_at x g.end ≡ false)
 no_end_within es ps c h x i g m = (
-  by_contraries (is_at x g.start) false (λ k. absurd (h.neighbours x i.is_point i.is_on (AtEnd i.is_point g (contains_of_among g es m) (or_first (is_at x g.start) (is_at x g.end) k)) i.after i.before)) refl,
-  by_contraries (is_at x g.end) false (λ k. absurd (h.neighbours x i.is_point i.is_on (AtEnd i.is_point g (contains_of_among g es m) (or_last (is_at x g.start) (is_at x g.end) k)) i.after i.before)) refl,
+  by_contraries (is_at x g.start) false (λ k. absurd (h.neighbours x i.is_point i.is_on (AtEnd i.is_point g (contains_of_among g es m) (or_left (is_at x g.start) (is_at x g.end) k)) i.after i.before)) refl,
+  by_contraries (is_at x g.end) false (λ k. absurd (h.neighbours x i.is_point i.is_on (AtEnd i.is_point g (contains_of_among g es m) (or_right (is_at x g.start) (is_at x g.end) k)) i.after i.before)) refl,
 )
 
 -- the edges and listed positions of a geometry are among all
@@ -123,15 +125,12 @@ sum_rightward u v x h k l a = record {
   m = right x v;
   n = right u x;
   from_k = l;
-  from_m = weak (right x v) k;
+  from_m = weak_positive (right x v) k;
   from_n = h;
   x_is = x_across u v x;
   y_is = drop_area _ _ (area u v x) (y_across u v x) a;
   w_is = w_across u v x;
 }
-  where
-    weak : (s : ℤ) → pos 0 <ℤ s → pos 0 ≤ℤ s
-    weak s h = omega (arith, ints)
 
 -- an edge that touches a point is on it: the point is between its ends, and on its line
 pub on_from_touch : (g : Edge) (x : Point) → IsPoint x → touches g x ≡ true → on g x ≡ true
@@ -178,24 +177,18 @@ by_slope a b p q = solve (a.x ∷ a.y ∷ b.x ∷ b.y ∷ p.X ∷ p.Y ∷ p.W �
 pub strictly_right : (a b : Position) (p q : Point) → (a.x ≡ b.x → ⊥) → side a b p ≡ pos 0 → side a b q ≡ pos 0 → compare p q ≡ Less → pos 0 <ℤ right p q
 strictly_right a b p q f s t l = go (lex_of_less p q l)
   where
-    same : (x y : ℤ) → y -ℤ x ≡ pos 0 → x ≡ y
-    same x y e = omega (arith, ints)
-
-    clash : (z : ℤ) → z ≡ pos 0 → pos 0 <ℤ z → ⊥
-    clash z e h = omega (arith, ints)
-
     level : right p q ≡ pos 0 → (b.x -ℤ a.x) *ℤ up p q ≡ pos 0
     level e = by_slope a b p q ∙ ap (λ (z : ℤ). (b.y -ℤ a.y) *ℤ z +ℤ (side a b q *ℤ p.W -ℤ side a b p *ℤ q.W)) e
         ∙ ap₂ (λ (y z : ℤ). (b.y -ℤ a.y) *ℤ pos 0 +ℤ (y *ℤ p.W -ℤ z *ℤ q.W)) t s
         ∙ solve (a.y ∷ b.y ∷ p.W ∷ q.W ∷ []) ((var 1 ⊖ var 0) ⊗ lit (pos 0) ⊕ (lit (pos 0) ⊗ var 2 ⊖ lit (pos 0) ⊗ var 3)) (lit (pos 0)) tt
 
     pick : (b.x -ℤ a.x ≡ pos 0) ⊎ (up p q ≡ pos 0) → up p q ≡ pos 0
-    pick (inl e) = absurd (f (same a.x b.x e))
+    pick (inl e) = absurd (f (same_from_gap a.x b.x e))
     pick (inr e) = e
 
     go : Lex (right p q) (up p q) → pos 0 <ℤ right p q
     go (inl h) = h
-    go (inr h) = absurd (clash (up p q) (pick (zero_product (b.x -ℤ a.x) (up p q) (level h.0))) h.1)
+    go (inr h) = absurd (zero_not_positive (up p q) (pick (zero_product (b.x -ℤ a.x) (up p q) (level h.0))) h.1)
 
 -- the edge of a piece that isn't vertical isn't vertical
 pub slant_edge : (es : List Edge) (ps : List Position) (c : Piece) (h : IsPiece es ps c) → Ends c → is_upright c ≡ false → h.edge.start.x ≡ h.edge.end.x → ⊥

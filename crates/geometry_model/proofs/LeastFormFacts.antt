@@ -12,6 +12,7 @@ use native.Mathlib.Nat.{mod-eq-zero_of_dvd, mul-dvd-mul_right, dvd_of_mul-dvd-mu
 use Prim.Native.Nat.{◌∣◌}
 use Rattle.basics.proofs.Ring.{solve, var, ◌⊗◌, ◌⊖◌}
 use Rattle.basics.proofs.Signs.{cancel_zero, cancel_positive}
+use Rattle.basics.proofs.Tests.{equal_yes}
 use Rattle.geometry_model.specs.Points.{Point, IsPoint, same_point, IsLeast, last_divisor, gcd, least_form}
 
 -- ---- the greatest common divisor
@@ -117,15 +118,12 @@ multiple p = record {
 cross : (x w k a b : ℤ) → x *ℤ k ≡ a → w *ℤ k ≡ b → x *ℤ b ≡ a *ℤ w
 cross x w k a b e f = ap (λ (z : ℤ). x *ℤ z) (sym f) ∙ solve (x ∷ w ∷ k ∷ []) (var 0 ⊗ (var 1 ⊗ var 2)) (var 0 ⊗ var 2 ⊗ var 1) tt ∙ ap (λ (z : ℤ). z *ℤ w) e
 
-equal_test : (a b : ℤ) → a ≡ b → int_eq a b ≡ true
-equal_test a b e = (signed_Decides a b).1 e
-
 -- the least form is the same point, since a multiple of a triple is
 pub least_is_same : (p : Point) → same_point (least_form p) p ≡ true
 least_is_same p =
     let m = multiple p in
     let q = least_form p in
-    and_from _ _ (equal_test _ _ (cross q.X q.W (pos (divisor p)) p.X p.W m.x m.w)) (equal_test _ _ (cross q.Y q.W (pos (divisor p)) p.Y p.W m.y m.w))
+    and_from _ _ (equal_yes _ _ (cross q.X q.W (pos (divisor p)) p.X p.W m.x m.w)) (equal_yes _ _ (cross q.Y q.W (pos (divisor p)) p.Y p.W m.y m.w))
 
 -- its W is above 0, since it is so times the divisor
 pub least_is_point : (p : Point) → IsPoint p → IsPoint (least_form p)

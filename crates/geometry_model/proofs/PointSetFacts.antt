@@ -3,6 +3,7 @@ use Rattle.std.proofs.Common.{◌≡◌, ◌↔◌, Bool, true, false, List, [],
 use Rattle.std.proofs.lemmas.List.Folds.{Any-from_list_any, list_any-from_Any}
 use Rattle.std.specs.Prelude.{option_to_list}
 use Rattle.std.specs.List.{list_any}
+use Rattle.std.proofs.lemmas.Bool.{false≢true}
 use Rattle.geometry_model.specs.Points.{Position, Point}
 use Rattle.geometry_model.specs.Geometries.{Geometry, edges_of_lines, joined_rings}
 use Rattle.geometry_model.specs.Sides.{on}
@@ -29,13 +30,10 @@ not_interior_off e = cc
 not_boundary_off : Exterior ≡ Boundary → ⊥
 not_boundary_off e = cc
 
-false_is_not : false ≡ true → ⊥
-false_is_not e = cc
-
 -- points: interior exactly where the test passes
 interior_of_two : (t : Bool) (I : Type 0) → (t ≡ true) ↔ I → (one_of_two t ≡ Interior) ↔ I
 interior_of_two true I h = (λ e. h.0 refl, λ x. refl)
-interior_of_two false I h = (λ e. absurd (not_interior_off e), λ x. absurd (false_is_not (h.1 x)))
+interior_of_two false I h = (λ e. absurd (not_interior_off e), λ x. absurd (false≢true (h.1 x)))
 
 -- and never boundary
 boundary_of_two : (t : Bool) → (one_of_two t ≡ Boundary) ↔ ⊥
@@ -45,14 +43,14 @@ boundary_of_two false = (λ e. not_boundary_off e, λ x. absurd x)
 -- lines and rings: interior where the second test passes and the first one doesn't
 interior_of_three : (b i : Bool) (B I : Type 0) → (b ≡ true) ↔ B → (i ≡ true) ↔ I → (one_of_three b i ≡ Interior) ↔ (I × ¬ B)
 interior_of_three true i B I h k = (λ e. absurd (not_interior e), λ x. absurd (x.1 (h.0 refl)))
-interior_of_three false true B I h k = (λ e. (k.0 refl, λ y. false_is_not (h.1 y)), λ x. refl)
-interior_of_three false false B I h k = (λ e. absurd (not_interior_off e), λ x. absurd (false_is_not (k.1 x.0)))
+interior_of_three false true B I h k = (λ e. (k.0 refl, λ y. false≢true (h.1 y)), λ x. refl)
+interior_of_three false false B I h k = (λ e. absurd (not_interior_off e), λ x. absurd (false≢true (k.1 x.0)))
 
 -- and boundary where the first test passes
 boundary_of_three : (b i : Bool) (B : Type 0) → (b ≡ true) ↔ B → (one_of_three b i ≡ Boundary) ↔ B
 boundary_of_three true i B h = (λ e. h.0 refl, λ x. refl)
-boundary_of_three false true B h = (λ e. absurd (not_interior (sym e)), λ x. absurd (false_is_not (h.1 x)))
-boundary_of_three false false B h = (λ e. absurd (not_boundary_off e), λ x. absurd (false_is_not (h.1 x)))
+boundary_of_three false true B h = (λ e. absurd (not_interior (sym e)), λ x. absurd (false≢true (h.1 x)))
+boundary_of_three false false B h = (λ e. absurd (not_boundary_off e), λ x. absurd (false≢true (h.1 x)))
 
 -- what is neither is exterior
 exterior_of : (l : Location) (I B : Type 0) → (l ≡ Interior) ↔ I → (l ≡ Boundary) ↔ B → (l ≡ Exterior) ↔ (¬ I × ¬ B)

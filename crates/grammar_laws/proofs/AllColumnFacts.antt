@@ -1,6 +1,9 @@
 -- The columns that the asterisk lists are those of the rules, and no other list is.
 use Rattle.std.proofs.Common.{◌≡◌, ◌⊎◌, ◌<◌, inl, inr, ◌+◌, ℕ, zero, suc, List, [], ◌∷◌, ◌++◌, map, slice_get, Option, Some, None, Ok, refl, sym, ap, ap₂, subst, ◌∙◌, arith}
 use Rattle.std.specs.List.{enumerate_from, flat_map}
+use Rattle.std.proofs.lemmas.List.{map-append}
+use Rattle.std.proofs.lemmas.Option.{none-some}
+use Rattle.basics.proofs.Numbers.{one_on, from_zero, to_end}
 use Rattle.table_model.specs.Binding.{all_items, columns_of, items_of}
 use Rattle.table_model.specs.BindingRules.{Then}
 use Rattle.table_model.specs.QueryRules.{AreAllColumns, AreInOrder, IsListed, AppliesBefore}
@@ -15,18 +18,9 @@ use Rattle.grammar_laws.specs.RuleLaws.{Agrees}
 at : ℕ → ℕ → ColumnPlace
 at r c = record { reference = r; column = c }
 
-start : (n : ℕ) → n ≡ zero + n
-start n = omega arith
-
-one_on : (i n : ℕ) → i + (n + 1) ≡ suc i + n
-one_on i n = omega arith
-
 abbrev IsNone : {X : Type 0} → Option X → Type 0
 IsNone None = Unit {0}
 IsNone (Some x) = ⊥
-
-none_some : {X : Type 0} (x : X) → None ≡ Some x → ⊥
-none_some x e = subst IsNone e tt
 
 or_else : {X : Type 0} → X → Option X → X
 or_else x None = x
@@ -73,15 +67,15 @@ there_in : {T : Type 0} (r k : ℕ) (columns : List (ColumnDef T)) (v : ColumnPl
     → (v.reference ≡ r) × (i : ℕ) × (column : ColumnDef T) × (v.column ≡ i + k) × (slice_get columns i ≡ Some column)
 unfolding places_in at
 there_in r k [] v is = absurd is
-there_in r k (c ∷ columns) v (inl is) = (ap (λ (p : ColumnPlace). p.reference) (sym is), zero, c, ap (λ (p : ColumnPlace). p.column) (sym is) ∙ start k, refl)
+there_in r k (c ∷ columns) v (inl is) = (ap (λ (p : ColumnPlace). p.reference) (sym is), zero, c, ap (λ (p : ColumnPlace). p.column) (sym is) ∙ from_zero k, refl)
 there_in r k (c ∷ columns) v (inr is) =
     (let more = there_in r (k + 1) columns v is in (more.0, suc more.1, more.2, more.3 ∙ one_on more.1 k, more.4))
 
 -- and each column of the table is listed
 all_in : {T : Type 0} (r k i : ℕ) (columns : List (ColumnDef T)) (column : ColumnDef T) → slice_get columns i ≡ Some column → IsListed (places_in r k columns) (at r (i + k))
 unfolding places_in at
-all_in r k i [] column is = absurd (none_some column is)
-all_in r k zero (c ∷ columns) column is = inl (ap (at r) (start k))
+all_in r k i [] column is = absurd (none-some column is)
+all_in r k zero (c ∷ columns) column is = inl (ap (at r) (from_zero k))
 all_in r k (suc i) (c ∷ columns) column is = inr (subst (λ n. IsListed (places_in r (k + 1) columns) (at r n)) (one_on i k) (all_in r (k + 1) i columns column is))
 
 -- in the order of the table
@@ -110,7 +104,7 @@ there_of {T} schema k (reference ∷ references) v is = elim (listed_joined (pla
   where
     here : (v.reference ≡ k) × (i : ℕ) × (column : ColumnDef T) × (v.column ≡ i + 0) × (slice_get (columns_of schema reference) i ≡ Some column)
         → (i : ℕ) × (r : Reference) × (column : ColumnDef T) × (v.reference ≡ i + k) × (slice_get (reference ∷ references) i ≡ Some r) × (slice_get (columns_of schema r) v.column ≡ Some column)
-    here own = (zero, reference, own.2, own.0 ∙ start k, refl, subst (λ n. slice_get (columns_of schema reference) n ≡ Some own.2) (end own.1 ∙ sym own.3) own.4)
+    here own = (zero, reference, own.2, own.0 ∙ from_zero k, refl, subst (λ n. slice_get (columns_of schema reference) n ≡ Some own.2) (end own.1 ∙ sym own.3) own.4)
       where
         end : (n : ℕ) → n ≡ n + 0
         end n = omega arith
@@ -119,15 +113,12 @@ there_of {T} schema k (reference ∷ references) v is = elim (listed_joined (pla
 all_of : {T : Type 0} (schema : List (TableDef T)) (k i c : ℕ) (references : List Reference) (reference : Reference) (column : ColumnDef T) → slice_get references i ≡ Some reference
     → slice_get (columns_of schema reference) c ≡ Some column → IsListed (places_of schema k references) (at (i + k) c)
 unfolding places_of or_else
-all_of schema k i c [] reference column is too = absurd (none_some reference is)
+all_of schema k i c [] reference column is too = absurd (none-some reference is)
 all_of {T} schema k zero c (first ∷ references) reference column is too =
-    subst (λ n. IsListed (places_in k 0 (columns_of schema first) ++ places_of schema (k + 1) references) (at n c)) (start k)
-    (listed_left (places_in k 0 (columns_of schema first)) (places_of schema (k + 1) references) (at k c) (subst (λ n. IsListed (places_in k 0 (columns_of schema first)) (at k n)) (sym (end c))
+    subst (λ n. IsListed (places_in k 0 (columns_of schema first) ++ places_of schema (k + 1) references) (at n c)) (from_zero k)
+    (listed_left (places_in k 0 (columns_of schema first)) (places_of schema (k + 1) references) (at k c) (subst (λ n. IsListed (places_in k 0 (columns_of schema first)) (at k n)) (sym (to_end c))
     (all_in k 0 c (columns_of schema first) column (subst (λ (r : Reference). slice_get (columns_of schema r) c ≡ Some column) (sym (same is)) too))))
   where
-    end : (n : ℕ) → n ≡ n + 0
-    end n = omega arith
-
     same : Some first ≡ Some reference → first ≡ reference
     same e = ap (or_else first) e
 all_of schema k (suc i) c (first ∷ references) reference column is too =
@@ -150,13 +141,10 @@ all_columns : {T : Type 0} (schema : List (TableDef T)) (references : List Refer
 unfolding at
 all_columns {T} schema references = record {
   there = λ v is. let is_there = there_of schema 0 references v is in
-      (is_there.1, is_there.2, subst (λ n. slice_get references n ≡ Some is_there.1) (end is_there.0 ∙ sym is_there.3) is_there.4, is_there.5);
-  all = λ v is. subst (λ n. IsListed (places_of schema 0 references) (at n v.column)) (sym (end v.reference)) (all_of schema 0 v.reference v.column references is.0 is.1 is.2 is.3);
+      (is_there.1, is_there.2, subst (λ n. slice_get references n ≡ Some is_there.1) (to_end is_there.0 ∙ sym is_there.3) is_there.4, is_there.5);
+  all = λ v is. subst (λ n. IsListed (places_of schema 0 references) (at n v.column)) (sym (to_end v.reference)) (all_of schema 0 v.reference v.column references is.0 is.1 is.2 is.3);
   in_order = order_of schema 0 references;
 }
-  where
-    end : (n : ℕ) → n ≡ n + 0
-    end n = omega arith
 
 -- ---- no other list is
 
@@ -206,10 +194,6 @@ one_order (x ∷ xs) (y ∷ ys) are too to from = ap₂ (λ v vs. v ∷ vs) firs
 
 -- ---- agreement
 
-map_joined : {X Y : Type 0} (f : X → Y) (xs ys : List X) → map f (xs ++ ys) ≡ map f xs ++ map f ys
-map_joined f [] ys = refl
-map_joined f (x ∷ xs) ys = ap (λ zs. f x ∷ zs) (map_joined f xs ys)
-
 items_in : {T D : Type 0} → ℕ → ℕ → List (ColumnDef T) → List (Item D)
 items_in r k columns = map (λ c. items.Column (at r c.0)) (enumerate_from k columns)
 
@@ -226,7 +210,7 @@ unfolding places_of items_in at
 items_are schema k [] = refl
 items_are schema k (reference ∷ references) =
     ap₂ (λ is more. is ++ more) (own_items k 0 (columns_of schema reference)) (items_are schema (k + 1) references)
-    ∙ sym (map_joined items.Column (places_in k 0 (columns_of schema reference)) (places_of schema (k + 1) references))
+    ∙ sym (map-append items.Column (places_in k 0 (columns_of schema reference)) (places_of schema (k + 1) references))
 
 -- the asterisk is bound to a list that the rules allow, and they allow just one
 pub all_agree : {T D : Type 0} (schema : List (TableDef T)) (references : List Reference)

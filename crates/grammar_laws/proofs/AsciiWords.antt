@@ -1,6 +1,6 @@
 -- The words of a text are ASCII.
-use Rattle.std.proofs.Common.{◌≡◌, ◌⊎◌, ◌<◌, ℕ, zero, suc, ◌+◌, ◌-◌, Bool, true, false, ◌&&◌, ◌||◌, ◌==◌, cond, List, [], ◌∷◌, ◌++◌, drop, take, slice_index, Option, Some, None, inl, inr, refl, ap, ◌∙◌, arith}
-use Rattle.std.proofs.lemmas.Bool.{lt-ltb, leb-true, and_parts}
+use Rattle.std.proofs.Common.{◌≡◌, ◌<◌, ℕ, zero, suc, ◌+◌, ◌-◌, Bool, true, false, ◌&&◌, ◌==◌, cond, List, [], ◌∷◌, ◌++◌, drop, take, slice_index, Option, Some, None, inl, inr, refl, ap, ◌∙◌, arith}
+use Rattle.std.proofs.lemmas.Bool.{lt-ltb, leb-true, and_parts, or_cases}
 use Rattle.std.specs.Char.{is_ascii_digit, is_ascii_alphabetic}
 use Rattle.std.specs.Int.{is_in_range}
 use Rattle.std.specs.List.{prefix_len}
@@ -26,23 +26,19 @@ words_behind (t ∷ a) b h = words_behind a b h.1
 
 -- ---- the bytes of a word
 
-one_of : (a b : Bool) → (a || b) ≡ true → (a ≡ true) ⊎ (b ≡ true)
-one_of true b h = inl refl
-one_of false b h = inr h
-
 -- the bytes up to one below 128 are ASCII
 in_range : (low high b : ℕ) → high < 128 → is_in_range low high b ≡ true → b < 128
 in_range low high b few h = omega (arith, leb-true b high (and_parts _ _ h).1)
 
 -- letters are ASCII, and so are all bytes that begin a word or go on with it: _ and the digits
 letter : (b : ℕ) → is_ascii_alphabetic b ≡ true → b < 128
-letter b h = elim (one_of _ _ h) [ inl upper ↦ in_range 65 90 b (omega arith) upper | inr lower ↦ in_range 97 122 b (omega arith) lower ]
+letter b h = elim (or_cases _ _ h) [ inl upper ↦ in_range 65 90 b (omega arith) upper | inr lower ↦ in_range 97 122 b (omega arith) lower ]
 
 begins_ascii : (b : ℕ) → begins_word b ≡ true → b < 128
-begins_ascii b h = elim (one_of _ _ h) [ inl is ↦ letter b is | inr is ↦ grind arith ]
+begins_ascii b h = elim (or_cases _ _ h) [ inl is ↦ letter b is | inr is ↦ grind arith ]
 
 continues_ascii : (b : ℕ) → continues_word b ≡ true → b < 128
-continues_ascii b h = elim (one_of _ _ h) [ inl is ↦ begins_ascii b is | inr is ↦ in_range 48 57 b (omega arith) is ]
+continues_ascii b h = elim (or_cases _ _ h) [ inl is ↦ begins_ascii b is | inr is ↦ in_range 48 57 b (omega arith) is ]
 
 -- a byte more, where it passes
 one_more : (b : ℕ) (z : List ℕ) (n : ℕ) (passes : Bool) → (passes ≡ true → b < 128) → is_ascii (take n z) ≡ true → is_ascii (take (cond passes (1 + n) 0) (b ∷ z)) ≡ true

@@ -1,9 +1,14 @@
 -- What is bound fits the definitions.
-use Rattle.std.proofs.Common.{◌≡◌, ◌<◌, ◌+◌, ◌&&◌, inl, inr, ℕ, zero, suc, Bool, true, false, if◌then◌else◌, List, [], ◌∷◌, ◌++◌, length, map, Option, Some, None, Result, Ok, Err, IfOk, IfSome, refl, sym, ap, ap₂, subst, ◌∙◌, arith}
+use Rattle.std.proofs.Common.{◌≡◌, ◌<◌, ◌+◌, ◌&&◌, inl, inr, ℕ, zero, suc, Bool, true, false, if◌then◌else◌, List, [], ◌∷◌, ◌++◌, length, map, Option, Some, None, Result, Ok, Err, IfOk, IfSome, refl, sym, ap, ap₂, subst, ◌∙◌, arith, add-zero}
 use Rattle.std.specs.Prelude.{not, slice_get, is_some, is_none}
 use Rattle.std.specs.List.{list_all, list_any, flat_map, enumerate_from, cons_option}
 use Rattle.std.proofs.lemmas.List.Elements.{All-nil, All-cons}
 use Rattle.std.proofs.lemmas.List.Quantifiers.{position-Some}
+use Rattle.std.proofs.Math.Bool.{and-true}
+use Rattle.std.proofs.lemmas.List.Folds.{list_all-append}
+use Rattle.std.proofs.lemmas.Bool.{and_from}
+use Rattle.basics.proofs.Bools.{never}
+use Rattle.basics.proofs.Numbers.{from_zero, one_on}
 use Rattle.geometry_model.specs.declared.text_faults.TextFault.{TextFault}
 use Rattle.geometry_model.specs.declared.geometry_faults.GeometryFault.{GeometryFault}
 use Rattle.geometry_model.specs.declared.validity_faults.ValidityFault.{ValidityFault}
@@ -71,11 +76,8 @@ weaker : {X : Type 0} (r : Checked X) (P Q : X → Type 0) → ((x : X) → P x 
 weaker (Ok x) P Q to is = to x is
 weaker (Err e) P Q to is = tt
 
-both : (a b : Bool) → a ≡ true → b ≡ true → (a && b) ≡ true
-both a b p q = ap₂ (λ x y. x && y) p q
-
 front_ok : {X : Type 0} (p : X → Bool) (x : X) (r : Checked (List X)) → p x ≡ true → IfOk r (λ xs. list_all p xs ≡ true) → IfOk (and_then r (λ xs. Ok (x ∷ xs))) (λ xs. list_all p xs ≡ true)
-front_ok p x (Ok xs) is are = both (p x) (list_all p xs) is are
+front_ok p x (Ok xs) is are = and_from (p x) (list_all p xs) is are
 front_ok p x (Err e) is are = tt
 
 first_ok : {Y : Type 0} (p : Y → Bool) (first : Checked Y) (more : Checked (List Y)) → IfOk first (λ y. p y ≡ true) → IfOk more (λ ys. list_all p ys ≡ true)
@@ -100,14 +102,8 @@ named : {T : Type 0} (name : List ℕ) (all : List (ColumnDef T)) (k : ℕ) (col
 named name all k [] applies = tt
 named name all k (column ∷ columns) applies =
     if_some (same_name column.name name) (Some (k, type_of column.column_type)) (column_named name (k + 1) columns) (λ f. column_type (slice_get all f.0) ≡ Some f.1)
-    (ap (λ n. column_type (slice_get all n)) (at_start k) ∙ ap column_type (applies zero))
+    (ap (λ n. column_type (slice_get all n)) (from_zero k) ∙ ap column_type (applies zero))
     (named name all (k + 1) columns (λ i. ap (slice_get all) (one_on i k) ∙ applies (suc i)))
-  where
-    at_start : (n : ℕ) → n ≡ zero + n
-    at_start n = omega arith
-
-    one_on : (i n : ℕ) → i + (n + 1) ≡ suc i + n
-    one_on i n = omega arith
 
 abbrev pub HasType : {T : Type 0} → List (TableDef T) → List Reference → Found → Type 0
 HasType schema references found = place_type schema references found.place ≡ Some found.column_type
@@ -129,18 +125,9 @@ meant schema references w k [] applies = tt
 meant schema references w k (r ∷ rs) applies =
     each_kept (HasType schema references) (column_meant schema w k r) (columns_meant schema w (k + 1) rs)
     (if_some (refers_to w.reference r.name) (found_in k (column_named w.name.text zero (columns_of schema r))) None (HasType schema references)
-    (in_reference schema references k r (column_named w.name.text zero (columns_of schema r)) (ap (slice_get references) (at_start k) ∙ applies zero)
-    (named w.name.text (columns_of schema r) zero (columns_of schema r) (λ i. ap (slice_get (columns_of schema r)) (at_end i)))) tt)
+    (in_reference schema references k r (column_named w.name.text zero (columns_of schema r)) (ap (slice_get references) (from_zero k) ∙ applies zero)
+    (named w.name.text (columns_of schema r) zero (columns_of schema r) (λ i. ap (slice_get (columns_of schema r)) (add-zero i)))) tt)
     (meant schema references w (k + 1) rs (λ i. ap (slice_get references) (one_on i k) ∙ applies (suc i)))
-  where
-    at_start : (n : ℕ) → n ≡ zero + n
-    at_start n = omega arith
-
-    at_end : (n : ℕ) → n + zero ≡ n
-    at_end n = omega arith
-
-    one_on : (i n : ℕ) → i + (n + 1) ≡ suc i + n
-    one_on i n = omega arith
 
 -- where all columns that are meant have it, the only one has
 the_one_ok : (P : Found → Type 0) (at : ℕ) (fs : List Found) → Each P fs → IfOk (the_one at fs) P
@@ -152,10 +139,7 @@ the_one_ok P at (f ∷ g ∷ fs) are = tt
 pub column_ok : {T : Type 0} (schema : List (TableDef T)) (references : List Reference) (w : WrittenColumn) → IfOk (bound_column schema references w) (HasType schema references)
 column_ok schema references w =
     the_one_ok (HasType schema references) (name_start w.name w.reference) (columns_meant schema w zero references)
-    (meant schema references w zero references (λ i. ap (slice_get references) (at_end i)))
-  where
-    at_end : (n : ℕ) → n + zero ≡ n
-    at_end n = omega arith
+    (meant schema references w zero references (λ i. ap (slice_get references) (add-zero i)))
 
 -- ---- conditions
 
@@ -204,16 +188,8 @@ list_all_mapped : {X : Type 0} (p : X → Bool) (xs : List X) → list_all (λ b
 list_all_mapped p [] = refl
 list_all_mapped p (x ∷ xs) = ap (λ b. p x && b) (list_all_mapped p xs)
 
-associates : (a b c : Bool) → (a && (b && c)) ≡ ((a && b) && c)
-associates true b c = refl
-associates false b c = refl
-
-all_split : {X : Type 0} (p : X → Bool) (xs ys : List X) → list_all p (xs ++ ys) ≡ (list_all p xs && list_all p ys)
-all_split p [] ys = refl
-all_split p (x ∷ xs) ys = ap (λ b. p x && b) (all_split p xs ys) ∙ associates (p x) (list_all p xs) (list_all p ys)
-
 all_joined : {X : Type 0} (p : X → Bool) (xs ys : List X) → list_all p xs ≡ true → list_all p ys ≡ true → list_all p (xs ++ ys) ≡ true
-all_joined p xs ys are too = all_split p xs ys ∙ both (list_all p xs) (list_all p ys) are too
+all_joined p xs ys are too = list_all-append p xs ys ∙ and_from (list_all p xs) (list_all p ys) are too
 
 -- the conditions of a query
 cond_ok : {T A B C D : Type 0} (how : GeometryBinding T A B C D) (fits : GeometryFits T B D) → Fitting how fits → (schema : List (TableDef T)) (references : List Reference) (w : WrittenCond A)
@@ -245,7 +221,7 @@ cond_ok {T} {A} {B} {C} {D} how fits fitting schema references = by_written Fits
       (λ right right_is. any_ok (bound_predicate how.pattern predicate) _ _
       (λ p. then_ok (geometry_only at left) _ (λ x. fits.argument schema references x ≡ true) _ (geometry_ok (fits.argument schema references) at left left_is)
       (λ x fit_x. then_ok (geometry_only at right) _ (λ y. fits.argument schema references y ≡ true) _ (geometry_ok (fits.argument schema references) at right right_is)
-      (λ y fit_y. cond_folds.fold-Relates B Bool fit_step p x y ∙ both (fits.argument schema references x) (fits.argument schema references y) fit_x fit_y))))));
+      (λ y fit_y. cond_folds.fold-Relates B Bool fit_step p x y ∙ and_from (fits.argument schema references x) (fits.argument schema references y) fit_x fit_y))))));
 })
   where
     step : WrittenCond-F A (Checked (Cond B)) → Checked (Cond B)
@@ -271,17 +247,13 @@ cond_ok {T} {A} {B} {C} {D} how fits fitting schema references = by_written Fits
 
 -- ---- conjuncts
 
-single : (b : Bool) → (b && true) ≡ b
-single true = refl
-single false = refl
-
 alone : {A : Type 0} (p : Cond A → Bool) (c : Cond A) → conjuncts_of c ≡ c ∷ [] → list_all p (conjuncts_of c) ≡ p c
-alone p c is = ap (list_all p) is ∙ single (p c)
+alone p c is = ap (list_all p) is ∙ and-true (p c)
 
 -- where it is so with each part, the conjuncts of all parts pass where the parts do
 all_in : {A : Type 0} (p : Cond A → Bool) (parts : List (Cond A)) → Each (λ c. list_all p (conjuncts_of c) ≡ p c) parts → list_all p (flat_map conjuncts_of parts) ≡ list_all p parts
 all_in p [] are = refl
-all_in p (c ∷ parts) are = all_split p (conjuncts_of c) (flat_map conjuncts_of parts) ∙ ap₂ (λ a b. a && b) are.0 (all_in p parts are.1)
+all_in p (c ∷ parts) are = list_all-append p (conjuncts_of c) (flat_map conjuncts_of parts) ∙ ap₂ (λ a b. a && b) are.0 (all_in p parts are.1)
 
 -- a test of conditions that an AND passes where its parts do is passed by the conjuncts where the condition passes it
 conjuncts_pass : {A : Type 0} (p : Cond A → Bool) → ((parts : List (Cond A)) → p (conds.And parts) ≡ list_all p parts) → (c : Cond A) → list_all p (conjuncts_of c) ≡ p c
@@ -333,15 +305,9 @@ in_columns : {T A D : Type 0} (fits : GeometryFits T A D) (schema : List (TableD
     → list_all (item_fits fits schema references) (map (λ c. items.Column (record { reference = k; column = c.0 })) (enumerate_from j columns)) ≡ true
 in_columns fits schema references k r is j [] applies = refl
 in_columns fits schema references k r is j (column ∷ columns) applies =
-    both _ _
-    (ap (λ o. is_some (column_type (slice_get (reference_columns schema o) j))) is ∙ ap (λ n. is_some (column_type (slice_get (columns_of schema r) n))) (at_start j) ∙ ap (λ o. is_some (column_type o)) (applies zero))
+    and_from _ _
+    (ap (λ o. is_some (column_type (slice_get (reference_columns schema o) j))) is ∙ ap (λ n. is_some (column_type (slice_get (columns_of schema r) n))) (from_zero j) ∙ ap (λ o. is_some (column_type o)) (applies zero))
     (in_columns fits schema references k r is (j + 1) columns (λ i. ap (slice_get (columns_of schema r)) (one_on i j) ∙ applies (suc i)))
-  where
-    at_start : (n : ℕ) → n ≡ zero + n
-    at_start n = omega arith
-
-    one_on : (i n : ℕ) → i + (n + 1) ≡ suc i + n
-    one_on i n = omega arith
 
 -- so all that the asterisk lists is there, reference by reference
 in_references : {T A D : Type 0} (fits : GeometryFits T A D) (schema : List (TableDef T)) (references : List Reference) (k : ℕ) (rs : List Reference) → ((i : ℕ) → slice_get references (i + k) ≡ slice_get rs i)
@@ -349,34 +315,14 @@ in_references : {T A D : Type 0} (fits : GeometryFits T A D) (schema : List (Tab
 in_references fits schema references k [] applies = refl
 in_references fits schema references k (r ∷ rs) applies =
     all_joined (item_fits fits schema references) (items_of k (columns_of schema r)) (flat_map (λ r. items_of r.0 (columns_of schema r.1)) (enumerate_from (k + 1) rs))
-    (in_columns fits schema references k r (ap (slice_get references) (at_start k) ∙ applies zero) zero (columns_of schema r) (λ i. ap (slice_get (columns_of schema r)) (at_end i)))
+    (in_columns fits schema references k r (ap (slice_get references) (from_zero k) ∙ applies zero) zero (columns_of schema r) (λ i. ap (slice_get (columns_of schema r)) (add-zero i)))
     (in_references fits schema references (k + 1) rs (λ i. ap (slice_get references) (one_on i k) ∙ applies (suc i)))
-  where
-    at_start : (n : ℕ) → n ≡ zero + n
-    at_start n = omega arith
-
-    at_end : (n : ℕ) → n + zero ≡ n
-    at_end n = omega arith
-
-    one_on : (i n : ℕ) → i + (n + 1) ≡ suc i + n
-    one_on i n = omega arith
-
-OrNothing : Type 0 → Bool → Type 0
-OrNothing X true = X
-OrNothing X false = Unit {0}
-
-never : {X : Type 0} → false ≡ true → X
-unfolding OrNothing
-never {X} e = subst (OrNothing X) e tt
 
 -- the items of a select list fit, and a count lists none
 items_ok : {T A B C D : Type 0} (how : GeometryBinding T A B C D) (fits : GeometryFits T B D) → Fitting how fits → (schema : List (TableDef T)) (references : List Reference) (s : Selection C)
     → IfOk (bound_items how schema references s) (λ listed. (list_all (item_fits fits schema references) listed ≡ true) × (counts s ≡ true → listed ≡ []))
 items_ok how fits fitting schema references selections.All =
-    (in_references fits schema references zero references (λ i. ap (slice_get references) (at_end i)), λ e. never e)
-  where
-    at_end : (n : ℕ) → n + zero ≡ n
-    at_end n = omega arith
+    (in_references fits schema references zero references (λ i. ap (slice_get references) (add-zero i)), λ e. never e)
 items_ok how fits fitting schema references (selections.Items written) =
     weaker (each (map (bound_item how schema references) written)) (λ listed. list_all (item_fits fits schema references) listed ≡ true) _ (λ listed are. (are, λ e. never e))
     (each_ok (bound_item how schema references) (item_fits fits schema references) written (every _ (item_ok how fits fitting schema references) written))

@@ -1,8 +1,10 @@
 -- What the conjuncts of a query filter.
-use Rattle.std.proofs.Common.{◌≡◌, ◌&&◌, if◌then◌else◌, Bool, true, false, List, [], ◌∷◌, ◌++◌, Option, Some, None, Ok, Err, refl, sym, ap, ap₂, ◌∙◌}
+use Rattle.std.proofs.Common.{◌≡◌, ◌&&◌, if◌then◌else◌, Bool, List, [], ◌∷◌, ◌++◌, Option, Some, None, Ok, Err, refl, sym, ap, ap₂, ◌∙◌}
 use Rattle.std.specs.List.{filter, flat_map, list_all}
 use Rattle.std.specs.Option.{option_to_list}
 use Rattle.std.proofs.lemmas.List.Concat.{flat_map-cons}
+use Rattle.std.proofs.lemmas.List.Folds.{list_all-append}
+use Rattle.std.proofs.Math.Bool.{and-true}
 use Rattle.geometry_model.specs.Geometries.{Geometry}
 use Rattle.geometry_model.specs.Dimensions.{Matrix}
 use Rattle.table_model.specs.Binding.{GeometryBinding, Checked, ◌>>=◌, bound_references, bound_items, bound_cond, bound_whole, bound_condition}
@@ -72,31 +74,18 @@ bound_of_statement T A B C D how schema query =
 
 -- ---- truth
 
-single : (b : Bool) → (b && true) ≡ b
-single true = refl
-single false = refl
-
--- all of two joined lists pass where all of both do
-all_joined : {X : Type 0} (p : X → Bool) (xs ys : List X) → list_all p (xs ++ ys) ≡ (list_all p xs && list_all p ys)
-all_joined p [] ys = refl
-all_joined p (x ∷ xs) ys = ap (λ b. p x && b) (all_joined p xs ys) ∙ associates (p x) (list_all p xs) (list_all p ys)
-  where
-    associates : (a b c : Bool) → (a && (b && c)) ≡ ((a && b) && c)
-    associates true b c = refl
-    associates false b c = refl
-
 -- the conjuncts of each of some conditions are true where the conditions are
 all_true_in : {A : Type 0} (value : Cond A → Truth) (parts : List (Cond A)) → Each (λ c. list_all (λ x. is_true (value x)) (conjuncts_of c) ≡ is_true (value c)) parts
     → list_all (λ x. is_true (value x)) (flat_map conjuncts_of parts) ≡ list_all (λ x. is_true (value x)) parts
 all_true_in value [] each = refl
 all_true_in value (c ∷ parts) each =
     ap (list_all (λ x. is_true (value x))) (flat_map-cons conjuncts_of c parts)
-    ∙ all_joined (λ x. is_true (value x)) (conjuncts_of c) (flat_map conjuncts_of parts)
+    ∙ list_all-append (λ x. is_true (value x)) (conjuncts_of c) (flat_map conjuncts_of parts)
     ∙ ap₂ (λ a b. a && b) each.0 (all_true_in value parts each.1)
 
 -- a condition that is its own only conjunct
 alone : {A : Type 0} (value : Cond A → Truth) (c : Cond A) → conjuncts_of c ≡ c ∷ [] → list_all (λ x. is_true (value x)) (conjuncts_of c) ≡ is_true (value c)
-alone value c is = ap (list_all (λ x. is_true (value x))) is ∙ single (is_true (value c))
+alone value c is = ap (list_all (λ x. is_true (value x))) is ∙ and-true (is_true (value c))
 
 -- an AND is true exactly where all its parts are (SQL's three-valued logic)
 and_is_true : {A G : Type 0} (matrix : Geometry → Geometry → Matrix) (denotes : Rows G → A → Option Geometry) (rows : Rows G) (parts : List (Cond A))
@@ -122,14 +111,14 @@ conjuncts_are_true G A matrix denotes rows = by_parts (λ c. list_all (λ x. is_
 in_option : {A : Type 0} (value : Cond A → Truth) → ((c : Cond A) → list_all (λ x. is_true (value x)) (conjuncts_of c) ≡ is_true (value c)) → (o : Option (Cond A))
     → list_all (λ x. is_true (value x)) (conjuncts_in o) ≡ list_all (λ x. is_true (value x)) (option_to_list o)
 in_option value are None = refl
-in_option value are (Some c) = are c ∙ sym (single (is_true (value c)))
+in_option value are (Some c) = are c ∙ sym (and-true (is_true (value c)))
 
 -- the conjuncts of ON and those of WHERE are true where both are, and so where their AND is
 pub conjuncts_are_filtered : (G A C : Type 0) → ConjunctsAreFiltered G A C
 conjuncts_are_filtered G A C matrix denotes rows query =
-    all_joined test (conjuncts_in query.on) (conjuncts_in query.condition)
+    list_all-append test (conjuncts_in query.on) (conjuncts_in query.condition)
     ∙ ap₂ (λ a b. a && b) (in_option value (conjuncts_are_true G A matrix denotes rows) query.on) (in_option value (conjuncts_are_true G A matrix denotes rows) query.condition)
-    ∙ sym (all_joined test (option_to_list query.on) (option_to_list query.condition))
+    ∙ sym (list_all-append test (option_to_list query.on) (option_to_list query.condition))
     ∙ sym (and_is_true matrix denotes rows (option_to_list query.on ++ option_to_list query.condition))
   where
     value : Cond A → Truth

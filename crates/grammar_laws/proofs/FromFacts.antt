@@ -1,8 +1,10 @@
 -- The references that FROM is bound to agree with the rules.
-use Rattle.std.proofs.Common.{◌≡◌, ◌+◌, inl, inr, ℕ, zero, suc, Bool, true, false, cond, List, [], ◌∷◌, ◌++◌, slice_get, Option, Some, None, IfOk, IfErr, refl, sym, ap, subst, ◌∙◌, arith}
+use Rattle.std.proofs.Common.{◌≡◌, ◌+◌, inl, inr, ℕ, zero, suc, Bool, true, false, cond, List, [], ◌∷◌, ◌++◌, slice_get, Option, Some, None, IfOk, IfErr, refl, sym, ap, subst, ◌∙◌}
 use Rattle.std.proofs.lemmas.Iterator.Adapters.{position_from-zero}
 use Rattle.std.specs.Prelude.{◌||◌}
 use Rattle.std.specs.List.{list_any, position, position_from}
+use Rattle.std.proofs.lemmas.Bool.{false≢true}
+use Rattle.basics.proofs.Numbers.{one_on, from_zero, to_end}
 use Rattle.table_model.specs.Binding.{bound_reference, bound_references, name_start, named_apart, next_reference, reference_at, reference_name, references_after, table_name, table_place}
 use Rattle.table_model.specs.BindingRules.{IsFirst, IsNowhere, IsSomewhere}
 use Rattle.table_model.specs.QueryRules.{IsBoundReference, IsFrom, IsFromAfter, IsNextReference, IsRefusedAfter, IsRefusedFrom, IsRefusedNext, IsRefusedReference, IsTableNamed, IsTaken, alias_or}
@@ -14,7 +16,7 @@ use Rattle.table_model.specs.declared.queries.Name.{Name}
 use Rattle.table_model.specs.declared.queries.WrittenReference.{WrittenReference}
 use Rattle.grammar_laws.specs.RuleLaws.{Agrees, ReferencesAgree}
 use Rattle.grammar_laws.proofs.NameFacts.{agreed, first_is_one, not_nowhere, somewhere}
-use Rattle.grammar_laws.proofs.RuleFacts.{differ, pure, sequence, tested}
+use Rattle.grammar_laws.proofs.RuleFacts.{pure, sequence, tested}
 
 -- ---- the first that passes a test
 
@@ -27,9 +29,6 @@ Placed p k xs None = IsNowhere (λ y. p y ≡ true) xs
 later : {X : Type 0} (p : X → Bool) (k : ℕ) (x : X) (xs : List X) (o : Option ℕ) → (p x ≡ true → ⊥) → Placed p (k + 1) xs o → Placed p k (x ∷ xs) o
 unfolding Placed
 later p k x xs (Some n) other is = (suc is.0, is.1, is.2 ∙ one_on is.0 k, (other, is.3))
-  where
-    one_on : (i n : ℕ) → i + (n + 1) ≡ suc i + n
-    one_on i n = omega arith
 later p k x xs None other is = (other, is)
 
 -- going through a list finds the first element that passes, or none passes
@@ -38,12 +37,9 @@ unfolding Placed
 placed_from p k [] = tt
 placed_from p k (x ∷ xs) = at (p x) refl (placed_from p (k + 1) xs)
   where
-    start : (n : ℕ) → n ≡ zero + n
-    start n = omega arith
-
     at : (b : Bool) → p x ≡ b → Placed p (k + 1) xs (position_from p (k + 1) xs) → Placed p k (x ∷ xs) (cond b (Some k) (position_from p (k + 1) xs))
-    at true is more = (zero, x, start k, (refl, is))
-    at false is more = later p k x xs (position_from p (k + 1) xs) (λ h. differ (sym is ∙ h)) more
+    at true is more = (zero, x, from_zero k, (refl, is))
+    at false is more = later p k x xs (position_from p (k + 1) xs) (λ h. false≢true (sym is ∙ h)) more
 
 -- the same with places counted from 0
 placed : {X : Type 0} (p : X → Bool) (xs : List X) → Placed p 0 xs (position p xs)
@@ -68,11 +64,8 @@ found : {T : Type 0} (schema : List (TableDef T)) (w : WrittenReference) (o : Op
 unfolding Placed
 found {T} schema w (Some place) is = ((is.1, first, name_is schema place is.1 w.alias (first_there (IsTableNamed w.table.text) schema place is.1 first)), tt)
   where
-    end : (n : ℕ) → n ≡ n + 0
-    end n = omega arith
-
     first : IsFirst (IsTableNamed w.table.text) schema place is.1
-    first = subst (λ n. IsFirst (IsTableNamed w.table.text) schema n is.1) (end is.0 ∙ sym is.2) is.3
+    first = subst (λ n. IsFirst (IsTableNamed w.table.text) schema n is.1) (to_end is.0 ∙ sym is.2) is.3
 found schema w None is = (tt, (is, refl))
 
 -- the rules bind a table's name to one reference: the first table of that name
@@ -96,7 +89,7 @@ reference_agrees schema w =
 
 -- a list that a test finds something in has it somewhere
 found_somewhere : {X : Type 0} (p : X → Bool) (xs : List X) → list_any p xs ≡ true → IsSomewhere (λ x. p x ≡ true) xs
-found_somewhere p [] h = absurd (differ h)
+found_somewhere p [] h = absurd (false≢true h)
 found_somewhere p (x ∷ xs) h = at (p x) refl h (found_somewhere p xs)
   where
     at : (b : Bool) → p x ≡ b → b || list_any p xs ≡ true → (list_any p xs ≡ true → IsSomewhere (λ x. p x ≡ true) xs) → IsSomewhere (λ x. p x ≡ true) (x ∷ xs)

@@ -1,8 +1,8 @@
 -- A schema that is read is lawful.
-use Rattle.std.proofs.Common.{◌≡◌, ◌<◌, ◌≤◌, ◌&&◌, ◌||◌, not, ℕ, zero, suc, Bool, true, false, cond, List, [], ◌∷◌, ◌++◌, length, map, Option, Some, None, Ok, Err, refl, sym, ap, ◌∙◌, arith, subst}
+use Rattle.std.proofs.Common.{◌≡◌, ◌<◌, ◌≤◌, ◌||◌, not, ℕ, zero, suc, Bool, true, false, cond, List, [], ◌∷◌, ◌++◌, length, map, Option, Some, None, Ok, Err, refl, sym, ap, ◌∙◌, arith, subst}
 use Rattle.std.specs.List.{list_all, list_any, slice_get}
 use Rattle.std.specs.Prelude.{nat_le, codes, if◌then◌else◌}
-use Rattle.std.proofs.lemmas.Bool.{and_parts, or_parts, leb-false, le-leb, false≢true}
+use Rattle.std.proofs.lemmas.Bool.{and_parts, or_parts, leb-false, le-leb, false≢true, not-true, not_from_false, or_from, and_from}
 use Rattle.std.proofs.lemmas.List.{map-append, length-append}
 use Rattle.std.proofs.lemmas.List.Folds.{list_any-append, list_all-append}
 use Rattle.table_model.proofs.ListFacts.{list_any-map}
@@ -20,33 +20,15 @@ use Rattle.table_model.specs.SchemaReading.{Reader, expect_word, new_name, colum
 
 -- ---- lists of names
 
-and_both : (a b : Bool) → a ≡ true → b ≡ true → (a && b) ≡ true
-and_both true true h k = refl
-and_both true false h k = k
-and_both false b h k = h
-
-or_none : (a b : Bool) → a ≡ false → b ≡ false → (a || b) ≡ false
-or_none false false h k = refl
-or_none false true h k = k
-or_none true b h k = h
-
-not_false : (a : Bool) → a ≡ false → not a ≡ true
-not_false false h = refl
-not_false true h = sym h
-
-not_true : (a : Bool) → not a ≡ true → a ≡ false
-not_true false h = refl
-not_true true h = sym h
-
 -- one more name, which none of the others is
 names_differ-snoc : (names : List (List ℕ)) (name : List ℕ) → names_differ names ≡ true → list_any (λ n. same_name n name) names ≡ false → names_differ (names ++ name ∷ []) ≡ true
 names_differ-snoc [] name differ fresh = refl
 names_differ-snoc (n ∷ names) name differ fresh =
     let parts = and_parts _ _ differ in
     let others = or_parts _ _ fresh in
-    let one : (same_name n name || false) ≡ false = or_none _ _ others.0 refl in
-    let taken : list_any (same_name n) (names ++ name ∷ []) ≡ false = list_any-append (same_name n) names (name ∷ []) ∙ or_none _ _ (not_true _ parts.0) one in
-    and_both _ _ (not_false _ taken) (names_differ-snoc names name parts.1 others.1)
+    let one : (same_name n name || false) ≡ false = or_from _ _ others.0 refl in
+    let taken : list_any (same_name n) (names ++ name ∷ []) ≡ false = list_any-append (same_name n) names (name ∷ []) ∙ or_from _ _ (not-true _ parts.0) one in
+    and_from _ _ (not_from_false _ taken) (names_differ-snoc names name parts.1 others.1)
 
 -- ---- outcomes of readers
 
@@ -237,7 +219,7 @@ columns_from-read geometry (suc n) found key ts are =
 closed-read : {T : Type 0} (name : List ℕ) (columns : List (ColumnDef T)) (key : Option ℕ) (at : ℕ) (ts : List Token) → AreColumns columns key
     → IfRead (closed name columns key at ts) (λ t. (t.name ≡ name) × (lawful_table t ≡ true))
 closed-read name columns None at ts are = tt
-closed-read name columns (Some key) at ts are = (refl, and_both _ _ (le-leb _ _ are.few) (and_both _ _ are.differ are.keyed))
+closed-read name columns (Some key) at ts are = (refl, and_from _ _ (le-leb _ _ are.few) (and_from _ _ are.differ are.keyed))
 
 -- what is known of a table that was read after some
 pub record IsNextTable {T : Type 0} (found : List (TableDef T)) (read : TableDef T) : Type 0 where
@@ -319,7 +301,7 @@ AreTables-more found read are is = record {
   differ =
       ap names_differ (map-append (λ t. t.name) found (read ∷ []))
       ∙ names_differ-snoc (map (λ t. t.name) found) read.name are.differ (list_any-map (λ n. same_name n read.name) (λ t. t.name) found ∙ is.fresh);
-  lawful = list_all-append lawful_table found (read ∷ []) ∙ and_both _ _ are.lawful (and_both _ _ is.lawful refl);
+  lawful = list_all-append lawful_table found (read ∷ []) ∙ and_from _ _ are.lawful (and_from _ _ is.lawful refl);
 }
 
 -- the tables after one that was read
@@ -365,7 +347,7 @@ all_tables-read {T = T} geometry ts = go (sees k.End ts)
 -- tables are lawful by these limits: their number, their names, and each of them
 lawful-from : {T : Type 0} (found : List (TableDef T)) → AreTables found → lawful found ≡ true
 unfolding lawful
-lawful-from found are = and_both _ _ (le-leb _ _ are.few) (and_both _ _ are.differ are.lawful)
+lawful-from found are = and_from _ _ (le-leb _ _ are.few) (and_from _ _ are.differ are.lawful)
 
 abbrev end_of_tables : {T : Type 0} → List (TableDef T) → Reader (List (TableDef T))
 end_of_tables tables = do

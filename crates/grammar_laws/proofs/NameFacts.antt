@@ -1,6 +1,8 @@
 -- The tables and columns that names are bound to agree with the rules.
 use Rattle.std.proofs.Common.{◌≡◌, ◌+◌, inl, inr, ℕ, zero, suc, Bool, true, false, if◌then◌else◌, List, [], ◌∷◌, Option, Some, None, Ok, Err, IfOk, IfErr, refl, sym, ap, subst, ◌∙◌, arith}
 use Rattle.std.specs.List.{cons_option}
+use Rattle.std.proofs.lemmas.Bool.{false≢true}
+use Rattle.basics.proofs.Numbers.{one_on, from_zero}
 use Rattle.table_model.specs.Binding.{Checked, columns_of, column_named, found_in, refers_to, column_meant, columns_meant, the_one, bound_column, name_start, type_of}
 use Rattle.table_model.specs.BindingRules.{IsNowhere, IsSomewhere, IsTwice, IsFirst, IsOnly, IsColumnNamed, MayBeOf, HasColumn, IsBoundColumn, IsRefusedColumn}
 use Rattle.table_model.specs.Texts.{same_name}
@@ -13,7 +15,6 @@ use Rattle.table_model.specs.declared.queries.WrittenColumn.{WrittenColumn}
 use Rattle.table_model.specs.declared.typing.Found.{Found}
 use Rattle.table_model.specs.declared.typing.OperandType.{OperandType}
 use Rattle.grammar_laws.specs.RuleLaws.{Agrees, ColumnsAgree}
-use Rattle.grammar_laws.proofs.RuleFacts.{differ}
 
 IfTrue : Bool → Type 0 → Type 0 → Type 0
 IfTrue true A B = A
@@ -37,9 +38,6 @@ further : {T : Type 0} (name : List ℕ) (k : ℕ) (column : ColumnDef T) (colum
 unfolding Looked FirstNamed
 further name k column columns None other is = (other, is)
 further name k column columns (Some found) other is = (suc is.0, is.1, is.2 ∙ one_on is.0 k, (other, is.3), is.4)
-  where
-    one_on : (i n : ℕ) → i + (n + 1) ≡ suc i + n
-    one_on i n = omega arith
 
 -- looking from the first column on finds the first one of the name, or there is none
 looked : {T : Type 0} (name : List ℕ) (k : ℕ) (columns : List (ColumnDef T)) → Looked name k columns (column_named name k columns)
@@ -47,13 +45,10 @@ unfolding Looked FirstNamed
 looked name k [] = tt
 looked name k (column ∷ columns) = at_name (same_name column.name name) refl (looked name (k + 1) columns)
   where
-    start : (n : ℕ) → n ≡ zero + n
-    start n = omega arith
-
     at_name : (b : Bool) → same_name column.name name ≡ b → Looked name (k + 1) columns (column_named name (k + 1) columns)
         → Looked name k (column ∷ columns) (if b then Some (k, type_of column.column_type) else column_named name (k + 1) columns)
-    at_name true is more = (zero, column, start k, (refl, is), refl)
-    at_name false is more = further name k column columns (column_named name (k + 1) columns) (λ h. differ (sym is ∙ h)) more
+    at_name true is more = (zero, column, from_zero k, (refl, is), refl)
+    at_name false is more = further name k column columns (column_named name (k + 1) columns) (λ h. false≢true (sym is ∙ h)) more
 
 -- what is first, alone or twice is somewhere
 pub somewhere : {X : Type 0} (P : X → Type 0) (xs : List X) (place : ℕ) (x : X) → IsFirst P xs place x → IsSomewhere P xs
@@ -125,9 +120,9 @@ Meant schema w k references (found ∷ other ∷ more) = IsTwice (HasColumn sche
 may_be : (written : Option Name) (reference : Reference) (b : Bool) → refers_to written reference.name ≡ b → IfTrue b (MayBeOf written reference) (MayBeOf written reference → ⊥)
 unfolding IfTrue
 may_be None reference true is = tt
-may_be None reference false is = absurd (differ (sym is))
+may_be None reference false is = absurd (false≢true (sym is))
 may_be (Some name) reference true is = is
-may_be (Some name) reference false is = λ h. differ (sym is ∙ h)
+may_be (Some name) reference false is = λ h. false≢true (sym is ∙ h)
 
 -- a reference has the column where the written name may mean it and its table has one of that name, the first of which is found
 in_one : {T : Type 0} (schema : List (TableDef T)) (w : WrittenColumn) (k : ℕ) (reference : Reference) → InOne schema w k reference (column_meant schema w k reference)
@@ -153,15 +148,9 @@ joined : {T : Type 0} (schema : List (TableDef T)) (w : WrittenColumn) (k : ℕ)
 unfolding InOne Meant OnlyMeant
 joined schema w k reference references None [] one are = (one, are)
 joined schema w k reference references None (f ∷ []) one are = (suc are.0, are.1, are.2, are.3 ∙ one_on are.0 k, (one, are.4), are.5, are.6)
-  where
-    one_on : (i n : ℕ) → i + (n + 1) ≡ suc i + n
-    one_on i n = omega arith
 joined schema w k reference references None (f ∷ g ∷ fs) one are = inr are
 joined schema w k reference references (Some f) [] one are =
-    (zero, reference, one.0, one.2 ∙ start k, (refl, (one.1, somewhere (IsColumnNamed w.name.text) (columns_of schema reference) f.place.column one.0 one.3), are), one.3, one.4)
-  where
-    start : (n : ℕ) → n ≡ zero + n
-    start n = omega arith
+    (zero, reference, one.0, one.2 ∙ from_zero k, (refl, (one.1, somewhere (IsColumnNamed w.name.text) (columns_of schema reference) f.place.column one.0 one.3), are), one.3, one.4)
 joined schema w k reference references (Some f) (g ∷ []) one are =
     inl ((one.1, somewhere (IsColumnNamed w.name.text) (columns_of schema reference) f.place.column one.0 one.3), only_somewhere (HasColumn schema w) references are.0 are.1 are.4)
 joined schema w k reference references (Some f) (g ∷ h ∷ fs) one are =

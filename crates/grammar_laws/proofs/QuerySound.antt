@@ -2,6 +2,7 @@
 use Rattle.std.proofs.Common.{◌≡◌, ◌⊎◌, ℕ, zero, suc, Bool, true, false, not, ◌&&◌, ◌||◌, if◌then◌else◌, ◌==◌, ℤ, List, [], ◌∷◌, ◌++◌, length, Option, Some, None, Ok, inl, inr, refl, sym, ap, subst, ◌∙◌, append_assoc, append-nil, codes}
 use Rattle.std.proofs.lemmas.Bool.{eqb-true}
 use Rattle.std.specs.Str.Parse.{digits_value}
+use Rattle.basics.proofs.Bools.{and_second, and_first}
 use Rattle.geometry_model.specs.declared.relations.Predicate.{Predicate}
 use Rattle.geometry_model.specs.declared.relations.Predicate.TheVariants as p
 use Rattle.table_model.specs.declared.conditions.Comparison.{Comparison}
@@ -50,15 +51,11 @@ unfolding sees kind next spelling place
 name_taken [] h = absurd (let e = same k.Bad k.Word h in cc)
 name_taken (t ∷ ts) h = (t ∷ [], refl, (same t.kind k.Word h, refl))
 
-and_left : (a b : Bool) → (a && b) ≡ true → a ≡ true
-and_left true b h = refl
-and_left false b h = h
-
 -- a name is read only where a word is next, and takes that word alone
 pub name_sound : Sound name IsName
 unfolding name
 name_sound ts = if_read (sees k.Word ts && not (sees k.LeftParenthesis (next ts))) _ _ (λ x rest. Took ts (IsName x) rest)
-    (λ h. name_taken ts (and_left _ _ h)) (λ _. tt)
+    (λ h. name_taken ts (and_first _ _ h)) (λ _. tt)
 
 -- a column is read as one name, and as two exactly where a point is behind the first
 pub column_sound : Sound column IsColumn
@@ -102,10 +99,6 @@ unfolding sees kind next spelling place
 text_taken [] h = absurd (let e = same k.Bad k.Text h in cc)
 text_taken (t ∷ ts) h = (t ∷ [], refl, (same t.kind k.Text h, refl))
 
-and_right : (a b : Bool) → (a && b) ≡ true → b ≡ true
-and_right true b h = h
-and_right false b h = absurd (cc)
-
 -- the next token is a word, the same in any ASCII case
 word_taken : (word : List ℕ) (ts : List Token) → sees k.Word ts ≡ true → same_name (spelling ts) word ≡ true → Took ts (IsWord word) (next ts)
 unfolding sees kind next spelling
@@ -115,7 +108,7 @@ word_taken word (t ∷ ts) h e = (t ∷ [], refl, (same t.kind k.Word h, e))
 -- where a function is called next, the next token is its name
 function_taken : (function : List ℕ) (ts : List Token) → calls function ts ≡ true → Took ts (IsWord function) (next ts)
 unfolding calls
-function_taken function ts h = word_taken function ts (and_left _ _ (and_left _ _ h)) (and_right _ _ h)
+function_taken function ts h = word_taken function ts (and_first _ _ (and_first _ _ h)) (and_second _ _ h)
 
 -- each of some functions, where it is called next, is read so
 abbrev pub AllRead : {A : Type 0} → Functions A → List Token → (A → List Token → Type 0) → Type 0
@@ -384,9 +377,9 @@ TookValue bool ts x rest = ((x ≡ bool) × Took ts (IsNumber 1) rest) ⊎ ((x �
 value_sound : {A : Type 0} (bool : WrittenCond A) (ts : List Token) → IfRead (truth_value bool ts) (TookValue bool ts)
 unfolding truth_value
 value_sound bool ts = if_read (sees k.Integer ts && digits_value 10 (spelling ts) == 1) _ _ (TookValue bool ts)
-    (λ h. inl (refl, number_taken 1 ts (and_left _ _ h) (and_right _ _ h)))
+    (λ h. inl (refl, number_taken 1 ts (and_first _ _ h) (and_second _ _ h)))
     (λ _. if_read (sees k.Integer ts && digits_value 10 (spelling ts) == 0) _ _ (TookValue bool ts)
-    (λ h. inr (refl, number_taken 0 ts (and_left _ _ h) (and_right _ _ h))) (λ _. tt))
+    (λ h. inr (refl, number_taken 0 ts (and_first _ _ h) (and_second _ _ h))) (λ _. tt))
 
 -- '=' and such a number behind it are the test
 value_taken : {A : Type 0} (bool x : WrittenCond A) (ts rest : List Token) → sees k.Equal ts ≡ true → TookValue bool (next ts) x rest → Took ts (IsTest bool x) rest
@@ -772,7 +765,7 @@ references_taken first both ts mid rest p q = but _ _ ts rest (seq (IsReference 
 -- where the query says a word next, that word is the next token
 says_taken : (word : List ℕ) (ts : List Token) → says word ts ≡ true → Took ts (IsWord word) (next ts)
 unfolding says
-says_taken word ts h = word_taken word ts (and_left _ _ (and_left _ _ h)) (and_right _ _ h)
+says_taken word ts h = word_taken word ts (and_first _ _ (and_first _ _ h)) (and_second _ _ h)
 
 -- behind EXPLAIN, ANALYZE is read where it is next
 analyzed_sound : (ts : List Token) → says (codes "EXPLAIN") ts ≡ true

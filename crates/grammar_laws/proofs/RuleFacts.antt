@@ -1,5 +1,6 @@
 -- What is bound, and where a query is refused, agrees with the rules: steps, names and types.
 use Rattle.std.proofs.Common.{◌≡◌, inl, inr, ℕ, Bool, true, false, if◌then◌else◌, Ok, Err, IfOk, IfErr, refl, sym, ap, subst, ◌∙◌}
+use Rattle.std.proofs.lemmas.Bool.{false≢true}
 use Rattle.table_model.specs.Binding.{Checked, ◌>>=◌, geometry_of_type, geometry_only, checked_types}
 use Rattle.table_model.specs.BindingRules.{Then, FirstFault, IsGeometryPart, IsNoGeometry}
 use Rattle.table_model.specs.declared.faults.QueryFault.{QueryFault}
@@ -20,9 +21,6 @@ if_err (Err e) P Q to is = to e is
 abbrev IsNot : Bool → Type 0
 IsNot true = ⊥
 IsNot false = Unit {0}
-
-pub differ : false ≡ true → ⊥
-differ h = subst IsNot h tt
 
 -- ---- steps
 
@@ -64,12 +62,12 @@ returned First Refused r v a = sequence First Refused (λ x y. y ≡ v x) (λ x 
 pub tested : {X : Type 0} (P : Type 0) (b : Bool) (e : QueryFault) (v : X) → (b ≡ true → P) → (P → b ≡ true)
     → Agrees (λ x. (P → ⊥) × (x ≡ v)) (λ fault. P × (fault ≡ e)) (if b then Err e else Ok v)
 tested P true e v is_so is_found = record { applies = tt; refused = (is_so refl, refl); answers = λ x is. absurd (is.0 (is_so refl)); refuses = λ fault is. ap Err (sym is.1) }
-tested P false e v is_so is_found = record { applies = (λ p. differ (is_found p), refl); refused = tt; answers = λ x is. ap Ok (sym is.1); refuses = λ fault is. absurd (differ (is_found is.0)) }
+tested P false e v is_so is_found = record { applies = (λ p. false≢true (is_found p), refl); refused = tt; answers = λ x is. ap Ok (sym is.1); refuses = λ fault is. absurd (false≢true (is_found is.0)) }
 
 -- a test of types
 pub types_tested : {X : Type 0} (b : Bool) (at : ℕ) (v : X) → Agrees (λ x. (b ≡ true) × (x ≡ v)) (λ fault. (b ≡ false) × (fault ≡ faults.TypeMismatch at)) (checked_types b at v)
-types_tested true at v = record { applies = (refl, refl); refused = tt; answers = λ x is. ap Ok (sym is.1); refuses = λ fault is. absurd (differ (sym is.0)) }
-types_tested false at v = record { applies = tt; refused = (refl, refl); answers = λ x is. absurd (differ is.0); refuses = λ fault is. ap Err (sym is.1) }
+types_tested true at v = record { applies = (refl, refl); refused = tt; answers = λ x is. ap Ok (sym is.1); refuses = λ fault is. absurd (false≢true (sym is.0)) }
+types_tested false at v = record { applies = tt; refused = (refl, refl); answers = λ x is. absurd (false≢true is.0); refuses = λ fault is. ap Err (sym is.1) }
 
 -- ---- geometry arguments
 

@@ -1,8 +1,8 @@
 -- What is in the grammar of a schema is read, as those tables.
-use Rattle.std.proofs.Common.{◌≡◌, ◌≤◌, ◌<◌, ◌+◌, ℕ, zero, suc, Bool, true, false, ◌&&◌, ◌||◌, not, List, [], ◌∷◌, ◌++◌, length, map, Option, Some, None, Ok, inl, inr, refl, sym, ap, subst, ◌∙◌, append_assoc, length-append, arith}
+use Rattle.std.proofs.Common.{◌≡◌, ◌≤◌, ◌<◌, ◌+◌, ℕ, zero, suc, Bool, true, false, ◌&&◌, List, [], ◌∷◌, ◌++◌, length, map, Option, Some, None, Ok, inl, inr, refl, sym, ap, subst, ◌∙◌, append_assoc, length-append, arith}
 use Rattle.std.specs.List.{list_all, list_any, slice_get}
 use Rattle.std.specs.Prelude.{nat_le, codes}
-use Rattle.std.proofs.lemmas.Bool.{and_parts, or_parts, leb-true, lt-leb, false≢true}
+use Rattle.std.proofs.lemmas.Bool.{and_parts, or_parts, leb-true, lt-leb, false≢true, or_from, not-true}
 use Rattle.grammar_laws.proofs.AsciiWords.{AsciiWords, words_before, words_behind}
 use Rattle.grammar_laws.proofs.QuerySound.{Begins, one_begins, seq_begins}
 use Rattle.table_model.specs.Definitions.{names_differ, is_integer, may_be_key, column_names, lawful_table, lawful}
@@ -29,9 +29,6 @@ same_itself _ = refl
 
 pub is_kind : (kind known : TokenKind) → kind ≡ known → same_kind kind known ≡ true
 is_kind kind known e = rw e (same_itself known)
-
-other_kind : (kind known other : TokenKind) → kind ≡ known → same_kind known other ≡ false → same_kind kind other ≡ false
-other_kind kind known other e h = rw e h
 
 -- how tokens of phrases are made of single ones: a first one, an only one, a last one, two
 pub one_first : (P : Token → Type 0) (Q : Phrase) (ts : List Token) → (IsOne P ▸ Q) ts → (m : Token) × (d : List Token) × (ts ≡ m ∷ d) × P m × Q d
@@ -130,10 +127,6 @@ pub word_not : (kind : TokenKind) → kind ≡ k.Word → same_kind kind k.Not �
 unfolding same_kind
 word_not kind e = rw e refl
 
-not_word : (kind : TokenKind) → kind ≡ k.Not → same_kind kind k.Word ≡ false
-unfolding same_kind
-not_word kind e = rw e refl
-
 -- PRIMARY KEY may be there
 abbrev MayBeKey : {T : Type 0} → Bool → ColumnType T → Bool → Type 0
 MayBeKey has_key type is_key = is_key ≡ true → (has_key ≡ false) × (is_integer type ≡ true)
@@ -218,19 +211,10 @@ column_complete {T} geometry found has_key x used t rest p words f room fresh ma
 
 -- ---- names that differ
 
-not_true : (a : Bool) → not a ≡ true → a ≡ false
-not_true false h = refl
-not_true true h = sym h
-
 -- a test that none of some names passes isn't passed by one of them
 none_at : {A : Type 0} (test : List ℕ → Bool) (name : A → List ℕ) (found : List A) (x : A) (more : List A) → list_any test (map name (found ++ x ∷ more)) ≡ false → test (name x) ≡ false
 none_at test name [] x more h = (or_parts _ _ h).0
 none_at test name (y ∷ found) x more h = none_at test name found x more (or_parts _ _ h).1
-
-or_none : (a b : Bool) → a ≡ false → b ≡ false → (a || b) ≡ false
-or_none false false h g = refl
-or_none false true h g = g
-or_none true b h g = h
 
 -- where names differ, each is new behind those before it
 fresh_name : {A : Type 0} (name : A → List ℕ) (found : List A) (x : A) (more : List A) → names_differ (map name (found ++ x ∷ more)) ≡ true
@@ -238,7 +222,7 @@ fresh_name : {A : Type 0} (name : A → List ℕ) (found : List A) (x : A) (more
 fresh_name name [] x more h = refl
 fresh_name name (y ∷ found) x more h =
     let parts = and_parts _ _ h in
-    or_none _ _ (none_at (same_name (name y)) name found x more (not_true _ parts.0)) (fresh_name name found x more parts.1)
+    or_from _ _ (none_at (same_name (name y)) name found x more (not-true _ parts.0)) (fresh_name name found x more parts.1)
 
 -- ---- the place of the key
 

@@ -3,6 +3,7 @@ use Rattle.std.proofs.Common.{◌≡◌, ◌⊎◌, ◌+◌, ◌≤◌, ◌<◌,
 use Rattle.std.specs.Prelude.{nat_le, codes}
 use Rattle.std.proofs.lemmas.Bool.{false≢true, le-leb, le-ltb}
 use Rattle.std.proofs.lemmas.List.{map-append}
+use Rattle.basics.proofs.Bools.{or_weaker}
 use Rattle.grammar_laws.proofs.AsciiWords.{AsciiWords, tokens_ascii, words_before, words_behind}
 use Rattle.grammar_laws.proofs.QuerySound.{Begins, one_begins, seq_begins}
 use Rattle.grammar_laws.proofs.SchemaComplete.{EndsColumn, IsWordKind, IsWordOf, column_last, column_read, column_then, comma_ends, expect_read, is_kind, marks_complete, name_read, not_end, null_absent, null_read, one_first, one_last, one_only, parenthesis_ends, separator_read, split, table_read, table_then, turns_suffice, two_only, type_read, word_not, word_read}
@@ -643,19 +644,15 @@ length-firsts : {T : Type 0} (m : List (Marked T)) → length (firsts m) ≡ len
 length-firsts [] = refl
 length-firsts (x ∷ m) = ap suc (length-firsts m)
 
-either : (a b c : Bool) → (b ≡ true → c ≡ true) → (a || b) ≡ true → (a || c) ≡ true
-either true b c f h = refl
-either false b c f h = f h
-
 -- a name that is among those of the tables is one that a table has
 table_taken : {T : Type 0} (now : List (TableDef T)) (t : Token) → is_among t (names now) ≡ true → has_table now t.text ≡ true
 table_taken [] t h = h
-table_taken (x ∷ now) t h = either (same_name x.name t.text) (is_among t (names now)) (has_table now t.text) (table_taken now t) h
+table_taken (x ∷ now) t h = or_weaker (same_name x.name t.text) (is_among t (names now)) (has_table now t.text) (table_taken now t) h
 
 -- a name that is among those of the columns, as they are written, is one that a column has
 column_taken : {T : Type 0} (m : List (Marked T)) (t : Token) → is_among t (names_of m) ≡ true → has_column (firsts m) t.text ≡ true
 column_taken [] t h = h
-column_taken (c ∷ m) t h = either (same_name c.0.name t.text) (is_among t (names_of m)) (has_column (firsts m) t.text) (column_taken m t) h
+column_taken (c ∷ m) t h = or_weaker (same_name c.0.name t.text) (is_among t (names_of m)) (has_column (firsts m) t.text) (column_taken m t) h
 
 -- the name of a table is refused
 table_name_stops : {T : Type 0} (geometry : List ℕ → Option T) (ws : List (Written T)) (before : List Token) (u : Token) → BeforeTable geometry ws before → AsciiWords (before ++ u ∷ []) → u.kind ≡ k.Word

@@ -1,10 +1,11 @@
 -- A fault at a token that the readers of a schema return applies there.
 use Rattle.std.proofs.Common.{◌≡◌, ◌≤◌, ◌<◌, ◌&&◌, ◌||◌, not, ℕ, zero, suc, Bool, true, false, if◌then◌else◌, List, [], ◌∷◌, ◌++◌, length, map, Option, Some, None, Result, Ok, Err, inl, inr, refl, sym, ap, subst, ◌∙◌, append_assoc, length-append, arith}
 use Rattle.std.specs.Prelude.{nat_le, nat_lt, codes, IfErr}
-use Rattle.std.proofs.lemmas.Bool.{and_parts, false≢true, leb-true, leb-false}
+use Rattle.std.proofs.lemmas.Bool.{and_parts, false≢true, leb-true, leb-false, not-false}
 use Rattle.std.proofs.lemmas.List.{map-append}
 use Rattle.std.proofs.lemmas.List.Folds.{list_any-append}
-use Rattle.grammar_laws.proofs.SchemaSound.{skip, word_taken, named_taken, not_false}
+use Rattle.basics.proofs.Bools.{or_weaker}
+use Rattle.grammar_laws.proofs.SchemaSound.{skip, word_taken, named_taken}
 use Rattle.grammar_laws.proofs.TokenReaders.{Took, one, seq, but, same, ended_more}
 use Rattle.table_model.specs.Definitions.{is_integer}
 use Rattle.table_model.specs.Outcomes.{Gives}
@@ -109,7 +110,7 @@ name_returns : {T : Type 0} (geometry : List ℕ → Option T) (all : List Token
 unfolding new_name
 name_returns geometry all P full taken ts took may =
     if_returns (not (sees_name ts)) _ _ (NameRead full ts) (AppliesIn geometry all) (λ _. λ e. absurd (false≢true e))
-    (λ named. let is = (and_parts _ _ (not_false _ named)).0 in
+    (λ named. let is = (and_parts _ _ (not-false _ named)).0 in
     if_returns full _ _ (NameRead full ts) (AppliesIn geometry all) (λ h. λ _. many_here geometry all P full taken ts may took is h)
     (λ room. if_returns (taken (spelling ts)) _ _ (NameRead full ts) (AppliesIn geometry all) (λ h. λ _. double_here geometry all P full taken ts may took is room h) (λ _. (room, named_taken ts is))))
 
@@ -161,9 +162,9 @@ key_mark_returns geometry all tables name before column type not_null ts took =
     if_returns (not (sees_word (codes "PRIMARY") ts)) _ _ (KeyRead type ts) (AppliesIn geometry all) (λ _. (λ e. absurd (false≢true e), ([], refl, refl)))
     (λ primary. if_returns (not (is_integer type)) _ _ (KeyRead type ts) (AppliesIn geometry all) (λ _. λ e. absurd (false≢true e))
     (λ whole. if_returns (has_key before) _ _ (KeyRead type ts) (AppliesIn geometry all)
-    (λ has. λ _. second_here geometry all tables name before column type not_null ts took (not_false _ primary) (not_false _ whole) has)
+    (λ has. λ _. second_here geometry all tables name before column type not_null ts took (not-false _ primary) (not-false _ whole) has)
     (λ none. then_returns (expect_word (codes "KEY") (next ts)) _ (λ x rest. Took (next ts) (IsWord (codes "KEY")) rest) (KeyRead type ts) (AppliesIn geometry all)
-    (λ x rest key. (λ _. not_false _ whole, seq (IsWord (codes "PRIMARY")) (IsWord (codes "KEY")) ts (next ts) rest (word_taken (codes "PRIMARY") ts (not_false _ primary)) key))
+    (λ x rest key. (λ _. not-false _ whole, seq (IsWord (codes "PRIMARY")) (IsWord (codes "KEY")) ts (next ts) rest (word_taken (codes "PRIMARY") ts (not-false _ primary)) key))
     (expect_word_returns (AppliesIn geometry all) (codes "KEY") (next ts)))))
 
 abbrev MarksRead : {T : Type 0} → ColumnType T → List Token → Bool × Bool → List Token → Type 0
@@ -215,15 +216,10 @@ marks_returns geometry all tables name before column type ts stood =
 abbrev firsts : {T : Type 0} → List (Marked T) → List (ColumnDef T)
 firsts m = map (λ c. c.0) m
 
--- one of two is there, also where the second has another name
-either : (a b c : Bool) → (b ≡ true → c ≡ true) → (a || b) ≡ true → (a || c) ≡ true
-either true b c f h = refl
-either false b c f h = f h
-
 -- a name that one of the columns has is among their names as they are written
 named_among : {T : Type 0} (m : List (Marked T)) (t : Token) → has_column (firsts m) t.text ≡ true → is_among t (names_of m) ≡ true
 named_among [] t h = h
-named_among (c ∷ m) t h = either (same_name c.0.name t.text) (has_column (firsts m) t.text) (is_among t (names_of m)) (named_among m t) h
+named_among (c ∷ m) t h = or_weaker (same_name c.0.name t.text) (has_column (firsts m) t.text) (is_among t (names_of m)) (named_among m t) h
 
 length-firsts : {T : Type 0} (m : List (Marked T)) → length (firsts m) ≡ length m
 length-firsts [] = refl
@@ -406,7 +402,7 @@ length-names found tables e = sym (size (λ t. t.name) found) ∙ ap length e �
 -- a name that one of the tables has is among their names
 table_named : {T : Type 0} (found : List (TableDef T)) (t : Token) → has_table found t.text ≡ true → is_among t (map (λ t. t.name) found) ≡ true
 table_named [] t h = h
-table_named (x ∷ found) t h = either (same_name x.name t.text) (has_table found t.text) (is_among t (map (λ t. t.name) found)) (table_named found t) h
+table_named (x ∷ found) t h = or_weaker (same_name x.name t.text) (has_table found t.text) (is_among t (map (λ t. t.name) found)) (table_named found t) h
 
 -- and so it is among their names as they are written
 table_among : {T : Type 0} (found : List (TableDef T)) (tables : List (Written T)) (t : Token) → AreNames found tables → has_table found t.text ≡ true → is_among t (map (λ w. w.0) tables) ≡ true

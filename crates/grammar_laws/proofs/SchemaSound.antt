@@ -4,7 +4,7 @@ use Rattle.std.specs.Option.{option_to_list}
 use Rattle.grammar_laws.proofs.QuerySound.{EndsOnce, ends_left, all_taken}
 use Rattle.grammar_laws.proofs.TokenReaders.{IfRead, Took, then_read, if_read, map_read, eaten, same, one, seq, but, expect_taken}
 use Rattle.std.specs.Prelude.{nat_le, codes}
-use Rattle.std.proofs.lemmas.Bool.{and_parts, false≢true}
+use Rattle.std.proofs.lemmas.Bool.{and_parts, false≢true, not-false}
 use Rattle.table_model.specs.Definitions.{most_columns, is_integer}
 use Rattle.table_model.specs.Parsers.{kind, place, spelling, next, sees, after, and_then, ◌>>=◌, pure, expect}
 use Rattle.table_model.specs.SchemaGrammar.{IsNamed, IsType, IsNotNull, IsPrimaryKey, IsMark, AreMarks, Marked, IsMarked, key_places, IsTable, AreTables}
@@ -47,17 +47,13 @@ unfolding sees kind next spelling
 named_taken [] h = absurd (let e = same k.Bad k.Word h in cc)
 named_taken (t ∷ ts) h = (t ∷ [], refl, (same t.kind k.Word h, refl))
 
-pub not_false : (b : Bool) → not b ≡ false → b ≡ true
-not_false true h = refl
-not_false false h = sym h
-
 -- a new name is a word; whether there is room and whether it is taken only refuses
 new_name_sound : (full taken : Bool) (ts : List Token) → IfRead (new_name full taken ts) (λ name rest. Took ts (IsNamed name) rest)
 unfolding new_name
 new_name_sound full taken ts =
     if_read (not (sees_name ts)) _ _ (λ name rest. Took ts (IsNamed name) rest) (λ _. tt)
     (λ h. if_read full _ _ (λ name rest. Took ts (IsNamed name) rest) (λ _. tt)
-    (λ _. if_read taken _ _ (λ name rest. Took ts (IsNamed name) rest) (λ _. tt) (λ _. named_taken ts (and_parts _ _ (not_false _ h)).0)))
+    (λ _. if_read taken _ _ (λ name rest. Took ts (IsNamed name) rest) (λ _. tt) (λ _. named_taken ts (and_parts _ _ (not-false _ h)).0)))
 
 -- ---- columns
 
@@ -98,7 +94,7 @@ key_mark_sound has_key type ts =
     (λ none. then_read (expect_word (codes "KEY") (next ts)) _ (λ x rest. Took (next ts) (IsWord (codes "KEY")) rest) (KeyTook has_key ts)
     (λ x rest took. (
       λ has. absurd (false≢true (sym none ∙ has)),
-      seq (IsWord (codes "PRIMARY")) (IsWord (codes "KEY")) ts (next ts) rest (word_taken (codes "PRIMARY") ts (not_false _ h)) took,
+      seq (IsWord (codes "PRIMARY")) (IsWord (codes "KEY")) ts (next ts) rest (word_taken (codes "PRIMARY") ts (not-false _ h)) took,
     ))
     (expect_word_sound (codes "KEY") (next ts)))))
 

@@ -2,6 +2,7 @@
 use Rattle.std.proofs.Common.{◌≡◌, ℕ, Bool, true, false, List, [], ◌∷◌, ◌++◌, map, Ok, Err, refl, sym, ap, subst, ◌∙◌}
 use Rattle.std.specs.List.{flat_map}
 use Rattle.std.proofs.lemmas.List.Concat.{flat_map-cons}
+use mathlib.Core.List.{map-map}
 use Rattle.table_model.specs.Binding.{GeometryBinding, Checked, ◌>>=◌, bound_by_parts, bound_cond, bound_operand, bound_predicate, geometry_only, checked_types, comparable}
 use Rattle.table_model.specs.Loading.{and_then, each}
 use Rattle.table_model.specs.Statements.{conjuncts_of}
@@ -48,10 +49,6 @@ parts_split {B = B} (Ok c ∷ rs) = step (each rs) (joined_in_order (map split r
     step (Ok parts) s is = ap Ok (flat_map-cons conjuncts_of c parts) ∙ ap (λ t. t >>= (λ more. Ok (conjuncts_of c ++ more))) is
     step (Err e) s is = ap (λ t. t >>= (λ more. Ok (conjuncts_of c ++ more))) is
 
-map_twice : {X Y Z : Type 0} (f : Y → Z) (g : X → Y) (xs : List X) → map f (map g xs) ≡ map (λ x. f (g x)) xs
-map_twice f g [] = refl
-map_twice f g (x ∷ xs) = ap (λ ys. f (g x) ∷ ys) (map_twice f g xs)
-
 -- the conjuncts of a condition that is made last are made last
 split_after : {X B : Type 0} (r : Checked X) (v : X → Cond B) → split (r >>= (λ x. Ok (v x))) ≡ (r >>= (λ x. Ok (conjuncts_of (v x))))
 split_after (Ok x) v = refl
@@ -72,7 +69,7 @@ by_operand left right f alone = after_all left _ (λ x. after_all right (f x) (�
 -- at each kind of condition: AND has its parts' conjuncts, any other kind makes one conjunct in its last step
 pub by_written_parts : {T A B C D : Type 0} (how : GeometryBinding T A B C D) (schema : List (TableDef T)) (references : List Reference) → BoundByParts how schema references
 by_written_parts {A = A} {B = B} how schema references = record {
-  and = λ parts. ap split (fold-And A (Checked (Cond B)) step parts) ∙ and_split (map bound parts) ∙ ap joined_in_order (map_twice split bound parts);
+  and = λ parts. ap split (fold-And A (Checked (Cond B)) step parts) ∙ and_split (map bound parts) ∙ ap joined_in_order (map-map split bound parts);
   or = λ parts. subst IsAlone (sym (fold-Or A (Checked (Cond B)) step parts)) (made (each (map bound parts)) conds.Or conjuncts-Or);
   not = λ part. subst IsAlone (sym (fold-Not A (Checked (Cond B)) step part)) (made (bound part) conds.Not conjuncts-Not);
   compare = λ at sign a b. subst IsAlone (sym (fold-Compare A (Checked (Cond B)) step at sign a b))

@@ -1,6 +1,5 @@
 -- All points strictly between the ends of a gap lie in the same part, and so does an end that is on no edge.
-use Rattle.std.proofs.Common.{ℕ, zero, suc, ◌+◌, ◌<◌, ℤ, pos, ◌+ℤ◌, ◌-ℤ◌, ◌*ℤ◌, ◌<ℤ◌, ◌≡◌, ◌⊎◌, inl, inr, Bool, true, false, refl, sym, ap, ◌∙◌, List, [], ◌∷◌, All, arith}
-use borrow.Author.Differences.{ints}
+use Rattle.std.proofs.Common.{ℕ, zero, suc, ◌+◌, ◌<◌, ℤ, pos, ◌+ℤ◌, ◌-ℤ◌, ◌*ℤ◌, ◌≡◌, ◌⊎◌, inl, inr, Bool, true, false, refl, sym, ap, ◌∙◌, List, [], ◌∷◌, All}
 use Rattle.std.specs.List.{list_any}
 use Rattle.std.specs.declared.cmp.Ordering.{Ordering}
 use Rattle.std.specs.declared.cmp.Ordering.TheVariants.{Less, Equal, Greater}
@@ -10,6 +9,8 @@ use Rattle.geometry_model.specs.Sides.{on}
 use Rattle.geometry_model.specs.Dimensions.{weighted}
 use Rattle.basics.proofs.Ring.{solve, var, lit, ◌⊕◌, ◌⊖◌, ◌⊗◌}
 use Rattle.basics.proofs.Signs.{strict_plus_plus}
+use Rattle.basics.proofs.Bools.{not_both}
+use Rattle.basics.proofs.Orders.{next_positive}
 use Rattle.geometry_laws.specs.RingLaws.{IsClosed, Misses}
 use Rattle.geometry_laws.specs.PieceLaws.{HasClosedRings}
 use Rattle.geometry_laws.proofs.Plane.{right}
@@ -25,7 +26,7 @@ use Rattle.geometry_laws.proofs.Cuts.{contains_of_among, turn_less}
 use Rattle.geometry_laws.proofs.CoverTheorems.{all_from_each}
 use Rattle.matrix_laws.specs.Gaps.{IsBetween, IsClear, IsShared, IsGap, IsWithin, mostly}
 use Rattle.matrix_laws.proofs.Between.{on_weighted, between_sum, compare_respects_last}
-use Rattle.matrix_laws.proofs.Shared.{clash, span_of_gap, clear_or_shared, point_shares, shared_holds_ends}
+use Rattle.matrix_laws.proofs.Shared.{span_of_gap, clear_or_shared, point_shares, shared_holds_ends}
 use Rattle.matrix_laws.proofs.Mostly.{own_edges_are_mostly, sides_off_edges}
 
 -- ---- along a stretch that misses all edges
@@ -39,7 +40,7 @@ stays g c x y hx hy h k m = sym ((sides_off_edges g x hx (all_from_each (λ f. o
 -- an edge that misses one point of a gap holds none of them
 clear_by : (e f : Edge) (p q x : Point) → IsClear e p q f ⊎ IsShared e p q f → IsBetween e p q x → on f x ≡ false → IsClear e p q f
 clear_by e f p q x (inl c) i n = c
-clear_by e f p q x (inr s) i n = absurd (clash (on f x) (s.1 x i) n)
+clear_by e f p q x (inr s) i n = absurd (not_both (on f x) (s.1 x i) n)
 
 -- an edge that holds the one point holds both, and they are on own edges; where none does, the stretch between misses all
 pub gap_is_alike : (b : Geometry) → HasClosedRings b → (e : Edge) (p q : Point) → IsGap e (edges b) p q → (x y : Point) → IsBetween e p q x → IsBetween e p q y → mostly b x ≡ mostly b y
@@ -71,14 +72,8 @@ alone m x y = same_from (weighted m x 0 y) x (coordinate x.X y.X) (coordinate x.
     coordinate a b = solve (pos m ∷ a ∷ b ∷ x.W ∷ y.W ∷ []) ((var 0 ⊗ var 1 ⊕ lit (pos 0) ⊗ var 2) ⊗ var 3) (var 1 ⊗ (var 0 ⊗ var 3 ⊕ lit (pos 0) ⊗ var 4)) tt
 
 part_of : (n : ℕ) (s t : ℤ) → Lex s t → Lex (pos (suc n) *ℤ s) (pos (suc n) *ℤ t)
-part_of n s t (inl h) = inl (strict_plus_plus (pos (suc n)) s (some n) h)
-  where
-    some : (n : ℕ) → pos 0 <ℤ pos (suc n)
-    some n = omega (arith, ints)
-part_of n s t (inr h) = inr (ap (λ (z : ℤ). pos (suc n) *ℤ z) h.0 ∙ solve (pos (suc n) ∷ []) (var 0 ⊗ lit (pos 0)) (lit (pos 0)) tt, strict_plus_plus (pos (suc n)) t (some n) h.1)
-  where
-    some : (n : ℕ) → pos 0 <ℤ pos (suc n)
-    some n = omega (arith, ints)
+part_of n s t (inl h) = inl (strict_plus_plus (pos (suc n)) s (next_positive n) h)
+part_of n s t (inr h) = inr (ap (λ (z : ℤ). pos (suc n) *ℤ z) h.0 ∙ solve (pos (suc n) ∷ []) (var 0 ⊗ lit (pos 0)) (lit (pos 0)) tt, strict_plus_plus (pos (suc n)) t (next_positive n) h.1)
 
 carry : (s t s' t' : ℤ) → s ≡ s' → t ≡ t' → Lex s' t' → Lex s t
 carry s t s' t' e f l = rw (e, f) l
@@ -151,7 +146,7 @@ gap_end_is_alike b c e p q g x y j hx h w off = (
 
     clear_of : (f : Edge) → on f x ≡ false → IsClear e p q f ⊎ IsShared e p q f → IsClear e p q f
     clear_of f n (inl k) = k
-    clear_of f n (inr s) = absurd (clash (on f x) (holds e f (edges b) p q x g hx s place) n)
+    clear_of f n (inr s) = absurd (not_both (on f x) (holds e f (edges b) p q x g hx s place) n)
 
     clear : (f : Edge) → Among f (edges b) → IsClear e p q f
     clear f m = clear_of f (each_at (λ d. on d x ≡ false) (edges b) f off_x m) (clear_or_shared e (edges b) p q f g m)

@@ -1,6 +1,10 @@
 -- In a valid area no two rings share a point, and a point is in the interior exactly when it is in that of one element.
-use Rattle.std.proofs.Common.{ℕ, ◌<◌, ◌≡◌, ◌≢◌, ◌⊎◌, inl, inr, ◌↔◌, Bool, true, false, ◌||◌, if◌then◌else◌, refl, sym, ap, ap₂, subst, ◌∙◌, List, [], ◌∷◌, ◌++◌, Some, slice_get, Contains, arith}
+use Rattle.std.proofs.Common.{ℕ, ◌<◌, ◌≡◌, ◌≢◌, ◌⊎◌, inl, inr, ◌↔◌, Bool, true, false, ◌||◌, if◌then◌else◌, refl, sym, ap, ap₂, subst, ◌∙◌, List, [], ◌∷◌, ◌++◌, Some, slice_get, Contains}
 use Rattle.std.specs.List.{list_any}
+use Rattle.std.proofs.lemmas.Bool.{cases_eq, false_from_ne_true}
+use Rattle.std.proofs.lemmas.List.Folds.{list_any-append}
+use Rattle.basics.proofs.Numbers.{less_or_more}
+use Rattle.basics.proofs.Bools.{not_both}
 use Rattle.geometry_model.specs.Points.{Position, Point, IsPoint, point_at}
 use Rattle.geometry_model.specs.Geometries.{Edge, Geometry, Polygon, MultiPolygon, edges_of_line, edges_of_lines, rings, joined_rings}
 use Rattle.geometry_model.specs.Sides.{on}
@@ -18,7 +22,7 @@ use Rattle.matrix_laws.proofs.Places.{Pairs, pairs_by, pairs_map, pairs_append, 
 use Rattle.matrix_laws.proofs.Nested.{odd_in, Disjoint, disjoint_turned, on_ring, not_each, empty_even, carried_in, over_neither}
 use Rattle.matrix_laws.proofs.OneElement.{element_is_valid}
 use Rattle.matrix_laws.proofs.Through.{one_parity}
-use Rattle.matrix_laws.proofs.Holes.{Lawful, lawful, Apart, OddHole, one_more, disjoint_from, not_true, no_way, cut, in_some_hole}
+use Rattle.matrix_laws.proofs.Holes.{Lawful, lawful, Apart, OddHole, one_more, disjoint_from, cut, in_some_hole}
 
 -- ---- the rings of an area
 -- no two rings of a valid polygon share a point: not the outer one with a hole, and not two holes
@@ -76,17 +80,14 @@ record Two (d e : List (List Position)) : Type 0 where
 turned : (d e : List (List Position)) → Two d e → Two e d
 turned d e t = record { first = t.second; second = t.first; apart = separate_turned d e t.apart; not_in = t.not_over; not_over = t.not_in }
 
-less_or_more : (i j : ℕ) → (i ≡ j → ⊥) → (i < j) ⊎ (j < i)
-less_or_more i j n = grind arith
-
 -- what validity says of elements at two different places: two valid polygons, separate, neither inside the other
 two_of : (es : List (List (List Position))) → IsValid (MultiPolygon es) → (i j : ℕ) (d e : List (List Position)) → (i ≡ j → ⊥) → slice_get es i ≡ Some d → slice_get es j ≡ Some e → Two d e
 two_of es v i j d e n g h = record {
   first = element_is_valid (MultiPolygon es) v d (among_at es i d g);
   second = element_is_valid (MultiPolygon es) v e (among_at es j e h);
   apart = go (less_or_more i j n);
-  not_in = not_true (inside_element e d) (λ f. v (ElementInside i j) (d, e, n, g, h, f));
-  not_over = not_true (inside_element d e) (λ f. v (ElementInside j i) (e, d, (λ k. n (sym k)), h, g, f));
+  not_in = false_from_ne_true (inside_element e d) (λ f. v (ElementInside i j) (d, e, n, g, h, f));
+  not_over = false_from_ne_true (inside_element d e) (λ f. v (ElementInside j i) (e, d, (λ k. n (sym k)), h, g, f));
 }
   where
     go : (i < j) ⊎ (j < i) → Separate d e
@@ -108,7 +109,7 @@ in_hole o hs b v l c d f e p hp k = go (in_some_hole o hs l (point_at b) (positi
 -- ---- no point is odd over two elements
 -- a point that is even over all holes isn't odd over one
 even_hole : (hs : List (List Position)) (p : Point) (h : List Position) → Each (λ q. odd_in q p ≡ false) hs → Among h hs → odd_in h p ≡ true → ⊥
-even_hole hs p h n a k = no_way (odd_in h p) k (each_at (λ q. odd_in q p ≡ false) hs h n a)
+even_hole hs p h n a k = not_both (odd_in h p) k (each_at (λ q. odd_in q p ≡ false) hs h n a)
 
 -- no ring of the first shares a point with the second's outer ring
 outer_apart : (o : List Position) (hs : List (List Position)) (q : List Position) (ks : List (List Position)) → Separate (o ∷ hs) (q ∷ ks) → Each (λ r. Disjoint r q) (o ∷ hs)
@@ -125,8 +126,8 @@ swallowed o hs b v ks t e p hp k n = go (in_hole o hs b v (lawful o hs t.first) 
 -- a point odd over both is inside both outer rings, so the one is inside the other; there the inner element
 -- lies in a hole of the outer one, and over that hole the point would be odd
 never_both : (d e : List (List Position)) → Two d e → (p : Point) → IsPoint p → odd_above d p ≡ true → odd_above e p ≡ true → ⊥
-never_both [] e t p hp g h = no_way (odd_above [] p) g refl
-never_both (o ∷ hs) [] t p hp g h = no_way (odd_above [] p) h refl
+never_both [] e t p hp g h = not_both (odd_above [] p) g refl
+never_both (o ∷ hs) [] t p hp g h = not_both (odd_above [] p) h refl
 never_both (o ∷ hs) (q ∷ ks) t p hp g h = outers o q t (cut o hs (lawful o hs t.first) p hp g) (cut q ks (lawful q ks t.second) p hp h)
   where
     by_order : (a : Position) (u : List Position) (b : Position) (v : List Position) → Two ((a ∷ u) ∷ hs) ((b ∷ v) ∷ ks) → (odd_in (a ∷ u) p ≡ true) × Each (λ r. odd_in r p ≡ false) hs → (odd_in (b ∷ v) p ≡ true) × Each (λ r. odd_in r p ≡ false) ks
@@ -136,8 +137,8 @@ never_both (o ∷ hs) (q ∷ ks) t p hp g h = outers o q t (cut o hs (lawful o h
     by_order a u b v t m n false e false f = over_neither (a ∷ u) (b ∷ v) ((lawful (a ∷ u) hs t.first).outer_closed) ((lawful (b ∷ v) ks t.second).outer_closed) (between ((a ∷ u) ∷ hs) ((b ∷ v) ∷ ks) t.apart (a ∷ u) (b ∷ v) (inl refl) (inl refl)) e f p hp m.0 n.0
 
     outers : (o q : List Position) → Two (o ∷ hs) (q ∷ ks) → (odd_in o p ≡ true) × Each (λ r. odd_in r p ≡ false) hs → (odd_in q p ≡ true) × Each (λ r. odd_in r p ≡ false) ks → ⊥
-    outers [] q t m n = no_way (odd_in [] p) m.0 (empty_even p)
-    outers (a ∷ u) [] t m n = no_way (odd_in [] p) n.0 (empty_even p)
+    outers [] q t m n = not_both (odd_in [] p) m.0 (empty_even p)
+    outers (a ∷ u) [] t m n = not_both (odd_in [] p) n.0 (empty_even p)
     outers (a ∷ u) (b ∷ v) t m n = by_order a u b v t m n (odd_in (a ∷ u) (point_at b)) refl (odd_in (b ∷ v) (point_at a)) refl
 
 -- ---- a point on a ring of the one is even over the other
@@ -157,8 +158,8 @@ closed_rings o hs l = (l.outer_closed, l.holes_closed)
 -- a point on the second's outer ring has over the first the parity of that ring's first position, which isn't inside the first
 on_outer : (d : List (List Position)) (q : List Position) (ks : List (List Position)) → Two d (q ∷ ks) → (f : Edge) → Among f (edges_of_line q) → (p : Point) → IsPoint p → on f p ≡ true → odd_above d p ≡ true → ⊥
 on_outer d [] ks t f m p hp h g = m
-on_outer [] (b ∷ v) ks t f m p hp h g = no_way (odd_above [] p) g refl
-on_outer (o ∷ hs) (b ∷ v) ks t f m p hp h g = no_way (odd_above (o ∷ hs) p) g
+on_outer [] (b ∷ v) ks t f m p hp h g = not_both (odd_above [] p) g refl
+on_outer (o ∷ hs) (b ∷ v) ks t f m p hp h g = not_both (odd_above (o ∷ hs) p) g
     (same_over (o ∷ hs) p (point_at b) (first_alike (o ∷ hs) b v (closed_rings o hs (lawful o hs t.first)) (outer_apart o hs (b ∷ v) ks t.apart) f m p hp h) ∙ t.not_over)
 
 -- the point on the hole k of the second, of which another hole, or k, holds the outer ring of the first
@@ -168,7 +169,7 @@ hole_of_hole : (q : List Position) (ks : List (List Position)) → Lawful q ks �
 hole_of_hole q ks l a u c w ca d k f m p hp on_f g h b e n = go (one_before Apart ks l.holes_apart h (c ∷ w) b k)
   where
     apart : Disjoint h (c ∷ w) → inside h (c ∷ w) ≡ false → ⊥
-    apart dis out = no_way (odd_in h p) n (on_ring h c w (each_at IsClosed ks h l.holes_closed b) dis f m p hp on_f ∙ out)
+    apart dis out = not_both (odd_in h p) n (on_ring h c w (each_at IsClosed ks h l.holes_closed b) dis f m p hp on_f ∙ out)
 
     go : (h ≡ c ∷ w) ⊎ Apart h (c ∷ w) ⊎ Apart (c ∷ w) h → ⊥
     go (inl z) = not_each a u c w ca (each_at IsClosed ks (c ∷ w) l.holes_closed k) d (sym (on_ring (a ∷ u) c w ca d f m p hp on_f) ∙ g) (sym (ap (λ r. odd_in r (point_at a)) z) ∙ e)
@@ -179,7 +180,7 @@ hole_of_hole q ks l a u c w ca d k f m p hp on_f g h b e n = go (one_before Apar
 -- of the other's element, and over that hole the point can't be odd
 on_hole : (d : List (List Position)) (q : List Position) (ks : List (List Position)) → Two d (q ∷ ks) → (k : List Position) → Among k ks → (f : Edge) → Among f (edges_of_line k) → (p : Point) → IsPoint p → on f p ≡ true → odd_above d p ≡ true → ⊥
 on_hole d q ks t [] a f m p hp h g = m
-on_hole [] q ks t (c ∷ w) a f m p hp h g = no_way (odd_above [] p) g refl
+on_hole [] q ks t (c ∷ w) a f m p hp h g = not_both (odd_above [] p) g refl
 on_hole (o ∷ hs) q ks t (c ∷ w) k f m p hp h g = outers o q t (cut o hs (lawful o hs t.first) p hp g) (lawful q ks t.second)
   where
     over_outer : (q : List Position) → Lawful q ks → odd_in q p ≡ true
@@ -196,8 +197,8 @@ on_hole (o ∷ hs) q ks t (c ∷ w) k f m p hp h g = outers o q t (cut o hs (law
     by_order a u b v t n l false e false y = over_neither (a ∷ u) (b ∷ v) ((lawful (a ∷ u) hs t.first).outer_closed) l.outer_closed (between ((a ∷ u) ∷ hs) ((b ∷ v) ∷ ks) t.apart (a ∷ u) (b ∷ v) (inl refl) (inl refl)) e y p hp n.0 (over_outer (b ∷ v) l)
 
     outers : (o q : List Position) → Two (o ∷ hs) (q ∷ ks) → (odd_in o p ≡ true) × Each (λ r. odd_in r p ≡ false) hs → Lawful q ks → ⊥
-    outers [] q t n l = no_way (odd_in [] p) n.0 (empty_even p)
-    outers (a ∷ u) [] t n l = no_way (odd_in [] p) (over_outer [] l) (empty_even p)
+    outers [] q t n l = not_both (odd_in [] p) n.0 (empty_even p)
+    outers (a ∷ u) [] t n l = not_both (odd_in [] p) (over_outer [] l) (empty_even p)
     outers (a ∷ u) (b ∷ v) t n l = by_order a u b v t n l (odd_in (a ∷ u) (point_at b)) refl (odd_in (b ∷ v) (point_at a)) refl
 
 -- so on every ring of the second the point is even over the first
@@ -239,19 +240,11 @@ both_edges d e t p hp h g = go (some_passed (λ f. on f p) (edges_of_lines d) h)
     go y z = at y.found z.found (ring_of y.found d y.among) (ring_of z.found e z.among) y.passes z.passes
 
 -- ---- over all rings and over each element
-any_append : {X : Type 0} (f : X → Bool) (xs ys : List X) → list_any f (xs ++ ys) ≡ (list_any f xs || list_any f ys)
-any_append f [] ys = refl
-any_append f (x ∷ xs) ys = ap (λ (b : Bool). f x || b) (any_append f xs ys) ∙ grouped (f x) (list_any f xs) (list_any f ys)
-  where
-    grouped : (a b c : Bool) → (a || (b || c)) ≡ ((a || b) || c)
-    grouped true b c = refl
-    grouped false b c = refl
-
 -- a point is on some of joined rings where it is on some of the one or of the other list
 on_rings : (rs qs : List (List Position)) (p : Point) → on_some (rs ++ qs) p ≡ (on_some rs p || on_some qs p)
 on_rings [] qs p = refl
-on_rings (r ∷ rs) qs p = any_append (λ e. on e p) (edges_of_line r) (edges_of_lines (rs ++ qs)) ∙ ap (λ (b : Bool). list_any (λ e. on e p) (edges_of_line r) || b) (on_rings rs qs p)
-    ∙ grouped (list_any (λ e. on e p) (edges_of_line r)) (on_some rs p) (on_some qs p) ∙ ap (λ (b : Bool). b || on_some qs p) (sym (any_append (λ e. on e p) (edges_of_line r) (edges_of_lines rs)))
+on_rings (r ∷ rs) qs p = list_any-append (λ e. on e p) (edges_of_line r) (edges_of_lines (rs ++ qs)) ∙ ap (λ (b : Bool). list_any (λ e. on e p) (edges_of_line r) || b) (on_rings rs qs p)
+    ∙ grouped (list_any (λ e. on e p) (edges_of_line r)) (on_some rs p) (on_some qs p) ∙ ap (λ (b : Bool). b || on_some qs p) (sym (list_any-append (λ e. on e p) (edges_of_line r) (edges_of_lines rs)))
   where
     grouped : (a b c : Bool) → (a || (b || c)) ≡ ((a || b) || c)
     grouped true b c = refl
@@ -325,9 +318,6 @@ never_in_two es v i j d e n g h p hp out = go (two_of es v i j d e n g h) (on_so
     go t false a true b false c true f = absurd (never_both d e t p hp b f)
 
 -- ---- the interior is that of the elements
-equal_or_not : (i j : ℕ) → (i ≡ j) ⊎ (i ≡ j → ⊥)
-equal_or_not i j = grind arith
-
 exterior_parts : (s t : Bool) → (if s then Boundary else if t then Interior else Exterior) ≡ Exterior → (s ≡ false) × (t ≡ false)
 exterior_parts true t e = absurd cc
 exterior_parts false true e = absurd cc
@@ -346,7 +336,7 @@ interior_is_of_an_element es v p hp = (λ e. forth (interior_parts (on_some (joi
 
     at : (d : List (List Position)) (j : ℕ) → slice_get es j ≡ Some d → locate (Polygon d) p ≡ Interior → locate (MultiPolygon es) p ≡ Interior
     at d j g e = from_tests (on_some (joined_rings es) p) (odd_above (joined_rings es) p) false true
-        (on_joined es p ∙ none_passes (λ q. on_some q p) es (each_by (λ q. on_some q p ≡ false) es (λ i q h. off i q h (equal_or_not i j))))
+        (on_joined es p ∙ none_passes (λ q. on_some q p) es (each_by (λ q. on_some q p ≡ false) es (λ i q h. off i q h (cases_eq i j))))
         (odd_joined es p ∙ one_parity (λ q. odd_above q p) es j d g (interior_parts (on_some d p) (odd_above d p) e).1 (λ i q n h. (exterior_parts (on_some q p) (odd_above q p) (other i q n h)).1))
       where
         not_exterior : locate (Polygon d) p ≢ Exterior

@@ -2,6 +2,8 @@
 use Rattle.std.proofs.Common.{◌≡◌, inl, inr, true, false, refl, sym, ap, ◌∙◌, List, [], ◌∷◌, filter}
 use Rattle.std.specs.declared.cmp.Ordering.{Ordering}
 use Rattle.std.specs.declared.cmp.Ordering.TheVariants.{Less, Equal, Greater}
+use Rattle.std.proofs.lemmas.Bool.{or_left, or_right}
+use Rattle.basics.proofs.Bools.{by_contraries}
 use Rattle.geometry_model.specs.Points.{Position, Point, IsPoint, point_at, same_point, compare}
 use Rattle.geometry_model.specs.Geometries.{Edge}
 use Rattle.geometry_model.specs.Sides.{on}
@@ -13,8 +15,8 @@ use Rattle.geometry_laws.proofs.Each.{Each, Among, each_at, each_of}
 use Rattle.geometry_laws.proofs.PointOrder.{same_symmetric, equal_is_same, less_transitive}
 use Rattle.geometry_laws.proofs.Respect.{on_respects}
 use Rattle.geometry_laws.proofs.RingParity.{position_is_point}
-use Rattle.geometry_laws.proofs.Locating.{start_is_on, end_is_on, by_contraries}
-use Rattle.geometry_laws.proofs.Cuts.{Ends, contains_of_among, turn_less, not_after_both, not_before_both, start_is_cut, end_is_cut, or_first, or_last, same_end}
+use Rattle.geometry_laws.proofs.Locating.{start_is_on, end_is_on}
+use Rattle.geometry_laws.proofs.Cuts.{Ends, contains_of_among, turn_less, not_after_both, not_before_both, start_is_cut, end_is_cut, same_end}
 use Rattle.matrix_laws.proofs.MatrixLists.{Some_of, among_filter, filter_among}
 use Rattle.matrix_laws.proofs.Sorted.{Sorted, filter-sorted}
 use Rattle.matrix_laws.proofs.CutLists.{IsLeastCut}
@@ -149,10 +151,10 @@ within_piece es ps e x a hx h f = go (compare (point_at e.start) x) refl (compar
         (less_left s.cut p x s.is_point hp s.same g) (less_right x q t.cut hq t.is_point k (sym (same_symmetric t.cut q) ∙ t.same)))
 
     start_same : compare (point_at e.start) x ≡ Equal → ⊥
-    start_same g = f (AtEnd hx e (contains_of_among e es a) (or_first (same_point (point_at e.start) x) (same_point (point_at e.end) x) ((equal_is_same (point_at e.start) x).0 g)))
+    start_same g = f (AtEnd hx e (contains_of_among e es a) (or_left (same_point (point_at e.start) x) (same_point (point_at e.end) x) ((equal_is_same (point_at e.start) x).0 g)))
 
     end_same : compare (point_at e.end) x ≡ Equal → ⊥
-    end_same g = f (AtEnd hx e (contains_of_among e es a) (or_last (same_point (point_at e.start) x) (same_point (point_at e.end) x) ((equal_is_same (point_at e.end) x).0 g)))
+    end_same g = f (AtEnd hx e (contains_of_among e es a) (or_right (same_point (point_at e.start) x) (same_point (point_at e.end) x) ((equal_is_same (point_at e.end) x).0 g)))
 
     go : (o : Ordering) → compare (point_at e.start) x ≡ o → (t : Ordering) → compare (point_at e.end) x ≡ t → Standing es ps e (point_at e.start) → Standing es ps e (point_at e.end) → Within es ps x
     go Less g Less k s t = absurd (let z : true ≡ false = sym h ∙ not_after_both e x hx g k in cc)

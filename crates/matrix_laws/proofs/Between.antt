@@ -1,8 +1,9 @@
 -- Strictly between two points of an edge: sums stay there, and an edge that holds all of it holds its ends.
-use Rattle.std.proofs.Common.{ℕ, ◌+◌, ◌<◌, ℤ, pos, ◌+ℤ◌, ◌*ℤ◌, ◌≡◌, Bool, true, false, refl, sym, ap, subst, ◌∙◌, arith}
+use Rattle.std.proofs.Common.{ℕ, ◌+◌, ◌<◌, ℤ, pos, ◌+ℤ◌, ◌*ℤ◌, ◌≡◌, true, false, refl, sym, ap, subst, ◌∙◌, arith}
 use borrow.Author.Differences.{ints}
 use Rattle.std.specs.declared.cmp.Ordering.{Ordering}
 use Rattle.std.specs.declared.cmp.Ordering.TheVariants.{Less, Equal, Greater}
+use Rattle.basics.proofs.Bools.{by_contraries, not_both}
 use Rattle.geometry_model.specs.Points.{Position, Point, IsPoint, point_at, compare, same_point, mediant, least_form}
 use Rattle.geometry_model.specs.Geometries.{Edge}
 use Rattle.geometry_model.specs.Sides.{side, on}
@@ -15,7 +16,6 @@ use Rattle.geometry_laws.proofs.Respect.{compare_respects, on_respects}
 use Rattle.geometry_laws.proofs.Hulls.{on_from_hull, hull_from_on, on_parts}
 use Rattle.geometry_laws.proofs.RingParity.{position_is_point}
 use Rattle.geometry_laws.proofs.Lines.{weighted_is_point}
-use Rattle.geometry_laws.proofs.Locating.{by_contraries}
 use Rattle.geometry_laws.proofs.Triangles.{dot, dot_is_at}
 use Rattle.geometry_laws.proofs.LineOrder.{IsSum, after_sum, before_sum, sum_between, on_sum, weighted_is_sum, area_on_line}
 use Rattle.geometry_laws.proofs.Cuts.{turn_less, not_less_self, not_after_both, not_before_both}
@@ -121,9 +121,6 @@ no_end_between e p q x s i = (by_contraries (is_at x e.start) false (λ k. absur
     before : (a : Position) → is_at x a ≡ true → compare (point_at a) q ≡ Less
     before a k = compare_respects q (point_at a) x (position_is_point a) i.is_point k ∙ i.before
 
-    clash : (t : Bool) → t ≡ true → t ≡ false → ⊥
-    clash t k l = let z : true ≡ false = sym k ∙ l in absurd (cc)
-
     same_before : (a : Position) → compare p (point_at a) ≡ Equal → compare (point_at a) q ≡ Less
     same_before a k = compare_respects q (point_at a) p (position_is_point a) s.lesser (same_symmetric (point_at a) p ∙ (equal_is_same p (point_at a)).0 k) ∙ s.in_order
 
@@ -131,17 +128,17 @@ no_end_between e p q x s i = (by_contraries (is_at x e.start) false (λ k. absur
     at_start k = go (compare p (point_at e.end)) refl
       where
         go : (o : Ordering) → compare p (point_at e.end) ≡ o → ⊥
-        go Less l = clash (on e p) s.lesser_on (not_before_both e p s.lesser (after e.start k) l)
-        go Equal l = clash (on e q) s.greater_on (not_after_both e q s.greater (before e.start k) (same_before e.end l))
-        go Greater l = clash (on e q) s.greater_on (not_after_both e q s.greater (before e.start k) (less_transitive (point_at e.end) p q (position_is_point e.end) s.lesser s.greater (turn_less p (point_at e.end) l) s.in_order))
+        go Less l = not_both (on e p) s.lesser_on (not_before_both e p s.lesser (after e.start k) l)
+        go Equal l = not_both (on e q) s.greater_on (not_after_both e q s.greater (before e.start k) (same_before e.end l))
+        go Greater l = not_both (on e q) s.greater_on (not_after_both e q s.greater (before e.start k) (less_transitive (point_at e.end) p q (position_is_point e.end) s.lesser s.greater (turn_less p (point_at e.end) l) s.in_order))
 
     at_end : is_at x e.end ≡ true → ⊥
     at_end k = go (compare p (point_at e.start)) refl
       where
         go : (o : Ordering) → compare p (point_at e.start) ≡ o → ⊥
-        go Less l = clash (on e p) s.lesser_on (not_before_both e p s.lesser l (after e.end k))
-        go Equal l = clash (on e q) s.greater_on (not_after_both e q s.greater (same_before e.start l) (before e.end k))
-        go Greater l = clash (on e q) s.greater_on (not_after_both e q s.greater (less_transitive (point_at e.start) p q (position_is_point e.start) s.lesser s.greater (turn_less p (point_at e.start) l) s.in_order) (before e.end k))
+        go Less l = not_both (on e p) s.lesser_on (not_before_both e p s.lesser l (after e.end k))
+        go Equal l = not_both (on e q) s.greater_on (not_after_both e q s.greater (same_before e.start l) (before e.end k))
+        go Greater l = not_both (on e q) s.greater_on (not_after_both e q s.greater (less_transitive (point_at e.start) p q (position_is_point e.start) s.lesser s.greater (turn_less p (point_at e.start) l) s.in_order) (before e.end k))
 
 -- ---- points nearer to an end than given points of the line
 -- a point of the edge after its lesser point, before its greater one and before another point of the line

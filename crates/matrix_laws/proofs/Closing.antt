@@ -8,6 +8,7 @@ use Rattle.geometry_model.specs.Locations.{last_after}
 use Rattle.geometry_model.specs.Validity.{IsValid, IsNotClosed}
 use Rattle.geometry_model.specs.declared.validity_faults.ValidityFault.TheVariants.{RingNotClosed}
 use Rattle.basics.proofs.Signs.{is_or_not}
+use Rattle.basics.proofs.Orders.{no_difference}
 use Rattle.geometry_laws.specs.RingLaws.{IsClosed}
 use Rattle.geometry_laws.specs.PieceLaws.{HasClosedRings}
 
@@ -15,14 +16,11 @@ use Rattle.geometry_laws.specs.PieceLaws.{HasClosedRings}
 same_position : (p q : Position) → (p ≢ q → ⊥) → p ≡ q
 same_position p q f = go (is_or_not (p.x -ℤ q.x)) (is_or_not (p.y -ℤ q.y))
   where
-    same : (x y : ℤ) → x -ℤ y ≡ pos 0 → x ≡ y
-    same x y e = omega (arith, ints)
-
     nothing : (x y : ℤ) → x ≡ y → x -ℤ y ≡ pos 0
     nothing x y e = omega (arith, ints)
 
     go : ((p.x -ℤ q.x ≡ pos 0) ⊎ (p.x -ℤ q.x ≡ pos 0 → ⊥)) → ((p.y -ℤ q.y ≡ pos 0) ⊎ (p.y -ℤ q.y ≡ pos 0 → ⊥)) → p ≡ q
-    go (inl e) (inl g) = λ i. record { x = same p.x q.x e i; y = same p.y q.y g i }
+    go (inl e) (inl g) = λ i. record { x = no_difference p.x q.x e i; y = no_difference p.y q.y g i }
     go (inr n) g = absurd (f (λ e. n (nothing p.x q.x (ap (λ (a : Position). a.x) e))))
     go (inl e) (inr n) = absurd (f (λ e. n (nothing p.y q.y (ap (λ (a : Position). a.y) e))))
 

@@ -3,14 +3,16 @@ use Rattle.std.proofs.Common.{◌≡◌, ◌≢◌, inl, ℕ, Bool, true, false,
 use borrow.Author.Differences.{ints}
 use native.Mathlib.Nat.{zero-div}
 use Rattle.std.specs.Prelude.{int_div, unsigned_abs}
+use Rattle.std.proofs.lemmas.Bool.{and_from}
 use Rattle.basics.proofs.Ring.{solve, var, lit, ◌⊖◌, ◌⊗◌}
 use Rattle.basics.proofs.Signs.{less_yes, less_from, not_less_from}
+use Rattle.basics.proofs.Orders.{negative_flipped}
 use Rattle.geometry_model.specs.Points.{Point, IsPoint, same_point, gcd, least_form}
 use Rattle.geometry_model.specs.Geometries.{Edge}
 use Rattle.geometry_model.specs.Sides.{on, on_one_line}
 use Rattle.geometry_model.specs.CutPoints.{turned_up, meeting_point, crossings}
 use Rattle.geometry_model.proofs.LeastFormFacts.{least_is_same, least_is_point}
-use Rattle.geometry_laws.proofs.Scaling.{and_from, same_from}
+use Rattle.geometry_laws.proofs.Scaling.{same_from}
 use Rattle.geometry_laws.proofs.PointOrder.{same_transitive}
 use Rattle.geometry_laws.proofs.Respect.{on_respects}
 use Rattle.geometry_laws.proofs.Each.{Among}
@@ -22,14 +24,11 @@ use Rattle.matrix_laws.proofs.EdgeMeeting.{before_turning, SharesPoint, shares_p
 pub turned_is_point : (p : Point) → p.W ≢ pos 0 → IsPoint (turned_up p)
 turned_is_point p h = go (int_lt p.W (pos 0)) refl
   where
-    up : (w : ℤ) → w <ℤ pos 0 → pos 0 <ℤ (pos 0 -ℤ w)
-    up w k = omega (arith, ints)
-
     there : (w : ℤ) → pos 0 ≤ℤ w → w ≢ pos 0 → pos 0 <ℤ w
     there w k l = omega (arith, ints)
 
     go : (b : Bool) → int_lt p.W (pos 0) ≡ b → pos 0 <ℤ (if b then record { X = pos 0 -ℤ p.X; Y = pos 0 -ℤ p.Y; W = pos 0 -ℤ p.W } else p).W
-    go true e = up p.W (less_from p.W (pos 0) e)
+    go true e = negative_flipped p.W (less_from p.W (pos 0) e)
     go false e = there p.W (not_less_from p.W (pos 0) e) h
 
 -- and where W is 0 it stays so

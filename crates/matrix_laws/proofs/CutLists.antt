@@ -1,17 +1,18 @@
 -- The list of cut points holds exactly the cuts, in least form and ascending.
-use Rattle.std.proofs.Common.{◌≡◌, ◌≢◌, ◌⊎◌, inl, inr, Bool, true, false, ◌&&◌, ◌||◌, if◌then◌else◌, refl, sym, subst, arith, List, [], ◌∷◌, ◌++◌, map, flat_map, ℤ, pos, ◌-ℤ◌, ◌<ℤ◌, int_lt}
+use Rattle.std.proofs.Common.{◌≡◌, ◌≢◌, ◌⊎◌, inl, inr, Bool, true, false, ◌&&◌, if◌then◌else◌, refl, sym, subst, arith, List, [], ◌∷◌, ◌++◌, map, flat_map, ℤ, pos, ◌-ℤ◌, ◌<ℤ◌, int_lt}
 use borrow.Author.Differences.{ints}
 use native.Mathlib.Nat.{eq-one_of_dvd-one}
 use Rattle.std.specs.Ordering.{int_eq}
+use Rattle.std.proofs.lemmas.Bool.{or_cases, or_right, or_left, and_parts}
 use Rattle.basics.proofs.Signs.{less_from}
 use Rattle.basics.proofs.Tests.{equal_from}
+use Rattle.basics.proofs.Orders.{zero_not_positive}
 use Rattle.geometry_model.specs.Points.{Position, Point, IsPoint, IsLeast, point_at, same_point, least_form}
 use Rattle.geometry_model.specs.Geometries.{Edge}
 use Rattle.geometry_model.specs.Sides.{side, on, on_one_line}
 use Rattle.geometry_model.specs.CutPoints.{IsCut, meeting_point, crossings, end_points}
 use Rattle.geometry_model.proofs.LeastFormFacts.{least_is_least}
 use Rattle.geometry_model.proofs.DimensionFacts.{is_false}
-use Rattle.geometry_laws.proofs.Scaling.{and_parts}
 use Rattle.geometry_laws.proofs.PointOrder.{same_reflexive}
 use Rattle.geometry_laws.proofs.Each.{Among, among_left, among_right, among_either}
 use Rattle.matrix_laws.proofs.MatrixLists.{Some_of, among_from_contains, contains_from_among, among_map, map_among, among_flat_map, flat_map_among}
@@ -49,15 +50,12 @@ crossing_is e f q a = go (int_lt (pos 0) m.W && on e m && on f m) refl a
     m : Point
     m = least_form (meeting_point e f)
 
-    not_nothing : (w : ℤ) → w ≡ pos 0 → pos 0 <ℤ w → ⊥
-    not_nothing w g h = omega (arith, ints)
-
     made : (int_lt (pos 0) m.W && on e m && on f m) ≡ true → IsCrossing e f m
     made h =
         let outer : (int_lt (pos 0) m.W && on e m ≡ true) × (on f m ≡ true) = and_parts (int_lt (pos 0) m.W && on e m) (on f m) h in
         let inner : (int_lt (pos 0) m.W ≡ true) × (on e m ≡ true) = and_parts (int_lt (pos 0) m.W) (on e m) outer.0 in
         let above : pos 0 <ℤ m.W = less_from (pos 0) m.W inner.0 in
-        let not_parallel : (before_turning e f).W ≢ pos 0 = λ z. not_nothing m.W (least_is_nothing (meeting_point e f) (turned_is_nothing (before_turning e f) z)) above in
+        let not_parallel : (before_turning e f).W ≢ pos 0 = λ z. zero_not_positive m.W (least_is_nothing (meeting_point e f) (turned_is_nothing (before_turning e f) z)) above in
         record {
           is_point = above;
           is_least = least_is_least (meeting_point e f) (turned_is_point (before_turning e f) not_parallel);
@@ -87,29 +85,17 @@ position_is_point a = omega (arith, ints)
 position_is_least : (a : Position) → IsLeast (point_at a)
 position_is_least a = λ d hx hy hw. eq-one_of_dvd-one hw
 
-pub or_first : (a b : Bool) → a ≡ true → (a || b) ≡ true
-or_first true b e = refl
-or_first false b e = absurd (let k : false ≡ true = e in cc)
-
-pub or_second : (a b : Bool) → b ≡ true → (a || b) ≡ true
-or_second true b e = refl
-or_second false b e = e
-
-pub or_either : (a b : Bool) → (a || b) ≡ true → (a ≡ true) ⊎ (b ≡ true)
-or_either true b e = inl refl
-or_either false b e = inr e
-
 -- the ends of an edge are cuts
 end_is_cut : (es : List Edge) (ps : List Position) (e : Edge) → Among e es → (q : Point) → Among q (end_points e) → IsLeastCut es ps q
 end_is_cut es ps e a q (inl g) = subst (IsLeastCut es ps) (sym g) record {
   is_point = position_is_point e.start;
   is_least = position_is_least e.start;
-  is_cut = IsCut.AtEnd (position_is_point e.start) e (contains_from_among es e a) (or_first (same_point (point_at e.start) (point_at e.start)) (same_point (point_at e.end) (point_at e.start)) (same_reflexive (point_at e.start)));
+  is_cut = IsCut.AtEnd (position_is_point e.start) e (contains_from_among es e a) (or_left (same_point (point_at e.start) (point_at e.start)) (same_point (point_at e.end) (point_at e.start)) (same_reflexive (point_at e.start)));
 }
 end_is_cut es ps e a q (inr (inl g)) = subst (IsLeastCut es ps) (sym g) record {
   is_point = position_is_point e.end;
   is_least = position_is_least e.end;
-  is_cut = IsCut.AtEnd (position_is_point e.end) e (contains_from_among es e a) (or_second (same_point (point_at e.start) (point_at e.end)) (same_point (point_at e.end) (point_at e.end)) (same_reflexive (point_at e.end)));
+  is_cut = IsCut.AtEnd (position_is_point e.end) e (contains_from_among es e a) (or_right (same_point (point_at e.start) (point_at e.end)) (same_point (point_at e.end) (point_at e.end)) (same_reflexive (point_at e.end)));
 }
 end_is_cut es ps e a q (inr (inr c)) = absurd c
 
@@ -166,7 +152,7 @@ in_crossings es ps q a = among_right q (flat_map end_points es ++ map point_at p
 
 -- each cut is one of the three, so it is listed in least form
 pub cut_found : (es : List Edge) (ps : List Position) (p : Point) → IsPoint p → IsCut es ps p → Some_of (λ q. same_point q p ≡ true) (all_cuts es ps)
-cut_found es ps p hp (IsCut.AtEnd _ e c h) = go (or_either (same_point (point_at e.start) p) (same_point (point_at e.end) p) h)
+cut_found es ps p hp (IsCut.AtEnd _ e c h) = go (or_cases (same_point (point_at e.start) p) (same_point (point_at e.end) p) h)
   where
     go : (same_point (point_at e.start) p ≡ true) ⊎ (same_point (point_at e.end) p ≡ true) → Some_of (λ q. same_point q p ≡ true) (all_cuts es ps)
     go (inl g) = record { found = point_at e.start; among = in_ends es ps (point_at e.start) (flat_map_among end_points es e (point_at e.start) (among_from_contains es e c) (inl refl)); has = g }

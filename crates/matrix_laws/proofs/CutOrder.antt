@@ -1,6 +1,7 @@
 -- The list of cut points as a whole: exactly the cuts, in least form, ascending.
 use Rattle.std.proofs.Common.{◌≡◌, ◌⊎◌, inl, inr, ◌↔◌, true, ◌||◌, sym, ap, subst, ◌∙◌, List, Any, All, AllPairs}
 use Rattle.std.specs.declared.cmp.Ordering.TheVariants.{Less}
+use Rattle.std.proofs.lemmas.Bool.{or_left, or_right, or_cases}
 use Rattle.geometry_model.specs.Points.{Position, Point, IsPoint, IsLeast, point_at, same_point, compare}
 use Rattle.geometry_model.specs.Geometries.{Edge}
 use Rattle.geometry_model.specs.CutPoints.{IsCut, cut_points}
@@ -10,16 +11,16 @@ use Rattle.geometry_laws.proofs.Respect.{on_respects}
 use Rattle.geometry_laws.proofs.Each.{Among, each_of}
 use Rattle.matrix_laws.proofs.MatrixLists.{Some_of, some_from_any, any_from_some, all_from_each}
 use Rattle.matrix_laws.proofs.Sorted.{Sorted, Ties, IsOrder, among_ascending, ascending_among, ascending-sorted, pairs_from_sorted}
-use Rattle.matrix_laws.proofs.CutLists.{IsLeastCut, all_cuts, cut_is_cut, cut_found, or_first, or_second, or_either}
+use Rattle.matrix_laws.proofs.CutLists.{IsLeastCut, all_cuts, cut_is_cut, cut_found}
 
 -- ---- a cut is one by each of its triples
 -- each kind of cut asks only where the point is, and equal triples are at one place
 pub cut_of_same : (es : List Edge) (ps : List Position) (p q : Point) → IsPoint p → IsPoint q → same_point p q ≡ true → IsCut es ps p → IsCut es ps q
-cut_of_same es ps p q hp hq same (IsCut.AtEnd _ e c h) = IsCut.AtEnd hq e c (go (or_either (same_point (point_at e.start) p) (same_point (point_at e.end) p) h))
+cut_of_same es ps p q hp hq same (IsCut.AtEnd _ e c h) = IsCut.AtEnd hq e c (go (or_cases (same_point (point_at e.start) p) (same_point (point_at e.end) p) h))
   where
     go : (same_point (point_at e.start) p ≡ true) ⊎ (same_point (point_at e.end) p ≡ true) → (same_point (point_at e.start) q || same_point (point_at e.end) q) ≡ true
-    go (inl g) = or_first (same_point (point_at e.start) q) (same_point (point_at e.end) q) (same_transitive (point_at e.start) p q hp g same)
-    go (inr g) = or_second (same_point (point_at e.start) q) (same_point (point_at e.end) q) (same_transitive (point_at e.end) p q hp g same)
+    go (inl g) = or_left (same_point (point_at e.start) q) (same_point (point_at e.end) q) (same_transitive (point_at e.start) p q hp g same)
+    go (inr g) = or_right (same_point (point_at e.start) q) (same_point (point_at e.end) q) (same_transitive (point_at e.end) p q hp g same)
 cut_of_same es ps p q hp hq same (IsCut.Listed _ a c h) = IsCut.Listed hq a c (same_transitive (point_at a) p q hp h same)
 cut_of_same es ps p q hp hq same (IsCut.AtCrossing _ e f c d apart he hf) = IsCut.AtCrossing hq e f c d apart
     (sym (on_respects e p q hp hq same) ∙ he) (sym (on_respects f p q hp hq same) ∙ hf)

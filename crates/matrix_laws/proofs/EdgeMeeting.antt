@@ -2,13 +2,14 @@
 use Rattle.std.proofs.Common.{◌≡◌, ◌≢◌, Bool, true, false, ◌&&◌, sym, ap, ap₂, ◌∙◌, arith, [], ◌∷◌, ℤ, pos, ◌+ℤ◌, ◌-ℤ◌, ◌*ℤ◌, ◌<ℤ◌}
 use borrow.Author.Differences.{ints}
 use Rattle.std.specs.Ordering.{int_eq}
+use Rattle.std.proofs.lemmas.Bool.{and_from}
 use Rattle.basics.proofs.Ring.{solve, var, lit, ◌⊕◌, ◌⊖◌, ◌⊗◌}
 use Rattle.basics.proofs.Signs.{cancel_zero, strict_plus_plus}
 use Rattle.basics.proofs.Tests.{equal_yes}
+use Rattle.basics.proofs.Orders.{no_difference}
 use Rattle.geometry_model.specs.Points.{Position, Point, IsPoint, point_at}
 use Rattle.geometry_model.specs.Geometries.{Edge}
 use Rattle.geometry_model.specs.Sides.{side, on, on_one_line}
-use Rattle.geometry_laws.proofs.Scaling.{and_from}
 use Rattle.geometry_laws.proofs.Hulls.{OnHull, hull_from_on, on_parts}
 
 -- the side of p, which is a sum of c and d with weights, is the sum of their sides
@@ -34,11 +35,8 @@ coordinate k m n s t a b x w e f =
 
 -- where the weighted sum of both sides is 0, the coordinates agree
 agrees : (k m n s t a b x w : ℤ) → pos 0 <ℤ k → k *ℤ x ≡ m *ℤ a +ℤ n *ℤ b → k *ℤ w ≡ m +ℤ n → m *ℤ s +ℤ n *ℤ t ≡ pos 0 → (s *ℤ b -ℤ t *ℤ a) *ℤ w ≡ x *ℤ (s -ℤ t)
-agrees k m n s t a b x w h e f z = same _ _ (cancel_zero k _ h (coordinate k m n s t a b x w e f ∙ ap (λ (y : ℤ). y *ℤ (b -ℤ a)) z ∙ nothing (b -ℤ a)))
+agrees k m n s t a b x w h e f z = no_difference _ _ (cancel_zero k _ h (coordinate k m n s t a b x w e f ∙ ap (λ (y : ℤ). y *ℤ (b -ℤ a)) z ∙ nothing (b -ℤ a)))
   where
-    same : (y v : ℤ) → y -ℤ v ≡ pos 0 → y ≡ v
-    same y v g = omega (arith, ints)
-
     nothing : (y : ℤ) → pos 0 *ℤ y ≡ pos 0
     nothing y = omega (arith, ints)
 

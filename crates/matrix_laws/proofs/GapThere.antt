@@ -1,5 +1,6 @@
 -- What a gap shows is there: a point of it that is no cut lies as its sample does.
 use Rattle.std.proofs.Common.{◌≡◌, ◌≢◌, ◌⊎◌, inl, inr, true, false, refl, sym, ◌∙◌, List, ◌++◌, All, Contains}
+use Rattle.std.proofs.lemmas.List.Elements.{Contains-append_left, All-contains}
 use Rattle.geometry_model.specs.Points.{Point, IsPoint}
 use Rattle.geometry_model.specs.Geometries.{Edge, Geometry, kind, edges, listed}
 use Rattle.geometry_model.specs.Sides.{on}
@@ -24,7 +25,7 @@ use Rattle.matrix_laws.specs.Covering.{IsOffEdges, ShowsOff, ShowsOn, ShowsAt}
 use Rattle.matrix_laws.proofs.Shared.{span_of_gap}
 use Rattle.matrix_laws.proofs.GapTheorems.{gap_has_no_cut, gap_is_alike, own_edges_are_mostly, sides_off_edges, sides_of_no_area, sides_of_own_edge, sides_along_own_edge, shared_point_shares_gap, shared_gap_holds_ends}
 use Rattle.matrix_laws.proofs.Stretching.{not_upright_either}
-use Rattle.matrix_laws.proofs.Located.{contains_left, all_at, is_area, on_or_off, AppliesMostly, no_cut_applies}
+use Rattle.matrix_laws.proofs.Located.{is_area, on_or_off, AppliesMostly, no_cut_applies}
 
 -- ---- the edge's point between, as one of the other edge
 pub between_of_other : (e f : Edge) (p q x : Point) → IsShared e p q f → IsBetween e p q x → IsBetween f p q x
@@ -51,7 +52,7 @@ same_sides a b va vb e c n p q g f d s x y i j = go (shared_gap_holds_ends e (ed
 -- ---- off b's edges
 -- an edge that misses one point of a gap misses all of them
 off_along : (e : Edge) (fs : List Edge) (p q : Point) → IsGap e fs p q → (x y : Point) → IsBetween e p q x → IsBetween e p q y → All (λ f. on f y ≡ false) fs → All (λ f. on f x ≡ false) fs
-off_along e fs p q g x y i j h = all_from_each (λ f. on f x ≡ false) fs (each_of (λ f. on f x ≡ false) fs (λ f m. go f (all_at (λ k. on k y ≡ false) fs f h (contains_of_among f fs m)) (all_at (λ k. IsClear e p q k ⊎ IsShared e p q k) fs f g.whole (contains_of_among f fs m))))
+off_along e fs p q g x y i j h = all_from_each (λ f. on f x ≡ false) fs (each_of (λ f. on f x ≡ false) fs (λ f m. go f (All-contains (λ k. on k y ≡ false) fs f h (contains_of_among f fs m)) (All-contains (λ k. IsClear e p q k ⊎ IsShared e p q k) fs f g.whole (contains_of_among f fs m))))
   where
     go : (f : Edge) → on f y ≡ false → IsClear e p q f ⊎ IsShared e p q f → on f x ≡ false
     go f k (inl n) = n x i
@@ -70,8 +71,8 @@ at_no_cut : (a b : Geometry) → IsValid a → IsValid b → (e : Edge) → Cont
 at_no_cut a b va vb e c p q x i f = record {
   applies = no_cut_applies a b e c x i.is_point i.is_on f;
   no_cut = f;
-  piece = piece_is_there a b (valid_rings_are_closed a va) (valid_rings_are_closed b vb) e (contains_left (edges a) (edges b) e c) x i.is_point i.is_on f;
-  sides = λ n. sides_are_there a b (valid_rings_are_closed a va) (valid_rings_are_closed b vb) e (contains_left (edges a) (edges b) e c) n x i.is_point i.is_on f;
+  piece = piece_is_there a b (valid_rings_are_closed a va) (valid_rings_are_closed b vb) e (Contains-append_left (edges a) (edges b) e c) x i.is_point i.is_on f;
+  sides = λ n. sides_are_there a b (valid_rings_are_closed a va) (valid_rings_are_closed b vb) e (Contains-append_left (edges a) (edges b) e c) n x i.is_point i.is_on f;
 }
 
 -- a side of an area's edge is interior and the other exterior, and those of other kinds are exterior

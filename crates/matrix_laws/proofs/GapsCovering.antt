@@ -1,5 +1,6 @@
 -- What shows the gaps of an edge, the points that it shares and all ends shows all points of the edge.
 use Rattle.std.proofs.Common.{◌≡◌, ◌≢◌, ◌⊎◌, inl, inr, Bool, true, false, ◌||◌, refl, sym, ap, subst, ◌∙◌, List, [], ◌∷◌, ◌++◌, All, Any, Contains}
+use Rattle.std.proofs.lemmas.List.Elements.{Contains-append_left, Contains-append_right, All-contains}
 use Rattle.geometry_model.specs.Points.{Point, IsPoint, same_point}
 use Rattle.geometry_model.specs.Geometries.{Edge, Geometry, kind, edges, listed}
 use Rattle.geometry_model.specs.Sides.{on, on_one_line}
@@ -27,7 +28,7 @@ use Rattle.matrix_laws.proofs.Shared.{span_of_gap}
 use Rattle.matrix_laws.proofs.Alike.{Applies, applies}
 use Rattle.matrix_laws.proofs.GapTheorems.{gap_end_is_alike, shared_point_shares_gap}
 use Rattle.matrix_laws.proofs.Stretching.{spread, Meeting, goes_on, goes_back}
-use Rattle.matrix_laws.proofs.Located.{contains_left, contains_right, all_at, not_off, on_or_off, off_is_shown, ShowsShared, shared_is_shown}
+use Rattle.matrix_laws.proofs.Located.{not_off, on_or_off, off_is_shown, ShowsShared, shared_is_shown}
 use Rattle.matrix_laws.proofs.GapThere.{SameSides, same_sides}
 
 -- ---- the gap that holds a point of the edge
@@ -68,8 +69,8 @@ member : (a b : Geometry) (e : Edge) → Contains (edges a) e → (f : Edge) →
 member a b e c f d = go (among_from_contains (e ∷ edges b) f d)
   where
     go : Among f (e ∷ edges b) → Contains (edges_of_both a b) f
-    go (inl k) = subst (Contains (edges_of_both a b)) (sym k) (contains_left (edges a) (edges b) e c)
-    go (inr k) = contains_right (edges a) (edges b) f (contains_of_among f (edges b) k)
+    go (inl k) = subst (Contains (edges_of_both a b)) (sym k) (Contains-append_left (edges a) (edges b) e c)
+    go (inr k) = Contains-append_right (edges a) (edges b) f (contains_of_among f (edges b) k)
 
 -- since that edge and b's are edges of both
 cut_of_both : (a b : Geometry) (e : Edge) → Contains (edges a) e → (x : Point) → IsCut (e ∷ edges b) [] x → IsCut (edges_of_both a b) (listed a ++ listed b) x
@@ -97,7 +98,7 @@ off_shown a b vb m t e c x hx k h o = go (gap_end_is_alike b (valid_rings_are_cl
 -- ---- on an edge of b
 -- the gap beside the point is shared, where neither edge ends there and both are on one line
 sample_held : (a b : Geometry) (m : Matrix) (e : Edge) (x : Point) → IsPoint x → (h : Held a b m e x) → on e x ≡ true → (f : Edge) → Contains (edges b) f → on f x ≡ true → on_one_line e f ≡ true → is_end f x ≡ false → on f (h.shows).sample ≡ true
-sample_held a b m e x hx h ke f d k l n = go (all_at (λ r. IsClear e h.p h.q r ⊎ IsShared e h.p h.q r) (edges b) f (h.gap).whole d) (applies e h.p h.q x (h.gap).lesser_is_point (h.gap).greater_is_point hx ke h.within)
+sample_held a b m e x hx h ke f d k l n = go (All-contains (λ r. IsClear e h.p h.q r ⊎ IsShared e h.p h.q r) (edges b) f (h.gap).whole d) (applies e h.p h.q x (h.gap).lesser_is_point (h.gap).greater_is_point hx ke h.within)
   where
     meeting : Meeting e f h.p h.q
     meeting = record {

@@ -1,5 +1,6 @@
 -- Edges of a whose points are all on edges of b, and when a matrix covers them.
 use Rattle.std.proofs.Common.{◌≡◌, ◌≢◌, true, List, All, Any, Contains}
+use Rattle.std.proofs.lemmas.List.Elements.{All-contains}
 use Rattle.geometry_model.specs.Points.{Point, IsPoint}
 use Rattle.geometry_model.specs.Geometries.{Edge, Geometry, kind, edges}
 use Rattle.geometry_model.specs.Sides.{on}
@@ -12,7 +13,7 @@ use Rattle.matrix_laws.specs.Cells.{ShowsPoint, IsNoCut, Covers}
 use Rattle.matrix_laws.specs.Covering.{IsOffEdges, IsHeld, ShowsOn, ShowsAt, ShowsEnds}
 use Rattle.matrix_laws.specs.CoveringLaws.{IsFullOff, IsFullOn, IsFullAlong}
 use Rattle.matrix_laws.proofs.Stretching.{SharesFurther, shares_further, spread, not_upright_either}
-use Rattle.matrix_laws.proofs.Located.{lower_side, upper_side, all_at, not_off, shared_is_shown, Overlaps, overlaps}
+use Rattle.matrix_laws.proofs.Located.{lower_side, upper_side, not_off, shared_is_shown, Overlaps, overlaps}
 use Rattle.matrix_laws.proofs.FullCovering.{full_off_at, full_on_sides, full_along_at}
 
 -- an edge of b holds each point of a held edge
@@ -69,7 +70,7 @@ shown_by_other a b m e f c d w x hx k l s = record {
 -- a point that an edge of b holds is shown with that edge
 pub shown_by_covered : (a b : Geometry) (m : Matrix) → All (Covers a b m) (edges b) → (e : Edge) → Contains (edges a) e → e.start ≢ e.end → (x : Point) → IsPoint x → on e x ≡ true → Passing (λ f. on f x) (edges b) → ShowsPoint a b m e x
 shown_by_covered a b m covered e c w x hx k p = let d : Contains (edges b) p.found = contains_of_among p.found (edges b) p.among in
-    shown_by_other a b m e p.found c d w x hx k p.passes (all_at (Covers a b m) (edges b) p.found covered d x hx p.passes)
+    shown_by_other a b m e p.found c d w x hx k p.passes (All-contains (Covers a b m) (edges b) p.found covered d x hx p.passes)
 
 -- so all points of a held edge are
 pub held_by_covered : (a b : Geometry) (e : Edge) → Contains (edges a) e → e.start ≢ e.end → (m : Matrix) → All (Covers a b m) (edges b) → IsHeld (edges b) e → Covers a b m e

@@ -1,5 +1,7 @@
 -- In a valid polygon the holes lie inside the outer ring and apart from one another, so the interior is what is inside the outer ring and in no hole.
 use Rattle.std.proofs.Common.{ℕ, suc, ◌+◌, ◌≡◌, ◌⊎◌, inl, inr, ◌↔◌, Bool, true, false, if◌then◌else◌, refl, sym, ap, ap₂, ◌∙◌, List, [], ◌∷◌, All, Contains, arith}
+use Rattle.std.proofs.lemmas.Bool.{false_from_ne_true, true_from_ne_false}
+use Rattle.basics.proofs.Bools.{not_both}
 use Rattle.geometry_model.specs.Points.{Position, Point, IsPoint}
 use Rattle.geometry_model.specs.Geometries.{Edge, Polygon, edges_of_line, edges_of_lines}
 use Rattle.geometry_model.specs.Sides.{on}
@@ -32,14 +34,6 @@ disjoint_from r s f z hz e g a b h k = f (record {
   share = record { at = z; is_point = hz; on_first = h; on_second = k };
 })
 
-not_false : (t : Bool) → (t ≡ false → ⊥) → t ≡ true
-not_false true f = refl
-not_false false f = absurd (f refl)
-
-pub not_true : (t : Bool) → (t ≡ true → ⊥) → t ≡ false
-not_true true f = absurd (f refl)
-not_true false f = refl
-
 -- two holes share no point, and neither is inside the other
 pub record Apart (h k : List Position) : Type 0 where
   pub disjoint : Disjoint h k
@@ -68,18 +62,15 @@ lawful outer holes v = record {
   outer_closed = closed outer (λ n. v (RingNotClosed 0) (outer, refl, n));
   holes_closed = each_by IsClosed holes (λ i h e. closed h (λ n. v (RingNotClosed (suc i)) (h, e, n)));
   outer_apart = each_by (Disjoint outer) holes (λ i h e. disjoint_from outer h (λ s. v (RingsMeet 0 (suc i)) (whole (outer ∷ holes), 0, suc i, outer, h, applies (outer ∷ holes), some_next i, (numbered_as 0, refl), (numbered_as (suc i), e), s)));
-  holes_inside = each_by (λ h. inside outer h ≡ true) holes (λ i h e. not_false (inside outer h) (λ f. v (HoleOutside (suc i)) (whole (outer ∷ holes), suc i, outer, h, applies (outer ∷ holes), some_next i, refl, (numbered_as (suc i), e), f)));
+  holes_inside = each_by (λ h. inside outer h ≡ true) holes (λ i h e. true_from_ne_false (inside outer h) (λ f. v (HoleOutside (suc i)) (whole (outer ∷ holes), suc i, outer, h, applies (outer ∷ holes), some_next i, refl, (numbered_as (suc i), e), f)));
   holes_apart = pairs_by Apart holes (λ i j h k l e g. record {
     disjoint = disjoint_from h k (λ s. v (RingsMeet (suc i) (suc j)) (whole (outer ∷ holes), suc i, suc j, h, k, applies (outer ∷ holes), next_less i j l, (numbered_as (suc i), e), (numbered_as (suc j), g), s));
-    not_over = not_true (inside h k) (λ f. v (HolesNested (suc i) (suc j)) (whole (outer ∷ holes), suc i, suc j, h, k, applies (outer ∷ holes), some_next i, next_less i j l, (numbered_as (suc i), e), (numbered_as (suc j), g), inl f));
-    not_in = not_true (inside k h) (λ f. v (HolesNested (suc i) (suc j)) (whole (outer ∷ holes), suc i, suc j, h, k, applies (outer ∷ holes), some_next i, next_less i j l, (numbered_as (suc i), e), (numbered_as (suc j), g), inr f));
+    not_over = false_from_ne_true (inside h k) (λ f. v (HolesNested (suc i) (suc j)) (whole (outer ∷ holes), suc i, suc j, h, k, applies (outer ∷ holes), some_next i, next_less i j l, (numbered_as (suc i), e), (numbered_as (suc j), g), inl f));
+    not_in = false_from_ne_true (inside k h) (λ f. v (HolesNested (suc i) (suc j)) (whole (outer ∷ holes), suc i, suc j, h, k, applies (outer ∷ holes), some_next i, next_less i j l, (numbered_as (suc i), e), (numbered_as (suc j), g), inr f));
   });
 }
 
 -- ---- a hole's ring is inside the outer ring
-pub no_way : (t : Bool) → t ≡ true → t ≡ false → ⊥
-no_way t e f = let z : true ≡ false = sym e ∙ f in absurd (cc)
-
 -- the points of a ring have, over a closed ring that shares none with it, the parity of its first position, which is inside
 ring_inside : (outer h : List Position) → IsClosed outer → Disjoint outer h → inside outer h ≡ true → (p : Point) → IsPoint p → (e : Edge) → Among e (edges_of_line h) → on e p ≡ true → odd_in outer p ≡ true
 ring_inside outer [] c d f p hp e m k = absurd m
@@ -135,7 +126,7 @@ cut outer holes l p hp e = go (counted p holes (pairs_apart p hp holes l.holes_c
   where
     go : Counted p holes → (odd_in outer p ≡ true) × Each (λ h. odd_in h p ≡ false) holes
     go (inl r) = (sym (xor_false (odd_in outer p)) ∙ ap (xor (odd_in outer p)) (sym r.1) ∙ sym (one_more outer holes p) ∙ e, r.0)
-    go (inr r) = absurd (no_way (odd_above (outer ∷ holes) p) e (one_more outer holes p ∙ ap₂ xor (carried_in outer r.0.hole l.outer_closed (each_at IsClosed holes r.0.hole l.holes_closed r.0.among) (each_at (Disjoint outer) holes r.0.hole l.outer_apart r.0.among) (each_at (λ q. inside outer q ≡ true) holes r.0.hole l.holes_inside r.0.among) p hp r.0.odd) r.1))
+    go (inr r) = absurd (not_both (odd_above (outer ∷ holes) p) e (one_more outer holes p ∙ ap₂ xor (carried_in outer r.0.hole l.outer_closed (each_at IsClosed holes r.0.hole l.holes_closed r.0.among) (each_at (Disjoint outer) holes r.0.hole l.outer_apart r.0.among) (each_at (λ q. inside outer q ≡ true) holes r.0.hole l.holes_inside r.0.among) p hp r.0.odd) r.1))
 
 -- over no hole the parity is that of the outer ring
 pub uncut : (outer : List Position) (holes : List (List Position)) → Lawful outer holes → (p : Point) → IsPoint p → odd_in outer p ≡ true → Each (λ h. odd_in h p ≡ false) holes → odd_above (outer ∷ holes) p ≡ true
@@ -143,14 +134,14 @@ uncut outer holes l p hp e h = go (counted p holes (pairs_apart p hp holes l.hol
   where
     go : Counted p holes → odd_above (outer ∷ holes) p ≡ true
     go (inl r) = one_more outer holes p ∙ ap₂ xor e r.1
-    go (inr r) = absurd (no_way (odd_in r.0.hole p) r.0.odd (each_at (λ q. odd_in q p ≡ false) holes r.0.hole h r.0.among))
+    go (inr r) = absurd (not_both (odd_in r.0.hole p) r.0.odd (each_at (λ q. odd_in q p ≡ false) holes r.0.hole h r.0.among))
 
 -- what is odd over the outer ring and even over the polygon is odd over a hole
 pub in_some_hole : (outer : List Position) (holes : List (List Position)) → Lawful outer holes → (p : Point) → IsPoint p → odd_in outer p ≡ true → odd_above (outer ∷ holes) p ≡ false → OddHole p holes
 in_some_hole outer holes l p hp e f = go (counted p holes (pairs_apart p hp holes l.holes_closed l.holes_apart))
   where
     go : Counted p holes → OddHole p holes
-    go (inl r) = absurd (no_way (odd_above (outer ∷ holes) p) (one_more outer holes p ∙ ap₂ xor e r.1) f)
+    go (inl r) = absurd (not_both (odd_above (outer ∷ holes) p) (one_more outer holes p ∙ ap₂ xor e r.1) f)
     go (inr r) = r.0
 
 -- ---- the interior

@@ -3,6 +3,7 @@ use Rattle.std.proofs.Common.{ℕ, ◌+◌, ◌*◌, ◌<◌, ◌≡◌, ◌≢�
 use borrow.Author.Differences.{ints}
 use Rattle.std.specs.List.{list_any}
 use Rattle.std.specs.Ordering.{int_eq}
+use Rattle.std.proofs.lemmas.Bool.{or_cases, and_parts, and_from, or_left}
 use Rattle.geometry_model.specs.Points.{Position, Point, IsPoint, same_point}
 use Rattle.geometry_model.specs.Geometries.{Edge, Geometry, edges, edges_of_lines, listed, rings, joined_rings}
 use Rattle.geometry_model.specs.Sides.{on}
@@ -19,22 +20,24 @@ use Rattle.geometry_model.specs.declared.point_sets.Dimension.TheVariants.{Empty
 use Rattle.basics.proofs.Ring.{solve, var, lit, ◌⊕◌, ◌⊖◌, ◌⊗◌}
 use Rattle.basics.proofs.Signs.{cancel_zero, at_most_or_less, at_most_yes}
 use Rattle.basics.proofs.Tests.{equal_from, not_equal_from}
+use Rattle.basics.proofs.Bools.{by_contraries, not_both}
+use Rattle.basics.proofs.Orders.{gap_none, zero_not_positive, same_from_gap}
 use Rattle.geometry_laws.specs.RingLaws.{IsClosed}
 use Rattle.geometry_laws.specs.CoverLaws.{Line, value, IsLine}
 use Rattle.geometry_laws.specs.PieceLaws.{IsPieceOf}
 use Rattle.geometry_laws.proofs.Plane.{right}
 use Rattle.geometry_laws.proofs.Each.{Each, Among, each_at, each_of, each_map, each_append, each_left, each_right, Passing, some_passed, one_passes, none_passed, parity_none}
-use Rattle.geometry_laws.proofs.Scaling.{and_parts, and_from, same_x}
+use Rattle.geometry_laws.proofs.Scaling.{same_x}
 use Rattle.geometry_laws.proofs.LeftToRight.{right_trans_first}
 use Rattle.geometry_laws.proofs.Respect.{locate_respects}
 use Rattle.geometry_laws.proofs.Hulls.{OnHull, hull_from_on, on_parts}
 use Rattle.geometry_laws.proofs.Eventually.{Eventually, weaker, grows, both, each_eventually}
 use Rattle.geometry_laws.proofs.RingParity.{parity_of_rings}
 use Rattle.geometry_laws.proofs.Lines.{line_side, line_side_slope, value_is_side, off_beyond, weighted_is_point, weighted_three_is_point}
-use Rattle.geometry_laws.proofs.Locating.{Off, locate_off, by_contraries}
+use Rattle.geometry_laws.proofs.Locating.{Off, locate_off}
 use Rattle.geometry_laws.proofs.Triangles.{dots, marks, triangle_of_off, dot_coordinate}
 use Rattle.geometry_laws.proofs.LineOrder.{lex_of_less, lex_weak, up}
-use Rattle.geometry_laws.proofs.Cuts.{Ends, contains_of_among, or_first}
+use Rattle.geometry_laws.proofs.Cuts.{Ends, contains_of_among}
 use Rattle.geometry_laws.proofs.WithinPiece.{locate_within, below_within, slant_edge}
 use Rattle.geometry_laws.proofs.PieceTheorems.{first_belongs, second_belongs, off_marks}
 use Rattle.geometry_laws.proofs.SideTriangles.{below_from}
@@ -112,10 +115,6 @@ each_of_map P f (x ∷ xs) h = (h.0, each_of_map P f xs h.1)
 map_each : {X Y : Type 0} (P : Y → Type 0) (f : X → Y) (xs : List X) → Each (λ x. P (f x)) xs → Each P (map f xs)
 map_each P f [] h = tt
 map_each P f (x ∷ xs) h = (h.0, map_each P f xs h.1)
-
-pub or_cases : (s t : Bool) → s || t ≡ true → (s ≡ true) ⊎ (t ≡ true)
-or_cases true t e = inl refl
-or_cases false t e = inr e
 
 -- ---- a listed piece
 -- the stretch is a piece of the two geometries, with points as its ends
@@ -241,10 +240,7 @@ pub record Free (a b : Geometry) (z : Point) : Type 0 where
 
 -- of two points of one x neither is to the right of the other
 nothing_right : (c z : Point) → c.X *ℤ z.W ≡ z.X *ℤ c.W → right c z ≡ pos 0
-nothing_right c z e = nothing (c.X *ℤ z.W) (z.X *ℤ c.W) e
-  where
-    nothing : (u v : ℤ) → u ≡ v → v -ℤ u ≡ pos 0
-    nothing u v e = omega (arith, ints)
+nothing_right c z e = gap_none (c.X *ℤ z.W) (z.X *ℤ c.W) e
 
 -- such a point is no cut, since a cut lies straight at itself
 free_no_cut : (a b : Geometry) (z : Point) → Free a b z → IsCut (edges' a b) (listed' a b) z → ⊥
@@ -291,7 +287,7 @@ free_side a b ca cb l k n z f e g = go (first (edges' a b) z f.is_point) (off_bo
     under : (r : First (edges' a b) z) → Off a z × Off b z → (w : Within (edges' a b) (listed' a b) (over_point r.edge z)) → is_upright w.piece ≡ false → some_side a b l k ≡ true
     under r o w u = any_by (side_labels a b) (is_side_pair l k) (pieces' a b) w.piece w.listed
         (ap (λ (t : Bool). is_side_pair l k (if t then None else Some (record { lower = record { first = below a (sample w.piece); second = below b (sample w.piece) }; upper = record { first = above a (sample w.piece); second = above b (sample w.piece) } }))) u
-        ∙ or_first (same_location l (below a (sample w.piece)) && same_location k (below b (sample w.piece))) (same_location l (above a (sample w.piece)) && same_location k (above b (sample w.piece))) (pair_of l k (below a (sample w.piece)) (below b (sample w.piece)) first_is second_is))
+        ∙ or_left (same_location l (below a (sample w.piece)) && same_location k (below b (sample w.piece))) (same_location l (above a (sample w.piece)) && same_location k (above b (sample w.piece))) (pair_of l k (below a (sample w.piece)) (below b (sample w.piece)) first_is second_is))
       where
         alike : Each (λ h. strictly_above h z ≡ at_or_above h (over_point r.edge z)) (edges_of_both a b)
         alike = each_of (λ h. strictly_above h z ≡ at_or_above h (over_point r.edge z)) (edges_of_both a b) (λ h m. sym (label_of_first (edges_of_both a b) z f.is_point r h m))
@@ -316,18 +312,12 @@ free_side a b ca cb l k n z f e g = go (first (edges' a b) z f.is_point) (off_bo
         nothing_between : (s : ℤ) → pos 0 ≤ℤ s → s ≤ℤ pos 0 → s ≡ pos 0
         nothing_between s h k = omega (arith, ints)
 
-        clash : (s : ℤ) → s ≡ pos 0 → pos 0 <ℤ s → ⊥
-        clash s h k = omega (arith, ints)
-
-        same : (x y : ℤ) → y -ℤ x ≡ pos 0 → x ≡ y
-        same x y h = omega (arith, ints)
-
         same_column : is_upright w.piece ≡ true → w.piece.lesser.X *ℤ (over_point r.edge z).W ≡ (over_point r.edge z).X *ℤ w.piece.lesser.W
-        same_column u = same (w.piece.lesser.X *ℤ (over_point r.edge z).W) ((over_point r.edge z).X *ℤ w.piece.lesser.W) (pick (at_most_or_less (right w.piece.lesser (over_point r.edge z)) (pos 0)))
+        same_column u = same_from_gap (w.piece.lesser.X *ℤ (over_point r.edge z).W) ((over_point r.edge z).X *ℤ w.piece.lesser.W) (pick (at_most_or_less (right w.piece.lesser (over_point r.edge z)) (pos 0)))
           where
             pick : (right w.piece.lesser (over_point r.edge z) ≤ℤ pos 0) ⊎ (pos 0 <ℤ right w.piece.lesser (over_point r.edge z)) → right w.piece.lesser (over_point r.edge z) ≡ pos 0
             pick (inl h) = nothing_between (right w.piece.lesser (over_point r.edge z)) (lex_weak (right w.piece.lesser (over_point r.edge z)) (up w.piece.lesser (over_point r.edge z)) (lex_of_less w.piece.lesser (over_point r.edge z) w.inside.after)) h
-            pick (inr h) = absurd (clash (right w.piece.lesser w.piece.greater) (nothing_right w.piece.lesser w.piece.greater (equal_from (w.piece.lesser.X *ℤ w.piece.greater.W) (w.piece.greater.X *ℤ w.piece.lesser.W) u))
+            pick (inr h) = absurd (zero_not_positive (right w.piece.lesser w.piece.greater) (nothing_right w.piece.lesser w.piece.greater (equal_from (w.piece.lesser.X *ℤ w.piece.greater.W) (w.piece.greater.X *ℤ w.piece.lesser.W) u))
                 (right_trans_first w.piece.lesser (over_point r.edge z) w.piece.greater w.ends.lesser w.inside.is_point w.ends.greater h (lex_weak (right (over_point r.edge z) w.piece.greater) (up (over_point r.edge z) w.piece.greater) (lex_of_less (over_point r.edge z) w.piece.greater w.inside.before))))
 
     go : Each (λ h. strictly_above h z ≡ false) (edges' a b) ⊎ First (edges' a b) z → Off a z × Off b z → some_side a b l k ≡ true
@@ -425,20 +415,17 @@ point_shows a b ca cb l k n t = go (list_any (λ c. same_point c t.p) (cuts' a b
 other : (a b : Geometry) → Each IsClosed (rings a) → Each IsClosed (rings b) → (l k : Location) → Apart' l k → HasDimension (common a l b k) (if some_side a b l k then Two else if some_piece a b l k then One else if some_cut a b l k then Zero else Empty)
 other a b ca cb l k n = go (some_side a b l k) refl (some_piece a b l k) refl (some_cut a b l k) refl
   where
-    clash : (t : Bool) → t ≡ true → t ≡ false → ⊥
-    clash t e f = let z : true ≡ false = sym e ∙ f in absurd (cc)
-
     no_segment : some_side a b l k ≡ false → some_piece a b l k ≡ false → (some_piece a b l k ≡ true) ⊎ (some_side a b l k ≡ true) → ⊥
-    no_segment e f (inl h) = clash (some_piece a b l k) h f
-    no_segment e f (inr h) = clash (some_side a b l k) h e
+    no_segment e f (inl h) = not_both (some_piece a b l k) h f
+    no_segment e f (inr h) = not_both (some_side a b l k) h e
 
     no_point : some_side a b l k ≡ false → some_piece a b l k ≡ false → some_cut a b l k ≡ false → (some_cut a b l k ≡ true) ⊎ ((some_piece a b l k ≡ true) ⊎ (some_side a b l k ≡ true)) → ⊥
-    no_point e f g (inl h) = clash (some_cut a b l k) h g
+    no_point e f g (inl h) = not_both (some_cut a b l k) h g
     no_point e f g (inr h) = no_segment e f h
 
     go : (s : Bool) → some_side a b l k ≡ s → (p : Bool) → some_piece a b l k ≡ p → (c : Bool) → some_cut a b l k ≡ c → HasDimension (common a l b k) (if s then Two else if p then One else if c then Zero else Empty)
     go true e p f c g = side_triangle a b ca cb l k e
-    go false e true f c g = (piece_has_segment a b ca cb l k f, λ t. clash (some_side a b l k) (triangle_side a b ca cb l k n t) e)
+    go false e true f c g = (piece_has_segment a b ca cb l k f, λ t. not_both (some_side a b l k) (triangle_side a b ca cb l k n t) e)
     go false e false f true g = (cut_has_point a b l k g, λ t. no_segment e f (segment_shows a b ca cb l k n t))
     go false e false f false g = λ t. no_point e f g (point_shows a b ca cb l k n t)
 

@@ -1,6 +1,8 @@
 -- What of a point of an edge a matrix has to show, by where the point and its sides lie.
-use Rattle.std.proofs.Common.{◌≡◌, ◌≢◌, ◌⊎◌, inl, inr, Bool, true, false, if◌then◌else◌, refl, sym, ap, ◌∙◌, List, [], ◌∷◌, ◌++◌, All, Contains}
+use Rattle.std.proofs.Common.{◌≡◌, ◌≢◌, ◌⊎◌, inl, inr, Bool, true, false, if◌then◌else◌, refl, sym, ap, ◌∙◌, List, [], ◌∷◌, All, Contains}
 use Rattle.std.specs.List.{list_any}
+use Rattle.std.proofs.lemmas.List.Elements.{All-contains, Contains-append_right, Contains-append_left}
+use Rattle.std.proofs.lemmas.Bool.{true_from_ne_false, false_from_ne_true}
 use Rattle.geometry_model.specs.Points.{Position, Point, IsPoint, point_at}
 use Rattle.geometry_model.specs.Geometries.{Edge, Geometry, kind, edges, lines, listed, rings}
 use Rattle.geometry_model.specs.Sides.{on, on_one_line}
@@ -15,11 +17,11 @@ use Rattle.geometry_model.specs.declared.shapes.Kind.TheVariants as kinds
 use Rattle.geometry_model.specs.declared.point_sets.Location.{Location}
 use Rattle.geometry_model.specs.declared.point_sets.Location.TheVariants.{Interior, Exterior}
 use Rattle.geometry_model.specs.declared.point_sets.Dimension.TheVariants.{Zero, One, Two}
-use Rattle.geometry_laws.proofs.Each.{Each, Among, Passing, each_at, some_passed, none_passed, among_left, among_right}
+use Rattle.geometry_laws.proofs.Each.{Each, Among, Passing, each_at, some_passed, none_passed}
 use Rattle.geometry_laws.proofs.RingParity.{each_from_all, position_is_point}
 use Rattle.geometry_laws.proofs.Respect.{locate_respects}
 use Rattle.geometry_laws.proofs.CoverTheorems.{all_from_each}
-use Rattle.geometry_laws.proofs.Cuts.{among_from_contains, contains_of_among}
+use Rattle.geometry_laws.proofs.Cuts.{among_from_contains}
 use Rattle.matrix_laws.specs.Cells.{Shows, ShowsPoint, IsNoCut, CoversPosition}
 use Rattle.matrix_laws.proofs.Growing.{shows_at, shows_less}
 use Rattle.matrix_laws.specs.Gaps.{mostly, of_own_edges}
@@ -27,15 +29,6 @@ use Rattle.matrix_laws.specs.Covering.{IsOffEdges, ShowsOff, ShowsEnds}
 use Rattle.matrix_laws.proofs.GapTheorems.{mostly_is_located, no_cut_is_mostly, own_edges_are_mostly, sides_off_edges, sides_of_no_area}
 
 -- ---- of a list
-pub contains_left : {X : Type 0} (xs ys : List X) (x : X) → Contains xs x → Contains (xs ++ ys) x
-contains_left xs ys x c = contains_of_among x (xs ++ ys) (among_left x xs ys (among_from_contains xs x c))
-
-pub contains_right : {X : Type 0} (xs ys : List X) (x : X) → Contains ys x → Contains (xs ++ ys) x
-contains_right xs ys x c = contains_of_among x (xs ++ ys) (among_right x xs ys (among_from_contains ys x c))
-
-pub all_at : {X : Type 0} (P : X → Type 0) (xs : List X) (x : X) → All P xs → Contains xs x → P x
-all_at P xs x h c = each_at P xs x (each_from_all P xs h) (among_from_contains xs x c)
-
 -- ---- kinds
 pub is_area : (k : Kind) → (k ≡ kinds.Area) ⊎ (k ≢ kinds.Area)
 is_area kinds.Point = inr (λ e. let z : kinds.Point ≡ kinds.Area = e in absurd (cc))
@@ -57,7 +50,7 @@ on_or_off b x = go (list_any (λ f. on f x) (edges b)) refl
 
 -- a point on an edge isn't off all of them
 pub not_off : (b : Geometry) (f : Edge) → Contains (edges b) f → (y : Point) → on f y ≡ true → IsOffEdges b y → ⊥
-not_off b f c y h o = let z : true ≡ false = sym h ∙ all_at (λ g. on g y ≡ false) (edges b) f o c in absurd (cc)
+not_off b f c y h o = let z : true ≡ false = sym h ∙ All-contains (λ g. on g y ≡ false) (edges b) f o c in absurd (cc)
 
 -- ---- a side is exterior, or that of an area and interior
 abbrev pub Side : Geometry → Location → Type 0
@@ -193,21 +186,13 @@ pub record Overlaps (e f : Edge) (x : Point) : Type 0 where
 -- otherwise one of the edges would end at the point or they would cross there, and it would be a cut
 pub overlaps : (a b : Geometry) (e f : Edge) → Contains (edges a) e → Contains (edges b) f → (x : Point) → IsPoint x → on e x ≡ true → on f x ≡ true → IsNoCut a b x → Overlaps e f x
 overlaps a b e f c d x hx h k u = record {
-  one_line = yes_by (on_one_line e f) (λ n. u (AtCrossing hx e f first second n h k));
-  no_end = no_by (is_end e x) (λ n. u (AtEnd hx e first n));
-  no_other_end = no_by (is_end f x) (λ n. u (AtEnd hx f second n));
+  one_line = true_from_ne_false (on_one_line e f) (λ n. u (AtCrossing hx e f first second n h k));
+  no_end = false_from_ne_true (is_end e x) (λ n. u (AtEnd hx e first n));
+  no_other_end = false_from_ne_true (is_end f x) (λ n. u (AtEnd hx f second n));
 }
   where
     first : Contains (edges_of_both a b) e
-    first = contains_left (edges a) (edges b) e c
+    first = Contains-append_left (edges a) (edges b) e c
 
     second : Contains (edges_of_both a b) f
-    second = contains_right (edges a) (edges b) f d
-
-    yes_by : (t : Bool) → (t ≡ false → ⊥) → t ≡ true
-    yes_by true n = refl
-    yes_by false n = absurd (n refl)
-
-    no_by : (t : Bool) → (t ≡ true → ⊥) → t ≡ false
-    no_by true n = absurd (n refl)
-    no_by false n = refl
+    second = Contains-append_right (edges a) (edges b) f d

@@ -2,6 +2,8 @@
 use Rattle.std.proofs.Common.{◌≡◌, ◌≢◌, ℕ, suc, Bool, true, false, not, ◌&&◌, ◌||◌, if◌then◌else◌, refl, sym, ap, ap₂, ◌∙◌, List, [], ◌∷◌, flat_map, Option, Some, None, slice_get, codes}
 use Rattle.std.specs.List.{list_any}
 use Rattle.std.specs.Option.{option_map_or}
+use Rattle.std.proofs.lemmas.Bool.{and_parts}
+use Rattle.basics.proofs.Bools.{not_both}
 use Rattle.geometry_model.specs.Points.{Position, Point, point_at}
 use Rattle.geometry_model.specs.Geometries.{Geometry, edges_of_lines, positions, kind, joined_rings}
 use Rattle.geometry_model.specs.Sides.{on}
@@ -25,7 +27,6 @@ use Rattle.geometry_model.specs.declared.relations.Pattern.{Pattern}
 use Rattle.geometry_model.specs.declared.relations.Predicate.{Predicate}
 use Rattle.geometry_model.specs.declared.relations.Predicate.TheVariants as predicates
 use Rattle.geometry_laws.proofs.Cuts.{same_end}
-use Rattle.geometry_laws.proofs.Scaling.{and_parts}
 use Rattle.geometry_laws.proofs.Locating.{start_is_on}
 use Rattle.geometry_laws.proofs.RingParity.{position_is_point}
 use Rattle.matrix_laws.proofs.Closing.{valid_rings_are_closed}
@@ -245,9 +246,6 @@ outside_first m h Exterior f = absurd (f refl)
 inside_of : (l k : Location) → l ≡ k → (k ≡ Exterior → ⊥) → l ≢ Exterior
 inside_of l k e f g = f (sym e ∙ g)
 
-true_and_false : (b : Bool) → b ≡ true → b ≡ false → ⊥
-true_and_false b e f = absurd (let g : true ≡ false = sym e ∙ f in cc)
-
 -- two valid geometries, the matrix of which matches that of equal ones, while their envelopes don't meet
 record Equals (a b : Geometry) (m : Matrix) : Type 0 where
   first : IsValid a
@@ -261,7 +259,7 @@ first_empty : (a b : Geometry) (m : Matrix) → Equals a b m → Inhabited a →
 first_empty a b m h i = go (locate b (point_at i.at)) refl
   where
     common_to : locate b (point_at i.at) ≢ Exterior → ⊥
-    common_to g = true_and_false (meets (envelope a) (envelope b))
+    common_to g = not_both (meets (envelope a) (envelope b))
         (common_point_meets a b (valid_rings_are_closed a h.first) (valid_rings_are_closed b h.second) (point_at i.at) (position_is_point i.at) i.not_exterior g) h.separate
 
     go : (k : Location) → locate b (point_at i.at) ≡ k → ⊥
@@ -275,7 +273,7 @@ second_empty : (a b : Geometry) (m : Matrix) → Equals a b m → Inhabited b �
 second_empty a b m h i = go (locate a (point_at i.at)) refl
   where
     common_to : locate a (point_at i.at) ≢ Exterior → ⊥
-    common_to g = true_and_false (meets (envelope a) (envelope b))
+    common_to g = not_both (meets (envelope a) (envelope b))
         (common_point_meets a b (valid_rings_are_closed a h.first) (valid_rings_are_closed b h.second) (point_at i.at) (position_is_point i.at) g i.not_exterior) h.separate
 
     go : (k : Location) → locate a (point_at i.at) ≡ k → ⊥
@@ -292,7 +290,7 @@ not_equal a b m h = go (positions a) (positions b) refl refl
     some_position ps x rest e f = absurd (let g : x ∷ rest ≡ [] = sym e ∙ f in cc)
 
     go : (ps qs : List Position) → positions a ≡ ps → positions b ≡ qs → ⊥
-    go [] [] e f = true_and_false (meets (envelope a) (envelope b)) (ap₂ (λ (ps qs : List Position). meets (envelope_of_positions ps) (envelope_of_positions qs)) e f) h.separate
+    go [] [] e f = not_both (meets (envelope a) (envelope b)) (ap₂ (λ (ps qs : List Position). meets (envelope_of_positions ps) (envelope_of_positions qs)) e f) h.separate
     go (x ∷ rest) qs e f = first_empty a b m h (inhabited a h.first (λ n. some_position (positions a) x rest e n))
     go [] (x ∷ rest) e f = second_empty a b m h (inhabited b h.second (λ n. some_position (positions b) x rest f n))
 

@@ -1,5 +1,7 @@
 -- Where a point mostly lies: on own edges, off all edges, and where it is no cut.
 use Rattle.std.proofs.Common.{◌≡◌, ◌≢◌, ◌⊎◌, inl, inr, Bool, true, false, if◌then◌else◌, refl, sym, ap, ◌∙◌, List, [], ◌∷◌, ◌++◌, All, Contains, flat_map, option_to_list}
+use Rattle.std.proofs.lemmas.Bool.{or_left, or_right}
+use Rattle.basics.proofs.Bools.{by_contraries}
 use Rattle.geometry_model.specs.Points.{Position, Point, IsPoint}
 use Rattle.geometry_model.specs.Geometries.{Edge, Geometry, kind, edges, edges_of_lines, lines, listed, joined_rings}
 use Rattle.geometry_model.specs.Sides.{on}
@@ -14,8 +16,8 @@ use Rattle.geometry_model.specs.declared.point_sets.Location.TheVariants.{Interi
 use Rattle.geometry_laws.proofs.Each.{Among, each_of, each_map, none_passes, one_passes, odd_count, parity_none, among_left, among_right}
 use Rattle.geometry_laws.proofs.Xor.{xor_false}
 use Rattle.geometry_laws.proofs.RingParity.{each_from_all}
-use Rattle.geometry_laws.proofs.Locating.{all_ends_even, by_contraries}
-use Rattle.geometry_laws.proofs.Cuts.{among_from_contains, contains_of_among, or_first, or_last}
+use Rattle.geometry_laws.proofs.Locating.{all_ends_even}
+use Rattle.geometry_laws.proofs.Cuts.{among_from_contains, contains_of_among}
 use Rattle.geometry_laws.proofs.WithinPiece.{touches, on_from_touch, parity_at_or_above}
 use Rattle.geometry_laws.proofs.CoverTheorems.{all_from_each}
 use Rattle.matrix_laws.specs.Gaps.{mostly, of_own_edges}
@@ -61,8 +63,8 @@ mostly_is_located (Geometry.MultiPolygon es) x hx f h = refl
 -- no cut of some edges and positions, a geometry's among them
 no_odd_end : (es : List Edge) (ps : List Position) (x : Point) → IsPoint x → (IsCut es ps x → ⊥) → (ls : List (List Position)) → ((e : Edge) → Among e (edges_of_lines ls) → Among e es) → is_odd_end ls x ≡ false
 no_odd_end es ps x hx f ls b = odd_count (is_at x) (flat_map ends ls) ∙ all_ends_even ls x (each_of (λ e. (is_at x e.start ≡ false) × (is_at x e.end ≡ false)) (edges_of_lines ls) (λ e m. (
-  by_contraries (is_at x e.start) false (λ k. absurd (f (AtEnd hx e (contains_of_among e es (b e m)) (or_first (is_at x e.start) (is_at x e.end) k)))) refl,
-  by_contraries (is_at x e.end) false (λ k. absurd (f (AtEnd hx e (contains_of_among e es (b e m)) (or_last (is_at x e.start) (is_at x e.end) k)))) refl,
+  by_contraries (is_at x e.start) false (λ k. absurd (f (AtEnd hx e (contains_of_among e es (b e m)) (or_left (is_at x e.start) (is_at x e.end) k)))) refl,
+  by_contraries (is_at x e.end) false (λ k. absurd (f (AtEnd hx e (contains_of_among e es (b e m)) (or_right (is_at x e.start) (is_at x e.end) k)))) refl,
 )))
 
 -- nor does a listed position

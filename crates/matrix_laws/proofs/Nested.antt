@@ -1,5 +1,6 @@
 -- Two closed rings without a common point: either neither is inside the other, and no point is odd over both, or one is inside the other, and what is odd over it is odd over the other.
 use Rattle.std.proofs.Common.{ℕ, ◌≡◌, ◌⊎◌, inl, inr, Bool, true, false, ◌&&◌, ℤ, pos, ◌+ℤ◌, ◌-ℤ◌, ◌*ℤ◌, ◌<ℤ◌, ◌≤ℤ◌, int_lt, refl, sym, ap, ap₂, ◌∙◌, List, [], ◌∷◌, ◌++◌, arith}
+use lib.Signed.{≤ℤ_refl}
 use borrow.Author.Differences.{ints}
 use Rattle.geometry_model.specs.Points.{Position, Point, IsPoint, point_at}
 use Rattle.geometry_model.specs.Geometries.{Edge, edges_of_line, edges_of_lines}
@@ -8,12 +9,13 @@ use Rattle.geometry_model.specs.Crossings.{exactly_one as xor, reaches, side_rig
 use Rattle.geometry_model.specs.Dimensions.{weighted}
 use Rattle.geometry_model.specs.Validity.{inside}
 use Rattle.basics.proofs.Signs.{plus_plus, cancel_nonnegative, less_no, at_most_or_less, at_most_from, not_at_most_from}
+use Rattle.basics.proofs.Bools.{not_both as clash, by_contraries}
+use Rattle.basics.proofs.Orders.{less_weak, at_most_at_most, gap_weak}
 use Rattle.geometry_laws.specs.RingLaws.{IsClosed, Misses}
 use Rattle.geometry_laws.proofs.Each.{Each, Among, each_of, each_map, each_at, each_left, each_right, among_left, among_right, among_either, parity, parity_none, parity_append, same_parity}
 use Rattle.geometry_laws.proofs.Xor.{xor_self, xor_false}
 use Rattle.geometry_laws.proofs.Hulls.{on_from_hull, hull_from_on}
 use Rattle.geometry_laws.proofs.RingParity.{parity_by_missing, parity_of_rings, position_is_point, rightward_left, rightward_right}
-use Rattle.geometry_laws.proofs.Locating.{by_contraries}
 use Rattle.geometry_laws.proofs.Lines.{weighted_is_point}
 use Rattle.geometry_laws.proofs.LineOrder.{on_sum, weighted_is_sum}
 use Rattle.geometry_laws.proofs.Cuts.{hull_of_start, hull_of_end}
@@ -117,9 +119,6 @@ shown a u b v ca cb d p hp = go (first (edges_of_line (a ∷ u) ++ edges_of_line
     go (inl h) = inl (none (a ∷ u) (each_left (λ e. strictly_above e p ≡ false) (edges_of_line (a ∷ u)) (edges_of_line (b ∷ v)) h), none (b ∷ v) (each_right (λ e. strictly_above e p ≡ false) (edges_of_line (a ∷ u)) (edges_of_line (b ∷ v)) h))
     go (inr k) = of k (among_either k.edge (edges_of_line (a ∷ u)) (edges_of_line (b ∷ v)) k.among)
 
-clash : (t : Bool) → t ≡ true → t ≡ false → ⊥
-clash t e f = let z : true ≡ false = sym e ∙ f in absurd (cc)
-
 -- neither is inside the other: no point is odd over both
 pub not_both : (a : Position) (u : List Position) (b : Position) (v : List Position) → IsClosed (a ∷ u) → IsClosed (b ∷ v) → Disjoint (a ∷ u) (b ∷ v)
     → odd_in (a ∷ u) (point_at b) ≡ false → odd_in (b ∷ v) (point_at a) ≡ false → (p : Point) → IsPoint p → odd_in (a ∷ u) p ≡ true → odd_in (b ∷ v) p ≡ true → ⊥
@@ -138,24 +137,12 @@ pub record Top (qs : List Position) : Type 0 where
 
 -- of the positions of a ring one is highest
 top : (a : Position) (rest : List Position) → Top (a ∷ rest)
-top a [] = record { position = a; among = inl refl; highest = (same a.y, tt) }
-  where
-    same : (x : ℤ) → x ≤ℤ x
-    same x = omega (arith, ints)
+top a [] = record { position = a; among = inl refl; highest = (≤ℤ_refl a.y, tt) }
 top a (b ∷ rest) = go (top b rest)
   where
-    same : (x : ℤ) → x ≤ℤ x
-    same x = omega (arith, ints)
-
-    weak : (x y : ℤ) → x <ℤ y → x ≤ℤ y
-    weak x y h = omega (arith, ints)
-
-    through : (x y z : ℤ) → x ≤ℤ y → y ≤ℤ z → x ≤ℤ z
-    through x y z h k = omega (arith, ints)
-
     pick : (t : Top (b ∷ rest)) → (a.y ≤ℤ t.position.y) ⊎ (t.position.y <ℤ a.y) → Top (a ∷ b ∷ rest)
     pick t (inl h) = record { position = t.position; among = inr t.among; highest = (h, t.highest) }
-    pick t (inr h) = record { position = a; among = inl refl; highest = (same a.y, each_map (λ c. c.y ≤ℤ t.position.y) (λ c. c.y ≤ℤ a.y) (b ∷ rest) (λ c k. through c.y t.position.y a.y k (weak t.position.y a.y h)) t.highest) }
+    pick t (inr h) = record { position = a; among = inl refl; highest = (≤ℤ_refl a.y, each_map (λ c. c.y ≤ℤ t.position.y) (λ c. c.y ≤ℤ a.y) (b ∷ rest) (λ c k. at_most_at_most c.y t.position.y a.y k (less_weak t.position.y a.y h)) t.highest) }
 
     go : Top (b ∷ rest) → Top (a ∷ b ∷ rest)
     go t = pick t (at_most_or_less a.y t.position.y)
@@ -164,13 +151,10 @@ top a (b ∷ rest) = go (top b rest)
 side_level : (a b q : Position) → a.y ≤ℤ q.y → b.y ≤ℤ q.y → reaches a (point_at q) ≡ true → reaches b (point_at q) ≡ false → int_lt (side a b (point_at q)) (pos 0) ≡ false
 side_level a b q s t e f = less_no (side a b (point_at q)) (pos 0) (cancel_nonnegative (pos 1) (side a b (point_at q)) (omega (arith, ints)) (sum _ _ _ (by_heights a b (point_at q))
     (plus_plus (q.y -ℤ a.y *ℤ pos 1) (b.x *ℤ pos 1 -ℤ q.x) (gap a.y q.y s) (weak q.x (b.x *ℤ pos 1) (not_at_most_from (b.x *ℤ pos 1) q.x f)))
-    (plus_plus (q.y -ℤ b.y *ℤ pos 1) (q.x -ℤ a.x *ℤ pos 1) (gap b.y q.y t) (gap_one (a.x *ℤ pos 1) q.x (at_most_from (a.x *ℤ pos 1) q.x e)))))
+    (plus_plus (q.y -ℤ b.y *ℤ pos 1) (q.x -ℤ a.x *ℤ pos 1) (gap b.y q.y t) (gap_weak (a.x *ℤ pos 1) q.x (at_most_from (a.x *ℤ pos 1) q.x e)))))
   where
     gap : (x y : ℤ) → x ≤ℤ y → pos 0 ≤ℤ (y -ℤ x *ℤ pos 1)
     gap x y h = omega (arith, ints)
-
-    gap_one : (x y : ℤ) → x ≤ℤ y → pos 0 ≤ℤ (y -ℤ x)
-    gap_one x y h = omega (arith, ints)
 
     weak : (x y : ℤ) → x <ℤ y → pos 0 ≤ℤ (y -ℤ x)
     weak x y h = omega (arith, ints)
@@ -208,17 +192,11 @@ pub not_each : (a : Position) (u : List Position) (b : Position) (v : List Posit
     → odd_in (a ∷ u) (point_at b) ≡ true → odd_in (b ∷ v) (point_at a) ≡ true → ⊥
 not_each a u b v ca cb d e f = go (top a u) (top b v)
   where
-    weak : (x y : ℤ) → x <ℤ y → x ≤ℤ y
-    weak x y h = omega (arith, ints)
-
-    through : (x y z : ℤ) → x ≤ℤ y → y ≤ℤ z → x ≤ℤ z
-    through x y z h k = omega (arith, ints)
-
     pick : (s : Top (a ∷ u)) (t : Top (b ∷ v)) → (s.position.y ≤ℤ t.position.y) ⊎ (t.position.y <ℤ s.position.y) → ⊥
     pick s t (inl h) = clash (odd_in (a ∷ u) (point_at t.position)) (each_at (λ c. odd_in (a ∷ u) (point_at c) ≡ odd_in (a ∷ u) (point_at b)) (b ∷ v) t.position (position_alike (a ∷ u) b v ca d) t.among ∙ e)
-        (even_at_top (a ∷ u) t.position (each_map (λ c. c.y ≤ℤ s.position.y) (λ c. c.y ≤ℤ t.position.y) (a ∷ u) (λ c k. through c.y s.position.y t.position.y k h) s.highest))
+        (even_at_top (a ∷ u) t.position (each_map (λ c. c.y ≤ℤ s.position.y) (λ c. c.y ≤ℤ t.position.y) (a ∷ u) (λ c k. at_most_at_most c.y s.position.y t.position.y k h) s.highest))
     pick s t (inr h) = clash (odd_in (b ∷ v) (point_at s.position)) (each_at (λ c. odd_in (b ∷ v) (point_at c) ≡ odd_in (b ∷ v) (point_at a)) (a ∷ u) s.position (position_alike (b ∷ v) a u cb (disjoint_turned (a ∷ u) (b ∷ v) d)) s.among ∙ f)
-        (even_at_top (b ∷ v) s.position (each_map (λ c. c.y ≤ℤ t.position.y) (λ c. c.y ≤ℤ s.position.y) (b ∷ v) (λ c k. through c.y t.position.y s.position.y k (weak t.position.y s.position.y h)) t.highest))
+        (even_at_top (b ∷ v) s.position (each_map (λ c. c.y ≤ℤ t.position.y) (λ c. c.y ≤ℤ s.position.y) (b ∷ v) (λ c k. at_most_at_most c.y t.position.y s.position.y k (less_weak t.position.y s.position.y h)) t.highest))
 
     go : Top (a ∷ u) → Top (b ∷ v) → ⊥
     go s t = pick s t (at_most_or_less s.position.y t.position.y)

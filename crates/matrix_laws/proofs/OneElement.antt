@@ -1,5 +1,7 @@
 -- Each element of a valid area is a valid polygon, and two elements share no point.
-use Rattle.std.proofs.Common.{ℕ, zero, suc, ◌+◌, ◌<◌, ◌≡◌, inl, inr, refl, sym, ap, subst, ◌∙◌, List, [], ◌∷◌, ◌++◌, Some, slice_get, Contains, length, arith}
+use Rattle.std.proofs.Common.{ℕ, zero, suc, ◌+◌, ◌≡◌, inl, inr, refl, sym, ap, subst, ◌∙◌, List, [], ◌∷◌, ◌++◌, Some, slice_get, Contains, length, arith, zero-add, add-zero}
+use Rattle.basics.proofs.Lists.{behind as place_right, found_in_front}
+use Rattle.basics.proofs.Numbers.{less_not_same}
 use Rattle.geometry_model.specs.Points.{Position}
 use Rattle.geometry_model.specs.Geometries.{Geometry, Polygon, elements, joined_rings}
 use Rattle.geometry_model.specs.Validity.{Element, elements_from, IsValid}
@@ -8,23 +10,6 @@ use Rattle.geometry_laws.proofs.Each.{Among}
 use Rattle.geometry_laws.proofs.Cuts.{contains_of_among, among_from_contains}
 
 -- ---- places in joined lists
--- an element keeps its place when a list is joined behind
-place_left : {X : Type 0} (xs ys : List X) (k : ℕ) (x : X) → slice_get xs k ≡ Some x → slice_get (xs ++ ys) k ≡ Some x
-place_left [] ys k x e = absurd (cc)
-place_left (z ∷ xs) ys zero x e = e
-place_left (z ∷ xs) ys (suc k) x e = place_left xs ys k x e
-
-none_before : (k : ℕ) → 0 + k ≡ k
-none_before k = omega arith
-
-one_before_all : (n k : ℕ) → suc n + k ≡ suc (n + k)
-one_before_all n k = omega arith
-
--- and the second list's elements lie as many places later as the first list has
-place_right : {X : Type 0} (xs ys : List X) (k : ℕ) → slice_get (xs ++ ys) (length xs + k) ≡ slice_get ys k
-place_right [] ys k = ap (slice_get ys) (none_before k)
-place_right (z ∷ xs) ys k = ap (slice_get (z ∷ xs ++ ys)) (one_before_all (length xs) k) ∙ place_right xs ys k
-
 -- ---- the number of an element's first ring, and the places of its rings among all
 pub record Numbered (rs : List (List Position)) (first : ℕ) (es : List (List (List Position))) : Type 0 where
   pub before : ℕ
@@ -39,12 +24,9 @@ pub numbered : (rs : List (List Position)) (first : ℕ) (es : List (List (List 
 numbered rs first [] a = absurd a
 numbered rs first (d ∷ es) (inl e) = record {
   before = 0;
-  among = inl (ap (λ n. element_at n rs) (no_more first) ∙ ap (element_at first) e);
-  there = λ k r g. ap (slice_get (d ++ joined_rings es)) (none_before k) ∙ place_left d (joined_rings es) k r (sym (ap (λ q. slice_get q k) e) ∙ g);
+  among = inl (ap (λ n. element_at n rs) (add-zero first) ∙ ap (element_at first) e);
+  there = λ k r g. ap (slice_get (d ++ joined_rings es)) (zero-add k) ∙ found_in_front d (joined_rings es) k r (sym (ap (λ q. slice_get q k) e) ∙ g);
 }
-  where
-    no_more : (n : ℕ) → n + 0 ≡ n
-    no_more n = omega arith
 numbered rs first (d ∷ es) (inr a) = go (numbered rs (first + length d) es a)
   where
     shifted : (n l b : ℕ) → n + (l + b) ≡ n + l + b
@@ -75,9 +57,6 @@ no_pair x d e zero zero n g h = n refl
 no_pair x d e (suc i) j n g h = absurd (cc)
 no_pair x d e zero (suc j) n g h = absurd (cc)
 
-apart_from : (i j : ℕ) → i < j → i ≡ j → ⊥
-apart_from i j h e = omega (arith, h, e)
-
 -- ---- the faults of a polygon are faults of the area that it is an element of
 -- each fault of an element would be one of the area, its rings numbered from that of the element's first ring; there is none
 pub element_is_valid : (g : Geometry) → IsValid g → (rs : List (List Position)) → Among rs (elements g) → IsValid (Polygon rs)
@@ -98,5 +77,5 @@ element_is_valid (Geometry.MultiPolygon es) v rs a = of (numbered rs 0 es a)
         (element_at (0 + n.before) rs, k, outer, hole, contains_of_among _ _ n.among, some, subst (λ q. slice_get q 0 ≡ Some outer) (rings_of e rs c) at, (refl, subst (λ q. slice_get q k ≡ Some hole) (rings_of e rs c) behind.1), out)
     of n (HolesNested i j) (e, k, l, r, s, c, some, less, at, behind, nested) = v (HolesNested (0 + n.before + k) (0 + n.before + l))
         (element_at (0 + n.before) rs, k, l, r, s, contains_of_among _ _ n.among, some, less, (refl, subst (λ q. slice_get q k ≡ Some r) (rings_of e rs c) at.1), (refl, subst (λ q. slice_get q l ≡ Some s) (rings_of e rs c) behind.1), nested)
-    of n (ElementsMeet i j) (d, e, less, g, h, share) = no_pair rs d e i j (apart_from i j less) g h
+    of n (ElementsMeet i j) (d, e, less, g, h, share) = no_pair rs d e i j (less_not_same i j less) g h
     of n (ElementInside i j) (d, e, other, g, h, within) = no_pair rs d e i j other g h

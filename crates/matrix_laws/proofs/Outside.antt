@@ -3,6 +3,8 @@ use Rattle.std.proofs.Common.{◌≡◌, ◌≢◌, ◌⊎◌, inl, inr, Bool, t
 use borrow.Author.Differences.{ints}
 use Rattle.std.proofs.lemmas.Int.{clamps}
 use Rattle.std.specs.Int.{int_min, int_max}
+use Rattle.std.proofs.lemmas.Bool.{and_from}
+use lib.Signed.{≤ℤ_refl}
 use Rattle.geometry_model.specs.Points.{Position, Point, IsPoint, point_at}
 use Rattle.geometry_model.specs.Geometries.{Edge, Geometry, edges, edges_of_line, edges_of_lines, lines, listed, positions, rings, joined_rings}
 use Rattle.geometry_model.specs.Sides.{side, on}
@@ -13,17 +15,18 @@ use Rattle.geometry_model.specs.Envelopes.{Envelope, envelope_at, joined, with_p
 use Rattle.geometry_model.specs.declared.point_sets.Location.TheVariants.{Interior, Exterior}
 use Rattle.basics.proofs.Ring.{solve, var, lit, ◌⊕◌, ◌⊖◌, ◌⊗◌}
 use Rattle.basics.proofs.Signs.{plus_plus, plus_minus, minus_plus, strict_plus_plus, strict_minus_plus, cancel_positive, cancel_negative, less_yes, less_no, at_most_yes, at_most_no, at_most_from, not_at_most_from}
+use Rattle.basics.proofs.Orders.{weak_negative, weak_positive, gap_weak, gap_positive, positive_same, at_most_less, less_at_most, max_first, min_first, less_weak, at_most_from_gap}
+use Rattle.basics.proofs.Bools.{by_contraries}
 use Rattle.geometry_laws.specs.RingLaws.{IsClosed}
 use Rattle.geometry_laws.specs.PieceLaws.{HasClosedRings}
 use Rattle.geometry_laws.specs.CoverLaws.{value}
 use Rattle.geometry_laws.proofs.Each.{Each, each_map, each_left, each_right, each_append, parity_none, same_parity}
 use Rattle.geometry_laws.proofs.RingParity.{each_from_all, parity_of_rings, rings_cancel, rightward_left, rightward_right}
 use Rattle.geometry_laws.proofs.Lines.{off_beyond}
-use Rattle.geometry_laws.proofs.Locating.{Off, locate_off, start_is_on, by_contraries}
+use Rattle.geometry_laws.proofs.Locating.{Off, locate_off, start_is_on}
 use Rattle.geometry_laws.proofs.Triangles.{dot}
 use Rattle.geometry_laws.proofs.Xor.{xor_self}
 use Rattle.geometry_laws.proofs.Hulls.{ordered}
-use Rattle.geometry_laws.proofs.Scaling.{and_from}
 use Rattle.geometry_laws.proofs.LineSides.{side'}
 use Rattle.matrix_laws.specs.PolygonLaws.{IsOutside}
 
@@ -50,25 +53,16 @@ pub record Holds (e : Envelope) (a : Position) : Type 0 where
   pub low_y : e.least_y ≤ℤ a.y
   pub high_y : a.y ≤ℤ e.greatest_y
 
-min_left : (x y : ℤ) → int_min x y ≤ℤ x
-min_left x y = omega (arith, ints, clamps)
-
 min_right : (x y z : ℤ) → y ≤ℤ z → int_min x y ≤ℤ z
 min_right x y z h = omega (arith, ints, clamps)
-
-max_left : (x y : ℤ) → x ≤ℤ int_max x y
-max_left x y = omega (arith, ints, clamps)
 
 max_right : (x y z : ℤ) → z ≤ℤ y → z ≤ℤ int_max x y
 max_right x y z h = omega (arith, ints, clamps)
 
-same : (x : ℤ) → x ≤ℤ x
-same x = omega (arith, ints)
-
 -- the envelope of a position and of more holds the position
 holds_first : (a : Position) (o : Option Envelope) → Holds (with_position a o) a
-holds_first a None = record { low_x = same a.x; high_x = same a.x; low_y = same a.y; high_y = same a.y }
-holds_first a (Some e) = record { low_x = min_left a.x e.least_x; high_x = max_left a.x e.greatest_x; low_y = min_left a.y e.least_y; high_y = max_left a.y e.greatest_y }
+holds_first a None = record { low_x = ≤ℤ_refl a.x; high_x = ≤ℤ_refl a.x; low_y = ≤ℤ_refl a.y; high_y = ≤ℤ_refl a.y }
+holds_first a (Some e) = record { low_x = min_first a.x e.least_x; high_x = max_first a.x e.greatest_x; low_y = min_first a.y e.least_y; high_y = max_first a.y e.greatest_y }
 
 -- and still holds what the others' envelope holds
 holds_rest : (a : Position) (e : Envelope) (b : Position) → Holds e b → Holds (joined (envelope_at a) e) b
@@ -84,22 +78,10 @@ holds_all a (b ∷ rest) = (
 
 -- a number at most another, times one above 0
 times : (x y w : ℤ) → pos 0 <ℤ w → x ≤ℤ y → (x *ℤ w) ≤ℤ (y *ℤ w)
-times x y w hw h = apart (x *ℤ w) (y *ℤ w) ((y -ℤ x) *ℤ w) (solve (x ∷ y ∷ w ∷ []) (var 1 ⊗ var 2 ⊖ var 0 ⊗ var 2) ((var 1 ⊖ var 0) ⊗ var 2) tt) (plus_plus (y -ℤ x) w (difference x y h) (weak w hw))
+times x y w hw h = apart (x *ℤ w) (y *ℤ w) ((y -ℤ x) *ℤ w) (solve (x ∷ y ∷ w ∷ []) (var 1 ⊗ var 2 ⊖ var 0 ⊗ var 2) ((var 1 ⊖ var 0) ⊗ var 2) tt) (plus_plus (y -ℤ x) w (gap_weak x y h) (weak_positive w hw))
   where
-    weak : (w : ℤ) → pos 0 <ℤ w → pos 0 ≤ℤ w
-    weak w h = omega (arith, ints)
-
-    difference : (x y : ℤ) → x ≤ℤ y → pos 0 ≤ℤ (y -ℤ x)
-    difference x y h = omega (arith, ints)
-
     apart : (s t r : ℤ) → t -ℤ s ≡ r → pos 0 ≤ℤ r → s ≤ℤ t
     apart s t r e h = omega (arith, ints)
-
-less_at_most : (x y z : ℤ) → x <ℤ y → y ≤ℤ z → x <ℤ z
-less_at_most x y z h k = omega (arith, ints)
-
-at_most_less : (x y z : ℤ) → x ≤ℤ y → y <ℤ z → x <ℤ z
-at_most_less x y z h k = omega (arith, ints)
 
 -- a point outside the envelope has all positions on one side of it, since the envelope holds them
 one_side : (qs : List Position) (p : Point) → IsPoint p → IsOutside (envelope_of_positions qs) p → OneSide p qs
@@ -125,11 +107,8 @@ ends_of_lines P (l ∷ ls) h = each_append (λ e. P e.start × P e.end) (edges_o
 -- ---- an edge whose ends are on one side of the point doesn't go through it
 -- a product of a number above 0 and one below 0 is -1 at most
 slope : (w s : ℤ) → pos 0 <ℤ w → s <ℤ pos 0 → (w *ℤ s +ℤ pos 1) ≤ℤ pos 0
-slope w s h k = total (w *ℤ s +ℤ pos 1) (w *ℤ (s +ℤ pos 1)) w (solve (w ∷ s ∷ []) (var 0 ⊗ var 1 ⊕ lit (pos 1)) (var 0 ⊗ (var 1 ⊕ lit (pos 1)) ⊖ var 0 ⊕ lit (pos 1)) tt) (plus_minus w (s +ℤ pos 1) (weak w h) (next s k)) h
+slope w s h k = total (w *ℤ s +ℤ pos 1) (w *ℤ (s +ℤ pos 1)) w (solve (w ∷ s ∷ []) (var 0 ⊗ var 1 ⊕ lit (pos 1)) (var 0 ⊗ (var 1 ⊕ lit (pos 1)) ⊖ var 0 ⊕ lit (pos 1)) tt) (plus_minus w (s +ℤ pos 1) (weak_positive w h) (next s k)) h
   where
-    weak : (w : ℤ) → pos 0 <ℤ w → pos 0 ≤ℤ w
-    weak w h = omega (arith, ints)
-
     next : (s : ℤ) → s <ℤ pos 0 → (s +ℤ pos 1) ≤ℤ pos 0
     next s h = omega (arith, ints)
 
@@ -142,14 +121,11 @@ lower x y h = omega (arith, ints)
 carried : (x y : ℤ) → x ≡ y → y ≤ℤ pos 0 → x ≤ℤ pos 0
 carried x y e h = omega (arith, ints)
 
-positive : (x y : ℤ) → x ≡ y → pos 0 <ℤ y → pos 0 <ℤ x
-positive x y e h = omega (arith, ints)
-
 -- each of these four takes a linear form that is at most 0 at both ends of the edge and above 0 at the point;
 -- such a form is at most 0 on the whole edge. First: both ends are right of the point
 off_right : (p : Point) (e : Edge) → IsPoint p → RightOf p e.start → RightOf p e.end → on e p ≡ false
 off_right p e hp s t = off_beyond (record { a = pos 0 -ℤ p.W *ℤ p.W; b = pos 0; c = p.X *ℤ p.W +ℤ pos 1 }) e p hp (record { at_start = at e.start s; at_end = at e.end t })
-    (positive _ p.W (solve (p.X ∷ p.Y ∷ p.W ∷ []) ((lit (pos 0) ⊖ var 2 ⊗ var 2) ⊗ var 0 ⊕ lit (pos 0) ⊗ var 1 ⊕ (var 0 ⊗ var 2 ⊕ lit (pos 1)) ⊗ var 2) (var 2) tt) hp)
+    (positive_same _ p.W (solve (p.X ∷ p.Y ∷ p.W ∷ []) ((lit (pos 0) ⊖ var 2 ⊗ var 2) ⊗ var 0 ⊕ lit (pos 0) ⊗ var 1 ⊕ (var 0 ⊗ var 2 ⊕ lit (pos 1)) ⊗ var 2) (var 2) tt) hp)
   where
     at : (a : Position) → RightOf p a → value (record { a = pos 0 -ℤ p.W *ℤ p.W; b = pos 0; c = p.X *ℤ p.W +ℤ pos 1 }) (point_at a) ≤ℤ pos 0
     at a h = carried _ (p.W *ℤ (p.X -ℤ a.x *ℤ p.W) +ℤ pos 1) (solve (p.X ∷ p.W ∷ a.x ∷ a.y ∷ []) ((lit (pos 0) ⊖ var 1 ⊗ var 1) ⊗ var 2 ⊕ lit (pos 0) ⊗ var 3 ⊕ (var 0 ⊗ var 1 ⊕ lit (pos 1)) ⊗ lit (pos 1)) (var 1 ⊗ (var 0 ⊖ var 2 ⊗ var 1) ⊕ lit (pos 1)) tt) (slope p.W (p.X -ℤ a.x *ℤ p.W) hp (lower p.X (a.x *ℤ p.W) h))
@@ -157,7 +133,7 @@ off_right p e hp s t = off_beyond (record { a = pos 0 -ℤ p.W *ℤ p.W; b = pos
 -- both ends are left of the point
 off_left : (p : Point) (e : Edge) → IsPoint p → LeftOf p e.start → LeftOf p e.end → on e p ≡ false
 off_left p e hp s t = off_beyond (record { a = p.W *ℤ p.W; b = pos 0; c = pos 1 -ℤ p.X *ℤ p.W }) e p hp (record { at_start = at e.start s; at_end = at e.end t })
-    (positive _ p.W (solve (p.X ∷ p.Y ∷ p.W ∷ []) ((var 2 ⊗ var 2) ⊗ var 0 ⊕ lit (pos 0) ⊗ var 1 ⊕ (lit (pos 1) ⊖ var 0 ⊗ var 2) ⊗ var 2) (var 2) tt) hp)
+    (positive_same _ p.W (solve (p.X ∷ p.Y ∷ p.W ∷ []) ((var 2 ⊗ var 2) ⊗ var 0 ⊕ lit (pos 0) ⊗ var 1 ⊕ (lit (pos 1) ⊖ var 0 ⊗ var 2) ⊗ var 2) (var 2) tt) hp)
   where
     at : (a : Position) → LeftOf p a → value (record { a = p.W *ℤ p.W; b = pos 0; c = pos 1 -ℤ p.X *ℤ p.W }) (point_at a) ≤ℤ pos 0
     at a h = carried _ (p.W *ℤ (a.x *ℤ p.W -ℤ p.X) +ℤ pos 1) (solve (p.X ∷ p.W ∷ a.x ∷ a.y ∷ []) ((var 1 ⊗ var 1) ⊗ var 2 ⊕ lit (pos 0) ⊗ var 3 ⊕ (lit (pos 1) ⊖ var 0 ⊗ var 1) ⊗ lit (pos 1)) (var 1 ⊗ (var 2 ⊗ var 1 ⊖ var 0) ⊕ lit (pos 1)) tt) (slope p.W (a.x *ℤ p.W -ℤ p.X) hp (lower (a.x *ℤ p.W) p.X h))
@@ -165,7 +141,7 @@ off_left p e hp s t = off_beyond (record { a = p.W *ℤ p.W; b = pos 0; c = pos 
 -- both ends are over the point
 off_over : (p : Point) (e : Edge) → IsPoint p → Over p e.start → Over p e.end → on e p ≡ false
 off_over p e hp s t = off_beyond (record { a = pos 0; b = pos 0 -ℤ p.W *ℤ p.W; c = p.Y *ℤ p.W +ℤ pos 1 }) e p hp (record { at_start = at e.start s; at_end = at e.end t })
-    (positive _ p.W (solve (p.X ∷ p.Y ∷ p.W ∷ []) (lit (pos 0) ⊗ var 0 ⊕ (lit (pos 0) ⊖ var 2 ⊗ var 2) ⊗ var 1 ⊕ (var 1 ⊗ var 2 ⊕ lit (pos 1)) ⊗ var 2) (var 2) tt) hp)
+    (positive_same _ p.W (solve (p.X ∷ p.Y ∷ p.W ∷ []) (lit (pos 0) ⊗ var 0 ⊕ (lit (pos 0) ⊖ var 2 ⊗ var 2) ⊗ var 1 ⊕ (var 1 ⊗ var 2 ⊕ lit (pos 1)) ⊗ var 2) (var 2) tt) hp)
   where
     at : (a : Position) → Over p a → value (record { a = pos 0; b = pos 0 -ℤ p.W *ℤ p.W; c = p.Y *ℤ p.W +ℤ pos 1 }) (point_at a) ≤ℤ pos 0
     at a h = carried _ (p.W *ℤ (p.Y -ℤ a.y *ℤ p.W) +ℤ pos 1) (solve (p.Y ∷ p.W ∷ a.x ∷ a.y ∷ []) (lit (pos 0) ⊗ var 2 ⊕ (lit (pos 0) ⊖ var 1 ⊗ var 1) ⊗ var 3 ⊕ (var 0 ⊗ var 1 ⊕ lit (pos 1)) ⊗ lit (pos 1)) (var 1 ⊗ (var 0 ⊖ var 3 ⊗ var 1) ⊕ lit (pos 1)) tt) (slope p.W (p.Y -ℤ a.y *ℤ p.W) hp (lower p.Y (a.y *ℤ p.W) h))
@@ -173,7 +149,7 @@ off_over p e hp s t = off_beyond (record { a = pos 0; b = pos 0 -ℤ p.W *ℤ p.
 -- both ends are under the point
 off_under : (p : Point) (e : Edge) → IsPoint p → Under p e.start → Under p e.end → on e p ≡ false
 off_under p e hp s t = off_beyond (record { a = pos 0; b = p.W *ℤ p.W; c = pos 1 -ℤ p.Y *ℤ p.W }) e p hp (record { at_start = at e.start s; at_end = at e.end t })
-    (positive _ p.W (solve (p.X ∷ p.Y ∷ p.W ∷ []) (lit (pos 0) ⊗ var 0 ⊕ (var 2 ⊗ var 2) ⊗ var 1 ⊕ (lit (pos 1) ⊖ var 1 ⊗ var 2) ⊗ var 2) (var 2) tt) hp)
+    (positive_same _ p.W (solve (p.X ∷ p.Y ∷ p.W ∷ []) (lit (pos 0) ⊗ var 0 ⊕ (var 2 ⊗ var 2) ⊗ var 1 ⊕ (lit (pos 1) ⊖ var 1 ⊗ var 2) ⊗ var 2) (var 2) tt) hp)
   where
     at : (a : Position) → Under p a → value (record { a = pos 0; b = p.W *ℤ p.W; c = pos 1 -ℤ p.Y *ℤ p.W }) (point_at a) ≤ℤ pos 0
     at a h = carried _ (p.W *ℤ (a.y *ℤ p.W -ℤ p.Y) +ℤ pos 1) (solve (p.Y ∷ p.W ∷ a.x ∷ a.y ∷ []) (lit (pos 0) ⊗ var 2 ⊕ (var 1 ⊗ var 1) ⊗ var 3 ⊕ (lit (pos 1) ⊖ var 0 ⊗ var 1) ⊗ lit (pos 1)) (var 1 ⊗ (var 3 ⊗ var 1 ⊖ var 0) ⊕ lit (pos 1)) tt) (slope p.W (a.y *ℤ p.W -ℤ p.Y) hp (lower (a.y *ℤ p.W) p.Y h))
@@ -189,32 +165,17 @@ beside_right p e s t = beside p e (at_most_no (e.start.x *ℤ p.W) p.X s ∙ sym
 
 -- both ends are left of the point
 beside_left : (p : Point) (e : Edge) → LeftOf p e.start → LeftOf p e.end → strictly_above e p ≡ false
-beside_left p e s t = beside p e (at_most_yes (e.start.x *ℤ p.W) p.X (weak (e.start.x *ℤ p.W) p.X s) ∙ sym (at_most_yes (e.end.x *ℤ p.W) p.X (weak (e.end.x *ℤ p.W) p.X t)))
-  where
-    weak : (x y : ℤ) → x <ℤ y → x ≤ℤ y
-    weak x y h = omega (arith, ints)
+beside_left p e s t = beside p e (at_most_yes (e.start.x *ℤ p.W) p.X (less_weak (e.start.x *ℤ p.W) p.X s) ∙ sym (at_most_yes (e.end.x *ℤ p.W) p.X (less_weak (e.end.x *ℤ p.W) p.X t)))
 
 -- the side of a point as a sum over both ends: its height over the end, times the other end's distance in x
 pub by_heights : (a b : Position) (p : Point) → p.W *ℤ side a b p ≡ (p.Y -ℤ a.y *ℤ p.W) *ℤ (b.x *ℤ p.W -ℤ p.X) +ℤ (p.Y -ℤ b.y *ℤ p.W) *ℤ (p.X -ℤ a.x *ℤ p.W)
 by_heights a b p = solve (a.x ∷ a.y ∷ b.x ∷ b.y ∷ p.X ∷ p.Y ∷ p.W ∷ []) (var 6 ⊗ side') ((var 5 ⊖ var 1 ⊗ var 6) ⊗ (var 2 ⊗ var 6 ⊖ var 4) ⊕ (var 5 ⊖ var 3 ⊗ var 6) ⊗ (var 4 ⊖ var 0 ⊗ var 6)) tt
 
-gap : (x y : ℤ) → x <ℤ y → pos 0 <ℤ (y -ℤ x)
-gap x y h = omega (arith, ints)
-
-gap_weak : (x y : ℤ) → x ≤ℤ y → pos 0 ≤ℤ (y -ℤ x)
-gap_weak x y h = omega (arith, ints)
-
-weak_positive : (x : ℤ) → pos 0 <ℤ x → pos 0 ≤ℤ x
-weak_positive x h = omega (arith, ints)
-
-weak_negative : (x : ℤ) → x <ℤ pos 0 → x ≤ℤ pos 0
-weak_negative x h = omega (arith, ints)
-
 -- with both ends lower than the point both parts of that sum are at least 0: the point isn't under the edge
 under_side : (a b : Position) (p : Point) → IsPoint p → Under p a → Under p b → reaches a p ≡ true → reaches b p ≡ false → int_lt (side a b p) (pos 0) ≡ false
 under_side a b p hp s t e f = less_no (side a b p) (pos 0) (weak_positive (side a b p) (cancel_positive p.W (side a b p) (weak_positive p.W hp) (sum _ _ _ (by_heights a b p)
-    (strict_plus_plus (p.Y -ℤ a.y *ℤ p.W) (b.x *ℤ p.W -ℤ p.X) (gap (a.y *ℤ p.W) p.Y s) (gap p.X (b.x *ℤ p.W) (not_at_most_from (b.x *ℤ p.W) p.X f)))
-    (plus_plus (p.Y -ℤ b.y *ℤ p.W) (p.X -ℤ a.x *ℤ p.W) (weak_positive _ (gap (b.y *ℤ p.W) p.Y t)) (gap_weak (a.x *ℤ p.W) p.X (at_most_from (a.x *ℤ p.W) p.X e))))))
+    (strict_plus_plus (p.Y -ℤ a.y *ℤ p.W) (b.x *ℤ p.W -ℤ p.X) (gap_positive (a.y *ℤ p.W) p.Y s) (gap_positive p.X (b.x *ℤ p.W) (not_at_most_from (b.x *ℤ p.W) p.X f)))
+    (plus_plus (p.Y -ℤ b.y *ℤ p.W) (p.X -ℤ a.x *ℤ p.W) (weak_positive _ (gap_positive (b.y *ℤ p.W) p.Y t)) (gap_weak (a.x *ℤ p.W) p.X (at_most_from (a.x *ℤ p.W) p.X e))))))
   where
     sum : (x y z : ℤ) → x ≡ y +ℤ z → pos 0 <ℤ y → pos 0 ≤ℤ z → pos 0 <ℤ x
     sum x y z e h k = omega (arith, ints)
@@ -222,7 +183,7 @@ under_side a b p hp s t e f = less_no (side a b p) (pos 0) (weak_positive (side 
 -- with both ends higher both parts are at most 0, and one is less: the point is under the edge
 over_side : (a b : Position) (p : Point) → IsPoint p → Over p a → Over p b → reaches a p ≡ true → reaches b p ≡ false → int_lt (side a b p) (pos 0) ≡ true
 over_side a b p hp s t e f = less_yes (side a b p) (pos 0) (cancel_negative p.W (side a b p) (weak_positive p.W hp) (sum _ _ _ (by_heights a b p)
-    (strict_minus_plus (p.Y -ℤ a.y *ℤ p.W) (b.x *ℤ p.W -ℤ p.X) (lower p.Y (a.y *ℤ p.W) s) (gap p.X (b.x *ℤ p.W) (not_at_most_from (b.x *ℤ p.W) p.X f)))
+    (strict_minus_plus (p.Y -ℤ a.y *ℤ p.W) (b.x *ℤ p.W -ℤ p.X) (lower p.Y (a.y *ℤ p.W) s) (gap_positive p.X (b.x *ℤ p.W) (not_at_most_from (b.x *ℤ p.W) p.X f)))
     (minus_plus (p.Y -ℤ b.y *ℤ p.W) (p.X -ℤ a.x *ℤ p.W) (weak_negative _ (lower p.Y (b.y *ℤ p.W) t)) (gap_weak (a.x *ℤ p.W) p.X (at_most_from (a.x *ℤ p.W) p.X e)))))
   where
     sum : (x y z : ℤ) → x ≡ y +ℤ z → y <ℤ pos 0 → z ≤ℤ pos 0 → x <ℤ pos 0
@@ -302,13 +263,10 @@ outside_is_exterior g c p hp h = locate_off g p hp (off_aside g p hp (one_side (
 -- ---- two geometries with a common point
 -- a number that is neither left of one interval nor right of another shows that the one begins no later than the other ends
 within_x : (s t x w : ℤ) → pos 0 <ℤ w → (x <ℤ (s *ℤ w) → ⊥) → ((t *ℤ w) <ℤ x → ⊥) → int_le s t ≡ true
-within_x s t x w hw f g = at_most_yes s t (from s t (ordered s t w hw (through (s *ℤ w) x (t *ℤ w) f g)))
+within_x s t x w hw f g = at_most_yes s t (at_most_from_gap s t (ordered s t w hw (through (s *ℤ w) x (t *ℤ w) f g)))
   where
     through : (u x v : ℤ) → (x <ℤ u → ⊥) → (v <ℤ x → ⊥) → u ≤ℤ v
     through u x v f g = grind (arith, ints)
-
-    from : (s t : ℤ) → pos 0 ≤ℤ (t -ℤ s) → s ≤ℤ t
-    from s t h = omega (arith, ints)
 
 -- envelopes that a point is outside neither of overlap, by four such comparisons
 overlaps : (e f : Envelope) (p : Point) → IsPoint p → (IsOutside (Some e) p → ⊥) → (IsOutside (Some f) p → ⊥) → overlap e f ≡ true

@@ -1,5 +1,8 @@
 -- Along an edge of a valid area, strictly between two of its points, one side is interior and the other exterior, the same at each point.
 use Rattle.std.proofs.Common.{ℕ, pos, ◌≡◌, ◌≢◌, ◌⊎◌, inl, inr, Bool, true, false, ◌&&◌, if◌then◌else◌, int_lt, ℤ, refl, sym, ap, ap₂, subst, ◌∙◌, List, ◌++◌, Contains, Some, slice_get}
+use Rattle.std.proofs.lemmas.Bool.{or_left, or_right, cases_eq}
+use Rattle.std.proofs.lemmas.Option.{same_Some}
+use Rattle.basics.proofs.Bools.{by_contraries}
 use Rattle.geometry_model.specs.Points.{Position, Point, IsPoint, point_at}
 use Rattle.geometry_model.specs.Geometries.{Edge, Geometry, kind, edges, edges_of_line, edges_of_lines, listed, rings, joined_rings}
 use Rattle.geometry_model.specs.Sides.{side, on}
@@ -16,15 +19,14 @@ use Rattle.geometry_laws.specs.RingLaws.{IsClosed}
 use Rattle.geometry_laws.proofs.Each.{Each, Among, among_left}
 use Rattle.geometry_laws.proofs.Hulls.{on_from_hull}
 use Rattle.geometry_laws.proofs.RingParity.{each_from_all, Step, step_by_missing, step_along, parity_by_steps}
-use Rattle.geometry_laws.proofs.Locating.{by_contraries}
 use Rattle.geometry_laws.proofs.PointOrder.{less_transitive}
 use Rattle.geometry_laws.proofs.LineOrder.{area_on_line}
-use Rattle.geometry_laws.proofs.Cuts.{among_from_contains, contains_of_among, or_first, or_last, hull_of_start, hull_of_end}
+use Rattle.geometry_laws.proofs.Cuts.{among_from_contains, contains_of_among, hull_of_start, hull_of_end}
 use Rattle.matrix_laws.specs.PolygonLaws.{ArePartedAs}
 use Rattle.matrix_laws.proofs.Closing.{valid_rings_are_closed}
 use Rattle.matrix_laws.proofs.Places.{Place, place_of}
 use Rattle.matrix_laws.proofs.AreaFacts.{RingOf, ring_of}
-use Rattle.matrix_laws.proofs.Parting.{flat, equal_or_not, no_edge_of_ring, no_edge_of_others, each_ring, rings_part, sides_of_a_ring}
+use Rattle.matrix_laws.proofs.Parting.{flat, no_edge_of_ring, no_edge_of_others, each_ring, rings_part, sides_of_a_ring}
 use Rattle.matrix_laws.specs.Gaps.{IsBetween}
 use Rattle.matrix_laws.proofs.Between.{Span, wide, on_line, between_sum, no_end_between}
 use Rattle.matrix_laws.proofs.Mostly.{sides_of_no_area}
@@ -65,8 +67,8 @@ parted a v e r u x hx h n = (sides_of_a_ring a v r.i r.ring r.ring_at r.j e r.ed
 pub sides_of_own_edge : (a b : Geometry) → IsValid a → kind a ≡ kinds.Area → (e : Edge) → Contains (edges a) e → e.start.x ≢ e.end.x → (x : Point) → IsPoint x → on e x ≡ true
     → (IsCut (edges_of_both a b) (listed a ++ listed b) x → ⊥) → ArePartedAs (below a x) (above a x)
 sides_of_own_edge a b v k e c u x hx h f = parted a v e (ring_place a e (ring_edge a k e c)) u x hx h (
-  by_contraries (is_at x e.start) false (λ s. absurd (f (AtEnd hx e among (or_first (is_at x e.start) (is_at x e.end) s)))) refl,
-  by_contraries (is_at x e.end) false (λ s. absurd (f (AtEnd hx e among (or_last (is_at x e.start) (is_at x e.end) s)))) refl,
+  by_contraries (is_at x e.start) false (λ s. absurd (f (AtEnd hx e among (or_left (is_at x e.start) (is_at x e.end) s)))) refl,
+  by_contraries (is_at x e.end) false (λ s. absurd (f (AtEnd hx e among (or_right (is_at x e.start) (is_at x e.end) s)))) refl,
 )
   where
     among : Contains (edges_of_both a b) e
@@ -92,11 +94,8 @@ not_above e x h = ap (λ (z : ℤ). spans e x && int_lt z (pos 0)) (flat e x (on
 
 -- from one point to another the edge itself runs along, and all other edges are missed
 steps : (a : Geometry) → IsValid a → (e : Edge) → RingPlace a e → (p q x y : Point) → Span e p q → IsBetween e p q x → IsBetween e p q y → Each (Step x y) (edges_of_lines (rings a))
-steps a v e r p q x y s i j = each_ring (Step x y) (rings a) (λ k t tk m d dm. at_ring k t tk m d dm (equal_or_not k r.i))
+steps a v e r p q x y s i j = each_ring (Step x y) (rings a) (λ k t tk m d dm. at_ring k t tk m d dm (cases_eq k r.i))
   where
-    same_item : {X : Type 0} (s t : X) → Some s ≡ Some t → s ≡ t
-    same_item s t z = cc
-
     start_line : side e.start e.end (point_at e.start) ≡ pos 0
     start_line = on_line e (point_at e.start) (on_from_hull e (point_at e.start) (hull_of_start e))
 
@@ -113,17 +112,17 @@ steps a v e r p q x y s i j = each_ring (Step x y) (rings a) (λ k t tk m d dm. 
     missed d f = step_by_missing x y d i.is_point j.is_point (λ m n l. f (weighted m x n y) (between_sum e p q x y m n l i j))
 
     same_ring : (k : ℕ) (t : List Position) → k ≡ r.i → slice_get (rings a) k ≡ Some t → t ≡ r.ring
-    same_ring k t w tk = same_item t r.ring (sym tk ∙ ap (slice_get (rings a)) w ∙ r.ring_at)
+    same_ring k t w tk = same_Some t r.ring (sym tk ∙ ap (slice_get (rings a)) w ∙ r.ring_at)
 
     at_edge : (k : ℕ) (t : List Position) → k ≡ r.i → slice_get (rings a) k ≡ Some t → (m : ℕ) (d : Edge) → slice_get (edges_of_line t) m ≡ Some d → (m ≡ r.j) ⊎ (m ≡ r.j → ⊥) → Step x y d
-    at_edge k t w tk m d dm (inl n) = subst (Step x y) (same_item e d (sym r.edge_at ∙ ap₂ (λ (o : List Position) (l : ℕ). slice_get (edges_of_line o) l) (sym (same_ring k t w tk)) (sym n) ∙ dm)) along
+    at_edge k t w tk m d dm (inl n) = subst (Step x y) (same_Some e d (sym r.edge_at ∙ ap₂ (λ (o : List Position) (l : ℕ). slice_get (edges_of_line o) l) (sym (same_ring k t w tk)) (sym n) ∙ dm)) along
     at_edge k t w tk m d dm (inr n) = missed d (λ z b. other z b (no_end_between e p q z s b))
       where
         other : (z : Point) → IsBetween e p q z → (is_at z e.start ≡ false) × (is_at z e.end ≡ false) → on d z ≡ false
         other z b o = no_edge_of_ring a v r.i r.ring r.ring_at r.j e r.edge_at z b.is_point b.is_on o.0 o.1 m d n (ap (λ (o : List Position). slice_get (edges_of_line o) m) (sym (same_ring k t w tk)) ∙ dm)
 
     at_ring : (k : ℕ) (t : List Position) → slice_get (rings a) k ≡ Some t → (m : ℕ) (d : Edge) → slice_get (edges_of_line t) m ≡ Some d → (k ≡ r.i) ⊎ (k ≡ r.i → ⊥) → Step x y d
-    at_ring k t tk m d dm (inl w) = at_edge k t w tk m d dm (equal_or_not m r.j)
+    at_ring k t tk m d dm (inl w) = at_edge k t w tk m d dm (cases_eq m r.j)
     at_ring k t tk m d dm (inr n) = missed d (λ z b. no_edge_of_others a v r.i r.ring r.ring_at r.j e r.edge_at z b.is_point b.is_on k t n tk m d dm)
 
 -- so the parity of the edges strictly above is the same at both points

@@ -1,9 +1,11 @@
 -- At a point strictly within a ring edge of a valid polygon that isn't vertical, just that edge goes through the point: so the rings part the interior from the exterior there.
-use Rattle.std.proofs.Common.{ℕ, zero, suc, ◌+◌, ◌<◌, ◌≡◌, ◌⊎◌, inl, inr, Bool, true, false, if◌then◌else◌, ℤ, pos, ◌-ℤ◌, ◌<ℤ◌, ◌≤ℤ◌, int_le, refl, sym, ap, ap₂, subst, ◌∙◌, List, [], ◌∷◌, length, Some, None, slice_get, arith}
+use Rattle.std.proofs.Common.{ℕ, zero, suc, ◌+◌, ◌<◌, ◌≡◌, ◌⊎◌, inl, inr, Bool, true, false, if◌then◌else◌, ℤ, pos, ◌-ℤ◌, ◌<ℤ◌, int_le, refl, sym, ap, ap₂, subst, ◌∙◌, List, [], ◌∷◌, length, Some, None, slice_get, arith}
 use borrow.Author.Differences.{ints}
 use Rattle.std.specs.Ordering.{int_eq}
 use Rattle.std.specs.declared.cmp.Ordering.{Ordering}
 use Rattle.std.specs.declared.cmp.Ordering.TheVariants.{Less, Equal, Greater}
+use Rattle.std.proofs.lemmas.Bool.{cases_eq, and_from}
+use Rattle.std.proofs.lemmas.Option.{same_Some}
 use Rattle.geometry_model.specs.Points.{Position, Point, IsPoint, point_at, same_point, compare}
 use Rattle.geometry_model.specs.Geometries.{Edge, Geometry, edges_of_line, edges_of_lines, rings, joined_rings}
 use Rattle.geometry_model.specs.Sides.{side, on}
@@ -13,17 +15,19 @@ use Rattle.geometry_model.specs.Validity.{IsValid, Clash, ShareOther}
 use Rattle.geometry_model.specs.declared.validity_faults.ValidityFault.TheVariants.{RingNotClosed, RingNotSimple}
 use Rattle.basics.proofs.Signs.{at_most_yes, at_most_no}
 use Rattle.basics.proofs.Tests.{equal_yes}
+use Rattle.basics.proofs.Numbers.{less_or_more}
+use Rattle.basics.proofs.Bools.{by_contraries, not_both}
+use Rattle.basics.proofs.Orders.{weak_positive}
 use Rattle.geometry_laws.specs.RingLaws.{IsClosed}
 use Rattle.geometry_laws.proofs.Plane.{right}
 use Rattle.geometry_laws.proofs.Each.{Each, each_append, parity, parity_append}
 use Rattle.geometry_laws.proofs.Xor.{xor_self, xor_assoc}
 use Rattle.geometry_laws.proofs.Identities.{right_turned}
-use Rattle.geometry_laws.proofs.Scaling.{and_from}
 use Rattle.geometry_laws.proofs.LineSides.{side_turned}
 use Rattle.geometry_laws.proofs.PointOrder.{same_symmetric, equal_is_same}
 use Rattle.geometry_laws.proofs.Hulls.{on_parts}
 use Rattle.geometry_laws.proofs.RingParity.{reaches_is, position_is_point}
-use Rattle.geometry_laws.proofs.Locating.{start_is_on, end_is_on, by_contraries}
+use Rattle.geometry_laws.proofs.Locating.{start_is_on, end_is_on}
 use Rattle.geometry_laws.proofs.Cuts.{turn_less, not_after_both, not_before_both, same_end}
 use Rattle.geometry_laws.proofs.WithinPiece.{touches, on_from_touch, strictly_right, parity_at_or_above}
 use Rattle.geometry_laws.proofs.Nudge.{IsSlant}
@@ -41,10 +45,7 @@ use Rattle.matrix_laws.proofs.AreaFacts.{rings_apart}
 -- ---- the edge goes through the point
 -- an end to the left of the point reaches it
 reaches_yes : (a : Position) (x : Point) → pos 0 <ℤ right (point_at a) x → reaches a x ≡ true
-reaches_yes a x h = reaches_is a x ∙ at_most_yes (pos 0) (right (point_at a) x) (weak (right (point_at a) x) h)
-  where
-    weak : (s : ℤ) → pos 0 <ℤ s → pos 0 ≤ℤ s
-    weak s h = omega (arith, ints)
+reaches_yes a x h = reaches_is a x ∙ at_most_yes (pos 0) (right (point_at a) x) (weak_positive (right (point_at a) x) h)
 
 -- and one to its right doesn't
 reaches_no : (a : Position) (x : Point) → pos 0 <ℤ right x (point_at a) → reaches a x ≡ false
@@ -68,9 +69,6 @@ flat e p h = go (int_le e.start.x e.end.x)
 pub goes_through : (e : Edge) (p : Point) → IsPoint p → on e p ≡ true → is_at p e.start ≡ false → is_at p e.end ≡ false → (e.start.x ≡ e.end.x → ⊥) → touches e p ≡ true
 goes_through e p hp h s t f = and_from (spans e p) (int_eq (side_rightward e p) (pos 0)) (go (compare (point_at e.start) p) refl (compare (point_at e.end) p) refl) (equal_yes (side_rightward e p) (pos 0) (flat e p ((on_parts e p h).on_line)))
   where
-    no_way : (t : Bool) → t ≡ true → t ≡ false → ⊥
-    no_way t e f = let z : true ≡ false = sym e ∙ f in absurd (cc)
-
     start_line : side e.start e.end (point_at e.start) ≡ pos 0
     start_line = (on_parts e (point_at e.start) (start_is_on e (point_at e.start) (position_is_point e.start) (same_end e.start))).on_line
 
@@ -78,17 +76,17 @@ goes_through e p hp h s t f = and_from (spans e p) (int_eq (side_rightward e p) 
     end_line = (on_parts e (point_at e.end) (end_is_on e (point_at e.end) (position_is_point e.end) (same_end e.end))).on_line
 
     go : (o : Ordering) → compare (point_at e.start) p ≡ o → (u : Ordering) → compare (point_at e.end) p ≡ u → spans e p ≡ true
-    go Less k Less l = absurd (no_way (on e p) h (not_after_both e p hp k l))
-    go Less k Equal l = absurd (no_way (is_at p e.end) ((equal_is_same (point_at e.end) p).0 l) t)
+    go Less k Less l = absurd (not_both (on e p) h (not_after_both e p hp k l))
+    go Less k Equal l = absurd (not_both (is_at p e.end) ((equal_is_same (point_at e.end) p).0 l) t)
     go Less k Greater l = ap₂ xor
         (reaches_yes e.start p (strictly_right e.start e.end (point_at e.start) p f start_line ((on_parts e p h).on_line) k))
         (reaches_no e.end p (strictly_right e.start e.end p (point_at e.end) f ((on_parts e p h).on_line) end_line (turn_less (point_at e.end) p l)))
-    go Equal k u l = absurd (no_way (is_at p e.start) ((equal_is_same (point_at e.start) p).0 k) s)
+    go Equal k u l = absurd (not_both (is_at p e.start) ((equal_is_same (point_at e.start) p).0 k) s)
     go Greater k Less l = ap₂ xor
         (reaches_no e.start p (strictly_right e.start e.end p (point_at e.start) f ((on_parts e p h).on_line) start_line (turn_less (point_at e.start) p k)))
         (reaches_yes e.end p (strictly_right e.start e.end (point_at e.end) p f end_line ((on_parts e p h).on_line) l))
-    go Greater k Equal l = absurd (no_way (is_at p e.end) ((equal_is_same (point_at e.end) p).0 l) t)
-    go Greater k Greater l = absurd (no_way (on e p) h (not_before_both e p hp (turn_less (point_at e.start) p k) (turn_less (point_at e.end) p l)))
+    go Greater k Equal l = absurd (not_both (is_at p e.end) ((equal_is_same (point_at e.end) p).0 l) t)
+    go Greater k Greater l = absurd (not_both (on e p) h (not_before_both e p hp (turn_less (point_at e.start) p k) (turn_less (point_at e.end) p l)))
 
 -- ---- over all rings
 -- the parity over the edges of all rings is the parity of the rings that have an odd number of them
@@ -139,16 +137,10 @@ around [] j e f c g h n = absurd (let z : None ≡ Some e = g in cc)
 around (a ∷ rest) j e f c g h n = first_start a rest e g ∙ sym c ∙ sym (last_end a rest j f h n)
 
 -- ---- no other edge of the ring goes through the point
-pub equal_or_not : (i j : ℕ) → (i ≡ j) ⊎ (i ≡ j → ⊥)
-equal_or_not i j = grind arith
-
-less_or_more : (i j : ℕ) → (i ≡ j → ⊥) → (i < j) ⊎ (j < i)
-less_or_more i j n = grind arith
-
 -- two edges of one ring, the one before the other, through a point that is none of their common positions
 clashes : (ring : List Position) → IsClosed ring → (i j : ℕ) (e f : Edge) → i < j → slice_get (edges_of_line ring) i ≡ Some e → slice_get (edges_of_line ring) j ≡ Some f → (p : Point) → IsPoint p → on e p ≡ true → on f p ≡ true
     → (same_point p (point_at e.end) ≡ false) ⊎ (same_point p (point_at f.start) ≡ false) → (same_point p (point_at e.start) ≡ false) ⊎ (same_point p (point_at f.end) ≡ false) → Clash (length (edges_of_line ring)) i j e f
-clashes ring c i j e f l g h p hp k m s t = go (equal_or_not j (i + 1)) (equal_or_not i 0) (equal_or_not (j + 1) (length (edges_of_line ring)))
+clashes ring c i j e f l g h p hp k m s t = go (cases_eq j (i + 1)) (cases_eq i 0) (cases_eq (j + 1) (length (edges_of_line ring)))
   where
     other : (q : Position) → same_point p (point_at q) ≡ false → ShareOther q e f
     other q n = record { at = p; is_point = hp; on_first = k; on_second = m; other = n }
@@ -231,20 +223,17 @@ each_ring P (r ∷ rs) f = each_append P (edges_of_line r) (edges_of_lines rs) (
 -- every edge through the point is that one, so none of them is vertical
 slant_at : (g : Geometry) → IsValid g → (i : ℕ) (ring : List Position) → slice_get (rings g) i ≡ Some ring → (j : ℕ) (e : Edge) → slice_get (edges_of_line ring) j ≡ Some e
     → (p : Point) → IsPoint p → on e p ≡ true → is_at p e.start ≡ false → is_at p e.end ≡ false → (e.start.x ≡ e.end.x → ⊥) → Each (IsSlant p) (edges_of_lines (rings g))
-slant_at g v i ring ri j e ej p hp h s t f = each_ring (IsSlant p) (rings g) (λ k r rk m d dm. at_ring k r rk m d dm (equal_or_not k i))
+slant_at g v i ring ri j e ej p hp h s t f = each_ring (IsSlant p) (rings g) (λ k r rk m d dm. at_ring k r rk m d dm (cases_eq k i))
   where
-    same_item : {X : Type 0} (x y : X) → Some x ≡ Some y → x ≡ y
-    same_item x y z = cc
-
     none : (d : Edge) → on d p ≡ false → IsSlant p d
     none d n = λ y q. absurd (let z : true ≡ false = sym y ∙ n in cc)
 
     at_edge : (k : ℕ) (r : List Position) → k ≡ i → slice_get (rings g) k ≡ Some r → (m : ℕ) (d : Edge) → slice_get (edges_of_line r) m ≡ Some d → (m ≡ j) ⊎ (m ≡ j → ⊥) → IsSlant p d
-    at_edge k r w rk m d dm (inl n) = λ y q. f (subst (λ (c : Edge). c.start.x ≡ c.end.x) (same_item d e (sym dm ∙ ap₂ (λ (o : List Position) (l : ℕ). slice_get (edges_of_line o) l) (same_item r ring (sym rk ∙ ap (slice_get (rings g)) w ∙ ri)) n ∙ ej)) q)
-    at_edge k r w rk m d dm (inr n) = none d (no_edge_of_ring g v i ring ri j e ej p hp h s t m d n (ap (λ (o : List Position). slice_get (edges_of_line o) m) (sym (same_item r ring (sym rk ∙ ap (slice_get (rings g)) w ∙ ri))) ∙ dm))
+    at_edge k r w rk m d dm (inl n) = λ y q. f (subst (λ (c : Edge). c.start.x ≡ c.end.x) (same_Some d e (sym dm ∙ ap₂ (λ (o : List Position) (l : ℕ). slice_get (edges_of_line o) l) (same_Some r ring (sym rk ∙ ap (slice_get (rings g)) w ∙ ri)) n ∙ ej)) q)
+    at_edge k r w rk m d dm (inr n) = none d (no_edge_of_ring g v i ring ri j e ej p hp h s t m d n (ap (λ (o : List Position). slice_get (edges_of_line o) m) (sym (same_Some r ring (sym rk ∙ ap (slice_get (rings g)) w ∙ ri))) ∙ dm))
 
     at_ring : (k : ℕ) (r : List Position) → slice_get (rings g) k ≡ Some r → (m : ℕ) (d : Edge) → slice_get (edges_of_line r) m ≡ Some d → (k ≡ i) ⊎ (k ≡ i → ⊥) → IsSlant p d
-    at_ring k r rk m d dm (inl w) = at_edge k r w rk m d dm (equal_or_not m j)
+    at_ring k r rk m d dm (inl w) = at_edge k r w rk m d dm (cases_eq m j)
     at_ring k r rk m d dm (inr n) = none d (no_edge_of_others g v i ring ri j e ej p hp h k r n rk m d dm)
 
 -- an area has no edges but those of its rings, and no listed positions

@@ -1,6 +1,7 @@
 -- The list of pieces as a whole: exactly the pieces, ascending.
 use Rattle.std.proofs.Common.{◌≡◌, inl, inr, ◌↔◌, true, sym, subst, ◌∙◌, List, Contains, AllPairs, filter, flat_map}
 use Rattle.std.specs.declared.cmp.Ordering.TheVariants.{Less, Equal}
+use Rattle.basics.proofs.Orders.{then_equal}
 use Rattle.geometry_model.specs.Points.{Position, Point, IsPoint, IsLeast, same_point, compare}
 use Rattle.geometry_model.specs.Geometries.{Edge}
 use Rattle.geometry_model.specs.Sides.{on}
@@ -15,7 +16,7 @@ use Rattle.matrix_laws.proofs.MatrixLists.{Some_of, among_from_contains, contain
 use Rattle.matrix_laws.proofs.Sorted.{Sorted, Ties, among_ascending, ascending_among, ascending-sorted, filter-sorted, pairs_from_sorted}
 use Rattle.matrix_laws.proofs.CutLists.{IsLeastCut}
 use Rattle.matrix_laws.proofs.CutOrder.{listed_is_cut, cut_is_listed, cut_points-sorted}
-use Rattle.matrix_laws.proofs.Stretches.{Neighbours, stretch_is, stretch_found, less_right, less_left, HasPoints, pieces_are_ordered, then_equal}
+use Rattle.matrix_laws.proofs.Stretches.{Neighbours, stretch_is, stretch_found, less_right, less_left, HasPoints, pieces_are_ordered}
 
 -- the cuts on an edge, in order
 abbrev cuts_on : List Edge → List Position → Edge → List Point

@@ -1,7 +1,8 @@
 -- What a gap shares with other edges: they hold all of it and its ends, or nothing between them; some of its points are no cuts.
-use Rattle.std.proofs.Common.{ℕ, ◌+◌, ◌<◌, pos, ◌≡◌, ◌⊎◌, inl, inr, Bool, true, false, refl, sym, ◌∙◌, List, Contains, arith}
+use Rattle.std.proofs.Common.{ℕ, ◌+◌, ◌<◌, pos, ◌≡◌, ◌⊎◌, inl, inr, true, false, refl, ◌∙◌, List, Contains, arith}
 use Rattle.std.specs.declared.cmp.Ordering.{Ordering}
 use Rattle.std.specs.declared.cmp.Ordering.TheVariants.{Less, Equal, Greater}
+use Rattle.basics.proofs.Bools.{not_both, by_contraries}
 use Rattle.geometry_model.specs.Points.{Position, Point, IsPoint, point_at, compare, same_point, mediant, least_form}
 use Rattle.geometry_model.specs.Geometries.{Edge}
 use Rattle.geometry_model.specs.Sides.{side, on}
@@ -10,7 +11,7 @@ use Rattle.geometry_model.specs.CutPoints.{IsCut, cut_points}
 use Rattle.geometry_laws.proofs.Each.{Each, Among, each_at, each_of}
 use Rattle.geometry_laws.proofs.PointOrder.{same_symmetric, equal_is_same, less_transitive}
 use Rattle.geometry_laws.proofs.RingParity.{each_from_all, side_is_area, position_is_point}
-use Rattle.geometry_laws.proofs.Locating.{start_is_on, end_is_on, by_contraries}
+use Rattle.geometry_laws.proofs.Locating.{start_is_on, end_is_on}
 use Rattle.geometry_laws.proofs.LineOrder.{area_on_line}
 use Rattle.geometry_laws.proofs.Cuts.{among_from_contains, turn_less, not_less_self, not_after_both, not_before_both, OneLine, one_line, hull_of_start, hull_of_end}
 use Rattle.geometry_laws.proofs.Hulls.{on_from_hull}
@@ -19,9 +20,6 @@ use Rattle.matrix_laws.proofs.MatrixLists.{Some_of}
 use Rattle.matrix_laws.proofs.CutOrder.{listed_is_cut, cut_is_listed}
 use Rattle.matrix_laws.specs.Gaps.{IsBetween, IsClear, IsShared, IsGap}
 use Rattle.matrix_laws.proofs.Between.{Span, wide, on_line, on_within, between_sum, mediant_is_between, least_mediant_between, After, after_lesser, Before, before_greater}
-
-pub clash : (t : Bool) → t ≡ true → t ≡ false → ⊥
-clash t k l = let z : true ≡ false = sym k ∙ l in absurd (cc)
 
 -- a gap's ends are two points of its edge, in order
 pub span_of_gap : (e : Edge) (fs : List Edge) (p q : Point) → IsGap e fs p q → Span e p q
@@ -36,7 +34,7 @@ pub point_shares : (e : Edge) (fs : List Edge) (p q x : Point) (f : Edge) → Is
 point_shares e fs p q x f g a i h = go (clear_or_shared e fs p q f g a)
   where
     go : IsClear e p q f ⊎ IsShared e p q f → IsShared e p q f
-    go (inl c) = absurd (clash (on f x) h (c x i))
+    go (inl c) = absurd (not_both (on f x) h (c x i))
     go (inr s) = s
 
 -- so it is for each of the other edges
@@ -81,7 +79,7 @@ holds_lesser e f p q s o h = go (compare p (point_at f.start)) refl (compare p (
 
     -- between the lesser end and both ends of the other edge
     second : (z : After e p q (point_at f.start)) → After e p z.point (point_at f.end) → ⊥
-    second z y = clash (on f y.point)
+    second z y = not_both (on f y.point)
         (h y.point (record { is_point = y.between.is_point; is_on = y.between.is_on; after = y.between.after; before = less_transitive y.point z.point q y.between.is_point z.between.is_point s.greater y.between.before z.between.before }))
         (not_before_both f y.point y.between.is_point (less_transitive y.point z.point (point_at f.start) y.between.is_point z.between.is_point (position_is_point f.start) y.between.before z.nearer) y.nearer)
 
@@ -89,7 +87,7 @@ holds_lesser e f p q s o h = go (compare p (point_at f.start)) refl (compare p (
     first l z = second z (after_lesser e p z.point (point_at f.end) (record { lesser = s.lesser; greater = z.between.is_point; lesser_on = s.lesser_on; greater_on = z.between.is_on; in_order = z.between.after }) (position_is_point f.end) o.end l)
 
     behind : compare (point_at f.start) p ≡ Less → compare (point_at f.end) p ≡ Less → IsBetween e p q (mediant p q) → ⊥
-    behind k l i = clash (on f (mediant p q)) (h (mediant p q) i) (not_after_both f (mediant p q) i.is_point
+    behind k l i = not_both (on f (mediant p q)) (h (mediant p q) i) (not_after_both f (mediant p q) i.is_point
         (less_transitive (point_at f.start) p (mediant p q) (position_is_point f.start) s.lesser i.is_point k i.after)
         (less_transitive (point_at f.end) p (mediant p q) (position_is_point f.end) s.lesser i.is_point l i.after))
 
@@ -111,7 +109,7 @@ holds_greater e f p q s o h = go (compare q (point_at f.start)) refl (compare q 
 
     -- between both ends of the other edge and the greater end
     second : (z : Before e p q (point_at f.start)) → Before e z.point q (point_at f.end) → ⊥
-    second z y = clash (on f y.point)
+    second z y = not_both (on f y.point)
         (h y.point (record { is_point = y.between.is_point; is_on = y.between.is_on; after = less_transitive p z.point y.point s.lesser z.between.is_point y.between.is_point z.between.after y.between.after; before = y.between.before }))
         (not_after_both f y.point y.between.is_point (less_transitive (point_at f.start) z.point y.point (position_is_point f.start) z.between.is_point y.between.is_point z.nearer y.between.after) y.nearer)
 
@@ -119,7 +117,7 @@ holds_greater e f p q s o h = go (compare q (point_at f.start)) refl (compare q 
     first l z = second z (before_greater e z.point q (point_at f.end) (record { lesser = z.between.is_point; greater = s.greater; lesser_on = z.between.is_on; greater_on = s.greater_on; in_order = z.between.before }) (position_is_point f.end) o.end l)
 
     ahead : compare q (point_at f.start) ≡ Less → compare q (point_at f.end) ≡ Less → IsBetween e p q (mediant p q) → ⊥
-    ahead k l i = clash (on f (mediant p q)) (h (mediant p q) i) (not_before_both f (mediant p q) i.is_point
+    ahead k l i = not_both (on f (mediant p q)) (h (mediant p q) i) (not_before_both f (mediant p q) i.is_point
         (less_transitive (mediant p q) q (point_at f.start) i.is_point s.greater (position_is_point f.start) i.before k)
         (less_transitive (mediant p q) q (point_at f.end) i.is_point s.greater (position_is_point f.end) i.before l))
 
@@ -163,7 +161,7 @@ free_between e p q s es ps = two (mediant_is_between e p q s)
         between = between_sum e p q x y 1 o.t (some o.t) i j
 
         none : Some_of (λ c. same_point c (weighted 1 x o.t y) ≡ true) (cut_points es ps) → ⊥
-        none c = clash (same_point c.found (weighted 1 x o.t y)) c.has (each_at (λ d. same_point d (weighted 1 x o.t y) ≡ false) (cut_points es ps) c.found o.off c.among)
+        none c = not_both (same_point c.found (weighted 1 x o.t y)) c.has (each_at (λ d. same_point d (weighted 1 x o.t y) ≡ false) (cut_points es ps) c.found o.off c.among)
 
     are_points : Each IsPoint (cut_points es ps)
     are_points = each_of IsPoint (cut_points es ps) (λ c m. (listed_is_cut es ps c m).is_point)

@@ -9,12 +9,12 @@ use Rattle.geometry_model.specs.Labels.{above, below, edges_of_both}
 use Rattle.geometry_model.specs.Pieces.{Piece, sample}
 use Rattle.geometry_model.specs.declared.point_sets.Location.{Location}
 use Rattle.basics.proofs.Ring.{solve, var, lit, ◌⊕◌, ◌⊖◌, ◌⊗◌}
+use Rattle.basics.proofs.Bools.{by_contraries}
 use Rattle.geometry_laws.specs.RingLaws.{IsClosed}
 use Rattle.geometry_laws.specs.PieceLaws.{Inside, HasClosedRings, IsPieceOf, IsOff}
 use Rattle.geometry_laws.proofs.RingParity.{each_from_all}
 use Rattle.geometry_laws.proofs.PointOrder.{equal_is_same, less_transitive, mediant_between}
 use Rattle.geometry_laws.proofs.Lines.{weighted_is_point}
-use Rattle.geometry_laws.proofs.Locating.{by_contraries}
 use Rattle.geometry_laws.proofs.Hulls.{on_from_hull, hull_from_on}
 use Rattle.geometry_laws.proofs.LineOrder.{after_sum, before_sum, sum_between, on_sum}
 use Rattle.geometry_laws.proofs.Cuts.{Ends, piece_ends}

@@ -1,7 +1,8 @@
 -- No vertical edge goes through the sample of a piece that isn't vertical.
-use Rattle.std.proofs.Common.{◌≡◌, inl, inr, Bool, true, false, ℤ, pos, ◌-ℤ◌, ◌*ℤ◌, ◌<ℤ◌, ◌≤ℤ◌, refl, sym, ◌∙◌, List, ◌++◌, arith}
+use Rattle.std.proofs.Common.{◌≡◌, inl, inr, Bool, true, false, ℤ, pos, ◌-ℤ◌, ◌*ℤ◌, ◌<ℤ◌, refl, sym, ◌∙◌, List, ◌++◌, arith}
 use borrow.Author.Differences.{ints}
 use Rattle.std.specs.declared.cmp.Ordering.TheVariants.{Less}
+use Rattle.basics.proofs.Orders.{weak_positive}
 use Rattle.geometry_model.specs.Points.{Position, Point, point_at, compare}
 use Rattle.geometry_model.specs.Geometries.{Edge, Geometry, edges, listed}
 use Rattle.geometry_model.specs.Sides.{side, on_one_line}
@@ -31,13 +32,10 @@ level s e q h = clash s.x e.x q h
 slant_within : (es : List Edge) (ps : List Position) (c : Piece) (h : IsPiece es ps c) → Ends c → is_upright c ≡ false → (s : Point) → Inside es ps c h s → (g : Edge) → Among g es → IsSlant s g
 slant_within es ps c h d f s i g m k e = decide (on_one_line h.edge g) refl
   where
-    weak : (z : ℤ) → pos 0 <ℤ z → pos 0 ≤ℤ z
-    weak z l = omega (arith, ints)
-
     through : (u v : Position) → side h.edge.start h.edge.end (point_at u) ≡ pos 0 → side h.edge.start h.edge.end (point_at v) ≡ pos 0 → compare (point_at u) s ≡ Less → compare s (point_at v) ≡ Less → pos 0 <ℤ right (point_at u) (point_at v)
     through u v p q x y = right_trans_first (point_at u) s (point_at v) (position_is_point u) i.is_point (position_is_point v)
         (strictly_right h.edge.start h.edge.end (point_at u) s (slant_edge es ps c h d f) p (inside_on_line es ps c h s i) x)
-        (weak (right s (point_at v)) (strictly_right h.edge.start h.edge.end s (point_at v) (slant_edge es ps c h d f) (inside_on_line es ps c h s i) q y))
+        (weak_positive (right s (point_at v)) (strictly_right h.edge.start h.edge.end s (point_at v) (slant_edge es ps c h d f) (inside_on_line es ps c h s i) q y))
 
     go : OneLine h.edge g → Apart (point_at g.start) s s → Apart (point_at g.end) s s → ⊥
     go o (inl p) (inl q) = let z : true ≡ false = sym k ∙ not_after_both g s i.is_point p.0 q.0 in absurd (cc)

@@ -3,6 +3,7 @@ use Rattle.std.proofs.Common.{◌≡◌, ◌⊎◌, inl, inr, true, refl, sym, a
 use Rattle.std.specs.declared.cmp.Ordering.{Ordering}
 use Rattle.std.specs.declared.cmp.Ordering.TheVariants.{Less, Equal, Greater}
 use Rattle.std.specs.Ordering.{ordering_then}
+use Rattle.basics.proofs.Orders.{then_less}
 use Rattle.geometry_model.specs.Points.{Point, IsPoint, same_point, compare}
 use Rattle.geometry_model.specs.Pieces.{Piece, stretches, compare_pieces}
 use Rattle.geometry_laws.specs.PointLaws.{reversed}
@@ -71,18 +72,6 @@ stretch_found (p ∷ q ∷ rest) v s x y (inr a) (inr b) e none = inr (stretch_f
 -- ---- the order of pieces
 abbrev pub HasPoints : Piece → Type 0
 HasPoints c = IsPoint c.lesser × IsPoint c.greater
-
--- two orders, one after the other, are Less where the first is, or where it is Equal and the second is Less
-pub then_less : (a b : Ordering) → ordering_then a b ≡ Less → (a ≡ Less) ⊎ ((a ≡ Equal) × (b ≡ Less))
-then_less Less b e = inl refl
-then_less Equal b e = inr (refl, e)
-then_less Greater b e = absurd (let k : Greater ≡ Less = e in cc)
-
--- and Equal where both are
-pub then_equal : (a b : Ordering) → ordering_then a b ≡ Equal → (a ≡ Equal) × (b ≡ Equal)
-then_equal Less b e = absurd (let k : Less ≡ Equal = e in cc)
-then_equal Equal b e = (refl, e)
-then_equal Greater b e = absurd (let k : Greater ≡ Equal = e in cc)
 
 -- and reversed where both are
 reversed-then : (a b : Ordering) → ordering_then (reversed a) (reversed b) ≡ reversed (ordering_then a b)

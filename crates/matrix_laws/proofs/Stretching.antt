@@ -1,13 +1,15 @@
 -- An edge that holds a point strictly within it, of another edge's line, holds a stretch of that line about the point.
-use Rattle.std.proofs.Common.{◌≡◌, ◌≢◌, true, false, ℤ, pos, ◌-ℤ◌, ◌*ℤ◌, ◌<ℤ◌, ◌+ℤ◌, refl, sym, ap, ◌∙◌, [], ◌∷◌, arith}
+use Rattle.std.proofs.Common.{◌≡◌, ◌≢◌, true, false, ℤ, pos, ◌-ℤ◌, ◌*ℤ◌, ◌+ℤ◌, refl, sym, ap, ◌∙◌, [], ◌∷◌, arith}
 use borrow.Author.Differences.{ints}
 use Rattle.std.specs.declared.cmp.Ordering.{Ordering}
 use Rattle.std.specs.declared.cmp.Ordering.TheVariants.{Less, Equal, Greater}
+use Rattle.std.proofs.lemmas.Bool.{or_left, or_right}
 use Rattle.geometry_model.specs.Points.{Position, Point, IsPoint, point_at, same_point, compare}
 use Rattle.geometry_model.specs.Geometries.{Edge}
 use Rattle.geometry_model.specs.Sides.{side, on}
 use Rattle.geometry_model.specs.CutPoints.{is_end}
 use Rattle.basics.proofs.Ring.{solve, var, lit, ◌⊗◌}
+use Rattle.basics.proofs.Orders.{gap_none, zero_not_positive}
 use Rattle.geometry_laws.proofs.Plane.{right}
 use Rattle.geometry_laws.proofs.PointOrder.{same_symmetric, equal_is_same, less_transitive}
 use Rattle.geometry_laws.proofs.Respect.{on_respects}
@@ -17,7 +19,7 @@ use Rattle.geometry_laws.proofs.Locating.{start_is_on, end_is_on}
 use Rattle.geometry_laws.proofs.Triangles.{dot_coordinate}
 use Rattle.geometry_laws.proofs.LineOrder.{sum_between, on_sum, area_on_line}
 use Rattle.geometry_laws.proofs.LineSides.{side_turned}
-use Rattle.geometry_laws.proofs.Cuts.{turn_less, OneLine, same_end, or_first, or_last, hull_of_start, hull_of_end, not_after_both, not_before_both}
+use Rattle.geometry_laws.proofs.Cuts.{turn_less, OneLine, same_end, hull_of_start, hull_of_end, not_after_both, not_before_both}
 use Rattle.geometry_laws.proofs.WithinPiece.{strictly_right}
 use Rattle.matrix_laws.proofs.Stretches.{less_right, less_left}
 use Rattle.matrix_laws.specs.Gaps.{IsBetween, IsClear}
@@ -93,10 +95,10 @@ spread f x hx h n = go (compare (point_at f.start) x) refl (compare (point_at f.
     at_end k = let z : true ≡ false = sym k ∙ n in absurd (cc)
 
     start_same : compare (point_at f.start) x ≡ Equal → ⊥
-    start_same g = at_end (or_first (same_point (point_at f.start) x) (same_point (point_at f.end) x) ((equal_is_same (point_at f.start) x).0 g))
+    start_same g = at_end (or_left (same_point (point_at f.start) x) (same_point (point_at f.end) x) ((equal_is_same (point_at f.start) x).0 g))
 
     end_same : compare (point_at f.end) x ≡ Equal → ⊥
-    end_same g = at_end (or_last (same_point (point_at f.start) x) (same_point (point_at f.end) x) ((equal_is_same (point_at f.end) x).0 g))
+    end_same g = at_end (or_right (same_point (point_at f.start) x) (same_point (point_at f.end) x) ((equal_is_same (point_at f.end) x).0 g))
 
     go : (o : Ordering) → compare (point_at f.start) x ≡ o → (t : Ordering) → compare (point_at f.end) x ≡ t → Spread f x
     go Less g Less k = absurd (let z : true ≡ false = sym h ∙ not_after_both f x hx g k in cc)
@@ -215,17 +217,11 @@ upright_coordinate f e p hp k = by_hull (hull_from_on f p hp k)
     by_hull o = dot_coordinate o.k o.m o.n f.start.x p.X p.W o.from_k (o.x_is ∙ ap (λ (z : ℤ). o.m *ℤ f.start.x +ℤ o.n *ℤ z) (sym e)) o.w_is
 
 same_column : (s px pw qx qw : ℤ) → s *ℤ pw ≡ px *ℤ pos 1 → s *ℤ qw ≡ qx *ℤ pos 1 → qx *ℤ pw -ℤ px *ℤ qw ≡ pos 0
-same_column s px pw qx qw e f = nothing (px *ℤ qw) (qx *ℤ pw) (turned px pw qw s e ∙ solve (s ∷ pw ∷ qw ∷ []) ((var 0 ⊗ var 1) ⊗ var 2) ((var 0 ⊗ var 2) ⊗ var 1) tt ∙ sym (turned qx qw pw s f))
+same_column s px pw qx qw e f = gap_none (px *ℤ qw) (qx *ℤ pw) (turned px pw qw s e ∙ solve (s ∷ pw ∷ qw ∷ []) ((var 0 ⊗ var 1) ⊗ var 2) ((var 0 ⊗ var 2) ⊗ var 1) tt ∙ sym (turned qx qw pw s f))
   where
     turned : (x w v a : ℤ) → a *ℤ w ≡ x *ℤ pos 1 → x *ℤ v ≡ (a *ℤ w) *ℤ v
     turned x w v a e = ap (λ (z : ℤ). z *ℤ v) (solve (x ∷ []) (var 0) (var 0 ⊗ lit (pos 1)) tt ∙ sym e)
 
-    nothing : (u v : ℤ) → u ≡ v → v -ℤ u ≡ pos 0
-    nothing u v e = omega (arith, ints)
-
 -- two points of an edge that isn't vertical differ in x, and a vertical edge holds no two such points
 pub not_upright_either : (e f : Edge) (p q : Point) → e.start.x ≢ e.end.x → Span e p q → on f p ≡ true → on f q ≡ true → f.start.x ≢ f.end.x
-not_upright_either e f p q n s fp fq k = clash (right p q) (same_column f.start.x p.X p.W q.X q.W (upright_coordinate f k p s.lesser fp) (upright_coordinate f k q s.greater fq)) (strictly_right e.start e.end p q n (on_line e p s.lesser_on) (on_line e q s.greater_on) s.in_order)
-  where
-    clash : (z : ℤ) → z ≡ pos 0 → pos 0 <ℤ z → ⊥
-    clash z g k = omega (arith, ints)
+not_upright_either e f p q n s fp fq k = zero_not_positive (right p q) (same_column f.start.x p.X p.W q.X q.W (upright_coordinate f k p s.lesser fp) (upright_coordinate f k q s.greater fq)) (strictly_right e.start e.end p q n (on_line e p s.lesser_on) (on_line e q s.greater_on) s.in_order)

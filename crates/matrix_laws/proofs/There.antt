@@ -1,6 +1,6 @@
 -- What is there may be shown: a point's parts share a point, within a piece a stretch, and beside one that isn't vertical an area.
-use Rattle.std.proofs.Common.{◌≡◌, ◌≢◌, ◌⊎◌, inl, inr, Bool, true, false, ℤ, pos, ◌-ℤ◌, ◌*ℤ◌, ◌<ℤ◌, if◌then◌else◌, refl, ap, ◌∙◌, List, Contains, Some, None, arith}
-use borrow.Author.Differences.{ints}
+use Rattle.std.proofs.Common.{◌≡◌, ◌≢◌, ◌⊎◌, inl, inr, Bool, true, false, pos, ◌*ℤ◌, if◌then◌else◌, refl, ap, ◌∙◌, List, Contains, Some, None}
+use Rattle.std.proofs.lemmas.Bool.{or_left, or_right}
 use Rattle.geometry_model.specs.Points.{Position, Point, IsPoint, point_at}
 use Rattle.geometry_model.specs.Geometries.{Edge, Geometry, rings}
 use Rattle.geometry_model.specs.Sides.{side, on, on_one_line}
@@ -15,14 +15,15 @@ use Rattle.geometry_model.specs.declared.point_sets.Location.TheVariants.{Interi
 use Rattle.geometry_model.specs.declared.point_sets.Dimension.{Dimension}
 use Rattle.geometry_model.specs.declared.point_sets.Dimension.TheVariants.{Empty, Zero, One, Two}
 use Rattle.basics.proofs.Tests.{equal_from}
+use Rattle.basics.proofs.Bools.{by_contraries}
+use Rattle.basics.proofs.Orders.{gap_none, zero_not_positive}
 use Rattle.geometry_laws.specs.RingLaws.{IsClosed}
 use Rattle.geometry_laws.specs.PieceLaws.{HasClosedRings, Inside}
 use Rattle.geometry_laws.proofs.Plane.{right}
 use Rattle.geometry_laws.proofs.Hulls.{on_parts}
 use Rattle.geometry_laws.proofs.RingParity.{each_from_all, side_is_area}
-use Rattle.geometry_laws.proofs.Locating.{by_contraries}
 use Rattle.geometry_laws.proofs.LineOrder.{area_on_line}
-use Rattle.geometry_laws.proofs.Cuts.{among_from_contains, OneLine, one_line, edge_is_wide, or_first, or_last}
+use Rattle.geometry_laws.proofs.Cuts.{among_from_contains, OneLine, one_line, edge_is_wide}
 use Rattle.geometry_laws.proofs.WithinPiece.{locate_within, above_within, below_within, slant_edge, strictly_right}
 use Rattle.geometry_laws.proofs.PieceTheorems.{first_belongs, second_belongs}
 use Rattle.matrix_laws.proofs.Around.{Within, within_piece}
@@ -128,10 +129,7 @@ piece_is_there a b ca cb e c x hx h f = shows_by_cell a b (locate a x) (locate b
 
 -- ---- the sides of a point within a piece: the piece of an edge that isn't vertical isn't vertical
 nothing_right : (c z : Point) → c.X *ℤ z.W ≡ z.X *ℤ c.W → right c z ≡ pos 0
-nothing_right c z e = nothing (c.X *ℤ z.W) (z.X *ℤ c.W) e
-  where
-    nothing : (u v : ℤ) → u ≡ v → v -ℤ u ≡ pos 0
-    nothing u v e = omega (arith, ints)
+nothing_right c z e = gap_none (c.X *ℤ z.W) (z.X *ℤ c.W) e
 
 -- the edge on which the piece lies is on the line of the other edge
 on_its_line : (es : List Edge) (ps : List Position) (e : Edge) (x : Point) (w : Within es ps x) → OneLine w.is_piece.edge e → (z : Point) → on w.is_piece.edge z ≡ true → side e.start e.end z ≡ pos 0
@@ -141,11 +139,8 @@ on_its_line es ps e x w o z h = side_is_area e.start e.end z ∙ area_on_line w.
 not_upright : (es : List Edge) (ps : List Position) (e : Edge) (x : Point) → Contains es e → e.start.x ≢ e.end.x → on e x ≡ true → (IsCut es ps x → ⊥) → (w : Within es ps x) → is_upright w.piece ≡ false
 not_upright es ps e x c n h f w = by_contraries (is_upright w.piece) false (λ u. absurd (decide u (on_one_line w.is_piece.edge e) refl)) refl
   where
-    clash : (z : ℤ) → z ≡ pos 0 → pos 0 <ℤ z → ⊥
-    clash z g k = omega (arith, ints)
-
     along : is_upright w.piece ≡ true → OneLine w.is_piece.edge e → ⊥
-    along u o = clash (right w.piece.lesser w.piece.greater)
+    along u o = zero_not_positive (right w.piece.lesser w.piece.greater)
         (nothing_right w.piece.lesser w.piece.greater (equal_from (w.piece.lesser.X *ℤ w.piece.greater.W) (w.piece.greater.X *ℤ w.piece.lesser.W) u))
         (strictly_right e.start e.end w.piece.lesser w.piece.greater n (on_its_line es ps e x w o w.piece.lesser w.is_piece.lesser_on) (on_its_line es ps e x w o w.piece.greater w.is_piece.greater_on) w.is_piece.in_order)
 
@@ -160,7 +155,7 @@ side_labels_of a b c t l k = is_side_pair l k (if t then None else Some (record 
 lower_at : (a b : Geometry) → HasClosedRings a → HasClosedRings b → (x : Point) (w : Within (edges' a b) (listed' a b) x) → is_upright w.piece ≡ false → some_side a b (below a x) (below b x) ≡ true
 lower_at a b ca cb x w u = any_by (side_labels a b) (is_side_pair (below a x) (below b x)) (pieces' a b) w.piece w.listed
     (ap (λ (t : Bool). side_labels_of a b w.piece t (below a x) (below b x)) u
-    ∙ or_first (is_pair (below a x) (below b x) (record { first = below a (sample w.piece); second = below b (sample w.piece) })) (is_pair (below a x) (below b x) (record { first = above a (sample w.piece); second = above b (sample w.piece) }))
+    ∙ or_left (is_pair (below a x) (below b x) (record { first = below a (sample w.piece); second = below b (sample w.piece) })) (is_pair (below a x) (below b x) (record { first = above a (sample w.piece); second = above b (sample w.piece) }))
     (pair_of (below a x) (below b x) (below a (sample w.piece)) (below b (sample w.piece))
     (below_within (edges' a b) (listed' a b) w.piece w.is_piece w.ends (slant_edge (edges' a b) (listed' a b) w.piece w.is_piece w.ends u) (sample w.piece) x (inside_sample a b x w) w.inside a (each_from_all IsClosed (rings a) ca) (first_belongs a b))
     (below_within (edges' a b) (listed' a b) w.piece w.is_piece w.ends (slant_edge (edges' a b) (listed' a b) w.piece w.is_piece w.ends u) (sample w.piece) x (inside_sample a b x w) w.inside b (each_from_all IsClosed (rings b) cb) (second_belongs a b))))
@@ -169,7 +164,7 @@ lower_at a b ca cb x w u = any_by (side_labels a b) (is_side_pair (below a x) (b
 upper_at : (a b : Geometry) → HasClosedRings a → HasClosedRings b → (x : Point) (w : Within (edges' a b) (listed' a b) x) → is_upright w.piece ≡ false → some_side a b (above a x) (above b x) ≡ true
 upper_at a b ca cb x w u = any_by (side_labels a b) (is_side_pair (above a x) (above b x)) (pieces' a b) w.piece w.listed
     (ap (λ (t : Bool). side_labels_of a b w.piece t (above a x) (above b x)) u
-    ∙ or_last (is_pair (above a x) (above b x) (record { first = below a (sample w.piece); second = below b (sample w.piece) })) (is_pair (above a x) (above b x) (record { first = above a (sample w.piece); second = above b (sample w.piece) }))
+    ∙ or_right (is_pair (above a x) (above b x) (record { first = below a (sample w.piece); second = below b (sample w.piece) })) (is_pair (above a x) (above b x) (record { first = above a (sample w.piece); second = above b (sample w.piece) }))
     (pair_of (above a x) (above b x) (above a (sample w.piece)) (above b (sample w.piece))
     (above_within (edges' a b) (listed' a b) w.piece w.is_piece w.ends (sample w.piece) x (inside_sample a b x w) w.inside a (each_from_all IsClosed (rings a) ca) (first_belongs a b))
     (above_within (edges' a b) (listed' a b) w.piece w.is_piece w.ends (sample w.piece) x (inside_sample a b x w) w.inside b (each_from_all IsClosed (rings b) cb) (second_belongs a b))))

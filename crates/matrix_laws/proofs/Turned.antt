@@ -3,6 +3,8 @@ use Rattle.std.proofs.Common.{◌≡◌, ◌⊎◌, inl, inr, Bool, true, false,
 use Rattle.std.specs.List.{list_any}
 use Rattle.std.specs.declared.cmp.Ordering.{Ordering}
 use Rattle.std.specs.declared.cmp.Ordering.TheVariants.{Less, Equal}
+use Rattle.std.proofs.Math.Bool.{and_comm}
+use Rattle.basics.proofs.Orders.{then_less}
 use Rattle.geometry_model.specs.Points.{Position, Point, IsPoint, compare}
 use Rattle.geometry_model.specs.Geometries.{Geometry, Edge, edges, listed}
 use Rattle.geometry_model.specs.Dimensions.{transposed}
@@ -17,7 +19,7 @@ use Rattle.matrix_laws.proofs.MatrixLists.{among_from_contains, contains_from_am
 use Rattle.matrix_laws.proofs.Sorted.{Sorted, IsOrder}
 use Rattle.matrix_laws.proofs.CutLists.{IsLeastCut}
 use Rattle.matrix_laws.proofs.CutOrder.{listed_is_cut, points_are_ordered, cut_points-sorted}
-use Rattle.matrix_laws.proofs.Stretches.{not_before_itself, HasPoints, pieces_are_ordered, then_less}
+use Rattle.matrix_laws.proofs.Stretches.{not_before_itself, HasPoints, pieces_are_ordered}
 use Rattle.matrix_laws.proofs.PieceLists.{IsLeastPiece, itself_listed, piece_is, piece_is_listed, pieces-sorted}
 
 -- ---- two ascending lists of the same values are one list
@@ -136,19 +138,13 @@ same_pieces es fs ps qs h = same_list HasPoints compare_pieces pieces_are_ordere
 }
 
 -- ---- labels with the two geometries exchanged
-and_swapped : (a b : Bool) → (a && b) ≡ (b && a)
-and_swapped true true = refl
-and_swapped true false = refl
-and_swapped false true = refl
-and_swapped false false = refl
-
 pub record IsSwapped (x y : Label) : Type 0 where
   pub first : x.first ≡ y.second
   pub second : x.second ≡ y.first
 
 -- a label with its two parts exchanged is the pair the other way round
 pair_swapped : (l k : Location) (x y : Label) → IsSwapped x y → is_pair l k x ≡ is_pair k l y
-pair_swapped l k x y h = ap₂ (λ (v w : Location). same_location l v && same_location k w) h.first h.second ∙ and_swapped (same_location l y.second) (same_location k y.first)
+pair_swapped l k x y h = ap₂ (λ (v w : Location). same_location l v && same_location k w) h.first h.second ∙ and_comm (same_location l y.second) (same_location k y.first)
 
 -- where the images of each element pass their two tests alike, some one passes in both lists or in neither
 any_map : {X Y Z : Type 0} (f : X → Y) (g : X → Z) (p : Y → Bool) (q : Z → Bool) → ((x : X) → p (f x) ≡ q (g x)) → (xs : List X) → list_any p (map f xs) ≡ list_any q (map g xs)

@@ -1,5 +1,6 @@
 -- What covers all edges and listed positions shows all that the labels show; and covering the other way round.
 use Rattle.std.proofs.Common.{◌≡◌, ◌⊎◌, inl, inr, Bool, true, false, ◌&&◌, if◌then◌else◌, refl, sym, ap, ◌∙◌, List, ◌++◌, All, Contains, Some, None}
+use Rattle.std.proofs.lemmas.Bool.{or_cases}
 use Rattle.geometry_model.specs.Points.{Position, Point, IsPoint, point_at, same_point}
 use Rattle.geometry_model.specs.Geometries.{Edge, Geometry, edges, listed}
 use Rattle.geometry_model.specs.Sides.{on}
@@ -23,7 +24,7 @@ use Rattle.geometry_laws.proofs.WithinPiece.{slant_edge}
 use Rattle.matrix_laws.proofs.CutOrder.{listed_is_cut}
 use Rattle.matrix_laws.proofs.Turned.{labelled_is_transposed}
 use Rattle.matrix_laws.proofs.Pieces.{sample_inside}
-use Rattle.matrix_laws.proofs.Labelled.{edges', listed', cuts', pieces', some_side, some_piece, some_cut, Apart', pair_is, passing_of, or_cases, IsListedPiece, listed_piece}
+use Rattle.matrix_laws.proofs.Labelled.{edges', listed', cuts', pieces', some_side, some_piece, some_cut, Apart', pair_is, passing_of, IsListedPiece, listed_piece}
 use Rattle.matrix_laws.specs.Cells.{at_most, Shows, ShowsPoint, IsPartOf, IsSound, IsNoCut, Covers, CoversPosition}
 use Rattle.matrix_laws.proofs.Growing.{cell_of, part_of_both, shows_at}
 use Rattle.matrix_laws.proofs.There.{AreOut, out_or_apart, cell_is, out_is_two}

@@ -4,6 +4,8 @@ use Rattle.std.proofs.lemmas.Int.{ints}
 use Rattle.std.proofs.Math.Seq.{take-append_seam}
 use Rattle.std.proofs.lemmas.List.{get_or_default, get_or-map, length-map}
 use Rattle.std.proofs.lemmas.List.Elements.{All-contains, Contains-append_left, Contains-append_cases}
+use Rattle.std.proofs.lemmas.Bool.{cases_lt, and_parts, and_from, or_left, or_right, or_cases}
+use Rattle.basics.proofs.Numbers.{earlier_or_last, in_order}
 use Rattle.geometry_model.specs.Points.{Position, Point, IsPoint, IsLeast, point_at, same_point}
 use Rattle.fraction.specs.Ranges.{meeting_limit}
 use Rattle.geometry_model.specs.Geometries.{Edge}
@@ -11,12 +13,10 @@ use Rattle.geometry_model.specs.Sides.{on, on_one_line}
 use Rattle.geometry_model.specs.CutPoints.{IsCut, is_end}
 use Rattle.geometry_model.specs.CutPoints.IsCut.{AtEnd, Listed}
 use Rattle.geometry_laws.proofs.Each.{Among, among_left, among_right, each_of}
-use Rattle.geometry_laws.proofs.Scaling.{and_parts, and_from}
 use Rattle.geometry_laws.proofs.PointOrder.{same_reflexive, same_transitive}
 use Rattle.geometry_laws.proofs.Respect.{on_respects}
 use Rattle.geometry_laws.proofs.RingParity.{position_is_point}
 use Rattle.matrix_laws.proofs.MatrixLists.{Some_of, among_from_contains, contains_from_among, some_from_any, any_from_some, all_from_each, among_map, map_among, among_filter, filter_among}
-use Rattle.matrix_laws.proofs.CutLists.{or_first, or_second, or_either}
 use Rattle.noding.specs.Meetings.{on_both, IsMeeting, named, is_common_cut, NamesCommonCuts}
 use Rattle.noding.specs.declared.answers.Meet.{Meet}
 use Rattle.noding.specs.Nodings.{ListsPoint, IsNodeTriple, AreBreaks, PutsPointsInOrder, IsBreak, AllBreaks}
@@ -47,15 +47,6 @@ element_is xs k n x d l e g = ap (λ j. get_or xs j d) g ∙ get_or_default xs n
 
 pub same_or_other : (k n : ℕ) → (k ≡ n) ⊎ (k ≢ n)
 same_or_other k n = grind arith
-
-pub which_side : (k n : ℕ) → (k < n) ⊎ ((k ≡ n) ⊎ (n < k))
-which_side k n = grind arith
-
-pub before_or_not : (k n : ℕ) → (k < n) ⊎ (n ≤ k)
-before_or_not k n = grind arith
-
-pub earlier_or_last : (k n : ℕ) → k < n + 1 → (k < n) ⊎ (k ≡ n)
-earlier_or_last k n h = grind arith
 
 -- ---- a list of break points that has grown
 -- a list that grew still has its points, and the lists of the other edges are as they were
@@ -192,7 +183,7 @@ rest_apart es ps i j breaks none h = record {
       where
         go : (a < i) ⊎ (a ≡ i) → IsTried i j a b
         go (inl y) = inl y
-        go (inr y) = in_row a b d y lb p hp c (before_or_not b j)
+        go (inr y) = in_row a b d y lb p hp c (cases_lt b j)
     before a b d (inr x) l lb p hp c = absurd (omega (arith, x.0, x.1, l))
 
 -- ---- what an edge has by itself
@@ -219,8 +210,8 @@ own_is_break es ps e he p a = go a
     }
 
     go : Among p (own_breaks ps e) → IsBreak es ps e p
-    go (inl k) = subst (IsBreak es ps e) (sym k) (at_end e.start (or_first (same_point (point_at e.start) (point_at e.start)) (same_point (point_at e.end) (point_at e.start)) (same_reflexive (point_at e.start))))
-    go (inr (inl k)) = subst (IsBreak es ps e) (sym k) (at_end e.end (or_second (same_point (point_at e.start) (point_at e.end)) (same_point (point_at e.end) (point_at e.end)) (same_reflexive (point_at e.end))))
+    go (inl k) = subst (IsBreak es ps e) (sym k) (at_end e.start (or_left (same_point (point_at e.start) (point_at e.start)) (same_point (point_at e.end) (point_at e.start)) (same_reflexive (point_at e.start))))
+    go (inr (inl k)) = subst (IsBreak es ps e) (sym k) (at_end e.end (or_right (same_point (point_at e.start) (point_at e.end)) (same_point (point_at e.end) (point_at e.end)) (same_reflexive (point_at e.end))))
     go (inr (inr a)) = last (among_filter (on e) (map point_at ps) p a)
       where
         last : Among p (map point_at ps) × (on e p ≡ true) → IsBreak es ps e p
@@ -247,19 +238,19 @@ swept_by_itself es ps breaks wide made = record {
 -- ---- all of them
 -- a cut that an edge has in common with itself is an end of it
 itself_is_end : (e : Edge) (p : Point) → is_common_cut e e p ≡ true → is_end e p ≡ true
-itself_is_end e p k = go (or_either (is_end e p || is_end e p) (not (on_one_line e e)) (and_parts (on_both e e p) (is_end e p || is_end e p || not (on_one_line e e)) k).1)
+itself_is_end e p k = go (or_cases (is_end e p || is_end e p) (not (on_one_line e e)) (and_parts (on_both e e p) (is_end e p || is_end e p || not (on_one_line e e)) k).1)
   where
     inner : (is_end e p ≡ true) ⊎ (is_end e p ≡ true) → is_end e p ≡ true
     inner (inl h) = h
     inner (inr h) = h
 
     go : ((is_end e p || is_end e p) ≡ true) ⊎ (not (on_one_line e e) ≡ true) → is_end e p ≡ true
-    go (inl h) = inner (or_either (is_end e p) (is_end e p) h)
+    go (inl h) = inner (or_cases (is_end e p) (is_end e p) h)
     go (inr h) = absurd (let clash : false ≡ true = subst (λ (b : Bool). not b ≡ true) (its_own_line e) h in cc)
 
 -- a cut that one edge has in common with another the other has in common with it
 common_turned : (e f : Edge) → IsWide e → IsWide f → (p : Point) → is_common_cut e f p ≡ true → is_common_cut f e p ≡ true
-common_turned e f we wf p k = and_from (on_both f e p) (is_end f p || is_end e p || not (on_one_line f e)) (and_from (on f p) (on e p) both_on.1 both_on.0) (go (or_either (is_end e p || is_end f p) (not (on_one_line e f)) both.1))
+common_turned e f we wf p k = and_from (on_both f e p) (is_end f p || is_end e p || not (on_one_line f e)) (and_from (on f p) (on e p) both_on.1 both_on.0) (go (or_cases (is_end e p || is_end f p) (not (on_one_line e f)) both.1))
   where
     both : (on_both e f p ≡ true) × ((is_end e p || is_end f p || not (on_one_line e f)) ≡ true)
     both = and_parts (on_both e f p) (is_end e p || is_end f p || not (on_one_line e f)) k
@@ -268,12 +259,12 @@ common_turned e f we wf p k = and_from (on_both f e p) (is_end f p || is_end e p
     both_on = and_parts (on e p) (on f p) both.0
 
     inner : (is_end e p ≡ true) ⊎ (is_end f p ≡ true) → (is_end f p || is_end e p) ≡ true
-    inner (inl h) = or_second (is_end f p) (is_end e p) h
-    inner (inr h) = or_first (is_end f p) (is_end e p) h
+    inner (inl h) = or_right (is_end f p) (is_end e p) h
+    inner (inr h) = or_left (is_end f p) (is_end e p) h
 
     go : ((is_end e p || is_end f p) ≡ true) ⊎ (not (on_one_line e f) ≡ true) → (is_end f p || is_end e p || not (on_one_line f e)) ≡ true
-    go (inl h) = or_first (is_end f p || is_end e p) (not (on_one_line f e)) (inner (or_either (is_end e p) (is_end f p) h))
-    go (inr h) = or_second (is_end f p || is_end e p) (not (on_one_line f e)) (subst (λ (b : Bool). not b ≡ true) (one_line_turned e f we wf) h)
+    go (inl h) = or_left (is_end f p || is_end e p) (not (on_one_line f e)) (inner (or_cases (is_end e p) (is_end f p) h))
+    go (inr h) = or_right (is_end f p || is_end e p) (not (on_one_line f e)) (subst (λ (b : Bool). not b ≡ true) (one_line_turned e f we wf) h)
 
 -- when all pairs are tried each edge has all its break points: a cut on it is its own,
 -- or one that it has in common with an earlier or a later edge
@@ -306,12 +297,12 @@ all_swept es ps j breaks h = record { same_length = h.same_length; all = at }
 
         at_place : (b : ℕ) → b < length es → (p : Point) → IsPoint p → is_common_cut (get_or es k d) (get_or es b d) p ≡ true → (b < k) ⊎ ((b ≡ k) ⊎ (k < b)) → ListsPoint (get_or breaks k []) p
         at_place b lb p hp c (inl x) = h.second_found b k d (inl lb) x l p hp (common_turned (get_or es k d) (get_or es b d) (h.wide k d l) (h.wide b d lb) p c)
-        at_place b lb p hp c (inr (inl x)) = of_end p hp (or_either (same_point (point_at (get_or es k d).start) p) (same_point (point_at (get_or es k d).end) p)
+        at_place b lb p hp c (inr (inl x)) = of_end p hp (or_cases (same_point (point_at (get_or es k d).start) p) (same_point (point_at (get_or es k d).end) p)
             (itself_is_end (get_or es k d) p (subst (λ n. is_common_cut (get_or es k d) (get_or es n d) p ≡ true) x c)))
         at_place b lb p hp c (inr (inr x)) = h.first_found k b d (inl l) x lb p hp c
 
         of_common : (p : Point) → IsPoint p → (f : Edge) → is_common_cut (get_or es k d) f p ≡ true → Contains es f → ListsPoint (get_or breaks k []) p
-        of_common p hp f c b = at_place b.0 b.1 p hp (subst (λ (x : Edge). is_common_cut (get_or es k d) x p ≡ true) (sym b.2 ∙ get_or_default es b.0 f d b.1) c) (which_side b.0 k)
+        of_common p hp f c b = at_place b.0 b.1 p hp (subst (λ (x : Edge). is_common_cut (get_or es k d) x p ≡ true) (sym b.2 ∙ get_or_default es b.0 f d b.1) c) (in_order b.0 k)
 
         found : (p : Point) → on (get_or es k d) p ≡ true → IsCut es ps p → ListsPoint (get_or breaks k []) p
         found p c i = go (cut_on_edge es ps (get_or es k d) (h.wide k d l) p c i)

@@ -1,22 +1,19 @@
 -- How many pairs of edges have overlapping ranges of x: counted edge by edge, and in another order.
-use Rattle.std.proofs.Common.{◌≡◌, ℕ, zero, suc, ◌+◌, ◌<◌, ◌≤◌, min, Bool, true, false, cond, ◌&&◌, refl, sym, ap, ap₂, ◌∙◌, List, [], ◌∷◌, length, get_or, drop, count_by, length-drop, ℤ, ◌≤ℤ◌, int_le, arith, IsPermutation}
+use Rattle.std.proofs.Common.{◌≡◌, ℕ, suc, ◌+◌, ◌<◌, ◌≤◌, min, true, false, cond, ◌&&◌, refl, sym, ap, ap₂, ◌∙◌, List, [], ◌∷◌, length, get_or, drop, count_by, length-drop, int_le, arith, IsPermutation, add-one}
 use Rattle.std.specs.List.{sum_by}
-use Rattle.std.proofs.lemmas.Int.{ints}
 use Rattle.std.proofs.Math.Seq.{drop-cons}
-use Rattle.std.proofs.lemmas.List.{get_or-drop}
+use Rattle.std.proofs.lemmas.List.{get_or-drop, drop_all}
 use Rattle.std.proofs.lemmas.List.Sums.{sum_by-cons}
 use Rattle.std.proofs.lemmas.List.Sorted.{sum_by-IsPermutation, length_permutation}
+use Rattle.std.proofs.Math.Bool.{and_comm}
 use Rattle.basics.proofs.Signs.{at_most_yes}
+use Rattle.basics.proofs.Lists.{same_sums}
+use Rattle.basics.proofs.Orders.{at_most_at_most}
 use Rattle.geometry_model.specs.Geometries.{Edge}
 use Rattle.noding.specs.NodeRanges.{lesser, greater, x_ranges_overlap, overlaps_with_first, overlaps_of_first, overlapping_pairs}
 use Rattle.noding.proofs.Sweeping.{lesser_first, greater_first}
 
 -- ---- sums
--- sums of equal terms are equal
-sum_is : {X : Type 0} (f g : X → ℕ) (xs : List X) → ((x : X) → f x ≡ g x) → sum_by f xs ≡ sum_by g xs
-sum_is f g [] h = refl
-sum_is f g (x ∷ xs) h = sum_by-cons f x xs ∙ ap₂ (λ m n. m + n) (h x) (sum_is f g xs h) ∙ sym (sum_by-cons g x xs)
-
 sum_of_two : {X : Type 0} (f g : X → ℕ) (xs : List X) → sum_by (λ x. f x + g x) xs ≡ sum_by f xs + sum_by g xs
 sum_of_two f g [] = refl
 sum_of_two f g (x ∷ xs) = sum_by-cons (λ y. f y + g y) x xs ∙ ap (λ n. f x + g x + n) (sum_of_two f g xs) ∙ exchanged (f x) (g x) (sum_by f xs) (sum_by g xs)
@@ -25,29 +22,14 @@ sum_of_two f g (x ∷ xs) = sum_by-cons (λ y. f y + g y) x xs ∙ ap (λ n. f x
     exchanged : (a b c d : ℕ) → a + b + (c + d) ≡ a + c + (b + d)
     exchanged a b c d = omega arith
 
-bit : Bool → ℕ
-bit b = cond b 1 0
-
-count_is_sum : {X : Type 0} (p : X → Bool) (xs : List X) → count_by p xs ≡ sum_by (λ x. cond (p x) 1 0) xs
-count_is_sum p xs = refl
-
 -- ---- the pairs in another order
-and_turned : (a b : Bool) → a && b ≡ b && a
-and_turned true true = refl
-and_turned true false = refl
-and_turned false true = refl
-and_turned false false = refl
-
 -- two ranges overlap whichever is named first
 overlap_turned : (e f : Edge) → x_ranges_overlap e f ≡ x_ranges_overlap f e
-overlap_turned e f = and_turned (int_le (lesser e.start.x e.end.x) (greater f.start.x f.end.x)) (int_le (lesser f.start.x f.end.x) (greater e.start.x e.end.x))
+overlap_turned e f = and_comm (int_le (lesser e.start.x e.end.x) (greater f.start.x f.end.x)) (int_le (lesser f.start.x f.end.x) (greater e.start.x e.end.x))
 
 -- each range overlaps itself
 overlaps_itself : (e : Edge) → x_ranges_overlap e e ≡ true
-overlaps_itself e = ap (λ b. b && b) (at_most_yes (lesser e.start.x e.end.x) (greater e.start.x e.end.x) (chain (lesser e.start.x e.end.x) e.start.x (greater e.start.x e.end.x) (lesser_first e.start.x e.end.x) (greater_first e.start.x e.end.x)))
-  where
-    chain : (x y z : ℤ) → x ≤ℤ y → y ≤ℤ z → x ≤ℤ z
-    chain x y z p q = omega (arith, ints)
+overlaps_itself e = ap (λ b. b && b) (at_most_yes (lesser e.start.x e.end.x) (greater e.start.x e.end.x) (at_most_at_most (lesser e.start.x e.end.x) e.start.x (greater e.start.x e.end.x) (lesser_first e.start.x e.end.x) (greater_first e.start.x e.end.x)))
 
 -- with each edge of the list, itself among them
 with_all : List Edge → ℕ
@@ -69,7 +51,7 @@ twice (e ∷ es) =
     of_one x = sum_by-cons (λ y. cond (x_ranges_overlap x y) 1 0) e es ∙ ap (λ b. cond b 1 0 + count_by (x_ranges_overlap x) es) (overlap_turned x e)
 
     of_others : with_all es ≡ overlapping_pairs es + overlapping_pairs es + length es → sum_by (λ x. count_by (x_ranges_overlap x) (e ∷ es)) es ≡ count_by (x_ranges_overlap e) es + (overlapping_pairs es + overlapping_pairs es + length es)
-    of_others h = sum_is (λ x. count_by (x_ranges_overlap x) (e ∷ es)) (λ x. cond (x_ranges_overlap e x) 1 0 + count_by (x_ranges_overlap x) es) es of_one
+    of_others h = same_sums (λ x. count_by (x_ranges_overlap x) (e ∷ es)) (λ x. cond (x_ranges_overlap e x) 1 0 + count_by (x_ranges_overlap x) es) es of_one
         ∙ sum_of_two (λ x. cond (x_ranges_overlap e x) 1 0) (λ x. count_by (x_ranges_overlap x) es) es
         ∙ ap (λ n. count_by (x_ranges_overlap e) es + n) h
 
@@ -86,21 +68,12 @@ pairs_in_order es fs h = halved (overlapping_pairs fs) (overlapping_pairs es) (l
     halved a b n m e g = omega arith
 
     same : with_all fs ≡ with_all es
-    same = sum_is (λ e. count_by (x_ranges_overlap e) fs) (λ e. count_by (x_ranges_overlap e) es) fs (λ e. sum_by-IsPermutation (λ x. cond (x_ranges_overlap e x) 1 0) es fs h)
+    same = same_sums (λ e. count_by (x_ranges_overlap e) fs) (λ e. count_by (x_ranges_overlap e) es) fs (λ e. sum_by-IsPermutation (λ x. cond (x_ranges_overlap e x) 1 0) es fs h)
         ∙ sum_by-IsPermutation (λ e. count_by (x_ranges_overlap e) es) es fs h
 
 -- ---- edge by edge
-past_end : {X : Type 0} (xs : List X) (n : ℕ) → length xs ≤ n → drop n xs ≡ []
-past_end [] zero h = refl
-past_end [] (suc n) h = refl
-past_end (x ∷ xs) zero h = absurd (omega (arith, h))
-past_end (x ∷ xs) (suc n) h = past_end xs n (omega (arith, h))
-
-one_more : (i : ℕ) → i + 1 ≡ suc i
-one_more i = omega arith
-
 from_place : (es : List Edge) (i : ℕ) (e : Edge) → i < length es → e ≡ get_or es i e → drop i es ≡ e ∷ drop (i + 1) es
-from_place es i e l g = drop-cons es i e l ∙ ap₂ (λ (x : Edge) n. x ∷ drop n es) (sym g) (sym (one_more i))
+from_place es i e l g = drop-cons es i e l ∙ ap₂ (λ (x : Edge) n. x ∷ drop n es) (sym g) (sym (add-one i))
 
 -- when an edge's turn begins all that follow it are still to be counted
 pub count_begins : (es : List Edge) (i : ℕ) (e : Edge) → i < length es → e ≡ get_or es i e → overlaps_with_first (drop i es) (drop (i + 1) es) ≡ overlaps_of_first (drop i es)
@@ -135,7 +108,7 @@ pairs_go_on es i e l g = ap overlapping_pairs (from_place es i e l g) ∙ sym (a
 
 -- behind the last edge there are none
 pub no_pairs : (es : List Edge) (i : ℕ) → length es ≤ i → overlapping_pairs (drop i es) ≡ 0
-no_pairs es i h = ap overlapping_pairs (past_end es i h)
+no_pairs es i h = ap overlapping_pairs (drop_all i es h)
 
 -- ---- a count that stays at the greatest number
 -- a count that stops at the greatest number goes on by one ..

@@ -4,15 +4,17 @@ use borrow.Author.Differences.{ints}
 use Rattle.std.specs.Cmp.{both_ways}
 use Rattle.std.specs.declared.cmp.Ordering.TheVariants.{Equal, Greater}
 use Rattle.std.specs.Ordering.{int_cmp}
+use Rattle.std.proofs.lemmas.Bool.{and_parts, and_from}
 use Rattle.basics.proofs.Ring.{solve, var, lit, ◌⊕◌, ◌⊖◌, ◌⊗◌}
 use Rattle.basics.proofs.Signs.{at_most_from, at_most_yes, at_most_or_less}
 use Rattle.basics.proofs.Tests.{cmp_equal, cmp_greater}
+use Rattle.basics.proofs.Orders.{positive_same, weak_turned}
 use Rattle.geometry_model.specs.Points.{Position, Point, IsPoint, point_at, same_point}
 use Rattle.geometry_model.specs.Geometries.{Edge}
 use Rattle.geometry_model.specs.Sides.{side, on, on_one_line}
 use Rattle.geometry_model.specs.Dimensions.{weighted}
 use Rattle.geometry_model.proofs.DimensionFacts.{is_false}
-use Rattle.geometry_laws.proofs.Scaling.{and_parts, and_from, same_from}
+use Rattle.geometry_laws.proofs.Scaling.{same_from}
 use Rattle.geometry_laws.proofs.PointOrder.{same_transitive}
 use Rattle.geometry_laws.proofs.Respect.{on_respects, side_respects}
 use Rattle.geometry_laws.proofs.LineSides.{side_turned}
@@ -79,15 +81,12 @@ only_point e c d r hr h f g =
 left_of_line : (a b c d : Position) (r : Point) → IsPoint r → pos 0 <ℤ side a b (point_at c) → pos 0 <ℤ side a b (point_at d) → side a b r ≡ pos 0 → on (edge c d) r ≡ true → ⊥
 left_of_line a b c d r hr hc hd z g = go (weighs (edge c d) r hr (hull_from_on (edge c d) r hr g))
   where
-    carried : (x y : ℤ) → x ≡ y → pos 0 <ℤ y → pos 0 <ℤ x
-    carried x y e h = omega (arith, ints)
-
     go : Weighs (edge c d) r → ⊥
     go w =
         let p : Point = weighted w.m (point_at c) w.n (point_at d) in
         let is_sum : side a b p ≡ pos w.m *ℤ side a b (point_at c) +ℤ pos w.n *ℤ side a b (point_at d) = sym (value_is_side a b p) ∙ value_weighted (line_side a b) w.m (point_at c) w.n (point_at d)
         ∙ ap₂ (λ (y z : ℤ). pos w.m *ℤ y +ℤ pos w.n *ℤ z) (value_is_side a b (point_at c)) (value_is_side a b (point_at d)) in
-        let above : pos 0 <ℤ side a b p = carried (side a b p) _ is_sum (sum_positive w.m w.n (side a b (point_at c)) (side a b (point_at d)) w.some hc hd) in
+        let above : pos 0 <ℤ side a b p = positive_same (side a b p) _ is_sum (sum_positive w.m w.n (side a b (point_at c)) (side a b (point_at d)) w.some hc hd) in
         let alike : int_cmp (side a b p) (pos 0) ≡ int_cmp (side a b r) (pos 0) = side_respects a b p r (weighted_is_point w.m (point_at c) w.n (point_at d) (position_is_point c) (position_is_point d) w.some) hr w.same in
         let clash : Greater ≡ Equal = sym (cmp_greater (side a b p) (pos 0) above) ∙ alike ∙ cmp_equal (side a b r) (pos 0) z in
         absurd (cc)
@@ -141,10 +140,7 @@ made_is_point s t h = omega (arith, ints)
 
 -- the weighed point lies between the two positions
 on_second : (e : Edge) (c d : Position) (p : Point) → Straddles e c d p → on (edge c d) p ≡ true
-on_second e c d p h = on_respects (edge c d) p _ h.is_point (made_is_point _ _ h.differ) h.same ∙ point_is_on c d _ _ h.upper (weight _ h.lower)
-  where
-    weight : (s : ℤ) → s ≤ℤ pos 0 → pos 0 ≤ℤ (pos 0 -ℤ s)
-    weight s h = omega (arith, ints)
+on_second e c d p h = on_respects (edge c d) p _ h.is_point (made_is_point _ _ h.differ) h.same ∙ point_is_on c d _ _ h.upper (weak_turned _ h.lower)
 
 -- whatever both edges hold is that point, since only there the side is 0
 shared_is : (e : Edge) (c d : Position) (p q : Point) → Straddles e c d p → IsPoint q → on_both e (edge c d) q ≡ true → same_point p q ≡ true

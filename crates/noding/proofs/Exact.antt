@@ -2,15 +2,16 @@
 use Rattle.std.proofs.Common.{◌≡◌, ◌⊎◌, inl, inr, true, subst, List, All}
 use Rattle.std.specs.declared.cmp.Ordering.TheVariants.{Less, Equal}
 use Rattle.std.proofs.lemmas.List.Elements.{All-contains}
+use Rattle.std.proofs.lemmas.Bool.{and_parts}
+use Rattle.basics.proofs.Orders.{then_less}
 use Rattle.geometry_model.specs.Points.{Position, Point, IsPoint, IsLeast, same_point, compare}
 use Rattle.geometry_model.specs.Geometries.{Edge}
 use Rattle.geometry_model.specs.CutPoints.{IsCut, cut_points}
 use Rattle.geometry_model.specs.Pieces.{Piece, IsPiece, compare_pieces, pieces}
 use Rattle.geometry_model.proofs.LeastFormFacts.{least_is_unique}
 use Rattle.geometry_laws.proofs.Each.{Among, each_of}
-use Rattle.geometry_laws.proofs.Scaling.{and_parts}
 use Rattle.matrix_laws.proofs.MatrixLists.{Some_of, contains_from_among, some_from_any}
-use Rattle.matrix_laws.proofs.Stretches.{HasPoints, not_before_itself, pieces_are_ordered, then_less}
+use Rattle.matrix_laws.proofs.Stretches.{HasPoints, not_before_itself, pieces_are_ordered}
 use Rattle.matrix_laws.proofs.CutLists.{IsLeastCut}
 use Rattle.matrix_laws.proofs.CutOrder.{listed_is_cut, cut_points-sorted, points_are_ordered}
 use Rattle.matrix_laws.proofs.Turned.{same_list}

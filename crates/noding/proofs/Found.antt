@@ -1,20 +1,19 @@
 -- A meeting names each point that both edges hold and at which one of them ends or they cross.
-use Rattle.std.proofs.Common.{◌≡◌, ◌⊎◌, inl, inr, Bool, true, false, not, ◌&&◌, ◌||◌, refl, sym, subst, ◌∙◌, [], ◌∷◌, All, Any, pos, arith}
+use Rattle.std.proofs.Common.{◌≡◌, ◌⊎◌, inl, inr, true, false, not, ◌&&◌, ◌||◌, refl, sym, subst, ◌∙◌, [], ◌∷◌, All, Any, pos, arith}
 use Rattle.std.specs.Ordering.{int_eq, is_le}
+use Rattle.std.proofs.lemmas.Bool.{and_parts, or_cases, not-true}
 use Rattle.geometry_model.specs.Points.{Position, Point, IsPoint, point_at, same_point, compare}
 use Rattle.geometry_model.specs.Geometries.{Edge}
 use Rattle.geometry_model.specs.Sides.{on, on_one_line}
 use Rattle.geometry_model.specs.Dimensions.{area}
 use Rattle.geometry_model.specs.CutPoints.{is_end, turned_up}
 use Rattle.geometry_model.specs.CutPoints.IsCut.{AtEnd, Listed, AtCrossing}
-use Rattle.geometry_laws.proofs.Scaling.{and_parts}
 use Rattle.geometry_laws.proofs.PointOrder.{same_reflexive, same_symmetric, same_transitive}
 use Rattle.geometry_laws.proofs.RingParity.{position_is_point}
 use Rattle.geometry_laws.proofs.Cuts.{not_less_self}
 use Rattle.matrix_laws.proofs.MatrixLists.{any_from_some}
 use Rattle.matrix_laws.proofs.EdgeMeeting.{before_turning, SharesPoint, shares_point}
 use Rattle.matrix_laws.proofs.CutFacts.{turned_is_point, turned_is_same}
-use Rattle.matrix_laws.proofs.CutLists.{or_either}
 use Rattle.noding.specs.Meetings.{on_both, IsCommonStretch, IsMeeting, named, is_common_cut, NamesCommonCuts}
 use Rattle.noding.specs.declared.answers.Meet.{Meet}
 use Rattle.noding.specs.declared.answers.Meet.TheVariants.{Apart, At, Along}
@@ -44,7 +43,7 @@ shared_once e f q r hq hr apart kq kr =
 
 -- an end of an edge is its lesser or its greater end
 pub end_of : (g : Edge) (low high : Position) → HasEnds g low high → (p : Point) → is_end g p ≡ true → (same_point (point_at low) p ≡ true) ⊎ (same_point (point_at high) p ≡ true)
-end_of g low high h p k = go (or_either (same_point (point_at g.start) p) (same_point (point_at g.end) p) k) h.are_ends
+end_of g low high h p k = go (or_cases (same_point (point_at g.start) p) (same_point (point_at g.end) p) k) h.are_ends
   where
     moved : (a b : Position) → b ≡ a → same_point (point_at a) p ≡ true → same_point (point_at b) p ≡ true
     moved a b e s = subst (λ (c : Position). same_point (point_at c) p ≡ true) (sym e) s
@@ -71,7 +70,7 @@ end_named g wide q r p hq hr hp kq kr past short k = go _ _ (has_ends g wide)
 -- edges that share a stretch are on one line, so a cut of both is an end of one of them, and that is an end of the stretch
 along_named : (e f : Edge) → (e.start ≡ e.end → ⊥) → (f.start ≡ f.end → ⊥) → (q r p : Point) → IsCommonStretch e f (record { lesser = q; greater = r }) → IsPoint q → IsPoint r → IsPoint p → on_both e f p ≡ true
     → (is_end e p || is_end f p || not (on_one_line e f)) ≡ true → IsNamed (Along q r) p
-along_named e f we wf q r p h hq hr hp k marked = outer (or_either (is_end e p || is_end f p) (not (on_one_line e f)) marked)
+along_named e f we wf q r p h hq hr hp k marked = outer (or_cases (is_end e p || is_end f p) (not (on_one_line e f)) marked)
   where
     less : NotAfter q r
     less = not_after_less q r h.in_order
@@ -94,17 +93,13 @@ along_named e f we wf q r p h hq hr hp k marked = outer (or_either (is_end e p |
     both_r : (on e r ≡ true) × (on f r ≡ true)
     both_r = and_parts (on e r) (on f r) on_r
 
-    is_off : (b : Bool) → not b ≡ true → b ≡ false
-    is_off true g = absurd (let c : false ≡ true = g in cc)
-    is_off false g = refl
-
     inner : (is_end e p ≡ true) ⊎ (is_end f p ≡ true) → IsNamed (Along q r) p
     inner (inl s) = end_named e we q r p hq hr hp both_q.0 both_r.0 past within.1 s
     inner (inr s) = end_named f wf q r p hq hr hp both_q.1 both_r.1 past within.1 s
 
     outer : ((is_end e p || is_end f p) ≡ true) ⊎ (not (on_one_line e f) ≡ true) → IsNamed (Along q r) p
-    outer (inl s) = inner (or_either (is_end e p) (is_end f p) s)
-    outer (inr s) = absurd (not_less_self q r (shared_once e f q r hq hr (is_off (on_one_line e f) s) on_q on_r) h.in_order)
+    outer (inl s) = inner (or_cases (is_end e p) (is_end f p) s)
+    outer (inr s) = absurd (not_less_self q r (shared_once e f q r hq hr (not-true (on_one_line e f) s) on_q on_r) h.in_order)
 
 -- each kind of cut says that it is a point
 cut_is_point : (e f : Edge) (p : Point) → CutOf e f p → IsPoint p

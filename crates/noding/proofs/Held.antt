@@ -7,11 +7,12 @@ use Rattle.std.proofs.lemmas.List.Sorted.{All-permutation, IsPermutation-sym}
 use borrow.Author.Differences.{ints}
 use Rattle.std.specs.declared.cmp.Ordering.{Ordering}
 use Rattle.std.specs.declared.cmp.Ordering.TheVariants.{Less, Equal, Greater}
+use Rattle.std.proofs.lemmas.Bool.{and_parts}
+use Rattle.basics.proofs.Bools.{not_both}
 use Rattle.geometry_model.specs.Points.{Position, Point, IsPoint, point_at, compare}
 use Rattle.geometry_model.specs.Geometries.{Edge}
 use Rattle.geometry_model.specs.Sides.{side, on, on_one_line}
 use Rattle.geometry_laws.proofs.Each.{Among, among_either, among_left, among_right, each_at, each_of}
-use Rattle.geometry_laws.proofs.Scaling.{and_parts}
 use Rattle.geometry_laws.proofs.PointOrder.{same_reflexive, same_symmetric, equal_is_same, less_transitive}
 use Rattle.geometry_laws.proofs.RingParity.{each_from_all, position_is_point, side_is_area}
 use Rattle.geometry_laws.proofs.Respect.{compare_respects}
@@ -23,7 +24,7 @@ use Rattle.matrix_laws.proofs.MatrixLists.{Some_of, all_from_each, among_from_co
 use Rattle.matrix_laws.specs.Covering.{IsHeld}
 use Rattle.noding.specs.Merging.{AreMerged, left_of}
 use Rattle.matrix_laws.proofs.Between.{on_line, wide}
-use Rattle.matrix_laws.proofs.Shared.{clash, start_on, end_on, span_forth, on_forth}
+use Rattle.matrix_laws.proofs.Shared.{start_on, end_on, span_forth, on_forth}
 
 -- ---- lists
 held_by : (es : List Edge) (f : Edge) → Among f es → (x : Point) → on f x ≡ true → Any (λ g. on g x ≡ true) es
@@ -134,14 +135,14 @@ joined_is_held s e f x hx h = go (compare (point_at s.end) x) refl
     beyond : compare (point_at e.start) x ≡ Less → (o : Ordering) → compare x (point_at e.end) ≡ o → on e x ≡ true
     beyond k Less l = on_forth e x hx on_e_line k l
     beyond k Equal l = end_is_on e x hx (same_symmetric (point_at e.end) x ∙ (equal_is_same x (point_at e.end)).0 l)
-    beyond k Greater l = absurd (clash (on (record { start = s.start; end = e.end }) x) h (not_after_both (record { start = s.start; end = e.end }) x hx
+    beyond k Greater l = absurd (not_both (on (record { start = s.start; end = e.end }) x) h (not_after_both (record { start = s.start; end = e.end }) x hx
         (weak_before (point_at s.start) (point_at e.start) x (position_is_point s.start) (position_is_point e.start) hx f.not_before k) (turn_less x (point_at e.end) l)))
 
     -- before it
     within : compare x (point_at s.end) ≡ Less → (o : Ordering) → compare (point_at s.start) x ≡ o → on s x ≡ true
     within k Less l = on_forth s x hx on_s_line l k
     within k Equal l = start_is_on s x hx ((equal_is_same (point_at s.start) x).0 l)
-    within k Greater l = absurd (clash (on (record { start = s.start; end = e.end }) x) h (not_before_both (record { start = s.start; end = e.end }) x hx (turn_less (point_at s.start) x l)
+    within k Greater l = absurd (not_both (on (record { start = s.start; end = e.end }) x) h (not_before_both (record { start = s.start; end = e.end }) x hx (turn_less (point_at s.start) x l)
         (less_transitive x (point_at s.end) (point_at e.end) hx (position_is_point s.end) (position_is_point e.end) k f.longer)))
 
     go : (o : Ordering) → compare (point_at s.end) x ≡ o → Any (λ d. on d x ≡ true) (s ∷ e ∷ [])
@@ -158,7 +159,7 @@ turned_from e g a b p q h = subst (IsHeld (e ∷ [])) (sym (h ∙ ap₂ edge_fro
 
 -- of a test of the order
 pub unordered : (a b c d : Position) (r : Bool) → (IsTrue r ↔ (compare (point_at a) (point_at b) ≡ Less)) → r ≡ false → a ≡ c → b ≡ d → compare (point_at c) (point_at d) ≡ Less → ⊥
-unordered a b c d r h f p q k = clash r (h.1 (ap₂ (λ (x y : Position). compare (point_at x) (point_at y)) p q ∙ k)) f
+unordered a b c d r h f p q k = not_both r (h.1 (ap₂ (λ (x y : Position). compare (point_at x) (point_at y)) p q ∙ k)) f
 
 pub ordered : (a b c d : Position) (r : Bool) → (IsTrue r ↔ (compare (point_at a) (point_at b) ≡ Less)) → r ≡ true → a ≡ c → b ≡ d → compare (point_at c) (point_at d) ≡ Less
 ordered a b c d r h f p q = ap₂ (λ (x y : Position). compare (point_at x) (point_at y)) (sym p) (sym q) ∙ h.0 f

@@ -5,13 +5,14 @@ use Rattle.std.proofs.lemmas.Int.{ints}
 use Rattle.std.proofs.Math.Seq.{take-suc}
 use Rattle.std.proofs.lemmas.List.{get_or_default, map-append}
 use Rattle.std.proofs.lemmas.List.Elements.{filter-append}
+use Rattle.std.proofs.lemmas.Bool.{false_from_ne_true}
+use Rattle.basics.proofs.Orders.{less_at_most}
 use Rattle.geometry_model.specs.Points.{Position, point_at}
 use Rattle.geometry_model.specs.Geometries.{Edge}
 use Rattle.geometry_model.specs.Sides.{on, between}
 use Rattle.geometry_laws.proofs.Hulls.{on_parts}
 use Rattle.noding.specs.NodeRanges.{lesser, greater, least_x, greatest_x}
 use Rattle.noding.specs.Sweeps.{AscendPositions}
-use Rattle.noding.proofs.Sweeping.{false_from}
 
 -- ---- elements that fail a test
 -- elements that all fail a test leave nothing
@@ -61,14 +62,14 @@ to_greatest a b x h = grind (arith, ints)
 
 -- a position left of an edge's least x isn't on it
 left_not_on : (e : Edge) (a : Position) → a.x <ℤ least_x e → on e (point_at a) ≡ false
-left_not_on e a left = false_from (on e (point_at a)) (λ k. clash (from_least e.start.x e.end.x a.x (on_parts e (point_at a) k).in_x))
+left_not_on e a left = false_from_ne_true (on e (point_at a)) (λ k. clash (from_least e.start.x e.end.x a.x (on_parts e (point_at a) k).in_x))
   where
     clash : least_x e ≤ℤ a.x → ⊥
     clash l = omega (arith, ints)
 
 -- nor is one right of its greatest x
 right_not_on : (e : Edge) (a : Position) → greatest_x e <ℤ a.x → on e (point_at a) ≡ false
-right_not_on e a right = false_from (on e (point_at a)) (λ k. clash (to_greatest e.start.x e.end.x a.x (on_parts e (point_at a) k).in_x))
+right_not_on e a right = false_from_ne_true (on e (point_at a)) (λ k. clash (to_greatest e.start.x e.end.x a.x (on_parts e (point_at a) k).in_x))
   where
     clash : a.x ≤ℤ greatest_x e → ⊥
     clash l = omega (arith, ints)
@@ -82,8 +83,5 @@ none_to_the_left e x ps n is h = none_before (on e) point_at n ps (λ k d l. lef
 pub none_to_the_right : (e : Edge) (ps : List Position) (n : ℕ) (a : Position) → AscendPositions ps → a ≡ get_or ps n a → greatest_x e <ℤ a.x → filter (on e) (map point_at (take n ps)) ≡ filter (on e) (map point_at ps)
 none_to_the_right e ps n a up is past = none_after (on e) point_at n ps (λ k d m l. right_not_on e (get_or ps k d) (further k d m l))
   where
-    chain : (x y z : ℤ) → x <ℤ y → y ≤ℤ z → x <ℤ z
-    chain x y z p q = omega (arith, ints)
-
     further : (k : ℕ) (d : Position) → n ≤ k → k < length ps → greatest_x e <ℤ (get_or ps k d).x
-    further k d m l = chain (greatest_x e) (get_or ps n d).x (get_or ps k d).x (subst (λ (b : Position). greatest_x e <ℤ b.x) (is ∙ get_or_default ps n a d (omega (arith, m, l))) past) (up n k d m l)
+    further k d m l = less_at_most (greatest_x e) (get_or ps n d).x (get_or ps k d).x (subst (λ (b : Position). greatest_x e <ℤ b.x) (is ∙ get_or_default ps n a d (omega (arith, m, l))) past) (up n k d m l)

@@ -5,7 +5,8 @@ use Rattle.std.proofs.lemmas.Int.{ints}
 use mir.Syntax.{w64, w128}
 use mir.Val.{SFits}
 use Rattle.basics.proofs.Ring.{solve, var, lit, ◌⊖◌, ◌⊗◌}
-use Rattle.orient.proofs.Bounds.{product_within}
+use Rattle.basics.proofs.Numbers.{product_within}
+use Rattle.basics.proofs.Orders.{sum_weak, at_most_at_most}
 use Rattle.geometry_model.specs.Points.{Position, Point, IsPoint, point_at, gcd, least_form}
 use Rattle.geometry_model.specs.Sides.{side}
 use Rattle.geometry_model.specs.WellKnownText.{coordinate_limit}
@@ -44,7 +45,7 @@ sum_fits m a n b hm hn h ha hb = record {
   other = short b hb;
   first = part m n (m *ℤ a) hm hn h one;
   second = part' m n (n *ℤ b) hm hn h other;
-  sum = whole m n (m *ℤ a +ℤ n *ℤ b) h (positive m n hm hn) both;
+  sum = whole m n (m *ℤ a +ℤ n *ℤ b) h (sum_weak m n hm hn) both;
   bound = both;
 }
   where
@@ -69,9 +70,6 @@ sum_fits m a n b hm hn h ha hb = record {
     part' : (m n z : ℤ) → pos 0 ≤ℤ m → pos 0 ≤ℤ n → (m +ℤ n) ≤ℤ pos meeting_limit → unsigned_abs z ≤ unsigned_abs n * coordinate_limit → SFits w128 z
     part' m n z h k l e = omega (arith, ints)
 
-    positive : (m n : ℤ) → pos 0 ≤ℤ m → pos 0 ≤ℤ n → pos 0 ≤ℤ (m +ℤ n)
-    positive m n h k = omega (arith, ints)
-
     whole : (m n z : ℤ) → (m +ℤ n) ≤ℤ pos meeting_limit → pos 0 ≤ℤ (m +ℤ n) → unsigned_abs z ≤ coordinate_limit * unsigned_abs (m +ℤ n) → SFits w128 z
     whole m n z h k e = omega (arith, ints)
 
@@ -92,10 +90,7 @@ sum_in_range x y w h k ex ey = record { positive = h; denominator = omega (arith
 
 -- the least form has no greater denominator
 pub least_within : (p : Point) (l : ℕ) → IsPoint p → p.W ≤ℤ pos l → (least_form p).W ≤ℤ pos l
-least_within p l h k = through (least_form p).W p.W (pos l) (quotient_at_most p.W (gcd (gcd (unsigned_abs p.X) (unsigned_abs p.Y)) (unsigned_abs p.W)) h) k
-  where
-    through : (a b c : ℤ) → a ≤ℤ b → b ≤ℤ c → a ≤ℤ c
-    through a b c h k = omega (arith, ints)
+least_within p l h k = at_most_at_most (least_form p).W p.W (pos l) (quotient_at_most p.W (gcd (gcd (unsigned_abs p.X) (unsigned_abs p.Y)) (unsigned_abs p.W)) h) k
 
 -- ---- the sides of two positions differ by no more than the limit
 -- the sides of two positions differ by the vector product of the two steps

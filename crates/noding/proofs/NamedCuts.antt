@@ -1,6 +1,7 @@
 -- The points that a meeting names are cuts of the two edges.
 use Rattle.std.proofs.Common.{◌≡◌, ◌⊎◌, inl, inr, true, false, ◌&&◌, refl, sym, subst, ◌∙◌, [], ◌∷◌, All, pos, arith}
 use Rattle.std.specs.Ordering.{int_eq, is_le}
+use Rattle.std.proofs.lemmas.Bool.{and_parts, and_from}
 use Rattle.basics.proofs.Ring.{solve, var, lit, ◌⊕◌, ◌⊖◌, ◌⊗◌}
 use Rattle.basics.proofs.Tests.{equal_yes}
 use Rattle.geometry_model.specs.Points.{Point, IsPoint, point_at, compare}
@@ -9,7 +10,6 @@ use Rattle.geometry_model.specs.Sides.{on, on_one_line}
 use Rattle.geometry_model.specs.Dimensions.{area}
 use Rattle.geometry_model.specs.CutPoints.{IsCut}
 use Rattle.geometry_model.specs.CutPoints.IsCut.{AtCrossing}
-use Rattle.geometry_laws.proofs.Scaling.{and_parts, and_from}
 use Rattle.geometry_laws.proofs.PointOrder.{same_reflexive}
 use Rattle.geometry_laws.proofs.Cuts.{contains_of_among, start_is_cut, end_is_cut}
 use Rattle.matrix_laws.proofs.MatrixLists.{all_from_each}

@@ -1,12 +1,12 @@
 -- Edges near an edge: those that aren't share no point with it.
 use Rattle.std.proofs.Common.{◌≡◌, inl, inr, ℕ, zero, suc, ◌+◌, ◌<◌, nat_le, Bool, true, false, cond, refl, sym, ap, subst, ◌∙◌, List, [], ◌∷◌, length, get_or, Contains, arith}
 use Rattle.std.proofs.lemmas.List.{get_or_default}
+use Rattle.std.proofs.lemmas.Bool.{and_from}
 use Rattle.geometry_model.specs.Points.{Point, IsPoint}
 use Rattle.geometry_model.specs.Geometries.{Edge}
 use Rattle.geometry_model.specs.Sides.{on}
 use Rattle.geometry_model.specs.FirstFaults.{share_point}
 use Rattle.geometry_laws.proofs.Each.{Among}
-use Rattle.geometry_laws.proofs.Scaling.{and_from}
 use Rattle.matrix_laws.proofs.MatrixLists.{contains_from_among}
 use Rattle.geometry_laws.proofs.SharedPoints.{shared_point_is_decided}
 use Rattle.edge_boxes.specs.RunLaws.{box_of}

@@ -1,6 +1,7 @@
 -- The cuts on an edge: the listed positions on it, and what it has in common with each of the edges.
 use Rattle.std.proofs.Common.{◌≡◌, ◌⊎◌, inl, inr, Bool, true, false, not, ◌||◌, refl, sym, subst, ◌∙◌, List, [], ◌∷◌, Contains, pos, arith}
 use Rattle.std.specs.Ordering.{int_eq}
+use Rattle.std.proofs.lemmas.Bool.{and_from, or_left, or_right, or_cases}
 use Rattle.basics.proofs.Tests.{equal_yes}
 use Rattle.geometry_model.specs.Points.{Position, Point, IsPoint, point_at, same_point}
 use Rattle.geometry_model.specs.Geometries.{Edge}
@@ -8,14 +9,12 @@ use Rattle.geometry_model.specs.Sides.{side, on, on_one_line}
 use Rattle.geometry_model.specs.CutPoints.{IsCut, is_end}
 use Rattle.geometry_model.specs.CutPoints.IsCut.{AtEnd, Listed, AtCrossing}
 use Rattle.geometry_laws.proofs.Each.{Among}
-use Rattle.geometry_laws.proofs.Scaling.{and_from}
 use Rattle.geometry_laws.proofs.PointOrder.{same_reflexive}
 use Rattle.geometry_laws.proofs.Locating.{start_is_on, end_is_on}
 use Rattle.geometry_laws.proofs.LineOrder.{area_on_line}
 use Rattle.geometry_laws.proofs.RingParity.{side_is_area}
 use Rattle.geometry_laws.proofs.Cuts.{OneLine, one_line}
 use Rattle.matrix_laws.proofs.MatrixLists.{Some_of, among_from_contains}
-use Rattle.matrix_laws.proofs.CutLists.{or_first, or_second, or_either}
 use Rattle.noding.specs.Meetings.{on_both, on_stretch, IsMeeting, named, is_common_cut}
 use Rattle.noding.specs.declared.answers.Meet.{Meet}
 use Rattle.noding.specs.declared.answers.Meet.TheVariants.{Apart, At, Along}
@@ -87,7 +86,7 @@ one_line_turned e f we wf = both_ways (on_one_line e f) (on_one_line f e) (λ h.
 -- ---- a cut on an edge
 -- an edge holds its ends
 pub end_is_on_edge : (e : Edge) (p : Point) → IsPoint p → is_end e p ≡ true → on e p ≡ true
-end_is_on_edge e p hp h = go (or_either (same_point (point_at e.start) p) (same_point (point_at e.end) p) h)
+end_is_on_edge e p hp h = go (or_cases (same_point (point_at e.start) p) (same_point (point_at e.end) p) h)
   where
     go : (same_point (point_at e.start) p ≡ true) ⊎ (same_point (point_at e.end) p ≡ true) → on e p ≡ true
     go (inl s) = start_is_on e p hp s
@@ -96,12 +95,12 @@ end_is_on_edge e p hp h = go (or_either (same_point (point_at e.start) p) (same_
 -- where an edge ends on another, that is a cut the two have in common
 pub common_at_end : (g e : Edge) (p : Point) → on g p ≡ true → on e p ≡ true → is_end e p ≡ true → is_common_cut g e p ≡ true
 common_at_end g e p kg ke h = and_from (on_both g e p) (is_end g p || is_end e p || not (on_one_line g e)) (and_from (on g p) (on e p) kg ke)
-    (or_first (is_end g p || is_end e p) (not (on_one_line g e)) (or_second (is_end g p) (is_end e p) h))
+    (or_left (is_end g p || is_end e p) (not (on_one_line g e)) (or_right (is_end g p) (is_end e p) h))
 
 -- where two edges that aren't on one line share a point, that is a cut they have in common
 pub common_at_crossing : (g e : Edge) (p : Point) → on g p ≡ true → on e p ≡ true → on_one_line g e ≡ false → is_common_cut g e p ≡ true
 common_at_crossing g e p kg ke h = and_from (on_both g e p) (is_end g p || is_end e p || not (on_one_line g e)) (and_from (on g p) (on e p) kg ke)
-    (or_second (is_end g p || is_end e p) (not (on_one_line g e)) (subst (λ (b : Bool). not b ≡ true) (sym h) refl))
+    (or_right (is_end g p || is_end e p) (not (on_one_line g e)) (subst (λ (b : Bool). not b ≡ true) (sym h) refl))
 
 -- an edge with which this one has the cut in common, or a listed position there
 pub cut_on_edge : (es : List Edge) (ps : List Position) (g : Edge) → (g.start ≡ g.end → ⊥) → (p : Point) → on g p ≡ true → IsCut es ps p

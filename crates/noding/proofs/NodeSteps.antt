@@ -5,6 +5,8 @@ use Rattle.std.specs.declared.cmp.Ordering.TheVariants.{Less}
 use Rattle.std.proofs.lemmas.List.{get_or_default}
 use Rattle.std.proofs.lemmas.List.Elements.{All-contains, Contains-append_left, Contains-append_cases}
 use Rattle.std.proofs.lemmas.List.Sorted.{Contains-permutation, IsPermutation-sym}
+use Rattle.std.proofs.lemmas.Bool.{and_parts, and_from}
+use Rattle.basics.proofs.Numbers.{earlier_or_last}
 use Rattle.geometry_model.specs.Points.{Position, Point, IsPoint, point_at, same_point, compare}
 use Rattle.geometry_model.specs.Geometries.{Edge}
 use Rattle.geometry_model.specs.Sides.{on}
@@ -12,7 +14,6 @@ use Rattle.geometry_model.specs.CutPoints.{IsCut}
 use Rattle.geometry_model.specs.CutPoints.IsCut.{AtEnd, Listed, AtCrossing}
 use Rattle.geometry_model.specs.Pieces.{Piece, IsPiece, stretches}
 use Rattle.geometry_laws.proofs.Each.{Each, Among, each_of}
-use Rattle.geometry_laws.proofs.Scaling.{and_parts, and_from}
 use Rattle.geometry_laws.proofs.PointOrder.{same_reflexive, same_symmetric, same_transitive}
 use Rattle.geometry_laws.proofs.RingParity.{position_is_point}
 use Rattle.matrix_laws.proofs.MatrixLists.{Some_of, among_from_contains, contains_from_among, some_from_any, any_from_some, among_map, map_among}
@@ -21,7 +22,7 @@ use Rattle.matrix_laws.proofs.Stretches.{Neighbours, stretch_is, stretch_found, 
 use Rattle.noding.specs.Nodings.{same_piece, ListsPoint, ListsPiece, IsNodeTriple, HasNodeTriples, HasPointEnds, ListsCuts, ListsPieces, AreBreaks, PutsPointsInOrder, PutsPiecesInOrder, HoldsNodes, HoldsPieces}
 use Rattle.noding.proofs.NodeCuts.{cut_is_point, cut_moved, end_is_on_edge}
 use Rattle.noding.specs.Sweeps.{AllCut}
-use Rattle.noding.proofs.BreakPoints.{some_edge, all_of, any_left, any_right, element_is, earlier_or_last, position_is_triple, point_kept}
+use Rattle.noding.proofs.BreakPoints.{some_edge, all_of, any_left, any_right, element_is, position_is_triple, point_kept}
 
 -- ---- the nodes of one more edge
 -- the break points of one edge more are the cuts on it, so the nodes hold the cuts on one edge more

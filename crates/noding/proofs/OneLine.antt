@@ -3,6 +3,7 @@ use Rattle.std.proofs.Common.{◌≡◌, ◌⊎◌, inl, inr, true, false, ◌&&
 use Rattle.std.specs.Cmp.{both_ways}
 use Rattle.std.specs.declared.cmp.Ordering.TheVariants.{Less, Equal, Greater}
 use Rattle.std.specs.Ordering.{int_eq, is_le, ord_max, ord_min}
+use Rattle.std.proofs.lemmas.Bool.{and_parts, and_from}
 use Rattle.basics.proofs.Tests.{equal_from, equal_yes}
 use Rattle.geometry_model.specs.Points.{Position, Point, IsPoint, point_at, same_point, compare}
 use Rattle.geometry_model.specs.Geometries.{Edge}
@@ -10,7 +11,6 @@ use Rattle.geometry_model.specs.Sides.{side, on, on_one_line}
 use Rattle.geometry_model.specs.Dimensions.{area}
 use Rattle.geometry_model.proofs.DimensionFacts.{is_false}
 use Rattle.fraction.specs.Orders.{position_order}
-use Rattle.geometry_laws.proofs.Scaling.{and_parts, and_from}
 use Rattle.geometry_laws.proofs.PointOrder.{same_reflexive, same_symmetric, equal_is_same}
 use Rattle.geometry_laws.proofs.Respect.{on_respects}
 use Rattle.geometry_laws.proofs.Hulls.{on_parts, on_from_hull}

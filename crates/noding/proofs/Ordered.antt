@@ -9,13 +9,13 @@ use Rattle.std.specs.List.Sorted.{IsPermutation, IsSorted, IsStrictlySortedBy}
 use Rattle.std.proofs.lemmas.Cmp.{eq_by_cmp_equiv, on_total, then_total, on_equiv, and_equiv}
 use Rattle.std.proofs.lemmas.List.Sorted.{IsPermutation-sym, Contains-permutation}
 use Rattle.std.proofs.lemmas.List.Kept.{Any-dedup, Contains-from_dedup, IsStrictlySortedBy-dedup}
+use Rattle.std.proofs.lemmas.Bool.{and_parts, and_from}
 use Rattle.geometry_model.specs.Points.{Point, IsPoint, same_point, compare}
 use Rattle.geometry_model.specs.Pieces.{Piece, compare_pieces}
 use Rattle.fraction.specs.Orders.{point_order}
 use Rattle.fraction.specs.OrderLaws.{point_order_total}
 use Rattle.fraction.proofs.OrderLemmas.{point_order_is, point_ties_are}
 use Rattle.geometry_laws.proofs.Each.{Each, Among, each_at, each_of}
-use Rattle.geometry_laws.proofs.Scaling.{and_parts, and_from}
 use Rattle.geometry_laws.proofs.PointOrder.{same_symmetric}
 use Rattle.matrix_laws.proofs.MatrixLists.{Some_of, among_from_contains, contains_from_among, some_from_any, any_from_some, among_map, map_among}
 use Rattle.matrix_laws.proofs.Sorted.{Sorted, pairs_from_sorted}

@@ -4,12 +4,13 @@ use Rattle.std.proofs.lemmas.List.{get_or_default}
 use Rattle.std.specs.List.{list_any}
 use Rattle.std.proofs.lemmas.List.Folds.{list_any_at}
 use Rattle.std.proofs.lemmas.List.Elements.{All-contains, Contains-append_cases}
+use Rattle.std.proofs.lemmas.Bool.{and_parts, and_from}
+use Rattle.basics.proofs.Numbers.{earlier_or_last}
 use Rattle.geometry_model.specs.Points.{Point, IsPoint, same_point}
 use Rattle.geometry_model.specs.Geometries.{Edge}
 use Rattle.geometry_model.specs.Sides.{on, on_one_line}
 use Rattle.geometry_model.specs.FirstFaults.{share_point}
 use Rattle.geometry_model.specs.Envelopes.{overlap}
-use Rattle.geometry_laws.proofs.Scaling.{and_parts, and_from}
 use Rattle.geometry_laws.proofs.SharedPoints.{shared_point_is_decided}
 use Rattle.fraction.specs.Ranges.{meeting_limit}
 use Rattle.matrix_laws.proofs.MatrixLists.{among_from_contains, any_from_some}
@@ -22,7 +23,7 @@ use Rattle.noding.specs.Nodings.{ListsPoint, PutsPointsInOrder}
 use Rattle.noding.specs.declared.answers.Meet.{Meet}
 use Rattle.noding.proofs.NamedCuts.{CutOf}
 use Rattle.noding.proofs.NodeCuts.{cut_is_point, cut_of_both, named_on_both}
-use Rattle.noding.proofs.BreakPoints.{Shares, all_of, any_left, any_right, earlier_or_last, point_kept}
+use Rattle.noding.proofs.BreakPoints.{Shares, all_of, any_left, any_right, point_kept}
 use Rattle.matrix_laws.specs.Gaps.{SharesNoStretch}
 use Rattle.noding.specs.Steps.{IsSharedPoint, ListsCommonCuts, AreSharedSoFar, IsAt, IsAtPlace, AreShared}
 use Rattle.noding.proofs.NearGaps.{IsNearAt, sharing, sharing_is_near}

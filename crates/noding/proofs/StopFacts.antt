@@ -2,6 +2,7 @@
 use Rattle.std.proofs.Common.{◌≡◌, ◌⊎◌, inl, inr, Bool, true, false, not, ◌||◌, refl, sym, ap, subst, ◌∙◌, List, [], ◌∷◌, ◌++◌, filter, Any, Contains, pos, ◌≤ℤ◌, arith}
 use Rattle.std.specs.declared.cmp.Ordering.TheVariants.{Less}
 use Rattle.std.specs.Ordering.{is_le, ord_min, ord_max}
+use Rattle.std.proofs.lemmas.Bool.{and_from, or_left, or_right, or_cases}
 use Rattle.geometry_model.specs.Points.{Position, Point, IsPoint, point_at, same_point, compare}
 use Rattle.geometry_model.specs.Geometries.{Edge}
 use Rattle.geometry_model.specs.Sides.{on, on_one_line}
@@ -13,7 +14,6 @@ use Rattle.fraction.specs.Orders.{position_order}
 use Rattle.fraction.specs.Ranges.{meeting_limit}
 use Rattle.geometry_laws.specs.PointLaws.{reversed}
 use Rattle.geometry_laws.proofs.Each.{Each, Among, each_of, each_append, among_left, among_right, among_either}
-use Rattle.geometry_laws.proofs.Scaling.{and_from}
 use Rattle.geometry_laws.proofs.PointOrder.{same_reflexive, same_symmetric, same_transitive, compare_reversed, less_transitive}
 use Rattle.geometry_laws.proofs.RingParity.{position_is_point}
 use Rattle.geometry_laws.proofs.Hulls.{on_parts}
@@ -21,7 +21,6 @@ use Rattle.geometry_laws.proofs.LineOrder.{area_on_line}
 use Rattle.geometry_laws.proofs.Triangles.{dot_is_at}
 use Rattle.geometry_laws.proofs.Cuts.{OneLine, one_line}
 use Rattle.matrix_laws.proofs.MatrixLists.{Some_of, among_from_contains, contains_from_among, some_from_any, any_from_some, among_filter, filter_among}
-use Rattle.matrix_laws.proofs.CutLists.{or_first, or_second, or_either}
 use Rattle.matrix_laws.proofs.Sorted.{Sorted, filter-sorted}
 use Rattle.matrix_laws.proofs.Stretches.{Neighbours, stretch_is, less_right, less_left}
 use Rattle.noding.specs.Meetings.{on_both, is_common_cut}
@@ -63,10 +62,10 @@ sorted_with_last (x ∷ xs) z s h = (each_append (λ y. compare x y ≡ Less) xs
 
 -- ---- an edge with its lesser and its greater end
 start_is_end : (e : Edge) → is_end e (point_at e.start) ≡ true
-start_is_end e = or_first (same_point (point_at e.start) (point_at e.start)) (same_point (point_at e.end) (point_at e.start)) (same_reflexive (point_at e.start))
+start_is_end e = or_left (same_point (point_at e.start) (point_at e.start)) (same_point (point_at e.end) (point_at e.start)) (same_reflexive (point_at e.start))
 
 end_is_end : (e : Edge) → is_end e (point_at e.end) ≡ true
-end_is_end e = or_second (same_point (point_at e.start) (point_at e.end)) (same_point (point_at e.end) (point_at e.end)) (same_reflexive (point_at e.end))
+end_is_end e = or_right (same_point (point_at e.start) (point_at e.end)) (same_point (point_at e.end) (point_at e.end)) (same_reflexive (point_at e.end))
 
 low_is_end : (e : Edge) (low high : Position) → HasEnds e low high → is_end e (point_at low) ≡ true
 low_is_end e low high h = at_low (λ a. is_end e (point_at a) ≡ true) e low high h (start_is_end e) (end_is_end e)
@@ -98,7 +97,7 @@ dot_clear : (e f : Edge) (p q : Point) → f.start ≡ f.end → NoCut e f p q �
 dot_clear e f p q is none = λ x b. is_false (on f x) (λ k. none x b.is_point b.after b.before (common_at_end e f x b.is_on k (ends x b k)))
   where
     ends : (x : Point) → IsBetween e p q x → on f x ≡ true → is_end f x ≡ true
-    ends x b k = or_first (same_point (point_at f.start) x) (same_point (point_at f.end) x)
+    ends x b k = or_left (same_point (point_at f.start) x) (same_point (point_at f.end) x)
         (dot_is_at f.start x b.is_point (subst (λ (a : Position). on (record { start = f.start; end = a }) x ≡ true) (sym is) k))
 
 lined_clear : (e f : Edge) (p q : Point) (low high : Position) → (e.start ≡ e.end → ⊥) → IsPoint p → IsPoint q → on e p ≡ true → on e q ≡ true → on_one_line e f ≡ true → HasEnds f low high → NoCut e f p q → ClearOrShared e f p q
@@ -209,11 +208,11 @@ stops_ascend e others points low high h s up = (
         record { is_point = cut_is_point (e ∷ others) [] p shared.is_cut; on_edge = shared.on_edge; ends_nothing = no_end (is_end e p) both.1 }
 
     moved_end : (a : Position) (p : Point) → is_end e (point_at a) ≡ true → same_point (point_at a) p ≡ true → is_end e p ≡ true
-    moved_end a p k same = go (or_either (same_point (point_at e.start) (point_at a)) (same_point (point_at e.end) (point_at a)) k)
+    moved_end a p k same = go (or_cases (same_point (point_at e.start) (point_at a)) (same_point (point_at e.end) (point_at a)) k)
       where
         go : (same_point (point_at e.start) (point_at a) ≡ true) ⊎ (same_point (point_at e.end) (point_at a) ≡ true) → is_end e p ≡ true
-        go (inl l) = or_first (same_point (point_at e.start) p) (same_point (point_at e.end) p) (same_transitive (point_at e.start) (point_at a) p (position_is_point a) l same)
-        go (inr l) = or_second (same_point (point_at e.start) p) (same_point (point_at e.end) p) (same_transitive (point_at e.end) (point_at a) p (position_is_point a) l same)
+        go (inl l) = or_left (same_point (point_at e.start) p) (same_point (point_at e.end) p) (same_transitive (point_at e.start) (point_at a) p (position_is_point a) l same)
+        go (inr l) = or_right (same_point (point_at e.start) p) (same_point (point_at e.end) p) (same_transitive (point_at e.end) (point_at a) p (position_is_point a) l same)
 
     after : (p : Point) → Among p (inner e points) → compare (point_at low) p ≡ Less
     after p a = let i = inner_is p a in go i (not_after_cases (point_at low) p (not_before_low e low high h p i.is_point i.on_edge))
@@ -291,7 +290,7 @@ some_within p (q ∷ xs) z x f g = go (not_after_or x q) (λ l. some_within q xs
 
 -- ---- all that is asked of gaps
 common_cut : (e f : Edge) (x : Point) → on e x ≡ true → on f x ≡ true → is_end e x || is_end f x ≡ true → is_common_cut e f x ≡ true
-common_cut e f x ke kf k = and_from (on_both e f x) (is_end e x || is_end f x || not (on_one_line e f)) (and_from (on e x) (on f x) ke kf) (or_first (is_end e x || is_end f x) (not (on_one_line e f)) k)
+common_cut e f x ke kf k = and_from (on_both e f x) (is_end e x || is_end f x || not (on_one_line e f)) (and_from (on e x) (on f x) ke kf) (or_left (is_end e x || is_end f x) (not (on_one_line e f)) k)
 
 gaps_from : (e : Edge) (others : List Edge) (points : List Point) (low high : Position) → (e.start ≡ e.end → ⊥) → HasEnds e low high → AreShared e others points → AscendingPoints points
     → AreGaps e others (record { shared = points; stops = stops_from e points low high })

@@ -2,12 +2,12 @@
 use Rattle.std.proofs.Common.{◌≡◌, Bool, true, false, ◌&&◌, sym, ap, ap₂, ◌∙◌, arith, ℤ, pos, ◌+ℤ◌, ◌-ℤ◌, ◌*ℤ◌, ◌≤ℤ◌}
 use borrow.Author.Differences.{ints}
 use Rattle.std.specs.Cmp.{both_ways}
+use Rattle.std.proofs.lemmas.Bool.{and_parts}
 use Rattle.geometry_model.specs.Points.{Position, Point, IsPoint, point_at}
 use Rattle.geometry_model.specs.Geometries.{Edge}
 use Rattle.geometry_model.specs.Sides.{side, on, on_one_line}
 use Rattle.geometry_model.proofs.DimensionFacts.{is_false}
 use Rattle.fraction.specs.Ranges.{IsOnGrid, meeting_limit}
-use Rattle.geometry_laws.proofs.Scaling.{and_parts}
 use Rattle.geometry_laws.proofs.Hulls.{OnHull, on_from_hull, hull_from_on}
 use Rattle.geometry_laws.proofs.Cuts.{one_line}
 use Rattle.matrix_laws.proofs.EdgeMeeting.{shares_point}

@@ -1,20 +1,16 @@
 -- The numbers that a side is made of: at points with denominator 1 they fit 64 bits, at others 128.
 use Rattle.std.specs.Prelude.{◌≡◌, ℕ, ◌*◌, ◌^◌, ◌≤◌, [], ◌∷◌, ℤ, pos, ◌-ℤ◌, ◌*ℤ◌, unsigned_abs}
 use Rattle.std.proofs.Common.{sym, ap, ap₂, ◌∙◌, subst, arith, to_z, of_z}
-use Rattle.std.proofs.Math.Nat.{mul-le-mul}
-use Rattle.std.proofs.lemmas.Int.{ints, unsigned_abs-mul, to_z-of_z}
+use Rattle.std.proofs.lemmas.Int.{ints, to_z-of_z}
 use mir.Syntax.{Width, w32, w64, w128}
 use mir.Val.{SFits}
 use Rattle.basics.proofs.Ring.{solve, var, lit, ◌⊖◌, ◌⊗◌}
+use Rattle.basics.proofs.Numbers.{product_within}
 use Rattle.geometry_model.specs.Points.{Position, Point}
 use Rattle.geometry_model.specs.Sides.{side}
 use Rattle.geometry_model.specs.WellKnownText.{coordinate_limit}
 use Rattle.fraction.specs.Ranges.{IsKeptPoint, denominator_limit}
 use Rattle.orient.specs.SideLimit.{side_limit}
-
--- a product's absolute value
-pub product_within : (a b : ℤ) (m n : ℕ) → unsigned_abs a ≤ m → unsigned_abs b ≤ n → unsigned_abs (a *ℤ b) ≤ m * n
-product_within a b m n h k = rw unsigned_abs-mul (mul-le-mul h k)
 
 -- ---- numbers that fit a width, each read where it comes from
 pub read : (w : Width) (z y : ℤ) → SFits w z → z ≡ y → to_z w (of_z w z) ≡ y

@@ -44,12 +44,6 @@ found_more es asked i e start old new passes found tested grew before =
     grew ∙ ap (λ l. l ++ cond passes (i ∷ []) []) before ∙ append_assoc start (meeting_places (take i es) asked) (cond passes (i ∷ []) [])
     ∙ ap (λ b. start ++ (meeting_places (take i es) asked ++ cond b (i ∷ []) [])) tested ∙ ap (λ l. start ++ l) (sym (meeting_more es asked i e found))
 
--- the element at a place
-pub at_place : {X : Type 0} (xs : List X) (i : ℕ) (x : X) → i < length xs → x ≡ get_or xs i x → slice_get xs i ≡ Some x
-at_place [] i x within is = absurd (omega arith)
-at_place (y ∷ xs) zero x within is = ap Some (sym is)
-at_place (y ∷ xs) (suc i) x within is = let more : i < length xs = omega arith in at_place xs i x more is
-
 -- the entry of one envelope more
 present_more : (es : List (Option Envelope)) (i : ℕ) (e : Option Envelope) → slice_get es i ≡ Some e → present (take (i + 1) es) ≡ present (take i es) ++ option_to_list (entry_at (i, e))
 present_more es i e found =

@@ -3,12 +3,13 @@ use Rattle.std.proofs.Common.{◌≡◌, ◌∙◌, ◌<◌, ◌+◌, ℕ, ℤ, 
 use Rattle.std.specs.Prelude.{IsSortedBy, sum_by}
 use Rattle.std.specs.Cmp.{IsStrictWeakOrder, IsTotalOrder, int_cmp_total, nat_cmp_total, on_total, then_total, ranks}
 use Rattle.std.specs.List.{AllByRecursion}
-use Rattle.std.specs.Ordering.{MatchOrdering, is_lt, nat_cmp, ordering_reverse, ordering_then}
+use Rattle.std.specs.Ordering.{MatchOrdering, is_lt, nat_cmp, ordering_reverse}
 use Rattle.std.specs.declared.cmp.Ordering.{Ordering}
 use Rattle.std.specs.declared.cmp.Ordering.TheVariants.{Less, Equal, Greater}
 use Rattle.std.proofs.lemmas.List.Elements.{recursion_from_All}
 use Rattle.std.proofs.lemmas.List.Sorted.{ranks_by, sorted_far}
 use Rattle.std.proofs.lemmas.List.Sums.{sum_by-cons}
+use Rattle.basics.proofs.Orders.{then_equal}
 use Rattle.rtree.specs.Packing.{Entry, comes_before, in_order, key_order, packing_key, with_entry}
 
 -- each element comes before none of those ahead of it
@@ -82,12 +83,6 @@ level_keys Greater Less e a b = cc
 level_keys Greater Equal e a b = cc
 level_keys Greater Greater e a b = cc
 
--- an order by two parts is level where both parts are
-pub both_level : (r s : Ordering) → ordering_then r s ≡ Equal → (r ≡ Equal) × (s ≡ Equal)
-both_level Less s e = cc
-both_level Equal s e = (refl, e)
-both_level Greater s e = cc
-
 -- numbers that are level are equal
 pub same_number : (a b : ℕ) → nat_cmp a b ≡ Equal → a ≡ b
 same_number a b e = subst (λ r. MatchOrdering r (a < b) (a ≡ b) (b < a)) e (ranks a b)
@@ -152,7 +147,7 @@ sum-in_order f (e ∷ es) = sum-with_entry f e (in_order es) ∙ ap (λ n. f e +
 pub same_place : (a b : Entry) → comes_before a b ≡ false → comes_before b a ≡ false → a.0 ≡ b.0
 same_place a b h k =
     let level = level_keys (key_order (packing_key a) (packing_key b)) (key_order (packing_key b) (packing_key a)) (key_total.antisymm (packing_key a) (packing_key b)) h k in
-    same_number a.0 b.0 (both_level _ (nat_cmp a.0 b.0) level).1
+    same_number a.0 b.0 (then_equal _ (nat_cmp a.0 b.0) level).1
 
 -- ---- numbers in order
 

@@ -1,5 +1,5 @@
 -- What a search finds below the nodes of a level.
-use Rattle.std.proofs.Common.{◌≡◌, ◌∙◌, ◌<◌, ◌≤◌, ◌+◌, ◌-◌, ◌*◌, min, ℕ, zero, suc, ℤ, ◌≤ℤ◌, int_le, Bool, true, false, cond, ◌&&◌, List, [], ◌∷◌, ◌++◌, map, length, take, drop, get_or, Option, Some, None, ap, refl, sym, subst, arith, append_assoc, append-nil}
+use Rattle.std.proofs.Common.{◌≡◌, ◌∙◌, ◌<◌, ◌≤◌, ◌+◌, ◌-◌, ◌*◌, min, ℕ, zero, suc, ℤ, ◌≤ℤ◌, int_le, Bool, true, false, cond, List, [], ◌∷◌, ◌++◌, map, length, take, drop, get_or, Option, Some, None, ap, refl, sym, subst, arith, append_assoc, append-nil}
 use Rattle.std.specs.Prelude.{filter, flat_map}
 use Rattle.std.specs.Int.{div_ceil, int_min, int_max}
 use Rattle.std.specs.List.{zip}
@@ -9,7 +9,10 @@ use Rattle.std.proofs.lemmas.List.{get_or-drop, get_or-take, get_or_default, len
 use Rattle.std.proofs.lemmas.List.Elements.{filter-append}
 use Rattle.std.proofs.lemmas.List.FromFn.{get_or-map-range_with_len}
 use Rattle.std.proofs.lemmas.Slice.Zip.{get_or-zip, length-zip}
+use Rattle.std.proofs.lemmas.Bool.{false_from_ne_true}
 use Rattle.basics.proofs.Signs.{at_most_from, at_most_yes}
+use Rattle.basics.proofs.Orders.{max_first, min_first, still_at_most}
+use Rattle.basics.proofs.Bools.{four_from, four_parts}
 use Rattle.geometry_model.specs.Envelopes.{Envelope, joined, overlap}
 use Rattle.rtree.specs.Joins.{with_envelope}
 use Rattle.rtree.specs.Packing.{Entry, around, eights, nodes_over}
@@ -17,24 +20,6 @@ use Rattle.rtree.specs.Trees.{AreLevels, entries_of, found_below, groups_at, lev
 use Rattle.rtree.proofs.GroupLemmas.{group_is, length-eights, same_length}
 
 -- ---- an envelope that meets what one below it meets
-
-all_four : (p q r s : Bool) → p && q && r && s ≡ true → (p ≡ true) × (q ≡ true) × (r ≡ true) × (s ≡ true)
-all_four true true true true h = (refl, refl, refl, refl)
-all_four true true true false h = cc
-all_four true true false s h = cc
-all_four true false r s h = cc
-all_four false q r s h = cc
-
-four : (p q r s : Bool) → p ≡ true → q ≡ true → r ≡ true → s ≡ true → p && q && r && s ≡ true
-four true true true true a b c d = refl
-four true true true false a b c d = cc
-four true true false s a b c d = cc
-four true false r s a b c d = cc
-four false q r s a b c d = cc
-
--- a lower bound that moves down stays below all that it was below
-lower : (m x g : ℤ) → m ≤ℤ x → int_le x g ≡ true → int_le m g ≡ true
-lower m x g h k = let r = at_most_from x g k in at_most_yes m g (omega (arith, ints, h, r))
 
 -- an upper bound that moves up stays above all that it was above
 higher : (m x g : ℤ) → x ≤ℤ m → int_le g x ≡ true → int_le g m ≡ true
@@ -44,34 +29,24 @@ higher m x g h k = let r = at_most_from g x k in at_most_yes g m (omega (arith, 
 wider : (e f a : Envelope) → f.least_x ≤ℤ e.least_x → e.greatest_x ≤ℤ f.greatest_x → f.least_y ≤ℤ e.least_y → e.greatest_y ≤ℤ f.greatest_y
     → overlap e a ≡ true → overlap f a ≡ true
 wider e f a left right low high h =
-    let parts = all_four (int_le e.least_x a.greatest_x) (int_le a.least_x e.greatest_x) (int_le e.least_y a.greatest_y) (int_le a.least_y e.greatest_y) h in
-    four _ _ _ _ (lower f.least_x e.least_x a.greatest_x left parts.0) (higher f.greatest_x e.greatest_x a.least_x right parts.1)
-    (lower f.least_y e.least_y a.greatest_y low parts.2) (higher f.greatest_y e.greatest_y a.least_y high parts.3)
-
-min_first : (a b : ℤ) → int_min a b ≤ℤ a
-min_first a b = omega (arith, ints, clamps)
+    let parts = four_parts (int_le e.least_x a.greatest_x) (int_le a.least_x e.greatest_x) (int_le e.least_y a.greatest_y) (int_le a.least_y e.greatest_y) h in
+    four_from _ _ _ _ (still_at_most f.least_x e.least_x a.greatest_x left parts.0) (higher f.greatest_x e.greatest_x a.least_x right parts.1)
+    (still_at_most f.least_y e.least_y a.greatest_y low parts.2) (higher f.greatest_y e.greatest_y a.least_y high parts.3)
 
 min_second : (a b : ℤ) → int_min a b ≤ℤ b
 min_second a b = omega (arith, ints, clamps)
 
-max_first : (a b : ℤ) → a ≤ℤ int_max a b
-max_first a b = omega (arith, ints, clamps)
-
 max_second : (a b : ℤ) → b ≤ℤ int_max a b
 max_second a b = omega (arith, ints, clamps)
-
-not_false : (b : Bool) → (b ≡ true → ⊥) → b ≡ false
-not_false true h = absurd (h refl)
-not_false false h = refl
 
 -- what is apart from both joined is apart from each
 first_apart : (e f a : Envelope) → overlap (joined e f) a ≡ false → overlap e a ≡ false
 first_apart e f a far =
-    not_false (overlap e a) (λ h. let y : true ≡ false = sym (wider e (joined e f) a (min_first e.least_x f.least_x) (max_first e.greatest_x f.greatest_x) (min_first e.least_y f.least_y) (max_first e.greatest_y f.greatest_y) h) ∙ far in cc)
+    false_from_ne_true (overlap e a) (λ h. let y : true ≡ false = sym (wider e (joined e f) a (min_first e.least_x f.least_x) (max_first e.greatest_x f.greatest_x) (min_first e.least_y f.least_y) (max_first e.greatest_y f.greatest_y) h) ∙ far in cc)
 
 second_apart : (e f a : Envelope) → overlap (joined e f) a ≡ false → overlap f a ≡ false
 second_apart e f a far =
-    not_false (overlap f a) (λ h. let y : true ≡ false = sym (wider f (joined e f) a (min_second e.least_x f.least_x) (max_second e.greatest_x f.greatest_x) (min_second e.least_y f.least_y) (max_second e.greatest_y f.greatest_y) h) ∙ far in cc)
+    false_from_ne_true (overlap f a) (λ h. let y : true ≡ false = sym (wider f (joined e f) a (min_second e.least_x f.least_x) (max_second e.greatest_x f.greatest_x) (min_second e.least_y f.least_y) (max_second e.greatest_y f.greatest_y) h) ∙ far in cc)
 
 -- entries without an envelope round them are none
 empty : (es : List Entry) → around es ≡ None → es ≡ []

@@ -1,9 +1,9 @@
 -- After the end of a record the tally is that of a new record, if no byte was a quote and nothing passed a limit.
 use Rattle.std.proofs.Common.{◌≡◌, ◌∙◌, ◌≤◌, ◌<◌, ◌+◌, ◌-◌, ◌^◌, ◌++◌, ◌∷◌, [], ℕ, List, Bool, true, false, length, take, drop, get_or, refl, sym, ap, subst, arith}
-use Rattle.std.proofs.Common.{inl, inr, ◌⊎◌, take-append-drop}
+use Rattle.std.proofs.Common.{inl, inr, take-append-drop}
 use Rattle.std.specs.Prelude.{◌==◌, ◌||◌, if◌then◌else◌, min, nat_le, nat_lt}
 use Rattle.std.specs.List.{fold, list_any}
-use Rattle.std.proofs.lemmas.Bool.{eqb-true}
+use Rattle.std.proofs.lemmas.Bool.{eqb-true, or_cases, or_parts}
 use Rattle.std.proofs.lemmas.Bool.Decides.{nat_tests}
 use Rattle.std.proofs.lemmas.List.{length-take-le, take_more}
 use Rattle.std.proofs.lemmas.List.Folds.{list_any-append}
@@ -14,16 +14,6 @@ use Rattle.streams.specs.RecordEnds.{IsRecordEnd, IsWithin}
 use Rattle.streams.specs.declared.tallies.Place.{Place}
 use Rattle.streams.specs.declared.tallies.Place.TheVariants as at
 use Rattle.streams.specs.declared.tallies.Tally.{Tally}
-
--- neither of two tests holds
-or-parts : (a b : Bool) → (a || b) ≡ false → (a ≡ false) × (b ≡ false)
-or-parts false b e = (refl, e)
-or-parts true b e = cc e
-
--- one of two tests holds
-or-cases : (a b : Bool) → (a || b) ≡ true → (a ≡ true) ⊎ (b ≡ true)
-or-cases true b e = inl refl
-or-cases false b e = inr e
 
 -- ---- places
 
@@ -66,7 +56,7 @@ tally-place t b o q = moved-place t (place_after t.place b) ∙ place-after-outs
 fold-outside : (t : Tally) (bytes : List ℕ) → is_outside t.place ≡ true → list_any is_quote bytes ≡ false → is_outside (fold tally_after t bytes).place ≡ true
 fold-outside t [] o q = o
 fold-outside t (b ∷ rest) o q =
-    let parts = or-parts (b == 34) (list_any is_quote rest) q in
+    let parts = or_parts (b == 34) (list_any is_quote rest) q in
     fold-outside (tally_after t b) rest (ap is_outside (tally-place t b o parts.0) ∙ choice-outside (b == 44) (ends_line b)) parts.1
 
 -- where a line ends
@@ -91,7 +81,7 @@ carriage-return-place at.Quoted o = cc
 carriage-return-place at.QuoteInQuotes o = cc
 
 line-place : (p : Place) (b : ℕ) → is_outside p ≡ true → ends_line b ≡ true → place_after p b ≡ at.RecordStart
-line-place p b o e = elim (or-cases (b == 10) (b == 13) e) [
+line-place p b o e = elim (or_cases (b == 10) (b == 13) e) [
   | inl feed ↦ subst (λ x. place_after p x ≡ at.RecordStart) (sym (eqb-true b 10 feed)) (line-feed-place p o)
   | inr back ↦ subst (λ x. place_after p x ≡ at.RecordStart) (sym (eqb-true b 13 back)) (carriage-return-place p o)
 ]
@@ -167,12 +157,12 @@ less-within t few many le h = record { fresh = h.fresh; field = omega (arith, h.
 -- bytes without a quote begin with bytes without a quote
 any-front : (test : ℕ → Bool) (n : ℕ) (bytes : List ℕ) → list_any test bytes ≡ false → list_any test (take n bytes) ≡ false
 any-front test n bytes none =
-    (or-parts (list_any test (take n bytes)) (list_any test (drop n bytes)) (sym (list_any-append test (take n bytes) (drop n bytes)) ∙ ap (list_any test) (take-append-drop n bytes) ∙ none)).0
+    (or_parts (list_any test (take n bytes)) (list_any test (drop n bytes)) (sym (list_any-append test (take n bytes) (drop n bytes)) ∙ ap (list_any test) (take-append-drop n bytes) ∙ none)).0
 
 last-quote : (bytes : List ℕ) (b : ℕ) → list_any is_quote (bytes ++ b ∷ []) ≡ false → (b == 34) ≡ false
 last-quote bytes b none =
-    let parts = or-parts (list_any is_quote bytes) (list_any is_quote (b ∷ [])) (sym (list_any-append is_quote bytes (b ∷ [])) ∙ none) in
-    (or-parts (b == 34) false parts.1).0
+    let parts = or_parts (list_any is_quote bytes) (list_any is_quote (b ∷ [])) (sym (list_any-append is_quote bytes (b ∷ [])) ∙ none) in
+    (or_parts (b == 34) false parts.1).0
 
 fold-last : (t : Tally) (bytes : List ℕ) (b : ℕ) → fold tally_after t (bytes ++ b ∷ []) ≡ tally_after (fold tally_after t bytes) b
 fold-last t bytes b = fold-append tally_after t bytes (b ∷ [])

@@ -1,30 +1,16 @@
 -- Bytes that stay in a field change its length alone.
 use Rattle.std.proofs.Common.{◌≡◌, ◌∙◌, ◌≤◌, ◌<◌, ◌+◌, ◌-◌, ◌^◌, ◌∷◌, [], ℕ, suc, List, Bool, true, false, length, take, drop, take-add, get_or, refl, sym, ap, subst, arith}
-use Rattle.std.specs.Prelude.{◌==◌, ◌||◌, ◌&&◌, if◌then◌else◌, min, nat_le, nat_lt, not}
+use Rattle.std.specs.Prelude.{◌==◌, ◌||◌, min, nat_le, nat_lt, not}
 use Rattle.std.specs.List.{fold, list_all, list_any, prefix_len}
 use Rattle.std.proofs.lemmas.Bool.Decides.{nat_tests}
 use Rattle.std.proofs.lemmas.List.Sums.{fold-append, prefix_len_is}
+use Rattle.std.proofs.lemmas.Bool.{and_parts, and_from}
+use Rattle.basics.proofs.Lists.{front_passes}
 use Rattle.streams.specs.Bounds.{checked, ends_line, field_limit, fields_limit, in_field, is_outside, is_quote, moved, place_after, place_outside, record_limit, tally_after}
 use Rattle.streams.specs.FieldRuns.{all_stay, is_plain, place_in_field, stays}
 use Rattle.streams.specs.declared.tallies.Place.{Place}
 use Rattle.streams.specs.declared.tallies.Place.TheVariants as at
 use Rattle.streams.specs.declared.tallies.Tally.{Tally}
-
--- the elements that a count of a front counts pass its test
-both : (a b : Bool) → a ≡ true → b ≡ true → (a && b) ≡ true
-both true b e f = f
-both false b e f = e
-
-front : (p : ℕ → Bool) (x : ℕ) (xs : List ℕ) (b : Bool) → p x ≡ b → list_all p (take (prefix_len p xs) xs) ≡ true → list_all p (take (if b then 1 + prefix_len p xs else 0) (x ∷ xs)) ≡ true
-front p x xs true e rest =
-    let k = prefix_len p xs in
-    let one : suc k ≡ 1 + k = omega arith in
-    subst (λ n. list_all p (take n (x ∷ xs)) ≡ true) one (both (p x) (list_all p (take k xs)) e rest)
-front p x xs false e rest = refl
-
-pub front-stays : (p : ℕ → Bool) (xs : List ℕ) → list_all p (take (prefix_len p xs) xs) ≡ true
-front-stays p [] = refl
-front-stays p (x ∷ xs) = front p x xs (p x) refl (front-stays p xs)
 
 -- ---- places
 
@@ -70,10 +56,6 @@ same-place at.Start = refl
 same-place at.FirstMark = refl
 same-place at.SecondMark = refl
 same-place at.QuoteInQuotes = refl
-
-and-parts : (a b : Bool) → (a && b) ≡ true → (a ≡ true) × (b ≡ true)
-and-parts true b e = (refl, e)
-and-parts false b e = cc e
 
 stay-again : (p : Place) (b : ℕ) (rest : List ℕ) → stays p b ≡ true → all_stay p rest ≡ true → all_stay (place_in_field p) rest ≡ true
 stay-again at.RecordStart b rest h all = all
@@ -129,9 +111,9 @@ twice t n =
     (past-once t.is_past field_limit fields_limit record_limit (more_by 1 f) (more_by (suc n) f) e (more_by 1 r) (more_by (suc n) r) (grown f n) (grown r n))
 
 pub run : (t : Tally) (bytes : List ℕ) (b : ℕ) → all_stay t.place (b ∷ bytes) ≡ true → fold tally_after t (b ∷ bytes) ≡ after t (length (b ∷ bytes))
-run t [] b all = step t b (and-parts (stays t.place b) true all).0
+run t [] b all = step t b (and_parts (stays t.place b) true all).0
 run t (c ∷ rest) b all =
-    let parts = and-parts (stays t.place b) (all_stay t.place (c ∷ rest)) all in
+    let parts = and_parts (stays t.place b) (all_stay t.place (c ∷ rest)) all in
     let first = step t b parts.0 in
     ap (λ u. fold tally_after u (c ∷ rest)) first ∙ run (after t 1) rest c (stay-again t.place b (c ∷ rest) parts.0 parts.1) ∙ twice t (length (c ∷ rest))
 
@@ -162,7 +144,7 @@ neither true b e f = cc e
 pub no-quotes : (bytes : List ℕ) → all_stay at.Quoted bytes ≡ true → list_any is_quote bytes ≡ false
 no-quotes [] all = refl
 no-quotes (b ∷ rest) all =
-    let parts = and-parts (not (b == 34)) (all_stay at.Quoted rest) all in
+    let parts = and_parts (not (b == 34)) (all_stay at.Quoted rest) all in
     neither (b == 34) (list_any is_quote rest) parts.0 (no-quotes rest parts.1)
 
 -- and the other way round
@@ -174,7 +156,7 @@ pub stay-unquoted : (bytes : List ℕ) → list_any is_quote bytes ≡ false →
 stay-unquoted [] none = refl
 stay-unquoted (b ∷ rest) none =
     let parts = no-parts (b == 34) (list_any is_quote rest) none in
-    both (not (b == 34)) (all_stay at.Quoted rest) parts.0 (stay-unquoted rest parts.1)
+    and_from (not (b == 34)) (all_stay at.Quoted rest) parts.0 (stay-unquoted rest parts.1)
 
 -- the bytes before the first quote, or all of them
 refuted : (q : Bool) → ¬ (q ≡ true) → not q ≡ true
@@ -188,7 +170,7 @@ count-before bytes place within none there =
 
 pub none-before : (bytes : List ℕ) (place : ℕ) → place ≡ prefix_len (stays at.Quoted) bytes → list_any is_quote (take place bytes) ≡ false
 none-before bytes place e =
-    subst (λ n. list_any is_quote (take n bytes) ≡ false) (sym e) (no-quotes (take (prefix_len (stays at.Quoted) bytes) bytes) (front-stays (stays at.Quoted) bytes))
+    subst (λ n. list_any is_quote (take n bytes) ≡ false) (sym e) (no-quotes (take (prefix_len (stays at.Quoted) bytes) bytes) (front_passes (stays at.Quoted) bytes))
 
 -- the tally after the bytes up to a place, and after some more
 pub more : (t u : Tally) (bytes rest some : List ℕ) (at count : ℕ) → u ≡ fold tally_after t (take at bytes) → rest ≡ drop at bytes → some ≡ take count rest

@@ -1,5 +1,5 @@
 -- How what calls do to a sink composes: the bytes that it took, and its count of failures.
-use Rattle.std.proofs.Common.{◌≡◌, ℕ, ◌+◌, ◌-◌, List, [], ◌++◌, length, take, drop, Option, None, Some, Result, Ok, Err, OnErr, arith, length-drop, append-nil, refl, sym, ◌∙◌, ap, subst, append_assoc}
+use Rattle.std.proofs.Common.{◌≡◌, ℕ, ◌+◌, ◌-◌, List, [], ◌++◌, length, take, drop, Option, None, Some, Result, Ok, Err, OnErr, OnOk, arith, length-drop, append-nil, refl, sym, ◌∙◌, ap, subst, append_assoc}
 use Rattle.std.proofs.lemmas.List.{take-append-drop, take_all}
 use Rattle.std.proofs.Math.Seq.{take-add}
 use Rattle.std.specs.Io.KnownBytes.{Appends, Keeps}
@@ -11,6 +11,11 @@ Appends-then None b c x y first then = tt
 Appends-then (Some p) None c x y first then = absurd first
 Appends-then (Some p) (Some q) None x y first then = then
 Appends-then (Some p) (Some q) (Some r) x y first then = then ∙ ap (λ l. l ++ y) first ∙ append_assoc p x y
+
+-- x, and then, where a call succeeded, y, is x ++ y
+pub then-put : {A E : Type 0} (r : Result A E) (a b c : Option (List ℕ)) (x y text : List ℕ) → x ++ y ≡ text → Appends a b x → OnOk r (Appends b c y) → OnOk r (Appends a c text)
+then-put (Ok v) a b c x y text e first last = subst (λ l. Appends a c l) e (Appends-then a b c x y first last)
+then-put (Err v) a b c x y text e first last = tt
 
 -- what stays grew by nothing
 pub Keeps-Appends : (a b : Option (List ℕ)) → Keeps a b → Appends a b []

@@ -8,6 +8,7 @@ use Rattle.std.proofs.lemmas.List.Elements.{All-nil, All-cons, All-head, All-tai
 use Rattle.std.proofs.lemmas.List.FromFn.{fill_by_all}
 use Rattle.std.proofs.lemmas.List.Kept.{AllPairs-filter}
 use Rattle.std.proofs.lemmas.List.Sorted.{length_permutation}
+use mathlib.Core.List.{map-map}
 use mathlib.Core.Path.{fun_ext}
 use Rattle.geometry_model.specs.Dimensions.{Matrix}
 use Rattle.geometry_model.specs.Geometries.{Geometry}
@@ -29,7 +30,6 @@ use Rattle.table_laws.specs.TileLaws.{GeometryStatement}
 use Rattle.table_laws.proofs.KeyOrder.{AscendsBy, tables_ascend, product_ascends, comes_once}
 use Rattle.table_laws.proofs.Merging.{merged, uncounted, counted}
 use Rattle.table_laws.proofs.Shuffles.{filter_shuffled, parts_give_product}
-use Rattle.table_laws.proofs.TileLists.{map_twice}
 
 -- what is the same for each element of a list is the same for the list
 same_flat : {X Y : Type 0} (f g : X → List Y) (xs : List X) → All (λ x. f x ≡ g x) xs → flat_map f xs ≡ flat_map g xs
@@ -78,7 +78,7 @@ module _ (matrix : Geometry → Geometry → Matrix) (whole : Database ColumnSha
   block_tables : (block : List (Table Geometry)) → AllZip AscendsBy keys block → referenced block block_query.references ≡ block
   block_tables block h =
       let n : length query.references ≡ length block = sym (length-map query.references (λ (r : Reference). key_in (slice_get whole.definitions r.table))) ∙ as_long AscendsBy keys block h in
-      sym (map_twice (λ k. slice_index_or block k []) (λ (r : Reference). r.table) block_query.references)
+      sym (map-map (λ k. slice_index_or block k []) (λ (r : Reference). r.table) block_query.references)
       ∙ ap (map (λ k. slice_index_or block k [])) is.over.references
       ∙ ap (λ m. map (λ k. slice_index_or block k []) (range_with_len 0 m)) n
       ∙ sym (fill_by_all (λ k. slice_index_or block k []) block (length block) [] refl (λ k l. refl))

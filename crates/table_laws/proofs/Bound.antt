@@ -1,10 +1,11 @@
 -- The literals of a bound query are valid.
-use Rattle.std.specs.Prelude.{◌≡◌, refl, ◌&&◌, Bool, true, false, List, [], ◌∷◌, ◌++◌, map, flat_map, is_none, is_some, All, Option, Some, None}
+use Rattle.std.specs.Prelude.{◌≡◌, refl, ◌&&◌, Bool, true, false, List, [], ◌∷◌, ◌++◌, map, flat_map, is_some, All, Option, Some, None}
 use Rattle.std.specs.List.{list_all}
 use Rattle.std.proofs.Common.{◌∙◌, sym, subst}
 use Rattle.std.proofs.lemmas.Bool.{and_parts}
 use Rattle.std.proofs.lemmas.List.Elements.{All-nil, All-cons, All-append, All-weaker}
 use Rattle.std.proofs.lemmas.List.Sums.{AllPass-from_list_all}
+use Rattle.basics.proofs.Options.{is_nothing}
 use Rattle.geometry_model.specs.FirstFaults.{validity_fault}
 use Rattle.geometry_model.specs.Geometries.{Geometry}
 use Rattle.geometry_model.specs.Validity.{IsValid}
@@ -27,14 +28,10 @@ use Rattle.table_model.proofs.CondInduction.{Each, Cases, by_parts}
 abbrev Argument : Type 0
 Argument = GeometryArgument Geometry
 
-none_of : {X : Type 0} (o : Option X) → is_none o ≡ true → o ≡ None
-none_of None e = refl
-none_of (Some x) e = cc
-
 -- an argument that fits is a column or a literal without fault
 argument_valid : (definitions : List (TableDef ColumnShape)) (references : List Reference) (a : Argument) → argument_fits definitions references a ≡ true → All IsValid (literals_of_argument a)
 argument_valid definitions references (arguments.Column place) e = All-nil IsValid
-argument_valid definitions references (arguments.Literal g) e = All-cons IsValid g [] ((none_is_found_where_valid g).0 (none_of (validity_fault g) e)) (All-nil IsValid)
+argument_valid definitions references (arguments.Literal g) e = All-cons IsValid g [] ((none_is_found_where_valid g).0 (is_nothing (validity_fault g) e)) (All-nil IsValid)
 
 -- a function has a type only where its argument fits
 fit_if : (b : Bool) (t : OperandType) → is_some (type_if b t) ≡ true → b ≡ true

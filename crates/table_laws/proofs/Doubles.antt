@@ -1,14 +1,14 @@
 -- The first double key.
 use Rattle.std.specs.Prelude.{◌≡◌, ◌≢◌, ◌+◌, ◌<◌, ◌||◌, ◌++◌, ℕ, ℤ, zero, suc, Bool, true, false, cond, List, [], ◌∷◌, Option, Some, None, length, refl, slice_index_or}
 use Rattle.std.proofs.Common.{◌∙◌, ◌⊎◌, ap, arith, inl, inr, sym}
-use Rattle.std.proofs.lemmas.Bool.{false≢true}
+use Rattle.std.proofs.lemmas.Bool.{false≢true, or_parts}
 use Rattle.std.specs.List.{Contains, list_any}
 use Rattle.std.specs.Ordering.{int_eq}
 use Rattle.basics.proofs.Tests.{equal_from, equal_no, equal_yes}
 use Rattle.table_model.specs.Loading.{double_from, double_key}
 use Rattle.table_laws.specs.KeyLaws.{DoubleIsFirst, IsFirstDouble, NoneIsDouble}
 use Rattle.table_laws.proofs.TableLists.{Each, Pairs, all-pairs, each-weaker, pairs-all}
-use Rattle.table_laws.proofs.Keys.{apart, differ, or-none}
+use Rattle.table_laws.proofs.Keys.{apart, differ}
 
 -- a key is among some
 abbrev Among : ℤ → List ℤ → Type 0
@@ -100,11 +100,11 @@ first earlier start (key ∷ keys) number e = go (list_any (int_eq key) earlier)
           are_new = (
             is,
             each-weaker (λ k. list_any (int_eq k) (key ∷ earlier) ≡ false) (λ k. list_any (int_eq k) earlier ≡ false)
-                (λ k h. (or-none (int_eq k key) (list_any (int_eq k) earlier) h).1) f.before f.are_new,
+                (λ k h. (or_parts (int_eq k key) (list_any (int_eq k) earlier) h).1) f.before f.are_new,
           );
           differ = (
             each-weaker (λ k. list_any (int_eq k) (key ∷ earlier) ≡ false) (λ k. key ≢ k)
-                (λ k h. differ key k ((or-none (int_eq k key) (list_any (int_eq k) earlier) h).0)) f.before f.are_new,
+                (λ k h. differ key k ((or_parts (int_eq k key) (list_any (int_eq k) earlier) h).0)) f.before f.are_new,
             f.differ,
           );
         }

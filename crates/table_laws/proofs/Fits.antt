@@ -1,8 +1,9 @@
 -- The value of a field is one for its column, and so is each of a row.
-use Rattle.std.specs.Prelude.{◌≡◌, ◌+◌, ◌&&◌, ℕ, ℤ, zero, suc, Bool, true, false, if◌then◌else◌, not, nat_lt, ◌==◌, length, List, [], ◌∷◌, Option, Some, None, Result, Ok, Err, drop, map, ok_or, option_map, slice_get, unwrap_or, refl}
-use Rattle.std.proofs.Common.{◌∙◌, ap, arith, subst, sym}
+use Rattle.std.specs.Prelude.{◌≡◌, ◌+◌, ℕ, ℤ, zero, suc, Bool, true, false, if◌then◌else◌, not, nat_lt, ◌==◌, length, List, [], ◌∷◌, Option, Some, None, Result, Ok, Err, drop, map, ok_or, option_map, slice_get, unwrap_or, refl}
+use Rattle.std.proofs.Common.{◌∙◌, ap, arith, subst, sym, zero-add}
 use Rattle.std.specs.List.{enumerate_from}
 use Rattle.std.specs.Str.{is_utf8}
+use Rattle.std.proofs.lemmas.Bool.{and_from}
 use Rattle.table_model.specs.Databases.{fits_columns, fits_type}
 use Rattle.table_model.specs.Loading.{GeometryReader, Record, and_then, checked_row, each, filled_value, integer_of, is_required, row_limit, row_of, rows_of, value_of, field_under, load}
 use Rattle.table_model.specs.Meanings.{Row, Table}
@@ -77,10 +78,6 @@ pub record IsRowFor {T G : Type 0} (table : TableDef T) (first : ℕ) (columns :
   pub fits : fits_columns columns row ≡ true
   pub filled : (place : ℕ) (c : ColumnDef T) → slice_get columns place ≡ Some c → is_required table (first + place, c) ≡ true → slice_get row place ≡ Some value.Null → ⊥
 
-both : (a b : Bool) → a ≡ true → b ≡ true → (a && b) ≡ true
-both true b p q = q
-both false b p q = cc p
-
 -- field by field, the values that are read for columns are of their types, and none is null where it may not be
 values-are-for : {T G : Type 0} (geometry : GeometryReader T G) (table : TableDef T) (header : Record) (number : ℕ) (fields : Record) (first : ℕ) (columns : List (ColumnDef T)) (row : Row G)
     → each (map (λ c. value_of geometry number (is_required table c) c.1.column_type (field_under header fields c.1.name)) (enumerate_from first columns)) ≡ Ok row
@@ -96,7 +93,7 @@ values-are-for {T = T} {G = G} geometry table header number fields first (c ∷ 
     subst (IsRowFor table first (c ∷ columns)) p.all_is (joined p.head p.tail h t)
   where
     joined : (v : Value G) (rest : Row G) → IsFor c.column_type (is_required table (first, c)) v → IsRowFor table (first + 1) columns rest → IsRowFor table first (c ∷ columns) (v ∷ rest)
-    joined v rest h t = record { fits = both (fits_type c.column_type v) (fits_columns columns rest) h.0 t.fits; filled = filled }
+    joined v rest h t = record { fits = and_from (fits_type c.column_type v) (fits_columns columns rest) h.0 t.fits; filled = filled }
       where
         at_first : first + 0 ≡ first
         at_first = omega arith
@@ -159,8 +156,5 @@ pub required_are_filled : (T G : Type 0) → RequiredAreFilled T G
 required_are_filled T G geometry table records rows e =
     each-all (IsFilled table) rows (each-weaker (IsRowFor table 0 table.columns) (IsFilled table) (λ row h. filled row h) rows (loaded-are-for geometry table records rows e))
   where
-    from_zero : (place : ℕ) → 0 + place ≡ place
-    from_zero place = omega arith
-
     filled : (row : Row G) → IsRowFor table 0 table.columns row → IsFilled table row
-    filled row h place c is r null = h.filled place c is (ap (λ (k : ℕ). is_required table (k, c)) (from_zero place) ∙ r) null
+    filled row h place c is r null = h.filled place c is (ap (λ (k : ℕ). is_required table (k, c)) (zero-add place) ∙ r) null

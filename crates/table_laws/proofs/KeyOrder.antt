@@ -1,14 +1,14 @@
 -- The rows of a whole: what each has, and that what a query filters of them ascends by keys.
-use Rattle.std.specs.Prelude.{◌≡◌, refl, ◌<◌, ◌⊎◌, ◌<ℤ◌, ◌≢◌, ◌+◌, ◌||◌, ◌==◌, ℕ, zero, suc, ℤ, int_lt, Bool, true, false, cond, unwrap_or, Option, None, List, [], ◌∷◌, ◌++◌, map, length, filter, flat_map, slice_get, slice_index_or, All, Some, option_and_then}
+use Rattle.std.specs.Prelude.{◌≡◌, refl, ◌<◌, ◌⊎◌, ◌<ℤ◌, ◌≢◌, ◌+◌, ◌||◌, ◌==◌, ℕ, zero, suc, ℤ, int_lt, Bool, true, false, cond, Option, None, List, [], ◌∷◌, ◌++◌, map, length, filter, flat_map, slice_get, slice_index_or, All, Some, option_and_then}
 use Rattle.std.specs.List.{AllPairs, AllZip}
 use Rattle.std.proofs.Common.{arith, ap, ◌∙◌, sym, inl, inr, length-append}
 use borrow.Author.Differences.{ints}
 use Rattle.std.proofs.lemmas.List.Elements.{All-nil, All-cons, All-head, All-tail, All-append, All-map, All-weaker}
-use Rattle.std.proofs.lemmas.List.Kept.{AllPairs-cons, AllPairs-filter}
-use Rattle.std.proofs.lemmas.Option.{slice_get-get_or}
+use Rattle.std.proofs.lemmas.List.Kept.{AllPairs-filter}
+use Rattle.std.proofs.lemmas.Option.{slice_get-get_or, same_Some}
 use Rattle.geometry_model.specs.Geometries.{Geometry}
 use Rattle.table_laws.proofs.PlanLists.{indexed}
-use Rattle.table_laws.proofs.Orders.{pairs_none, pairs_head, pairs_tail, pairs_map, same_in_order}
+use Rattle.table_laws.proofs.Orders.{pairs_none, pairs_head, pairs_tail, pairs_map, same_in_order, pairs_append}
 use Rattle.table_model.specs.Binding.{columns_of, table_columns}
 use Rattle.table_model.specs.Databases.{Database}
 use Rattle.table_model.specs.FeatureTables.{IsRow, IsValueFor, TakesValid}
@@ -29,6 +29,8 @@ use Rattle.table_laws.specs.Cells.{Cell, is_copied, mark, west_mark, south_mark}
 use Rattle.table_laws.specs.Tiles.{geometry_at, marks, marked, tile_of}
 use Rattle.geometry_model.specs.Envelopes.{Envelope, envelope}
 use Rattle.std.proofs.lemmas.List.Sorted.{Contains-permutation, IsPermutation-sym}
+use Rattle.basics.proofs.Options.{nothing_there}
+use Rattle.basics.proofs.Lists.{element_at}
 
 -- ---- what each row has
 
@@ -37,11 +39,6 @@ pub record RowFacts (definitions : List (TableDef ColumnShape)) (r : Reference) 
   pub width : length row ≡ length (columns_of definitions r)
   pub valid : All IsValidField row
   pub on_grid : All FieldOnGrid row
-
-something : {X : Type 0} (xs : List X) (k : ℕ) → k < length xs → (x : X) × (slice_get xs k ≡ Some x)
-something [] k l = absurd (omega (arith, l))
-something (x ∷ xs) zero l = (x, refl)
-something (x ∷ xs) (suc k) l = something xs k (omega (arith, l))
 
 -- a geometry that a column takes is valid
 valid_field : (kind : ColumnType ColumnShape) (v : Value Geometry) → IsValueFor TakesValid kind v → IsValidField v
@@ -54,7 +51,7 @@ valid_field (column.Geometry t) (values.Geometry g) h = h.1
 
 valid_row : (table : TableDef ColumnShape) (row : Row Geometry) → IsRow TakesValid table row → All IsValidField row
 valid_row table row is k d l =
-    let c = something table.columns k (omega (arith, l, is.width)) in
+    let c = element_at table.columns k (omega (arith, l, is.width)) in
     valid_field c.0.column_type (slice_index_or row k d) (is.typed k c.0 (slice_index_or row k d) c.1 (slice_get-get_or row k d l)).0
 
 -- the definition and the rows of a reference
@@ -65,7 +62,7 @@ record OfReference (whole : Database ColumnShape Geometry) (r : Reference) : Typ
 
 of_reference : (whole : Database ColumnShape Geometry) → IsWhole whole → (r : Reference) → r.table < length whole.definitions → OfReference whole r
 of_reference whole is r l =
-    let table = something whole.definitions r.table l in
+    let table = element_at whole.definitions r.table l in
     record {
       table = table.0;
       found = table.1;
@@ -108,14 +105,6 @@ comes_once (key ∷ keys) (x ∷ xs) (y ∷ ys) h k = go h k (comes_once keys xs
     go (inl l) (inr e) rest = omega (arith, ints, l, e.0)
     go (inr e) (inl m) rest = omega (arith, ints, m, e.0)
     go (inr e) (inr f) rest = rest e.1 f.1
-
--- a list with another behind it, each of the first before each of the second
-pairs_append : {X : Type 0} (R : X → X → Type 0) (xs ys : List X) → AllPairs R xs → AllPairs R ys → All (λ x. All (R x) ys) xs → AllPairs R (xs ++ ys)
-pairs_append R [] ys h k c = k
-pairs_append R (x ∷ xs) ys h k c =
-    AllPairs-cons R x (xs ++ ys)
-    (All-append (R x) xs ys (pairs_head R x xs h) (All-head (λ z. All (R z) ys) x xs c))
-    (pairs_append R xs ys (pairs_tail R x xs h) k (All-tail (λ z. All (R z) ys) x xs c))
 
 -- a row before all of some rows comes, with any choice behind it, before each of these with any choice
 before_all : (key : ℕ) (keys : List ℕ) (row : Row Geometry) (choice : List (Row Geometry)) (more : List (List (Row Geometry))) (rows : Table Geometry) → All (λ other. key_of key row <ℤ key_of key other) rows
@@ -195,17 +184,11 @@ sorted_tile_is_tile table rows is l cell column sorted p ascends =
 
 -- ---- the rows of a tile
 
-same_value : {X : Type 0} (a b : X) → Some a ≡ Some b → a ≡ b
-same_value a b e = ap (λ o. unwrap_or o a) e
-
-nothing_there : {X Y : Type 0} (x : X) → None ≡ Some x → Y
-nothing_there x e = cc
-
 -- a place in a row with two fields behind is one of the row, the first behind it or the second
 which_place : {X Y : Type 0} (xs : List X) (ys : List Y) (w s c : X) (x y v : Y) → length ys ≡ length xs → (place : ℕ) → slice_get (xs ++ w ∷ s ∷ []) place ≡ Some c → slice_get (ys ++ x ∷ y ∷ []) place ≡ Some v
     → ((slice_get xs place ≡ Some c) × (slice_get ys place ≡ Some v)) ⊎ (((w ≡ c) × (x ≡ v)) ⊎ ((s ≡ c) × (y ≡ v)))
-which_place [] [] w s c x y v e zero h k = inr (inl (same_value w c h, same_value x v k))
-which_place [] [] w s c x y v e (suc zero) h k = inr (inr (same_value s c h, same_value y v k))
+which_place [] [] w s c x y v e zero h k = inr (inl (same_Some w c h, same_Some x v k))
+which_place [] [] w s c x y v e (suc zero) h k = inr (inr (same_Some s c h, same_Some y v k))
 which_place [] [] w s c x y v e (suc (suc place)) h k = nothing_there c h
 which_place [] (z ∷ ys) w s c x y v e place h k = absurd (omega (arith, e))
 which_place (z ∷ xs) [] w s c x y v e place h k = absurd (omega (arith, e))

@@ -1,21 +1,17 @@
 -- Rows by ascending key.
-use Rattle.std.specs.Prelude.{◌≡◌, ◌≢◌, ◌+◌, ◌<ℤ◌, ◌≤ℤ◌, ◌||◌, ℕ, ℤ, Bool, true, false, cond, if◌then◌else◌, int_lt, List, [], ◌∷◌, Option, Some, None, map, refl, IsPermutation}
+use Rattle.std.specs.Prelude.{◌≡◌, ◌≢◌, ◌+◌, ◌<ℤ◌, ◌≤ℤ◌, ℕ, ℤ, Bool, true, false, cond, if◌then◌else◌, int_lt, List, [], ◌∷◌, Option, Some, None, map, refl, IsPermutation}
 use Rattle.std.proofs.Common.{◌∙◌, ◌⊎◌, arith, inl, inr, sym}
 use borrow.Author.Differences.{ints}
-use Rattle.std.proofs.lemmas.Bool.{false≢true}
+use Rattle.std.proofs.lemmas.Bool.{false≢true, or_parts}
 use Rattle.std.proofs.lemmas.List.Sorted.{IsPermutation-cons, IsPermutation-middle, IsPermutation-refl, IsPermutation-sym, IsPermutation-trans}
 use Rattle.std.specs.List.{list_any}
 use Rattle.std.specs.Ordering.{int_eq}
 use Rattle.basics.proofs.Signs.{less_from, not_less_from, three_ways}
 use Rattle.basics.proofs.Tests.{equal_yes}
+use Rattle.basics.proofs.Orders.{less_less}
 use Rattle.table_model.specs.Loading.{by_key, double_from, double_key, insert_by_key, key_of}
 use Rattle.table_model.specs.Meanings.{Row}
 use Rattle.table_laws.proofs.TableLists.{Each, Pairs, each-weaker, pairs-map}
-
--- a test of two that neither passes
-pub or-none : (a b : Bool) → (a || b) ≡ false → (a ≡ false) × (b ≡ false)
-or-none true b h = absurd (false≢true (sym h))
-or-none false b h = (refl, h)
 
 -- two keys that the test shows apart differ
 pub differ : (a b : ℤ) → int_eq b a ≡ false → a ≢ b
@@ -36,11 +32,11 @@ apart earlier n (key ∷ keys) e = go (list_any (int_eq key) earlier) refl e (ap
           (
             is,
             each-weaker (λ k. list_any (int_eq k) (key ∷ earlier) ≡ false) (λ k. list_any (int_eq k) earlier ≡ false)
-                (λ k h. (or-none (int_eq k key) (list_any (int_eq k) earlier) h).1) keys rest.0,
+                (λ k h. (or_parts (int_eq k key) (list_any (int_eq k) earlier) h).1) keys rest.0,
           ),
           (
             each-weaker (λ k. list_any (int_eq k) (key ∷ earlier) ≡ false) (λ k. key ≢ k)
-                (λ k h. differ key k ((or-none (int_eq k key) (list_any (int_eq k) earlier) h).0)) keys rest.0,
+                (λ k h. differ key k ((or_parts (int_eq k key) (list_any (int_eq k) earlier) h).0)) keys rest.0,
             rest.1,
           ),
         )
@@ -65,10 +61,6 @@ each-by_key P key (row ∷ rows) h = each-insert P key row (by_key key rows) h.0
 -- each key is below the later ones
 abbrev pub Rises : {G : Type 0} → ℕ → List (Row G) → Type 0
 Rises key rows = Pairs (λ a b. key_of key a <ℤ key_of key b) rows
-
--- keys in order: the first is below the last
-through : (a b c : ℤ) → a <ℤ b → b <ℤ c → a <ℤ c
-through a b c h k = omega (arith, ints)
 
 -- a key that isn't below another, and isn't equal to it, is above it
 above : (a b : ℤ) → b ≤ℤ a → a ≢ b → b <ℤ a
@@ -95,7 +87,7 @@ rises-insert key row (other ∷ rows) differs h =
           (
             less,
             each-weaker (λ r. key_of key other <ℤ key_of key r) (λ r. key_of key row <ℤ key_of key r)
-                (λ r l. through (key_of key row) (key_of key other) (key_of key r) less l) rows h.0,
+                (λ r l. less_less (key_of key row) (key_of key other) (key_of key r) less l) rows h.0,
           ),
           h,
         )

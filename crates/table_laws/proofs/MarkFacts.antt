@@ -5,6 +5,7 @@ use Rattle.std.specs.Fmt.{signed_decimal}
 use Rattle.std.specs.Ordering.{int_eq}
 use Rattle.std.proofs.Common.{arith, ap, ap₂, ◌∙◌, sym}
 use Rattle.std.proofs.lemmas.Bool.{and_parts}
+use Rattle.basics.proofs.Bools.{never}
 use Rattle.geometry_model.specs.Dimensions.{Matrix}
 use Rattle.geometry_model.specs.Geometries.{Geometry}
 use Rattle.table_model.specs.AnswerTexts.{field_text, function_text, item_text}
@@ -40,9 +41,6 @@ use Rattle.table_laws.specs.MarkLaws.{widened, IsWide, FieldsBehindAreUnseen, Fi
 use Rattle.table_laws.specs.Tiles.{marks, is_zero}
 
 -- ---- fields
-
-never : {X : Type 0} → false ≡ true → X
-never e = cc
 
 -- a place within a row isn't behind it
 within_row : (row fields : Row Geometry) (k : ℕ) → k < length row → unwrap_or (slice_get (row ++ fields) k) values.Null ≡ unwrap_or (slice_get row k) values.Null

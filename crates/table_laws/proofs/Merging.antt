@@ -4,7 +4,8 @@ use Rattle.std.specs.List.{AllPairs}
 use Rattle.std.proofs.Common.{arith, ap, ap₂, ◌∙◌, sym, inl, inr}
 use Rattle.std.proofs.lemmas.List.Elements.{All-head, All-tail, All-contains, Contains-append_left, Contains-append_right, Contains-append_cases}
 use Rattle.std.proofs.lemmas.List.Sorted.{IsPermutation-sym, Contains-permutation}
-use Rattle.table_laws.proofs.PlanLists.{there, member_cases, no_member}
+use Rattle.basics.proofs.Lists.{contains_later}
+use Rattle.table_laws.proofs.PlanLists.{member_cases, no_member}
 use Rattle.table_laws.proofs.Orders.{pairs_head, pairs_tail, same_in_order}
 use Rattle.table_model.specs.Meanings.{up_to}
 
@@ -18,7 +19,7 @@ taken_member {X = X} (suc n) (x ∷ xs) z c = go (member_cases x (take n xs) z c
   where
     go : (x ≡ z) ⊎ Contains (take n xs) z → (Contains (take n xs) z → Contains xs z) → Contains (x ∷ xs) z
     go (inl e) rest = (0, omega arith, e)
-    go (inr m) rest = there x xs z (rest m)
+    go (inr m) rest = contains_later x xs z (rest m)
 
 -- what is in the first n of some lists is in the lists
 taken_of_any : {C X : Type 0} (n : ℕ) (f : C → List X) (cs : List C) (z : X) → Contains (flat_map (λ c. take n (f c)) cs) z → Contains (flat_map f cs) z
@@ -45,7 +46,7 @@ module _ {X : Type 0} (R : X → X → Type 0) (once : (a b : X) → R a b → R
 
   -- a part that ascends and has members of a list has none but its own first element before the list's first
   rest_within : (x y : X) (xs ys : List X) → AllPairs R (x ∷ xs) → AllPairs R (y ∷ ys) → ((z : X) → Contains (y ∷ ys) z → Contains (x ∷ xs) z) → (z : X) → Contains ys z → Contains xs z
-  rest_within x y xs ys h k within z m = go (member_cases x xs z (within z (there y ys z m)))
+  rest_within x y xs ys h k within z m = go (member_cases x xs z (within z (contains_later y ys z m)))
     where
       go : (x ≡ z) ⊎ Contains xs z → Contains xs z
       go (inr c) = c
@@ -62,7 +63,7 @@ module _ {X : Type 0} (R : X → X → Type 0) (once : (a b : X) → R a b → R
       go : (y ≡ z) ⊎ Contains ys z → (x ≡ z) ⊎ Contains (take n xs) z → (Contains ys z → Contains (take n xs) z → Contains (take n ys) z) → Contains (y ∷ take n ys) z
       go (inl e) l rest = (0, omega arith, e)
       go (inr m) (inl e) rest = absurd (none_before x xs h y (within y (0, omega arith, refl)) (rw e (All-contains (R y) ys z (pairs_head R y ys k) m)))
-      go (inr m) (inr l) rest = there y (take n ys) z (rest m l)
+      go (inr m) (inr l) rest = contains_later y (take n ys) z (rest m l)
 
   -- an ascending list of members of another, with the first n of it, has the same first n
   first_are_first : (n : ℕ) (whole ordered : List X) → AllPairs R whole → AllPairs R ordered → ((z : X) → Contains ordered z → Contains whole z) → ((z : X) → Contains (take n whole) z → Contains ordered z)
@@ -86,7 +87,7 @@ module _ {X : Type 0} (R : X → X → Type 0) (once : (a b : X) → R a b → R
       rest_case z m (inl e) = absurd (not_itself x z (heads ∙ e) (All-contains (R x) xs z (pairs_head R x xs h) (taken_member n xs z m)))
 
       rest_has : (z : X) → Contains (take n xs) z → Contains ys z
-      rest_has z m = rest_case z m (member_cases y ys z (has z (there x (take n xs) z m)))
+      rest_has z m = rest_case z m (member_cases y ys z (has z (contains_later x (take n xs) z m)))
 
   -- ---- parts
 

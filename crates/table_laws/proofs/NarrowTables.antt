@@ -1,9 +1,11 @@
 -- The fields of a table in some columns are the rows of a table.
-use Rattle.std.specs.Prelude.{◌≡◌, ◌≢◌, refl, ◌<◌, ◌⊎◌, ◌==◌, ◌||◌, ◌<ℤ◌, ℕ, zero, suc, Bool, true, false, if◌then◌else◌, List, [], ◌∷◌, map, length, drop, slice_get, slice_index_or, unwrap_or, Contains, Option, Some, None}
-use Rattle.std.proofs.Common.{arith, ap, ◌∙◌, sym, inl, inr}
+use Rattle.std.specs.Prelude.{◌≡◌, ◌≢◌, refl, ◌⊎◌, ◌==◌, ◌||◌, ◌<ℤ◌, ℕ, zero, suc, Bool, true, false, if◌then◌else◌, List, [], ◌∷◌, map, length, drop, slice_get, slice_index_or, unwrap_or, Contains, Option, Some, None}
+use Rattle.std.proofs.Common.{arith, ap, ◌∙◌, sym, inl, inr, eq-eqb, eqb-true}
 use Rattle.std.proofs.lemmas.List.{length-map}
 use Rattle.std.proofs.lemmas.List.Elements.{All-map, All-weaker}
-use Rattle.std.proofs.lemmas.Option.{slice_get-get_or}
+use Rattle.std.proofs.lemmas.Option.{slice_get-get_or, slice_get_within, same_Some}
+use Rattle.std.proofs.lemmas.Bool.{eqb-false}
+use Rattle.basics.proofs.Options.{nothing_there}
 use Rattle.geometry_model.specs.Geometries.{Geometry}
 use Rattle.table_laws.proofs.Orders.{pairs_map}
 use Rattle.table_laws.proofs.PlanLists.{member_cases, no_member}
@@ -17,18 +19,6 @@ use Rattle.table_model.specs.declared.values.Value.{Value}
 use Rattle.table_model.specs.declared.values.Value.TheVariants as values
 use Rattle.table_laws.specs.ColumnLaws.{fields_in, place_among, IsNarrow, NarrowIsKeyed}
 
-same_number : (a b : ℕ) → (a == b) ≡ true → a ≡ b
-same_number a b e = grind arith
-
-other_number : (a b : ℕ) → (a == b) ≡ false → a ≡ b → ⊥
-other_number a b e f = grind arith
-
-equal_number : (a b : ℕ) → a ≡ b → (a == b) ≡ true
-equal_number a b e = grind arith
-
-same_value : {X : Type 0} (a b : X) → Some a ≡ Some b → a ≡ b
-same_value a b e = ap (λ o. unwrap_or o a) e
-
 -- what is made of a column that is copied is at its place among those that are
 at_its_place : {X : Type 0} (f : ℕ → X) (columns : List ℕ) (column : ℕ) → Contains columns column → slice_get (map f columns) (place_among columns column) ≡ Some (f column)
 at_its_place f [] column m = absurd (no_member column m)
@@ -36,8 +26,8 @@ at_its_place {X = X} f (k ∷ columns) column m = go (k == column) refl (member_
   where
     go : (b : Bool) → (k == column) ≡ b → (k ≡ column) ⊎ Contains columns column → (Contains columns column → slice_get (map f columns) (place_among columns column) ≡ Some (f column))
         → slice_get (f k ∷ map f columns) (if b then 0 else suc (place_among columns column)) ≡ Some (f column)
-    go true e c rest = ap (λ j. Some (f j)) (same_number k column e)
-    go false e (inl c) rest = absurd (other_number k column e c)
+    go true e c rest = ap (λ j. Some (f j)) (eqb-true k column e)
+    go false e (inl c) rest = absurd (eqb-false k column e c)
     go false e (inr c) rest = rest c
 
 -- the key of a row is that of its fields
@@ -55,9 +45,6 @@ record IsFrom {X : Type 0} (columns : List ℕ) (of : List (ColumnDef ColumnShap
   pub column : slice_get of k ≡ Some c
   pub field : f k ≡ v
 
-nothing_there : {X Y : Type 0} (x : X) → None ≡ Some x → Y
-nothing_there x e = cc
-
 first_one : {X : Type 0} (a b : X) (xs ys : List X) → a ∷ xs ≡ b ∷ ys → a ≡ b
 first_one a b xs ys e = ap (λ l. slice_index_or l 0 a) e
 
@@ -66,15 +53,9 @@ comes_from : {X : Type 0} (columns : List ℕ) (of own : List (ColumnDef ColumnS
 comes_from [] of own f e place c v h g = nothing_there v g
 comes_from (k ∷ columns) of [] f e place c v h g = nothing_there c h
 comes_from (k ∷ columns) of (d ∷ own) f e zero c v h g =
-    record { k = k; at = refl; column = sym (first_one (Some d) (slice_get of k) (map Some own) (map (slice_get of) columns) e) ∙ h; field = same_value (f k) v g }
+    record { k = k; at = refl; column = sym (first_one (Some d) (slice_get of k) (map Some own) (map (slice_get of) columns) e) ∙ h; field = same_Some (f k) v g }
 comes_from (k ∷ columns) of (d ∷ own) f e (suc place) c v h g =
     let rest = comes_from columns of own f (ap (drop 1) e) place c v h g in record { k = rest.k; at = rest.at; column = rest.column; field = rest.field }
-
--- a place with something is within the list
-is_within : {X : Type 0} (xs : List X) (k : ℕ) (x : X) → slice_get xs k ≡ Some x → k < length xs
-is_within [] k x e = nothing_there x e
-is_within (y ∷ xs) zero x e = omega arith
-is_within (y ∷ xs) (suc k) x e = let l = is_within xs k x e in omega (arith, l)
 
 narrow_row : (table narrow : TableDef ColumnShape) (columns : List ℕ) → IsNarrow table narrow columns → (row : Row Geometry) → IsRow TakesValid table row → IsRow TakesValid narrow (fields_in columns row)
 narrow_row table narrow columns has row is = record {
@@ -85,8 +66,8 @@ narrow_row table narrow columns has row is = record {
     required : (place k : ℕ) (b : Bool) → slice_get columns place ≡ Some k → (b || (place == narrow.key)) ≡ true → (b || (k == table.key)) ≡ true
     required place k true at h = refl
     required place k false at h =
-        let p : place ≡ place_among columns table.key = same_number place narrow.key h ∙ has.key in
-        equal_number k table.key (same_value k table.key (sym at ∙ ap (slice_get columns) p ∙ key_there))
+        let p : place ≡ place_among columns table.key = eqb-true place narrow.key h ∙ has.key in
+        eq-eqb k table.key (same_Some k table.key (sym at ∙ ap (slice_get columns) p ∙ key_there))
       where
         key_there : slice_get columns (place_among columns table.key) ≡ Some table.key
         key_there = sym (ap (λ l. slice_get l (place_among columns table.key)) (itself columns)) ∙ at_its_place (λ k. k) columns table.key has.key_copied
@@ -98,7 +79,7 @@ narrow_row table narrow columns has row is = record {
     go : (place : ℕ) (c : ColumnDef ColumnShape) (v : Value Geometry) → IsFrom columns table.columns (λ k. unwrap_or (slice_get row k) values.Null) place c v
         → IsValueFor TakesValid c.column_type v × (is_required narrow (place, c) ≡ true → v ≢ values.Null)
     go place c v from =
-        let l = is_within table.columns from.k c from.column in
+        let l = slice_get_within table.columns from.k c from.column in
         let there : slice_get row from.k ≡ Some (slice_index_or row from.k values.Null) = slice_get-get_or row from.k values.Null (omega (arith, l, is.width)) in
         let own : slice_get row from.k ≡ Some v = there ∙ ap (λ u. Some u) (sym (ap (λ o. unwrap_or o values.Null) there) ∙ from.field) in
         let t = is.typed from.k c v from.column own in

@@ -2,11 +2,13 @@
 use Rattle.std.specs.Prelude.{◌≡◌, refl, ◌==◌, ◌⊎◌, if◌then◌else◌, ℕ, zero, suc, Bool, true, false, cond, ◌&&◌, codes, List, [], ◌∷◌, ◌++◌, map, length, filter, flat_map, slice_get, slice_index_or, unwrap_or, All, Contains, Option, Some, None}
 use Rattle.std.specs.Fmt.{signed_decimal}
 use Rattle.std.specs.List.{range_with_len}
-use Rattle.std.proofs.Common.{arith, ap, ap₂, ◌∙◌, sym, inl, inr}
+use Rattle.std.proofs.Common.{arith, ap, ap₂, ◌∙◌, sym, inl, inr, eqb-true}
 use Rattle.std.proofs.lemmas.List.{map-append, take-map, length-map}
 use Rattle.std.proofs.lemmas.List.Elements.{All-nil, All-cons, All-head, All-tail}
 use Rattle.std.proofs.lemmas.List.Folds.{flat_map-map}
 use Rattle.std.proofs.lemmas.List.FromFn.{fill_by_all}
+use Rattle.std.proofs.lemmas.Bool.{eqb-false}
+use mathlib.Core.List.{map-map}
 use mathlib.Core.Path.{fun_ext}
 use Rattle.geometry_model.specs.Dimensions.{Matrix}
 use Rattle.geometry_model.specs.Geometries.{Geometry}
@@ -35,15 +37,8 @@ use Rattle.table_model.proofs.CondInduction.{Each, by_parts}
 use Rattle.table_model.proofs.PlaceFacts.{filter_map_is}
 use Rattle.table_laws.specs.ColumnLaws.{fields_in, narrowed, narrow_tables, place_among, HasColumn, moved, moved_argument, moved_operand, moved_by_parts, moved_condition, moved_item, argument_columns, operand_columns, columns_by_parts, condition_columns, item_column, IsNarrowed, CopiedColumnsAreSeen, ColumnsCanBeLeftOut, NarrowRecordsAreSame}
 use Rattle.table_laws.specs.TileLaws.{GeometryStatement}
-use Rattle.table_laws.proofs.TileLists.{map_twice}
 
 -- ---- fields
-
-same_number : (a b : ℕ) → (a == b) ≡ true → a ≡ b
-same_number a b e = grind arith
-
-other_number : (a b : ℕ) → (a == b) ≡ false → a ≡ b → ⊥
-other_number a b e f = grind arith
 
 -- a column that is copied is at its place among those that are
 at_its_place : {X : Type 0} (f : ℕ → X) (d : X) (columns : List ℕ) (column : ℕ) → Contains columns column → unwrap_or (slice_get (map f columns) (place_among columns column)) d ≡ f column
@@ -52,8 +47,8 @@ at_its_place {X = X} f d (k ∷ columns) column m = go (k == column) refl (membe
   where
     go : (b : Bool) → (k == column) ≡ b → (k ≡ column) ⊎ Contains columns column → (Contains columns column → unwrap_or (slice_get (map f columns) (place_among columns column)) d ≡ f column)
         → unwrap_or (slice_get (f k ∷ map f columns) (if b then 0 else suc (place_among columns column))) d ≡ f column
-    go true e c rest = ap f (same_number k column e)
-    go false e (inl c) rest = absurd (other_number k column e c)
+    go true e c rest = ap f (eqb-true k column e)
+    go false e (inl c) rest = absurd (eqb-false k column e c)
     go false e (inr c) rest = rest c
 
 same_field : (copied : List (List ℕ)) (rows : Rows Geometry) (n k : ℕ) → Contains (slice_index_or copied n []) k
@@ -155,8 +150,8 @@ narrow_product (columns ∷ copied) (table ∷ tables) e =
     flat_map-map (λ x. map (λ choice. x ∷ choice) (product (narrow_tables copied tables))) (fields_in columns) table
     ∙ ap (λ f. flat_map f table)
     (fun_ext (λ x. ap (map (λ choice. fields_in columns x ∷ choice)) (narrow_product copied tables (omega (arith, e)))
-    ∙ map_twice (λ choice. fields_in columns x ∷ choice) (narrowed copied) (product tables)
-    ∙ sym (map_twice (narrowed (columns ∷ copied)) (λ choice. x ∷ choice) (product tables))))
+    ∙ map-map (λ choice. fields_in columns x ∷ choice) (narrowed copied) (product tables)
+    ∙ sym (map-map (narrowed (columns ∷ copied)) (λ choice. x ∷ choice) (product tables))))
     ∙ sym (map_flat (narrowed (columns ∷ copied)) (λ x. map (λ choice. x ∷ choice) (product tables)) table)
   where
     map_flat : {X Y Z : Type 0} (f : Y → Z) (g : X → List Y) (xs : List X) → map f (flat_map g xs) ≡ flat_map (λ x. map f (g x)) xs
@@ -184,7 +179,7 @@ narrow_rows matrix tables query narrow_query copied is =
     let narrow = narrow_tables copied own in
     let long : length copied ≡ length own = is.count ∙ sym (length-map query.references (λ (r : Reference). slice_index_or tables r.table [])) in
     let asked : referenced narrow narrow_query.references ≡ narrow =
-    sym (map_twice (λ k. slice_index_or narrow k []) (λ (r : Reference). r.table) narrow_query.references)
+    sym (map-map (λ k. slice_index_or narrow k []) (λ (r : Reference). r.table) narrow_query.references)
     ∙ ap (map (λ k. slice_index_or narrow k [])) is.references
     ∙ ap (λ m. map (λ k. slice_index_or narrow k []) (range_with_len 0 m)) (sym is.count ∙ long ∙ sym (narrow_length copied own long))
     ∙ sym (fill_by_all (λ k. slice_index_or narrow k []) narrow (length narrow) [] refl (λ k l. refl)) in

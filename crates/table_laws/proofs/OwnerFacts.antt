@@ -9,6 +9,8 @@ use Rattle.std.proofs.lemmas.Int.{clamps}
 use Rattle.std.proofs.lemmas.Bool.{and_parts, and_from, false_from_ne_true}
 use Rattle.std.proofs.lemmas.List.Elements.{All-head, All-tail}
 use Rattle.std.proofs.lemmas.List.Sums.{sum_by-cons}
+use Rattle.std.proofs.Math.Bool.{and-false}
+use lib.Signed.{≤ℤ_refl}
 use mathlib.Core.Path.{fun_ext}
 use Rattle.basics.proofs.Signs.{at_most_yes, at_most_from, less_from, not_less_from}
 use Rattle.geometry_model.specs.Points.{Position}
@@ -29,14 +31,11 @@ abbrev RunsIfThere : Option Envelope → Type 0
 RunsIfThere None = ⊤
 RunsIfThere (Some e) = Runs e
 
-same : (x : ℤ) → x ≤ℤ x
-same x = omega (arith, ints)
-
 wider : (x l g : ℤ) → l ≤ℤ g → int_min x l ≤ℤ int_max x g
 wider x l g h = omega (arith, ints, clamps)
 
 with_runs : (a : Position) (o : Option Envelope) → RunsIfThere o → Runs (with_position a o)
-with_runs a None h = record { across = same a.x; up = same a.y }
+with_runs a None h = record { across = ≤ℤ_refl a.x; up = ≤ℤ_refl a.y }
 with_runs a (Some e) h = record { across = wider a.x e.least_x e.greatest_x h.across; up = wider a.y e.least_y e.greatest_y h.up }
 
 runs_of : (ps : List Position) → RunsIfThere (envelope_of_positions ps)
@@ -100,14 +99,10 @@ reaches side e f end h k l = let m = at_most_from side (int_max e f) l in at_mos
 
 -- ---- both coordinates
 
-nothing : (b : Bool) → (b && false) ≡ false
-nothing true = refl
-nothing false = refl
-
 -- where all ends are reached, what is left are the beginnings
 four : (a b c d : Bool) → (((true && a) && true) && b) && ((((true && c) && true) && d) && (true && true)) ≡ (((true && (a && c)) && true) && (b && d))
 four false b c d = refl
-four true b false d = nothing b
+four true b false d = and-false b
 four true false true d = refl
 four true true true false = refl
 four true true true true = refl
@@ -115,9 +110,9 @@ four true true true true = refl
 -- the tests of both coordinates: `p` and `q` say that the cell begins at most at the owner; if so, all ends are reached
 tests : (p q a b c d r s t u : Bool) → (p ≡ true → (r ≡ true) × (t ≡ true)) → (q ≡ true → (s ≡ true) × (u ≡ true))
     → (((r && a) && s) && b) && ((((t && c) && u) && d) && (p && q)) ≡ (((p && (a && c)) && q) && (b && d))
-tests false q a b c d r s t u h k = ap (λ x. (((r && a) && s) && b) && x) (nothing (((t && c) && u) && d)) ∙ nothing (((r && a) && s) && b)
+tests false q a b c d r s t u h k = ap (λ x. (((r && a) && s) && b) && x) (and-false (((t && c) && u) && d)) ∙ and-false (((r && a) && s) && b)
 tests true false a b c d r s t u h k =
-    ap (λ x. (((r && a) && s) && b) && x) (nothing (((t && c) && u) && d)) ∙ nothing (((r && a) && s) && b) ∙ sym (ap (λ x. x && (b && d)) (nothing (a && c)))
+    ap (λ x. (((r && a) && s) && b) && x) (and-false (((t && c) && u) && d)) ∙ and-false (((r && a) && s) && b) ∙ sym (ap (λ x. x && (b && d)) (and-false (a && c)))
 tests true true a b c d r s t u h k = rw ((h refl).0, (h refl).1, (k refl).0, (k refl).1) (four a b c d)
 
 -- a box finds a pair that it owns, and no other

@@ -7,11 +7,8 @@ use Rattle.std.proofs.lemmas.List.Concat.{flat_map-append}
 use Rattle.std.proofs.lemmas.List.Edits.{swap_is}
 use Rattle.std.proofs.lemmas.List.Folds.{flat_map-map}
 use Rattle.std.proofs.lemmas.List.Sorted.{IsPermutation-refl, IsPermutation-trans, IsPermutation-keeps, IsPermutation-append_comm, IsPermutation-append_left, IsPermutation-append_right, IsPermutation-append, IsPermutation-map}
+use Rattle.basics.proofs.Lists.{flat_both, flat_nothing}
 use Rattle.table_model.specs.Meanings.{product}
-use Rattle.table_laws.proofs.TileLists.{flat_both, flat_nothing}
-
-equal_is_permuted : {X : Type 0} {xs ys : List X} → xs ≡ ys → IsPermutation xs ys
-equal_is_permuted {ys = ys} e = rw e (IsPermutation-refl ys)
 
 -- of three lists the first two change places
 turned : {X : Type 0} (a b c : List X) → IsPermutation (a ++ (b ++ c)) (b ++ (a ++ c))

@@ -1,6 +1,6 @@
 -- A table that loads has the rows of a table.
 use Rattle.std.specs.Prelude.{◌≡◌, ◌≢◌, ◌≤◌, ◌+◌, ℕ, ℤ, zero, suc, Bool, true, false, if◌then◌else◌, not, nat_lt, ◌==◌, length, List, [], ◌∷◌, Option, Some, None, Result, Ok, Err, drop, map, ok_or, option_map, slice_get, unwrap_or, zip, refl}
-use Rattle.std.proofs.Common.{◌∙◌, ap, arith, subst, sym}
+use Rattle.std.proofs.Common.{◌∙◌, ap, arith, subst, sym, zero-add}
 use Rattle.std.proofs.lemmas.Bool.{and_parts, ltb-false}
 use Rattle.std.specs.List.{enumerate_from}
 use Rattle.std.specs.Str.{is_utf8}
@@ -189,11 +189,8 @@ length-by_key key (row ∷ rows) = length-insert key row (by_key key rows) ∙ a
 whole-row : {T G : Type 0} (takes : Takes T G) (table : TableDef T) (row : Row G) → IsRowFrom takes table 0 table.columns row → IsRow takes table row
 whole-row {T = T} {G = G} takes table row h = record { width = h.width; typed = typed }
   where
-    from_zero : (place : ℕ) → 0 + place ≡ place
-    from_zero place = omega arith
-
     typed : (place : ℕ) (c : ColumnDef T) (v : Value G) → slice_get table.columns place ≡ Some c → slice_get row place ≡ Some v → IsFor takes c.column_type (is_required table (place, c)) v
-    typed place c v is here = subst (λ (k : ℕ). IsFor takes c.column_type (is_required table (k, c)) v) (from_zero place) (h.typed place c v is here)
+    typed place c v is here = subst (λ (k : ℕ). IsFor takes c.column_type (is_required table (k, c)) v) (zero-add place) (h.typed place c v is here)
 
 -- so rows for all of them are the table's rows
 each-row : {T G : Type 0} (takes : Takes T G) (table : TableDef T) (rows : List (Row G)) → Each (IsRowFrom takes table 0 table.columns) rows → Each (IsRow takes table) rows

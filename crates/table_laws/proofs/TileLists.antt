@@ -1,11 +1,14 @@
 -- Lists cut into parts: pairs of tiles are pairs of the whole that a test keeps, and what exactly one cell keeps is kept once.
 use Rattle.std.specs.Prelude.{◌≡◌, refl, ℕ, suc, ◌+◌, Bool, true, false, cond, ◌&&◌, List, [], ◌∷◌, ◌++◌, map, filter, flat_map, replicate, slice_index_or, All, count_by, IsPermutation}
-use Rattle.std.proofs.Common.{arith, ap, ap₂, ◌∙◌, sym, append_assoc}
+use Rattle.std.proofs.Common.{arith, ap, ap₂, ◌∙◌, sym, zero-add}
 use Rattle.std.proofs.lemmas.List.{map-append}
 use Rattle.std.proofs.lemmas.List.Elements.{All-nil, All-head, All-tail, All-append, All-map, filter-append}
-use Rattle.std.proofs.lemmas.List.Sorted.{IsPermutation-refl, IsPermutation-trans, IsPermutation-append_comm, IsPermutation-append_left, IsPermutation-append_right}
+use Rattle.std.proofs.lemmas.List.Sorted.{IsPermutation-refl, IsPermutation-trans, IsPermutation-append_right}
 use Rattle.std.proofs.lemmas.List.Sums.{sum_by-cons}
+use Rattle.std.proofs.lemmas.List.Concat.{flat_map_single}
+use mathlib.Core.List.{map-map}
 use mathlib.Core.Path.{fun_ext}
+use Rattle.basics.proofs.Lists.{flat_nothing, flat_both}
 use Rattle.table_model.specs.Meanings.{product}
 
 -- ---- pairs
@@ -14,21 +17,13 @@ use Rattle.table_model.specs.Meanings.{product}
 abbrev pub pairs : {X : Type 0} → List X → List X → List (List X)
 pairs xs ys = flat_map (λ x. map (λ y. x ∷ y ∷ []) ys) xs
 
-alone : {X Y : Type 0} (f : X → Y) (xs : List X) → flat_map (λ x. f x ∷ []) xs ≡ map f xs
-alone f [] = refl
-alone f (x ∷ xs) = ap (λ ys. f x ∷ ys) (alone f xs)
-
-pub map_twice : {X Y Z : Type 0} (f : Y → Z) (g : X → Y) (xs : List X) → map f (map g xs) ≡ map (λ x. f (g x)) xs
-map_twice f g [] = refl
-map_twice f g (x ∷ xs) = ap (λ ys. f (g x) ∷ ys) (map_twice f g xs)
-
 -- the product of one list has each element alone
 pub product_of_one : {X : Type 0} (xs : List X) → product (xs ∷ []) ≡ map (λ x. x ∷ []) xs
-product_of_one xs = alone (λ x. x ∷ []) xs
+product_of_one xs = flat_map_single (λ x. x ∷ []) xs
 
 -- the product of two lists are their pairs
 pub product_of_two : {X : Type 0} (xs ys : List X) → product (xs ∷ ys ∷ []) ≡ pairs xs ys
-product_of_two xs ys = ap (λ f. flat_map f xs) (fun_ext (λ x. ap (map (λ choice. x ∷ choice)) (product_of_one ys) ∙ map_twice (λ choice. x ∷ choice) (λ y. y ∷ []) ys))
+product_of_two xs ys = ap (λ f. flat_map f xs) (fun_ext (λ x. ap (map (λ choice. x ∷ choice)) (product_of_one ys) ∙ map-map (λ choice. x ∷ choice) (λ y. y ∷ []) ys))
 
 -- what pairs of elements have, the list of pairs has
 pub all_pairs : {X : Type 0} (P Q : X → Type 0) (R : List X → Type 0) (xs ys : List X) → ((x y : X) → P x → Q y → R (x ∷ y ∷ [])) → All P xs → All Q ys → All R (pairs xs ys)
@@ -89,25 +84,6 @@ module _ {X : Type 0} (d : X) (p q : X → Bool) (m n u : X → X) (test : List 
 
 -- ---- cells
 
--- of four lists the two in the middle change places
-exchange : {X : Type 0} (a b c d : List X) → IsPermutation ((a ++ b) ++ (c ++ d)) ((a ++ c) ++ (b ++ d))
-exchange a b c d =
-    let inner : IsPermutation (b ++ (c ++ d)) (c ++ (b ++ d)) = rw (sym (append_assoc b c d), sym (append_assoc c b d)) (IsPermutation-append_left d (b ++ c) (c ++ b) (IsPermutation-append_comm b c)) in
-    rw (append_assoc a b (c ++ d), append_assoc a c (b ++ d)) (IsPermutation-append_right a (b ++ (c ++ d)) (c ++ (b ++ d)) inner)
-
--- two lists made for each element, one after another or apart
-pub flat_both : {X Y : Type 0} (f g : X → List Y) (xs : List X) → IsPermutation (flat_map (λ x. f x ++ g x) xs) (flat_map f xs ++ flat_map g xs)
-flat_both f g [] = IsPermutation-refl []
-flat_both f g (x ∷ xs) =
-    IsPermutation-trans ((f x ++ g x) ++ flat_map (λ y. f y ++ g y) xs) ((f x ++ g x) ++ (flat_map f xs ++ flat_map g xs)) ((f x ++ flat_map f xs) ++ (g x ++ flat_map g xs))
-    (IsPermutation-append_right (f x ++ g x) (flat_map (λ y. f y ++ g y) xs) (flat_map f xs ++ flat_map g xs) (flat_both f g xs))
-    (exchange (f x) (g x) (flat_map f xs) (flat_map g xs))
-
--- nothing for each element is nothing
-pub flat_nothing : {X Y : Type 0} (xs : List X) → flat_map {A = Y} (λ x. []) xs ≡ []
-flat_nothing [] = refl
-flat_nothing (x ∷ xs) = flat_nothing xs
-
 -- an element is there as often as cells keep it
 copies : {C X : Type 0} (keep : C → Bool) (z : X) (cells : List C) → flat_map (λ c. cond (keep c) (z ∷ []) []) cells ≡ replicate (count_by keep cells) z
 copies keep z [] = refl
@@ -116,13 +92,10 @@ copies {C = C} keep z (c ∷ cells) = go (keep c) (copies keep z cells) ∙ sym 
     more : (n : ℕ) → 1 + n ≡ suc n
     more n = omega arith
 
-    less : (n : ℕ) → 0 + n ≡ n
-    less n = omega arith
-
     go : (b : Bool) → flat_map (λ e. cond (keep e) (z ∷ []) []) cells ≡ replicate (count_by keep cells) z
         → cond b (z ∷ []) [] ++ flat_map (λ e. cond (keep e) (z ∷ []) []) cells ≡ replicate (cond b 1 0 + count_by keep cells) z
     go true h = ap (λ zs. z ∷ zs) h ∙ sym (ap (λ n. replicate n z) (more (count_by keep cells)))
-    go false h = h ∙ sym (ap (λ n. replicate n z) (less (count_by keep cells)))
+    go false h = h ∙ sym (ap (λ n. replicate n z) (zero-add (count_by keep cells)))
 
 -- what each cell keeps of a list is, in some order, what passes, where exactly one cell keeps what passes and none what doesn't
 pub kept_once : {C X : Type 0} (keep : C → X → Bool) (test : X → Bool) (cells : List C) (zs : List X) → All (λ z. count_by (λ c. keep c z) cells ≡ cond (test z) 1 0) zs

@@ -13,6 +13,8 @@ use Rattle.std.proofs.lemmas.List.{length-map, take-map}
 use Rattle.std.proofs.lemmas.List.Sorted.{All-permutation, IsPermutation-sym, length_permutation}
 use Rattle.std.proofs.lemmas.List.Sums.{AllPass-from_list_all, list_all-from_AllPass, sum_by-cons}
 use Rattle.std.proofs.lemmas.Option.{slice_get-get_or}
+use Rattle.std.proofs.lemmas.List.Folds.{list_all-append}
+use mathlib.Core.List.{map-map}
 use mathlib.Core.Path.{fun_ext}
 use Rattle.geometry_model.specs.Dimensions.{Matrix}
 use Rattle.geometry_model.specs.Envelopes.{Envelope, envelope, meets}
@@ -57,7 +59,7 @@ use Rattle.table_laws.proofs.KeyOrder.{RowFacts, row_facts, comes_once, product_
 use Rattle.table_laws.proofs.MarkFacts.{fields_behind_are_unseen, owner_conjunct_keeps}
 use Rattle.table_laws.proofs.Merging.{merged, uncounted, counted}
 use Rattle.table_laws.proofs.OwnerFacts.{pairs_are_once}
-use Rattle.table_laws.proofs.TileLists.{pairs, map_twice, product_of_two, all_pairs, tested, pairs_of_tiles, kept_once}
+use Rattle.table_laws.proofs.TileLists.{pairs, product_of_two, all_pairs, tested, pairs_of_tiles, kept_once}
 
 -- ---- conjuncts
 
@@ -67,15 +69,6 @@ same_tests test xs ys p =
     both_ways (list_all test xs) (list_all test ys)
     (λ h. list_all-from_AllPass test ys (All-permutation (λ x. test x ≡ true) xs ys p (AllPass-from_list_all test xs h)))
     (λ h. list_all-from_AllPass test xs (All-permutation (λ x. test x ≡ true) ys xs (IsPermutation-sym xs ys p) (AllPass-from_list_all test ys h)))
-
--- those of two lists are all true where both lists' are
-both_lists : {X : Type 0} (test : X → Bool) (xs ys : List X) → list_all test (xs ++ ys) ≡ (list_all test xs && list_all test ys)
-both_lists test [] ys = refl
-both_lists {X = X} test (x ∷ xs) ys = go (test x) (both_lists test xs ys)
-  where
-    go : (b : Bool) → list_all test (xs ++ ys) ≡ (list_all test xs && list_all test ys) → (b && list_all test (xs ++ ys)) ≡ ((b && list_all test xs) && list_all test ys)
-    go true h = h
-    go false h = refl
 
 -- conjuncts that fit are all true at rows with more fields behind where they are at the rows
 same_conjuncts : (matrix : Geometry → Geometry → Matrix) (rows others : Rows Geometry) (cs : List (Cond Argument)) → All (λ c. truth matrix denoted others c ≡ truth matrix denoted rows c) cs
@@ -216,7 +209,7 @@ module _ (matrix : Geometry → Geometry → Matrix) (boxes : List Envelope) (wh
       let owner = owner_conjunct (length (columns_of whole.definitions first)) (length (columns_of whole.definitions second)) in
       let wide : AllZip (IsWide whole.definitions) query.references (x ∷ y ∷ []) = rw is.references (v.width, (w.width, tt)) in
       same_tests (λ c. is_true (truth matrix denoted others c)) (by_conjuncts tile_query).conjuncts ((by_conjuncts query).conjuncts ++ conjuncts_of owner) is.over.conjuncts
-      ∙ both_lists (λ c. is_true (truth matrix denoted others c)) (by_conjuncts query).conjuncts (conjuncts_of owner)
+      ∙ list_all-append (λ c. is_true (truth matrix denoted others c)) (by_conjuncts query).conjuncts (conjuncts_of owner)
       ∙ ap₂ (λ s t. s && t)
       (same_conjuncts matrix (x ∷ y ∷ []) others (by_conjuncts query).conjuncts
       (All-weaker (λ c. cond_fits geometry_fits whole.definitions query.references c ≡ true) (λ c. truth matrix denoted others c ≡ truth matrix denoted (x ∷ y ∷ []) c)
@@ -289,7 +282,7 @@ module _ (matrix : Geometry → Geometry → Matrix) (boxes : List Envelope) (wh
       let tiles = tiles_in whole first second first_column second_column cell in
       ap (λ test. rows_of_tiles (filter test (product (referenced tiles tile_query.references)))) (fun_ext (λ rows. sym (conjuncts_are_filtered Geometry Argument ColumnPlace matrix denoted rows tile_query)))
       ∙ ap (λ list. rows_of_tiles (filter passes_tiles (product list)))
-      (sym (map_twice (λ k. slice_index_or tiles k []) (λ (r : Reference). r.table) tile_query.references) ∙ ap (map (λ k. slice_index_or tiles k [])) is.over.references)
+      (sym (map-map (λ k. slice_index_or tiles k []) (λ (r : Reference). r.table) tile_query.references) ∙ ap (map (λ k. slice_index_or tiles k [])) is.over.references)
       ∙ ap (λ list. rows_of_tiles (filter passes_tiles list)) (product_of_two (tile_of cell first_column one) (tile_of cell second_column two))
       ∙ pairs_of_tiles [] (λ row. is_copied cell (geometry_at first_column row)) (λ row. is_copied cell (geometry_at second_column row)) (marked cell first_column) (marked cell second_column) without_marks passes_tiles
       (λ row. unmark row (marks cell (option_and_then envelope (geometry_at first_column row))) refl)

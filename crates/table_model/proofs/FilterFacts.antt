@@ -1,10 +1,10 @@
 -- Each conjunct is once among the filters.
 use Rattle.std.specs.Prelude.{◌≡◌, refl, ℕ, suc, zero, ◌+◌, ◌<◌, ◌≤◌, ◌≢◌, ◌⊎◌, Bool, true, false, cond, if◌then◌else◌, ◌==◌, List, [], ◌∷◌, length, get_or, sum_by, count_by, flat_map, filter_map, Some, None}
 use Rattle.std.specs.List.{enumerate_from, range_with_len, cons_option}
-use Rattle.std.proofs.Common.{arith, ap, ◌∙◌, sym, inl, inr}
+use Rattle.std.proofs.Common.{arith, ap, ◌∙◌, sym, inl, inr, zero-add, eq-eqb}
 use mathlib.Core.Path.{fun_ext}
 use Rattle.std.proofs.lemmas.Bool.{ltb-true, ltb-false}
-use Rattle.std.proofs.lemmas.List.Sums.{sum_by-cons, sum_by-append}
+use Rattle.std.proofs.lemmas.List.Sums.{sum_by-cons, sum_by-append, get_or-le-sum_by}
 use Rattle.std.specs.Prelude.{nat_lt}
 use Rattle.table_model.specs.Plans.{places_where, filters, possible_counts, predicate_count}
 use Rattle.table_model.specs.declared.conditions.Cond.{Cond}
@@ -23,14 +23,8 @@ times-cons k j ks = sum_by-cons (λ i. cond (i == k) 1 0) j ks
 differ : (j k : ℕ) → j ≢ k → (j == k) ≡ false
 differ j k h = grind arith
 
-equal : (j k : ℕ) → j ≡ k → (j == k) ≡ true
-equal j k e = grind arith
-
 equal_or_less : (a c : ℕ) → a ≤ c → (c ≡ a) ⊎ (a < c)
 equal_or_less a c l = grind arith
-
-zero_add : (n : ℕ) → 0 + n ≡ n
-zero_add n = omega arith
 
 next : (m k : ℕ) → m + suc k ≡ m + 1 + k
 next m k = omega arith
@@ -41,7 +35,7 @@ counted k j ks n e h = times-cons k j ks ∙ ap (λ b. (if b then 1 else 0) + ti
 
 -- a first place that is another one adds nothing
 passed : (k j : ℕ) (ks : List ℕ) (n : ℕ) → (j == k) ≡ false → times k ks ≡ n → times k (j ∷ ks) ≡ n
-passed k j ks n e h = times-cons k j ks ∙ ap (λ b. (if b then 1 else 0) + times k ks) e ∙ zero_add (times k ks) ∙ h
+passed k j ks n e h = times-cons k j ks ∙ ap (λ b. (if b then 1 else 0) + times k ks) e ∙ zero-add (times k ks) ∙ h
 
 -- a place before all of them is nowhere
 none_before : {X : Type 0} (test : X → Bool) (xs : List X) (m k : ℕ) → k < m → times k (places_from m test xs) ≡ 0
@@ -58,7 +52,7 @@ once test [] m k d l = absurd (omega (arith, l))
 once test (x ∷ xs) m zero d l = go (test x) (none_before test xs (m + 1) (m + 0) (omega arith))
   where
     go : (b : Bool) → times (m + 0) (places_from (m + 1) test xs) ≡ 0 → times (m + 0) (cons_option (if b then Some m else None) (places_from (m + 1) test xs)) ≡ (if b then 1 else 0)
-    go true rest = counted (m + 0) m (places_from (m + 1) test xs) 0 (equal m (m + 0) (omega arith)) rest
+    go true rest = counted (m + 0) m (places_from (m + 1) test xs) 0 (eq-eqb m (m + 0) (omega arith)) rest
     go false rest = rest
 once test (x ∷ xs) m (suc k) d l = go (test x) (if test (get_or xs k d) then 1 else 0) (ap (λ j. times j (places_from (m + 1) test xs)) (next m k) ∙ once test xs (m + 1) k d (omega (arith, l)))
   where
@@ -87,26 +81,20 @@ met c a (suc n) l m = go (equal_or_less a c l) (λ h. met c (a + 1) n h (omega (
     go : (c ≡ a) ⊎ (a < c) → (a + 1 ≤ c → sum_by (λ i. if c == i then 1 else 0) (range_with_len (a + 1) n) ≡ 1) → sum_by (λ i. if c == i then 1 else 0) (range_with_len a (suc n)) ≡ 1
     go (inl e) h =
         sum_by-cons (λ i. if c == i then 1 else 0) a (range_with_len (a + 1) n)
-        ∙ ap (λ b. (if b then 1 else 0) + sum_by (λ i. if c == i then 1 else 0) (range_with_len (a + 1) n)) (equal c a e)
+        ∙ ap (λ b. (if b then 1 else 0) + sum_by (λ i. if c == i then 1 else 0) (range_with_len (a + 1) n)) (eq-eqb c a e)
         ∙ ap (λ t. 1 + t) (missed c (a + 1) n (omega (arith, e)))
     go (inr less) h =
         sum_by-cons (λ i. if c == i then 1 else 0) a (range_with_len (a + 1) n)
         ∙ ap (λ b. (if b then 1 else 0) + sum_by (λ i. if c == i then 1 else 0) (range_with_len (a + 1) n)) (differ c a (omega (arith, less)))
         ∙ ap (λ t. 0 + t) (h (omega (arith, less)))
 
--- each part of a sum is at most the sum
-part_of_sum : {X : Type 0} (f : X → ℕ) (xs : List X) (k : ℕ) (d : X) → k < length xs → f (get_or xs k d) ≤ sum_by f xs
-part_of_sum f [] k d l = absurd (omega (arith, l))
-part_of_sum f (x ∷ xs) zero d l = omega (arith, sum_by-cons f x xs)
-part_of_sum f (x ∷ xs) (suc k) d l = omega (arith, sum_by-cons f x xs, part_of_sum f xs k d (omega (arith, l)))
-
 -- each conjunct is once among the filters
 filters_once : {A : Type 0} (conjuncts : List (Cond A)) (k : ℕ) → k < length conjuncts → times k (filters conjuncts) ≡ 1
 filters_once [] k l = absurd (omega (arith, l))
 filters_once {A = A} (c ∷ cs) k l =
     times-flat_map k (λ n. places_where (λ e. predicate_count e == n) (c ∷ cs)) (possible_counts (c ∷ cs))
-    ∙ ap (λ f. sum_by f (possible_counts (c ∷ cs))) (fun_ext (λ n. ap (λ j. times j (places_where (λ e. predicate_count e == n) (c ∷ cs))) (sym (zero_add k)) ∙ once (λ e. predicate_count e == n) (c ∷ cs) 0 k c l))
-    ∙ met (predicate_count (get_or (c ∷ cs) k c)) 0 (sum_by predicate_count (c ∷ cs) + 1) (omega arith) (omega (arith, part_of_sum predicate_count (c ∷ cs) k c l))
+    ∙ ap (λ f. sum_by f (possible_counts (c ∷ cs))) (fun_ext (λ n. ap (λ j. times j (places_where (λ e. predicate_count e == n) (c ∷ cs))) (sym (zero-add k)) ∙ once (λ e. predicate_count e == n) (c ∷ cs) 0 k c l))
+    ∙ met (predicate_count (get_or (c ∷ cs) k c)) 0 (sum_by predicate_count (c ∷ cs) + 1) (omega arith) (omega (arith, get_or-le-sum_by predicate_count (c ∷ cs) k c l))
 
 -- a place behind all of them is nowhere
 none_behind : {X : Type 0} (test : X → Bool) (xs : List X) (m k : ℕ) → m + length xs ≤ k → times k (places_from m test xs) ≡ 0
@@ -119,7 +107,7 @@ none_behind test (x ∷ xs) m k l = go (test x) (none_behind test xs (m + 1) k (
 
 zeros : (ns : List ℕ) → sum_by (λ n. 0) ns ≡ 0
 zeros [] = refl
-zeros (n ∷ ns) = sum_by-cons (λ n. 0) n ns ∙ zero_add (sum_by (λ n. 0) ns) ∙ zeros ns
+zeros (n ∷ ns) = sum_by-cons (λ n. 0) n ns ∙ zero-add (sum_by (λ n. 0) ns) ∙ zeros ns
 
 -- a number past all conjuncts is nowhere among the filters
 filters_none : {A : Type 0} (conjuncts : List (Cond A)) (k : ℕ) → length conjuncts ≤ k → times k (filters conjuncts) ≡ 0

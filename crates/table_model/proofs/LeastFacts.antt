@@ -1,9 +1,10 @@
 -- The first element of a list whose number is least.
 use Rattle.std.specs.Prelude.{◌≡◌, refl, ℕ, ◌<◌, ◌≤◌, Bool, true, false, cond, nat_le, List, [], ◌∷◌, ◌++◌, length, All, Contains, find, Option, Some, None, unwrap_or, IsSome, ◌⊎◌}
 use Rattle.std.specs.List.{list_all}
-use Rattle.std.proofs.Common.{arith, ap, ◌∙◌, sym, inl, inr}
+use Rattle.std.proofs.Common.{arith, ap, ◌∙◌, sym, inl, inr, le-leb, leb-true}
 use Rattle.std.proofs.lemmas.List.Elements.{All-nil, All-cons, All-head, All-tail, All-weaker, All-contains, Contains-append_right}
 use Rattle.std.proofs.lemmas.List.Sums.{AllPass-from_list_all, list_all-from_AllPass}
+use Rattle.std.proofs.lemmas.Bool.{cases_lt}
 use Rattle.table_model.specs.Plans.{first_of_least}
 use Rattle.table_model.specs.PlanLaws.{IsFirstOfLeast}
 
@@ -42,26 +43,17 @@ found {X = X} test (y ∷ ys) x e = go (test y) refl e (found test ys x)
 pub between : {X : Type 0} (xs before after : List X) (x : X) → xs ≡ before ++ x ∷ after → Contains xs x
 between xs before after x e = rw e (Contains-append_right before (x ∷ after) x (0, omega arith, refl))
 
-at_most : (a b : ℕ) → nat_le a b ≡ true → a ≤ b
-at_most a b e = grind arith
-
-at_most_test : (a b : ℕ) → a ≤ b → nat_le a b ≡ true
-at_most_test a b e = grind arith
-
 -- the test of what none undercuts
 pub bound : {X : Type 0} (number : X → ℕ) (xs : List X) (x : X) → list_all (λ y. nat_le (number x) (number y)) xs ≡ true → All (λ y. number x ≤ number y) xs
-bound number xs x e = All-weaker (λ y. nat_le (number x) (number y) ≡ true) (λ y. number x ≤ number y) (λ y t. at_most (number x) (number y) t) xs (AllPass-from_list_all (λ y. nat_le (number x) (number y)) xs e)
+bound number xs x e = All-weaker (λ y. nat_le (number x) (number y) ≡ true) (λ y. number x ≤ number y) (λ y t. leb-true (number x) (number y) t) xs (AllPass-from_list_all (λ y. nat_le (number x) (number y)) xs e)
 
 -- and the other way round
 pub bound_test : {X : Type 0} (number : X → ℕ) (xs : List X) (x : X) → All (λ y. number x ≤ number y) xs → list_all (λ y. nat_le (number x) (number y)) xs ≡ true
-bound_test number xs x h = list_all-from_AllPass (λ y. nat_le (number x) (number y)) xs (All-weaker (λ y. number x ≤ number y) (λ y. nat_le (number x) (number y) ≡ true) (λ y t. at_most_test (number x) (number y) t) xs h)
-
-less_or_not : (a b : ℕ) → (a < b) ⊎ (b ≤ a)
-less_or_not a b = grind arith
+bound_test number xs x h = list_all-from_AllPass (λ y. nat_le (number x) (number y)) xs (All-weaker (λ y. number x ≤ number y) (λ y. nat_le (number x) (number y) ≡ true) (λ y t. le-leb (number x) (number y) t) xs h)
 
 -- what fails the test has more than what passes it
 more : {X : Type 0} (number : X → ℕ) (xs : List X) (x y : X) → All (λ z. number x ≤ number z) xs → list_all (λ z. nat_le (number y) (number z)) xs ≡ false → number x < number y
-more number xs x y h fails = go (less_or_not (number x) (number y))
+more number xs x y h fails = go (cases_lt (number x) (number y))
   where
     go : (number x < number y) ⊎ (number y ≤ number x) → number x < number y
     go (inl l) = l
@@ -126,7 +118,7 @@ least_there number x (y ∷ ys) = go (least_there number y ys)
     }
 
     go : Least number (y ∷ ys) → Least number (x ∷ y ∷ ys)
-    go r = pick r (less_or_not (number x) (number r.least))
+    go r = pick r (cases_lt (number x) (number r.least))
 
 -- where nothing is found all fail the test
 none_found : {X : Type 0} (test : X → Bool) (xs : List X) → find test xs ≡ None → All (λ y. test y ≡ false) xs

@@ -1,9 +1,8 @@
 -- Texts that share a front, read from their beginning: the second ends with the fault of its number.
-use Rattle.std.proofs.Common.{◌≡◌, refl, ap, ◌∙◌, subst, ℕ, zero, suc, ◌-◌, ◌==◌, inl, inr, false, List, [], ◌∷◌, ◌++◌, length, Result, Ok, Err, codes, if◌then◌else◌, suc-ne-zero}
-use Rattle.std.proofs.lemmas.Bool.{false_from_ne_true}
-use Rattle.std.proofs.lemmas.Bool.Decides.{Decides-eqb}
+use Rattle.std.proofs.Common.{◌≡◌, refl, ap, ◌∙◌, subst, ℕ, zero, suc, ◌-◌, ◌==◌, inl, inr, false, List, [], ◌∷◌, ◌++◌, length, Result, Ok, Err, codes, if◌then◌else◌}
 use Rattle.std.specs.Char.{is_ascii_alphabetic}
 use Rattle.std.specs.Str.{str_eq_ignore_ascii_case}
+use Rattle.basics.proofs.Numbers.{next_not_zero}
 use Rattle.geometry_model.specs.Points.{Position}
 use Rattle.geometry_model.specs.Geometries.{Geometry, Point, MultiPoint, LineString, MultiLineString, Polygon, MultiPolygon}
 use Rattle.geometry_model.specs.WellKnownText.{is_white, position_limit, part_limit}
@@ -126,16 +125,13 @@ tagged_follows f = then_on f ⊥ place (λ at. run is_ascii_alphabetic >>= λ na
 abbrev ended : Geometry → Reader Geometry
 ended g = end >> pure g
 
-not_zero : (n : ℕ) → (suc n == 0) ≡ false
-not_zero n = false_from_ne_true (suc n == 0) (λ e. suc-ne-zero n ((Decides-eqb (suc n) 0).0 e))
-
 -- the first reading can't end behind the front: the plus is still there
 not_at_end : (f : Fork) (g : Geometry) (i : Input) (front : List ℕ) → i.left ≡ front ++ plus f → IfRead (ended g i) (λ _ _. ⊥)
 not_at_end f g i front e = rw (ap (λ l. length l == 0) e ∙ long front) tt
   where
     long : (xs : List ℕ) → (length (xs ++ plus f) == 0) ≡ false
-    long [] = not_zero (length f.more)
-    long (x ∷ xs) = not_zero (length (xs ++ plus f))
+    long [] = next_not_zero (length f.more)
+    long (x ∷ xs) = next_not_zero (length (xs ++ plus f))
 
 -- a first reading that ended its text can't be at the plus, and the second can't have found the same: so it met the fault
 closed : (f : Fork) (r q : Result (Geometry × Input) TextFault) (found : Geometry × Input) → Alike f ⊥ r q → and_then r ended ≡ Ok found → and_then q ended ≡ Err f.fault

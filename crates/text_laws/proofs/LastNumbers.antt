@@ -2,11 +2,12 @@
 use Rattle.std.proofs.Common.{◌≡◌, refl, sym, ap, ◌∙◌, subst, ℕ, ◌+◌, ◌<◌, ◌==◌, ◌||◌, ◌⊎◌, inl, inr, Bool, true, false, List, [], ◌∷◌, ◌++◌, length, append_assoc, arith}
 use Rattle.std.specs.List.{list_all, list_any}
 use Rattle.std.specs.Char.{is_ascii_digit}
-use Rattle.std.proofs.lemmas.Bool.{true≢false, and_parts, or_parts}
+use Rattle.std.proofs.lemmas.Bool.{true≢false, and_parts, or_parts, or_cases, or_left, or_right}
+use Rattle.basics.proofs.Lists.{any_behind}
 use Rattle.geometry_model.specs.Points.{Position}
 use Rattle.geometry_model.specs.WellKnownText.{◌⨾◌, Blank, Padded, Sign, Fraction, Numeral, PositionText, is_white}
 use Rattle.text_laws.proofs.TextSteps.{Took, apart}
-use Rattle.text_laws.proofs.OpenParts.{or_last, any_within, head_of, tail_of}
+use Rattle.text_laws.proofs.OpenParts.{any_within, head_of, tail_of}
 
 -- what is in the place of a number pair
 abbrev pub pair : List ℕ → List ℕ
@@ -77,25 +78,13 @@ within (x ∷ xs) (p ∷ P) c V closing k e has none = go (within xs P c V closi
     go b = record { rest = b.rest; front_is = ap (λ z. z ∷ xs) (head_of x p (xs ++ pair closing) (P ++ (c ∷ V)) e) ∙ ap (λ l. p ∷ l) b.front_is; left_is = b.left_is }
 
 -- ---- digits of texts put together
-or_first : (a b : Bool) → a ≡ true → (a || b) ≡ true
-or_first true b e = refl
-or_first false b e = absurd (true≢false (sym e))
-
-or_either : (a b : Bool) → (a || b) ≡ true → (a ≡ true) ⊎ (b ≡ true)
-or_either true b e = inl refl
-or_either false b e = inr e
-
 pub any_left : (test : ℕ → Bool) (xs ys : List ℕ) → list_any test xs ≡ true → list_any test (xs ++ ys) ≡ true
 any_left test [] ys e = absurd (true≢false (sym e))
-any_left test (x ∷ xs) ys e = go (or_either (test x) (list_any test xs) e) (any_left test xs ys)
+any_left test (x ∷ xs) ys e = go (or_cases (test x) (list_any test xs) e) (any_left test xs ys)
   where
     go : (test x ≡ true) ⊎ (list_any test xs ≡ true) → (list_any test xs ≡ true → list_any test (xs ++ ys) ≡ true) → (test x || list_any test (xs ++ ys)) ≡ true
-    go (inl h) again = or_first (test x) (list_any test (xs ++ ys)) h
-    go (inr h) again = or_last (test x) (list_any test (xs ++ ys)) (again h)
-
-pub any_right : (test : ℕ → Bool) (xs ys : List ℕ) → list_any test ys ≡ true → list_any test (xs ++ ys) ≡ true
-any_right test [] ys e = e
-any_right test (x ∷ xs) ys e = or_last (test x) (list_any test (xs ++ ys)) (any_right test xs ys e)
+    go (inl h) again = or_left (test x) (list_any test (xs ++ ys)) h
+    go (inr h) again = or_right (test x) (list_any test (xs ++ ys)) (again h)
 
 pub none_of_both : (test : ℕ → Bool) (xs ys : List ℕ) → list_any test xs ≡ false → list_any test ys ≡ false → list_any test (xs ++ ys) ≡ false
 none_of_both test [] ys e f = f
@@ -113,7 +102,7 @@ blank_no_digit (w ∷ ws) all = let parts = and_parts (is_white w) (list_all is_
 -- digits, where there are any, have a digit
 some_digit : (digits : List ℕ) → 0 < length digits → list_all is_ascii_digit digits ≡ true → HasDigit digits
 some_digit [] long all = absurd (omega (arith, long))
-some_digit (d ∷ ds) long all = or_first (is_ascii_digit d) (list_any is_ascii_digit ds) (and_parts (is_ascii_digit d) (list_all is_ascii_digit ds) all).0
+some_digit (d ∷ ds) long all = or_left (is_ascii_digit d) (list_any is_ascii_digit ds) (and_parts (is_ascii_digit d) (list_all is_ascii_digit ds) all).0
 
 -- so has a fraction that isn't empty
 fraction_digit : (fraction text : List ℕ) → Fraction fraction text → 0 < length fraction → HasDigit text
@@ -122,12 +111,12 @@ fraction_digit fraction text (inr e) long = subst HasDigit (sym (e.2 ∙ ap (λ 
 
 -- a number has a digit, before its point or behind it
 number_digit : (minus : Bool) (integer digits text : List ℕ) → Numeral minus integer digits text → HasDigit text
-number_digit minus [] digits text t = subst HasDigit (sym (t.0.2 ∙ ap (λ u. t.0.0 ++ u) t.0.4.2)) (any_right is_ascii_digit t.0.0 (t.0.4.0 ++ t.0.4.1) (any_right is_ascii_digit t.0.4.0 t.0.4.1 (fraction_digit digits t.0.4.1 t.0.4.4 (positive (length digits) t.1))))
+number_digit minus [] digits text t = subst HasDigit (sym (t.0.2 ∙ ap (λ u. t.0.0 ++ u) t.0.4.2)) (any_behind is_ascii_digit t.0.0 (t.0.4.0 ++ t.0.4.1) (any_behind is_ascii_digit t.0.4.0 t.0.4.1 (fraction_digit digits t.0.4.1 t.0.4.4 (positive (length digits) t.1))))
   where
     positive : (n : ℕ) → 0 < 0 + n → 0 < n
     positive n e = omega (arith, e)
-number_digit minus (d ∷ ds) digits text t = subst HasDigit (sym (t.0.2 ∙ ap (λ u. t.0.0 ++ u) t.0.4.2)) (any_right is_ascii_digit t.0.0 (t.0.4.0 ++ t.0.4.1) (any_left is_ascii_digit t.0.4.0 t.0.4.1
-    (subst HasDigit (sym t.0.4.3.0) (or_first (is_ascii_digit d) (list_any is_ascii_digit ds) (and_parts (is_ascii_digit d) (list_all is_ascii_digit ds) t.0.4.3.1).0))))
+number_digit minus (d ∷ ds) digits text t = subst HasDigit (sym (t.0.2 ∙ ap (λ u. t.0.0 ++ u) t.0.4.2)) (any_behind is_ascii_digit t.0.0 (t.0.4.0 ++ t.0.4.1) (any_left is_ascii_digit t.0.4.0 t.0.4.1
+    (subst HasDigit (sym t.0.4.3.0) (or_left (is_ascii_digit d) (list_any is_ascii_digit ds) (and_parts (is_ascii_digit d) (list_all is_ascii_digit ds) t.0.4.3.1).0))))
 
 -- so a position has one
 pub position_digit : (p : Position) (text : List ℕ) → PositionText p text → HasDigit text
@@ -141,7 +130,7 @@ inner c = is_ascii_digit c || c == 46
 inner_digits : (digits : List ℕ) → list_all is_ascii_digit digits ≡ true → list_all inner digits ≡ true
 unfolding inner
 inner_digits [] all = refl
-inner_digits (d ∷ ds) all = let parts = and_parts (is_ascii_digit d) (list_all is_ascii_digit ds) all in rw (or_first (is_ascii_digit d) (d == 46) parts.0) (inner_digits ds parts.1)
+inner_digits (d ∷ ds) all = let parts = and_parts (is_ascii_digit d) (list_all is_ascii_digit ds) all in rw (or_left (is_ascii_digit d) (d == 46) parts.0) (inner_digits ds parts.1)
 
 -- its fraction too
 inner_fraction : (fraction text : List ℕ) → Fraction fraction text → list_all inner text ≡ true

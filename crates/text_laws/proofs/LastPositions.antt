@@ -3,6 +3,7 @@ use Rattle.std.proofs.Common.{◌≡◌, refl, sym, ap, ◌∙◌, subst, ℕ, z
 use Rattle.std.specs.List.{list_all, list_any, prefix_len}
 use Rattle.std.specs.Char.{is_ascii_alphabetic, is_ascii_digit, to_ascii_lowercase}
 use Rattle.std.proofs.lemmas.Bool.{or_parts}
+use Rattle.basics.proofs.Lists.{any_behind}
 use Rattle.geometry_model.specs.Points.{Position}
 use Rattle.geometry_model.specs.Geometries.{Geometry, Point, MultiPoint, LineString, MultiLineString, Polygon, MultiPolygon, joined_rings}
 use Rattle.geometry_model.specs.WellKnownText.{begins_with, Rule, ◌⨾◌, Byte, Blank, Padded, Enclosed, Separated, PositionText, PointText, LineText, PolygonText, Writes, is_white, written_positions, position_limit, part_limit}
@@ -15,7 +16,7 @@ use Rattle.text_laws.proofs.TextComplete.{Begins, Complete, Ends, closed_by_comm
 use Rattle.text_laws.proofs.FullTexts.{IsFull, full_then, then_full, full_is, FullItem, item_full, item_and_more, comma_behind, ring_full, polygon_full}
 use Rattle.text_laws.proofs.OpenParts.{Parenthesized, parenthesized, padded_open, no_ring, at_front, Layout, layout, Named, whole_by_list, lines_named, rings_named, polygons_named}
 use Rattle.text_laws.proofs.RefusedNumbers.{Read, first_number}
-use Rattle.text_laws.proofs.LastNumbers.{pair, HasDigit, NoDigit, Within, within, any_left, any_right, none_of_both, blank_no_digit, position_digit, blank_before}
+use Rattle.text_laws.proofs.LastNumbers.{pair, HasDigit, NoDigit, Within, within, any_left, none_of_both, blank_no_digit, position_digit, blank_before}
 
 -- what is there is a number
 record Applies (other : List ℕ) : Type 0 where
@@ -90,7 +91,7 @@ padded_digit P x from rest digit t = go (apart from rest Blank (P x ⨾ Blank) t
     go a = next (apart a.0 rest (P x) Blank a.2)
       where
         next : (zs : List ℕ) × Took a.0 (P x) zs × Took zs Blank rest → HasDigit from
-        next b = ap (list_any is_ascii_digit) a.1.1 ∙ any_right is_ascii_digit a.1.0 a.0 (ap (list_any is_ascii_digit) b.1.1 ∙ any_left is_ascii_digit b.1.0 b.0 (digit b.1.0 b.1.2))
+        next b = ap (list_any is_ascii_digit) a.1.1 ∙ any_behind is_ascii_digit a.1.0 a.0 (ap (list_any is_ascii_digit) b.1.1 ∙ any_left is_ascii_digit b.1.0 b.0 (digit b.1.0 b.1.2))
 
 -- a point: as a position, or behind its parenthesis, which comes before the pair
 point_last : Last PointText (point zero)

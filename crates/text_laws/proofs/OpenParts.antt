@@ -1,10 +1,10 @@
 -- A text whose last parenthesis opens a part too many is read as too long, whatever comes after the parenthesis.
-use Rattle.std.proofs.Common.{◌≡◌, refl, sym, ap, ◌∙◌, subst, ℕ, zero, suc, ◌+◌, ◌-◌, ◌<◌, ◌≤◌, ◌==◌, ◌||◌, Bool, true, false, List, [], ◌∷◌, ◌++◌, length, take, drop, map, Err, codes, append_assoc, append-nil, length-append, le_refl, zero-lt-suc, arith}
+use Rattle.std.proofs.Common.{◌≡◌, refl, sym, ap, ◌∙◌, subst, ℕ, zero, suc, ◌+◌, ◌-◌, ◌<◌, ◌≤◌, ◌==◌, Bool, true, false, List, [], ◌∷◌, ◌++◌, length, take, drop, map, Err, codes, append_assoc, append-nil, length-append, le_refl, zero-lt-suc, arith}
 use Rattle.std.specs.List.{list_all, list_any, prefix_len}
 use Rattle.std.specs.Char.{is_ascii_alphabetic, is_ascii_digit}
 use Rattle.std.specs.Char.{to_ascii_lowercase}
 use Rattle.std.specs.Str.{str_to_ascii_lowercase}
-use Rattle.std.proofs.lemmas.Bool.{true≢false, and_parts, or_parts}
+use Rattle.std.proofs.lemmas.Bool.{true≢false, and_parts, or_parts, or_right}
 use Rattle.geometry_model.specs.Points.{Position}
 use Rattle.geometry_model.specs.Geometries.{Geometry, Point, MultiPoint, LineString, MultiLineString, Polygon, MultiPolygon, joined_rings}
 use Rattle.geometry_model.specs.WellKnownText.{begins_with, Rule, ◌⨾◌, Byte, Blank, Padded, Enclosed, Word, Separated, PositionText, LineText, PolygonText, Body, Writes, is_white, written_parts, position_limit, part_limit}
@@ -26,13 +26,9 @@ record Behind (front : List ℕ) (P : List ℕ) (c : ℕ) (V : List ℕ) (tail :
   front_is : front ≡ P ++ (c ∷ rest)
   left_is : V ≡ rest ++ (40 ∷ tail)
 
-pub or_last : (a b : Bool) → b ≡ true → (a || b) ≡ true
-or_last true b e = refl
-or_last false b e = e
-
 pub any_within : (test : ℕ → Bool) (P : List ℕ) (c : ℕ) (V : List ℕ) → list_any test V ≡ true → list_any test (P ++ (c ∷ V)) ≡ true
-any_within test [] c V e = or_last (test c) (list_any test V) e
-any_within test (p ∷ P) c V e = or_last (test p) (list_any test (P ++ (c ∷ V))) (any_within test P c V e)
+any_within test [] c V e = or_right (test c) (list_any test V) e
+any_within test (p ∷ P) c V e = or_right (test p) (list_any test (P ++ (c ∷ V))) (any_within test P c V e)
 
 pub tail_of : (x y : ℕ) (xs ys : List ℕ) → x ∷ xs ≡ y ∷ ys → xs ≡ ys
 tail_of x y xs ys e = ap (drop 1) e
@@ -99,7 +95,7 @@ parenthesized P xs from rest t =
 
 any_open : (white V : List ℕ) → list_any opens (white ++ (40 ∷ V)) ≡ true
 any_open [] V = refl
-any_open (w ∷ ws) V = or_last (opens w) (list_any opens (ws ++ (40 ∷ V))) (any_open ws V)
+any_open (w ∷ ws) V = or_right (opens w) (list_any opens (ws ++ (40 ∷ V))) (any_open ws V)
 
 -- an item has a parenthesis
 OpensItem : {A : Type 0} → (A → Rule) → Type 0

@@ -9,6 +9,7 @@ use Rattle.std.proofs.lemmas.Bool.{true≢false, le-ltb, and_parts, false_from_n
 use Rattle.std.proofs.lemmas.Bool.Decides.{Decides-eqb}
 use Rattle.std.proofs.lemmas.Slice.Eq.{bytes_eq-Decides}
 use Rattle.std.proofs.lemmas.List.{length-map}
+use Rattle.basics.proofs.Numbers.{not_zero}
 use Rattle.geometry_model.specs.Points.{Position}
 use Rattle.geometry_model.specs.Geometries.{Geometry, Point, MultiPoint, LineString, MultiLineString, Polygon, MultiPolygon, joined_rings}
 use Rattle.geometry_model.specs.WellKnownText.{Rule, ◌⨾◌, Byte, Blank, Space, Padded, Enclosed, Word, Separated, Sign, Digits, Fraction, Numeral, Number, PositionText, PointText, LineText, PolygonText, Body, TaggedText, Writes, IsWithinCounts, coordinate_limit, position_limit, part_limit, is_white, is_whole, signed, geometry_of}
@@ -16,7 +17,7 @@ use Rattle.geometry_model.specs.TextReading.{Input, Reader, FoundNumber, and_the
 use Rattle.geometry_model.specs.declared.text_faults.TextFault.{TextFault}
 use Rattle.text_laws.specs.ReadingLaws.{SpelledIsRead}
 use Rattle.text_laws.proofs.RoomLists.{positions_in, items, ring, alone, itself, rings_of, alone_of, parts_are_items, polygons_are_items, FitsCounts, first_fits, others_fit}
-use Rattle.text_laws.proofs.TextSteps.{read_run, no_run, apart, byte_is, some, Took}
+use Rattle.text_laws.proofs.TextSteps.{read_run, no_run, apart, byte_is, Took}
 
 -- something is found, and has the property
 abbrev pub IsRead : {A : Type 0} → Result (A × Input) TextFault → (A → Input → Type 0) → Type 0
@@ -239,9 +240,6 @@ position_not_white = position_begins is_white refl refl refl digit_not_white
 pub numeral_at : (i : Input) (z : ℤ) (rest : List ℕ) (t : Took i.left (Number z) rest) → Ends rest → IsRead (numeral i) (IsFound t.2.0 t.2.1 t.2.2 rest)
 numeral_at i z rest t ends = numeral_read i t.2.0 t.2.1 t.2.2 rest (t.0, t.1, t.2.3.0) t.2.3.1 (ends.0, λ _. ends.1)
 
-pub has_room : (room : ℕ) → 0 < room → (room == 0) ≡ false
-has_room room some = false_from_ne_true (room == 0) (λ e. lt_irrefl 0 (subst (λ n. 0 < n) ((Decides-eqb room 0).0 e) some))
-
 -- white space of one byte or more isn't refused
 pub space_done : (i : Input) (rest : List ℕ) (white : List ℕ) → take (prefix_len is_white i.left) i.left ≡ white → drop (prefix_len is_white i.left) i.left ≡ rest → 0 < length white
     → (empty : Bool) → (length (take (prefix_len is_white i.left) i.left) == 0) ≡ empty
@@ -257,7 +255,7 @@ space_read i rest t stop = let r = read_run is_white i.left t.0 rest t.1 t.2.1 s
 -- where a position may come, its first number is found as the coordinate that it stands for
 pub first_read : (room : ℕ) (n : FoundNumber) (j : Input) (z : ℤ) (text rest : List ℕ) (t : Number z text) → 0 < room → IsFound t.0 t.1 t.2 rest n j
     → IsRead ((if room == 0 then too_long else coordinate n) j) (λ y k. (y ≡ z) × (k.left ≡ rest))
-first_read room n j z text rest t long found = rw (has_room room long) (coordinate_read n j z text rest t found)
+first_read room n j z text rest t long found = rw (not_zero room long) (coordinate_read n j z text rest t found)
 
 -- a position is read whole where one may come: white space ends its first number, and no longer number follows its second
 pub position_read : (room : ℕ) → 0 < room → Complete PositionText Ends (position room)
@@ -455,9 +453,6 @@ word_begins (c ∷ cs) rest all long = letter_not_white c (and_parts (is_ascii_a
 pub same_length : (text name : List ℕ) → Word name text → length text ≡ length name
 same_length text name e = sym (length-map text to_ascii_lowercase) ∙ (ap length e ∙ length-map name to_ascii_lowercase)
 
-pub not_empty : (n : ℕ) → 0 < n → (n == 0) ≡ false
-not_empty n long = has_room n long
-
 -- the word EMPTY behind white space is read as no items, where no letter follows it
 pub empty_read : {A : Type 0} (inner : Reader (List A)) (i : Input) (rest : List ℕ) → Took i.left (Space ⨾ Word (codes "EMPTY")) rest → begins_with is_ascii_alphabetic rest ≡ false
     → IsRead (body inner i) (λ ys j. (ys ≡ []) × (j.left ≡ rest))
@@ -471,7 +466,7 @@ empty_read inner i rest t stop =
     let left = drop (prefix_len is_white i.left) i.left in
     let name = read_run is_ascii_alphabetic left word rest (skip.1 ∙ a.2.1) all stop in
     rw (
-      ap (λ w. length w == 0) name.0 ∙ not_empty (length word) long,
+      ap (λ w. length w == 0) name.0 ∙ not_zero (length word) long,
       ap (λ w. str_eq_ignore_ascii_case w (codes "EMPTY")) name.0 ∙ (bytes_eq-Decides (str_to_ascii_lowercase word) (str_to_ascii_lowercase (codes "EMPTY"))).1 a.2.2,
     )
     (refl, name.1)

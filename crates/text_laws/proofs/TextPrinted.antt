@@ -1,11 +1,12 @@
 -- The canonical text of what a text spells spells it again.
-use Rattle.std.proofs.Common.{◌≡◌, refl, sym, ap, ◌∙◌, subst, ℕ, zero, suc, ◌<◌, ◌≤◌, inl, inr, ℤ, pos, negsuc, neg_ℤ, Bool, true, false, cond, List, [], ◌∷◌, ◌++◌, length, map, codes, unsigned_abs, append_assoc, append-nil, length-append, suc-le-suc, zero-le, le_trans, le_refl, zero-lt-suc, arith}
+use Rattle.std.proofs.Common.{◌≡◌, refl, sym, ap, ◌∙◌, subst, ℕ, suc, ◌<◌, ◌≤◌, inl, inr, ℤ, pos, negsuc, neg_ℤ, Bool, true, false, cond, List, [], ◌∷◌, ◌++◌, length, map, codes, unsigned_abs, append_assoc, append-nil, length-append, suc-le-suc, zero-le, le_trans, le_refl, zero-lt-suc, arith}
 use Rattle.std.specs.List.{list_all, flat_map, dedup_from, join_with_byte, AllByRecursion}
 use Rattle.std.specs.Option.{option_to_list}
 use Rattle.std.specs.Char.{is_ascii_digit, digit_value}
 use Rattle.std.specs.Fmt.{decimal, signed_decimal}
 use Rattle.std.specs.Str.Parse.{digits_value, AllDigits}
 use Rattle.std.proofs.lemmas.Fmt.{decimal_is_IsNumeral}
+use Rattle.basics.proofs.Numbers.{negated}
 use Rattle.geometry_model.specs.Points.{Position}
 use Rattle.geometry_model.specs.Geometries.{Geometry, Point, MultiPoint, LineString, MultiLineString, Polygon, MultiPolygon, joined_rings}
 use Rattle.geometry_model.specs.WellKnownText.{Rule, ◌⨾◌, Padded, Enclosed, Word, Separated, Sign, Number, PositionText, PointText, LineText, PolygonText, Body, TaggedText, Spells, IsWithinCounts, coordinate_limit, signed, same_position, without_repeats, geometry_of}
@@ -127,11 +128,6 @@ counts_again (Polygon rs) within = (le_trans (shorter_each rs) within.0, rw (as_
 counts_again (MultiPolygon es) within = rw (rings_kept es) (le_trans (shorter_each (joined_rings es)) within.0, rw (as_many (joined_rings es)) within.1)
 
 -- what is written lies within the limits
-
--- the minus doesn't change a number's size
-negated : (n : ℕ) → unsigned_abs (neg_ℤ (pos n)) ≡ n
-negated zero = refl
-negated (suc n) = refl
 
 -- so a number's size is the value of its digits
 signed_size : (minus : Bool) (whole : List ℕ) → unsigned_abs (signed minus whole) ≡ digits_value 10 whole

@@ -1,11 +1,12 @@
 -- Where reading returns W2, W3 or W4, that refusal applies.
-use Rattle.std.proofs.Common.{◌≡◌, refl, sym, ap, ◌∙◌, subst, ℕ, zero, suc, ◌+◌, ◌-◌, ◌<◌, ◌≤◌, ◌==◌, ◌⊎◌, inl, inr, ℤ, pos, Bool, true, false, ◌||◌, List, [], ◌∷◌, ◌++◌, length, take, drop, Some, Result, Ok, Err, nat_lt, codes, if◌then◌else◌, take-append-drop, length-append, append-nil, append_assoc, suc-le-suc, zero-lt-suc, zero-le, arith}
+use Rattle.std.proofs.Common.{◌≡◌, refl, sym, ap, ◌∙◌, subst, ℕ, zero, suc, ◌+◌, ◌-◌, ◌<◌, ◌≤◌, ◌==◌, ◌⊎◌, inl, inr, ℤ, pos, Bool, true, false, List, [], ◌∷◌, ◌++◌, length, take, drop, Some, Result, Ok, Err, nat_lt, codes, if◌then◌else◌, take-append-drop, length-append, append-nil, append_assoc, suc-le-suc, zero-lt-suc, zero-le, arith}
 use Rattle.std.specs.List.{list_any, prefix_len}
 use Rattle.std.specs.Char.{is_ascii_alphabetic, is_ascii_digit}
 use Rattle.std.specs.Str.{str_eq_ignore_ascii_case}
 use Rattle.std.specs.Str.Parse.{digits_value}
 use Rattle.std.proofs.lemmas.Bool.{or_parts}
 use Rattle.std.proofs.lemmas.Bool.Decides.{Decides-ltb, Decides-eqb}
+use Rattle.basics.proofs.Lists.{any_behind, front_passes}
 use Rattle.geometry_model.specs.Points.{Position}
 use Rattle.geometry_model.specs.Geometries.{Geometry, Point, MultiPoint, LineString, MultiLineString, Polygon, MultiPolygon, joined_rings}
 use Rattle.geometry_model.specs.WellKnownText.{begins_with, Rule, ◌⨾◌, Byte, Blank, Space, Padded, Enclosed, Word, Separated, Sign, Digits, Fraction, Numeral, Number, PositionText, PointText, LineText, PolygonText, Body, TaggedText, Writes, IsWithinCounts, written_positions, written_parts, coordinate_limit, position_limit, part_limit, is_white, is_whole, geometry_of}
@@ -15,7 +16,7 @@ use Rattle.geometry_model.specs.declared.text_faults.TextFault.{TextFault}
 use Rattle.geometry_model.specs.declared.text_faults.TextFault.TheVariants.{Syntax, OffGrid, OutOfRange, TooLong}
 use Rattle.text_laws.specs.ReadingLaws.{RefusalsApply}
 use Rattle.text_laws.proofs.RoomLists.{positions_in, items, ring, alone, itself, rings_of, alone_of, positions_of_both, parts_are_items, polygons_are_items, FitsCounts, both_fit}
-use Rattle.text_laws.proofs.TextSteps.{all_pass, stops, first_is, some, nothing, word_is, byte_is, Took, both, took_run}
+use Rattle.text_laws.proofs.TextSteps.{stops, first_is, some, nothing, word_is, byte_is, Took, both, took_run}
 use Rattle.text_laws.proofs.TextPlaces.{total, Keeps, keeps_if, ate, run_keeps, expect_keeps, padded_keeps, numeral_keeps, coordinate_keeps, space_keeps, position_keeps, point_keeps, line_keeps, polygon_keeps}
 use Rattle.text_laws.proofs.TextSound.{IfRead, then_read, any_read, first_sound, behind, past_word, word_at, sign_sound, numeral_sound, space_sound, expect_sound, padded_sound, position_sound, point_sound, ring_sound, polygon_sound}
 
@@ -183,14 +184,6 @@ Fails P R step = (i : Input) → IfFails (step i) (Stuck P R i)
 
 -- numbers
 
-any_behind : (test : ℕ → Bool) (xs ys : List ℕ) → list_any test ys ≡ true → list_any test (xs ++ ys) ≡ true
-any_behind test [] ys e = e
-any_behind test (x ∷ xs) ys e = or_true (test x) (any_behind test xs ys e)
-  where
-    or_true : (b : Bool) {c : Bool} → c ≡ true → (b || c) ≡ true
-    or_true true e = refl
-    or_true false e = e
-
 -- no point follows, or the text has one
 abbrev PointEnds : List ℕ → List ℕ → Type 0
 PointEnds text rest = (begins_with (λ c. c == 46) rest ≡ false) ⊎ (list_any (λ c. c == 46) text ≡ true)
@@ -204,7 +197,7 @@ fraction_ended : (i : Input) → begins_with is_ascii_digit i.left ≡ false →
 fraction_ended i quiet true e = let rest = drop 1 i.left in let n = prefix_len is_ascii_digit rest in (
   46 ∷ take n rest,
   first_is 46 i.left e ∙ ap (λ r. 46 ∷ r) (sym (take-append-drop n rest)),
-  inr (46 ∷ [], take n rest, refl, refl, (refl, all_pass is_ascii_digit rest)),
+  inr (46 ∷ [], take n rest, refl, refl, (refl, front_passes is_ascii_digit rest)),
   stops is_ascii_digit rest,
   inr refl,
 )
@@ -245,7 +238,7 @@ numeral_first i = then_read (λ minus j. Took i.left (Sign minus) j.left) (sign 
     (λ minus j t. let n = prefix_len is_ascii_digit j.left in let k = after n j in
     then_read (λ digits l. Ended k.left (Fraction digits) l.left) (fraction k) _ _ (fraction_ends k (stops is_ascii_digit j.left))
     (λ digits l u. let behind = both j.left k.left l.left (Digits (take n j.left)) (Fraction digits)
-    (take n j.left, sym (take-append-drop n j.left), (refl, all_pass is_ascii_digit j.left)) (u.0, u.1, u.2) in
+    (take n j.left, sym (take-append-drop n j.left), (refl, front_passes is_ascii_digit j.left)) (u.0, u.1, u.2) in
     let all = both i.left j.left l.left (Sign minus) (Digits (take n j.left) ⨾ Fraction digits) t behind in
     number_found l i.at minus (take n j.left) digits i.left _ refl
     (all.0, all.1, all.2, u.3, point_behind t.0 (take n j.left ++ u.0) l.left (point_behind (take n j.left) u.0 l.left u.4))))
@@ -626,7 +619,7 @@ body_cases P f R inner fails i true named e =
     fails_so (Stuck (λ x. Enclosed (Separated P (f x))) R k) _ (enclosed inner k)
     (λ fault s. stuck_as (λ x. Blank ⨾ Enclosed (Separated P (f x))) (λ x. Body P (f x)) R R (λ x. x) i fault (λ x text t. body_text P (f x) text t) (λ k x r. r)
     (stuck_behind Blank (λ x. Enclosed (Separated P (f x))) R i k fault
-    (take n i.left, sym (take-append-drop n i.left) ∙ ap (λ r. take n i.left ++ r) same, all_pass is_white i.left)
+    (take n i.left, sym (take-append-drop n i.left) ∙ ap (λ r. take n i.left ++ r) same, front_passes is_white i.left)
     (run_keeps is_ascii_alphabetic j ∙ run_keeps is_white i) s))
     (enclosed_fails (λ x. Separated P (f x)) R inner fails k)
 body_cases P f R inner fails i false true e = tt

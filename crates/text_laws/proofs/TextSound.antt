@@ -6,6 +6,7 @@ use Rattle.std.specs.Char.{is_ascii_alphabetic, is_ascii_digit}
 use Rattle.std.specs.Str.{str_eq_ignore_ascii_case}
 use Rattle.std.specs.Str.Parse.{digits_value}
 use Rattle.std.proofs.lemmas.Bool.{true≢false, ltb-false}
+use Rattle.basics.proofs.Lists.{front_passes}
 use Rattle.geometry_model.specs.Points.{Position}
 use Rattle.geometry_model.specs.Geometries.{Geometry, Point, MultiPoint, LineString, MultiLineString, Polygon, MultiPolygon, joined_rings}
 use Rattle.geometry_model.specs.WellKnownText.{Rule, ◌⨾◌, Byte, Blank, Space, Padded, Enclosed, Word, Separated, Sign, Digits, Fraction, Numeral, Number, PositionText, PointText, LineText, PolygonText, Body, TaggedText, Writes, Spells, IsWithinCounts, coordinate_limit, position_limit, part_limit, is_white, is_whole}
@@ -14,7 +15,7 @@ use Rattle.geometry_model.specs.declared.text_faults.TextFault.{TextFault}
 use Rattle.geometry_model.specs.declared.text_faults.TextFault.TheVariants.{Syntax}
 use Rattle.text_laws.specs.ReadingLaws.{ReadIsSpelled}
 use Rattle.text_laws.proofs.RoomLists.{positions_in, items, ring, alone, itself, rings_of, alone_of, parts_are_items, polygons_are_items, FitsCounts, one_fits, both_fit}
-use Rattle.text_laws.proofs.TextSteps.{all_pass, stops, no_run, first_is, some, nothing, word_is, Took, both, took_run}
+use Rattle.text_laws.proofs.TextSteps.{stops, no_run, first_is, some, nothing, word_is, Took, both, took_run}
 
 -- what is found, where something is, has the property
 abbrev pub IfRead : {A : Type 0} → Result (A × Input) TextFault → (A → Input → Type 0) → Type 0
@@ -86,7 +87,7 @@ pointed : (i : Input) (met : Bool) → begins_with (λ b. b == 46) i.left ≡ me
     → IfRead ((if met then run is_ascii_digit else pure []) (if met then after 1 i else i)) (λ digits j. Took i.left (Fraction digits) j.left)
 pointed i true e = let rest = drop 1 i.left in let n = prefix_len is_ascii_digit rest in
     let taken = both i.left rest (drop n rest) (Byte 46) (Digits (take n rest)) (46 ∷ [], first_is 46 i.left e, refl)
-    (take n rest, sym (take-append-drop n rest), (refl, all_pass is_ascii_digit rest)) in
+    (take n rest, sym (take-append-drop n rest), (refl, front_passes is_ascii_digit rest)) in
     (taken.0, taken.1, inr taken.2)
 pointed i false e = ([], refl, inl (refl, refl))
 
@@ -112,7 +113,7 @@ numeral_sound i = then_read (λ minus j. Took i.left (Sign minus) j.left) (sign 
     (λ digits l fraction_took. numeral_ends i l i.at minus (take n j.left) digits _ refl
     (both i.left j.left l.left (Sign minus) (Digits (take n j.left) ⨾ Fraction digits) sign_took
     (both j.left k.left l.left (Digits (take n j.left)) (Fraction digits)
-    (take n j.left, sym (take-append-drop n j.left), (refl, all_pass is_ascii_digit j.left)) fraction_took))))
+    (take n j.left, sym (take-append-drop n j.left), (refl, front_passes is_ascii_digit j.left)) fraction_took))))
 
 -- a number is found only where it is whole and its size within the limit
 within : (n : FoundNumber) (i : Input) (from : List ℕ) → Took from (Numeral n.minus n.whole n.fraction) i.left
@@ -132,7 +133,7 @@ spaced : (i : Input) (empty : Bool) → (length (take (prefix_len is_white i.lef
     → IfRead ((if empty then refuse i.at else pure (take (prefix_len is_white i.left) i.left)) (after (prefix_len is_white i.left) i)) (λ _ j. Took i.left Space j.left)
 spaced i true e = tt
 spaced i false e = let n = prefix_len is_white i.left in
-    (take n i.left, sym (take-append-drop n i.left), (some (length (take n i.left)) e, all_pass is_white i.left))
+    (take n i.left, sym (take-append-drop n i.left), (some (length (take n i.left)) e, front_passes is_white i.left))
 
 -- so white space that is found is of one byte or more
 pub space_sound : (i : Input) → IfRead (space i) (λ _ j. Took i.left Space j.left)
@@ -287,14 +288,14 @@ bodied P R inner base sound i quiet true named e f =
     weaker (λ xs l. Took k.left (Enclosed (Separated P xs)) l.left × R xs) _ (enclosed inner k)
     (λ xs l taken. (
       in_parentheses P xs i.left k.left l.left
-          (take n i.left, sym (take-append-drop n i.left) ∙ ap (λ r. take n i.left ++ r) same, all_pass is_white i.left) taken.0,
+          (take n i.left, sym (take-append-drop n i.left) ∙ ap (λ r. take n i.left ++ r) same, front_passes is_white i.left) taken.0,
       taken.1,
     ))
     (enclosed_sound (Separated P) R inner sound k)
 bodied P R inner base sound i quiet false true e f =
     let n = prefix_len is_white i.left in let j = behind i in let k = past_word j in (
       both i.left j.left k.left Space (Word (codes "EMPTY"))
-          (take n i.left, sym (take-append-drop n i.left), (spaced_word i.left quiet n _ refl e, all_pass is_white i.left))
+          (take n i.left, sym (take-append-drop n i.left), (spaced_word i.left quiet n _ refl e, front_passes is_white i.left))
           (word_at j, sym (take-append-drop (prefix_len is_ascii_alphabetic j.left) j.left), word_is (word_at j) (codes "EMPTY") f),
       base,
     )

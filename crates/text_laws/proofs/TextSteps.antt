@@ -1,24 +1,14 @@
 -- Runs of bytes, and the parts of a text one behind the other.
 use Rattle.std.proofs.Common.{◌≡◌, refl, sym, ap, subst, ◌∙◌, ℕ, zero, suc, ◌+◌, ◌<◌, ◌==◌, Bool, true, false, List, [], ◌∷◌, ◌++◌, length, take, drop, cond, append_assoc, take-append-drop, one-add, zero-lt-suc, suc-ne-zero}
-use Rattle.std.specs.List.{list_all, prefix_len, take_while}
+use Rattle.std.specs.List.{list_all, prefix_len}
 use Rattle.std.specs.Str.{str_eq_ignore_ascii_case, str_to_ascii_lowercase}
-use Rattle.std.proofs.lemmas.List.Sums.{take_while-cons}
 use Rattle.std.proofs.lemmas.Bool.{true≢false, and_parts}
 use Rattle.std.proofs.Math.Seq.{take-append_seam, drop-append_seam}
 use Rattle.std.proofs.lemmas.Slice.Eq.{bytes_eq-Decides}
 use Rattle.std.proofs.lemmas.Bool.Decides.{Decides-eqb}
+use Rattle.basics.proofs.Lists.{front_passes}
 use Rattle.geometry_model.specs.WellKnownText.{Rule, ◌⨾◌, Word}
 use Rattle.geometry_model.specs.TextReading.{begins_with}
-
--- a byte before a run belongs to it where it passes; otherwise the run is empty
-passed : (test : ℕ → Bool) (x : ℕ) (xs : List ℕ) (b : Bool) → test x ≡ b → list_all test xs ≡ true → list_all test (cond b (x ∷ xs) []) ≡ true
-passed test x xs true e all = rw e all
-passed test x xs false e all = refl
-
--- the run passes the test
-pub all_pass : (test : ℕ → Bool) (xs : List ℕ) → list_all test (take (prefix_len test xs) xs) ≡ true
-all_pass test [] = refl
-all_pass test (x ∷ xs) = ap (list_all test) (take_while-cons test x xs) ∙ passed test x (take_while test xs) (test x) refl (all_pass test xs)
 
 -- behind a byte that passes the run goes on; one that doesn't is itself what comes behind the run
 stopped : (test : ℕ → Bool) (x : ℕ) (xs : List ℕ) (b : Bool) → test x ≡ b → begins_with test (drop (prefix_len test xs) xs) ≡ false
@@ -73,7 +63,7 @@ both xs ys zs A B first rest = (
 
 -- a run of bytes that pass
 pub took_run : (test : ℕ → Bool) (xs : List ℕ) → Took xs (λ text. list_all test text ≡ true) (drop (prefix_len test xs) xs)
-took_run test xs = (take (prefix_len test xs) xs, sym (take-append-drop (prefix_len test xs) xs), all_pass test xs)
+took_run test xs = (take (prefix_len test xs) xs, sym (take-append-drop (prefix_len test xs) xs), front_passes test xs)
 
 -- the other way: how far a run goes, and the parts of a text taken apart
 

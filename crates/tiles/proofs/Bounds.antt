@@ -4,6 +4,7 @@ use Rattle.std.specs.Prelude.{◌&&◌, int_le, int_lt}
 use Rattle.std.specs.Int.{int_min, int_max}
 use Rattle.std.proofs.lemmas.Int.{ints}
 use Rattle.std.proofs.lemmas.Bool.{cases_Bool, cond-false}
+use Rattle.basics.proofs.Signs.{less_no}
 use Rattle.geometry_model.specs.Points.{Position}
 use Rattle.geometry_model.specs.Envelopes.{Envelope, envelope_of_positions}
 use Rattle.tiles.specs.Lines.{PassesThrough, Parts, low_part, high_part, times_within}
@@ -11,14 +12,11 @@ use Rattle.tiles.specs.declared.lines.Line.{Line}
 use Rattle.tiles.specs.declared.lines.Axis.{Axis}
 use Rattle.tiles.specs.declared.lines.Axis.TheVariants.{X, Y}
 
-not_below : (x y : ℤ) → x ≤ℤ y → int_lt y x ≡ false
-not_below x y h = grind (arith, ints)
-
 lesser : (x y : ℤ) → x ≤ℤ y → int_min x y ≡ x
-lesser x y h = cond-false (int_lt y x) y x (not_below x y h)
+lesser x y h = cond-false (int_lt y x) y x (less_no y x h)
 
 greater : (x y : ℤ) → x ≤ℤ y → int_max x y ≡ y
-greater x y h = cond-false (int_lt y x) x y (not_below x y h)
+greater x y h = cond-false (int_lt y x) x y (less_no y x h)
 
 -- the envelope of two corners in order is the box between them
 pub as_spanned : (o : Option Envelope) (e : Envelope) (a b : Position) (lx gx ly gy : ℤ)

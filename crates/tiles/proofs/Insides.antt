@@ -2,6 +2,9 @@
 use Rattle.std.proofs.Common.{◌≡◌, ◌≤◌, true, List, get_or, ℤ, pos, ◌-ℤ◌, ◌≤ℤ◌, ◌<ℤ◌, subst, arith}
 use Rattle.std.specs.Prelude.{int_le, unsigned_abs}
 use Rattle.std.proofs.lemmas.Int.{ints}
+use Rattle.basics.proofs.Orders.{at_most_less, before as is_before}
+use Rattle.basics.proofs.Signs.{at_most_yes, at_most_from}
+use Rattle.basics.proofs.Bools.{four_parts, four_from}
 use Rattle.geometry_model.specs.Points.{Position}
 use Rattle.geometry_model.specs.Envelopes.{Envelope}
 use Rattle.fraction.specs.Ranges.{IsOnGrid}
@@ -11,7 +14,6 @@ use Rattle.tiles.specs.Lines.{coordinate, IsInGrid, PassesThrough, low_part, hig
 use Rattle.tiles.specs.declared.lines.Axis.{Axis}
 use Rattle.tiles.specs.declared.lines.Axis.TheVariants.{X, Y}
 use Rattle.tiles.specs.declared.lines.Line.{Line}
-use Rattle.tiles.proofs.TreeLemmas.{four, all_four}
 
 -- ---- the grid
 
@@ -32,27 +34,15 @@ corner_above Y at box h p = (record { x = h.0.x; y = between box.least_y at box.
 
 -- ---- samples within a box
 
-at_least : (a b : ℤ) → int_le a b ≡ true → a ≤ℤ b
-at_least a b h = grind (arith, ints)
-
-is_at_least : (a b : ℤ) → a ≤ℤ b → int_le a b ≡ true
-is_at_least a b h = grind (arith, ints)
-
-is_before : (a b : ℤ) → a <ℤ b → int_le a (b -ℤ pos 1) ≡ true
-is_before a b h = grind (arith, ints)
-
-from_least : (a b c : ℤ) → a ≤ℤ b → b <ℤ c → a <ℤ c
-from_least a b c h k = omega (arith, ints)
-
 -- what is within a box, along each axis
 bounded : (box : Envelope) (p : Position) → is_within box p ≡ true → (box.least_x ≤ℤ p.x) × (p.x ≤ℤ box.greatest_x) × (box.least_y ≤ℤ p.y) × (p.y ≤ℤ box.greatest_y)
 bounded box p h =
-    let f = four (int_le box.least_x p.x) (int_le p.x box.greatest_x) (int_le box.least_y p.y) (int_le p.y box.greatest_y) h in
-    (at_least box.least_x p.x f.0, at_least p.x box.greatest_x f.1, at_least box.least_y p.y f.2, at_least p.y box.greatest_y f.3)
+    let f = four_parts (int_le box.least_x p.x) (int_le p.x box.greatest_x) (int_le box.least_y p.y) (int_le p.y box.greatest_y) h in
+    (at_most_from box.least_x p.x f.0, at_most_from p.x box.greatest_x f.1, at_most_from box.least_y p.y f.2, at_most_from p.y box.greatest_y f.3)
 
 one_through : (axis : Axis) (at : ℤ) (box : Envelope) (p q : Position) → is_within box p ≡ true → coordinate axis p <ℤ at → is_within box q ≡ true → coordinate axis q ≡ at → PassesThrough axis at box
-one_through X at box p q h l k e = (from_least box.least_x p.x at (bounded box p h).0 l, subst (λ z. z ≤ℤ box.greatest_x) e (bounded box q k).1)
-one_through Y at box p q h l k e = (from_least box.least_y p.y at (bounded box p h).2 l, subst (λ z. z ≤ℤ box.greatest_y) e (bounded box q k).3)
+one_through X at box p q h l k e = (at_most_less box.least_x p.x at (bounded box p h).0 l, subst (λ z. z ≤ℤ box.greatest_x) e (bounded box q k).1)
+one_through Y at box p q h l k e = (at_most_less box.least_y p.y at (bounded box p h).2 l, subst (λ z. z ≤ℤ box.greatest_y) e (bounded box q k).3)
 
 -- a line that has some of the sample of a box on both sides passes through the box
 pub passes_through : (line : Line) (box : Envelope) (sample : List Position) → LiesWithin sample box → HasBothSides line sample → PassesThrough line.axis line.at box
@@ -65,19 +55,19 @@ passes_through line box sample all (low, high) =
 
 below_one : (axis : Axis) (at : ℤ) (box : Envelope) (p : Position) → is_within box p ≡ true → coordinate axis p <ℤ at → is_within (low_part axis at box) p ≡ true
 below_one X at box p h l =
-    let f = four (int_le box.least_x p.x) (int_le p.x box.greatest_x) (int_le box.least_y p.y) (int_le p.y box.greatest_y) h in
-    all_four (int_le box.least_x p.x) (int_le p.x (at -ℤ pos 1)) (int_le box.least_y p.y) (int_le p.y box.greatest_y) f.0 (is_before p.x at l) f.2 f.3
+    let f = four_parts (int_le box.least_x p.x) (int_le p.x box.greatest_x) (int_le box.least_y p.y) (int_le p.y box.greatest_y) h in
+    four_from (int_le box.least_x p.x) (int_le p.x (at -ℤ pos 1)) (int_le box.least_y p.y) (int_le p.y box.greatest_y) f.0 (is_before p.x at l) f.2 f.3
 below_one Y at box p h l =
-    let f = four (int_le box.least_x p.x) (int_le p.x box.greatest_x) (int_le box.least_y p.y) (int_le p.y box.greatest_y) h in
-    all_four (int_le box.least_x p.x) (int_le p.x box.greatest_x) (int_le box.least_y p.y) (int_le p.y (at -ℤ pos 1)) f.0 f.1 f.2 (is_before p.y at l)
+    let f = four_parts (int_le box.least_x p.x) (int_le p.x box.greatest_x) (int_le box.least_y p.y) (int_le p.y box.greatest_y) h in
+    four_from (int_le box.least_x p.x) (int_le p.x box.greatest_x) (int_le box.least_y p.y) (int_le p.y (at -ℤ pos 1)) f.0 f.1 f.2 (is_before p.y at l)
 
 above_one : (axis : Axis) (at : ℤ) (box : Envelope) (p : Position) → is_within box p ≡ true → at ≤ℤ coordinate axis p → is_within (high_part axis at box) p ≡ true
 above_one X at box p h l =
-    let f = four (int_le box.least_x p.x) (int_le p.x box.greatest_x) (int_le box.least_y p.y) (int_le p.y box.greatest_y) h in
-    all_four (int_le at p.x) (int_le p.x box.greatest_x) (int_le box.least_y p.y) (int_le p.y box.greatest_y) (is_at_least at p.x l) f.1 f.2 f.3
+    let f = four_parts (int_le box.least_x p.x) (int_le p.x box.greatest_x) (int_le box.least_y p.y) (int_le p.y box.greatest_y) h in
+    four_from (int_le at p.x) (int_le p.x box.greatest_x) (int_le box.least_y p.y) (int_le p.y box.greatest_y) (at_most_yes at p.x l) f.1 f.2 f.3
 above_one Y at box p h l =
-    let f = four (int_le box.least_x p.x) (int_le p.x box.greatest_x) (int_le box.least_y p.y) (int_le p.y box.greatest_y) h in
-    all_four (int_le box.least_x p.x) (int_le p.x box.greatest_x) (int_le at p.y) (int_le p.y box.greatest_y) f.0 f.1 (is_at_least at p.y l) f.3
+    let f = four_parts (int_le box.least_x p.x) (int_le p.x box.greatest_x) (int_le box.least_y p.y) (int_le p.y box.greatest_y) h in
+    four_from (int_le box.least_x p.x) (int_le p.x box.greatest_x) (int_le at p.y) (int_le p.y box.greatest_y) f.0 f.1 (at_most_yes at p.y l) f.3
 
 -- those before the line are within the part before it, and those behind it within the other
 pub within_low : (line : Line) (box : Envelope) (before behind : List Position) → LiesWithin before box → IsMedian line before behind → LiesWithin before (low_part line.axis line.at box)

@@ -7,6 +7,7 @@ use Rattle.std.proofs.lemmas.List.{take-append-drop, drop_at, take_rest, length-
 use Rattle.std.proofs.lemmas.List.Sorted.{All-permutation, IsPermutation-append_left, IsPermutation-put_mid, IsPermutation-trans}
 use borrow.Rule.Slice.PartMut.{put_mid}
 use Rattle.std.proofs.lemmas.List.Elements.{All-take, All-drop}
+use Rattle.basics.proofs.Numbers.{one_less}
 use Rattle.geometry_model.specs.Points.{Position}
 use Rattle.geometry_model.specs.Envelopes.{Envelope}
 use Rattle.fraction.specs.Ranges.{IsOnGrid}
@@ -29,10 +30,7 @@ halved_cut : (lines most : ℕ) (sample : List Position) (box : Envelope) (boxes
 unfolding IsCutAtMedians
 halved_cut zero most sample box boxes some h = absurd (omega arith)
 halved_cut (suc lines) most sample box boxes some h =
-    inr (subst (λ n. IsHalved (IsCutAtMedians n most) most sample box boxes) (back lines) h)
-  where
-    back : (n : ℕ) → suc n - 1 ≡ n
-    back n = omega arith
+    inr (subst (λ n. IsHalved (IsCutAtMedians n most) most sample box boxes) (one_less lines) h)
 
 -- boxes are added: those that a box is cut into
 abbrev pub Added : ℕ → ℕ → List Position → Envelope → List Envelope → List Envelope → Type 0

@@ -1,16 +1,19 @@
 -- Samples in order, and the line at the median of one.
-use Rattle.std.proofs.Common.{◌≡◌, inl, inr, ◌∙◌, ◌+◌, ◌-◌, ◌*◌, ◌<◌, ◌≤◌, min, ℕ, zero, suc, Bool, true, false, cond, List, [], ◌∷◌, length, take, drop, get_or, ℤ, pos, ◌≤ℤ◌, ◌<ℤ◌, refl, sym, ap, subst, arith}
+use Rattle.std.proofs.Common.{◌≡◌, inl, inr, ◌∙◌, ◌+◌, ◌-◌, ◌*◌, ◌<◌, ◌≤◌, min, ℕ, zero, suc, Bool, true, false, cond, List, [], ◌∷◌, length, take, drop, get_or, ℤ, pos, ◌≤ℤ◌, ◌<ℤ◌, refl, sym, ap, subst, arith, add-zero}
 use Rattle.std.specs.Prelude.{int_le, int_lt, count_by}
 use Rattle.std.specs.Ordering.{int_cmp, is_lt}
 use Rattle.std.specs.List.{All}
 use Rattle.std.specs.List.Sorted.{IsPermutation, IsSortedByKey, IsPartitionedBy, IsPartitionPoint}
-use Rattle.std.proofs.lemmas.Bool.{cases_lt}
+use Rattle.std.proofs.lemmas.Bool.{cases_lt, false≢true}
 use Rattle.std.proofs.lemmas.Int.{ints}
 use Rattle.std.proofs.lemmas.Cmp.{int_cmp_total}
 use Rattle.std.proofs.lemmas.List.{length-take, length-take-le, length-drop, get_or-take, get_or-drop, get_or_default}
 use Rattle.std.proofs.lemmas.List.Sorted.{All-permutation}
 use Rattle.std.proofs.lemmas.List.Sums.{sum_by-cons, sum_by-take-drop, count_by-le-length}
 use Rattle.std.proofs.lemmas.List.Sorted.{sorted_far, ranks_by, IsPermutation-sym}
+use lib.Signed.{≤ℤ_refl}
+use Rattle.basics.proofs.Orders.{at_most_at_most, still_at_most, still_less, cmp_not_less, at_most_less, less_weak}
+use Rattle.basics.proofs.Signs.{less_no, not_at_most_from, at_most_from, not_less_from, less_from, less_yes}
 use Rattle.geometry_model.specs.Points.{Position}
 use Rattle.fraction.specs.Ranges.{IsOnGrid}
 use Rattle.tiles.specs.Cuts.{HasBothSides, HasOneCoordinate, IsMedian, other}
@@ -23,52 +26,22 @@ use Rattle.tiles.specs.declared.lines.Line.{Line}
 pub record Ascend (axis : Axis) (ps : List Position) : Type 0 where
   pub up : (i j : ℕ) (d : Position) → i ≤ j → j < length ps → coordinate axis (get_or ps i d) ≤ℤ coordinate axis (get_or ps j d)
 
-not_less : (a b : ℤ) → is_lt (int_cmp b a) ≡ false → a ≤ℤ b
-not_less a b e = grind (arith, ints)
-
 pub ascends : (axis : Axis) (ps : List Position) → IsSortedByKey (coordinate axis) int_cmp ps → Ascend axis ps
 ascends axis ps h = record {
-  up = λ i j d l m. not_less (coordinate axis (get_or ps i d)) (coordinate axis (get_or ps j d))
+  up = λ i j d l m. cmp_not_less (coordinate axis (get_or ps i d)) (coordinate axis (get_or ps j d))
       (sorted_far (λ (a b : Position). is_lt (int_cmp (coordinate axis a) (coordinate axis b))) (ranks_by int_cmp_total (coordinate axis)) ps h i j d l m);
 }
-
-still_less : (a b x : ℤ) → a ≤ℤ b → int_lt b x ≡ true → int_lt a x ≡ true
-still_less a b x l h = grind (arith, ints)
-
-still_most : (a b x : ℤ) → a ≤ℤ b → int_le b x ≡ true → int_le a x ≡ true
-still_most a b x l h = grind (arith, ints)
 
 pub less_first : (axis : Axis) (ps : List Position) (z : ℤ) → Ascend axis ps → IsPartitionedBy (λ p. int_lt (coordinate axis p) z) ps
 less_first axis ps z h i j d l m = still_less (coordinate axis (get_or ps i d)) (coordinate axis (get_or ps j d)) z (h.up i j d l m)
 
 pub most_first : (axis : Axis) (ps : List Position) (z : ℤ) → Ascend axis ps → IsPartitionedBy (λ p. int_le (coordinate axis p) z) ps
-most_first axis ps z h i j d l m = still_most (coordinate axis (get_or ps i d)) (coordinate axis (get_or ps j d)) z (h.up i j d l m)
+most_first axis ps z h i j d l m = still_at_most (coordinate axis (get_or ps i d)) (coordinate axis (get_or ps j d)) z (h.up i j d l m)
 
 -- ---- tests and orders
 
-is_less : (a b : ℤ) → int_lt a b ≡ true → a <ℤ b
-is_less a b h = grind (arith, ints)
-
-is_not_less : (a b : ℤ) → int_lt a b ≡ false → b ≤ℤ a
-is_not_less a b h = grind (arith, ints)
-
-is_most : (a b : ℤ) → int_le a b ≡ true → a ≤ℤ b
-is_most a b h = grind (arith, ints)
-
-is_more : (a b : ℤ) → int_le a b ≡ false → b <ℤ a
-is_more a b h = grind (arith, ints)
-
-none_past : (a b : ℤ) → a ≤ℤ b → int_lt b a ≡ false
-none_past a b h = grind (arith, ints)
-
-between : (a b c : ℤ) → a ≤ℤ b → b ≤ℤ c → a ≤ℤ c
-between a b c h k = omega (arith, ints)
-
 same : (a b : ℤ) → a ≤ℤ b → b ≤ℤ a → a ≡ b
 same a b h k = omega (arith, ints)
-
-differ : false ≡ true → ⊥
-differ h = cc
 
 -- ---- counts
 
@@ -109,7 +82,7 @@ few_past axis ps mid i p z up within here most below half =
     let past : Position → Bool = λ q. int_lt z (coordinate axis q) in
     let few : count_by past (drop i ps) ≤ count_by past ps = omega (arith, sum_by-take-drop (λ q. cond (past q) 1 0) ps i) in
     let counted : count_by past ps ≤ length ps - suc mid = few_counted past ps (suc mid) (omega arith) (λ k d l.
-    none_past (coordinate axis (get_or ps k d)) z (between (coordinate axis (get_or ps k d)) (coordinate axis p) z
+    less_no z (coordinate axis (get_or ps k d)) (at_most_at_most (coordinate axis (get_or ps k d)) (coordinate axis p) z
     (subst (λ q. coordinate axis (get_or ps k d) ≤ℤ coordinate axis q) (at_place ps mid p d within here) (up.up k mid d (omega arith) within)) most)) in
     omega (arith, few, counted, counted_both ps i below)
 
@@ -121,13 +94,13 @@ pub median_at : (line : Line) (ps : List Position) (mid i : ℕ) (p : Position) 
 median_at line ps mid i p up within half half2 here at below part some = record {
   less = λ k d l.
       let k_below : k < i = omega (arith, size) in
-      subst (λ q. coordinate line.axis q <ℤ line.at) (sym (get_or-take i ps k d k_below)) (is_less (coordinate line.axis (get_or ps k d)) line.at (part.0 k d (omega arith) k_below));
+      subst (λ q. coordinate line.axis q <ℤ line.at) (sym (get_or-take i ps k d k_below)) (less_from (coordinate line.axis (get_or ps k d)) line.at (part.0 k d (omega arith) k_below));
   not_less = λ k d l.
       let k_below : i + k < length ps = omega (arith, rest) in
-      subst (λ q. line.at ≤ℤ coordinate line.axis q) (sym (get_or-drop i ps k d)) (is_not_less (coordinate line.axis (get_or ps (i + k) d)) line.at (part.1 (i + k) d (omega arith) k_below));
+      subst (λ q. line.at ≤ℤ coordinate line.axis q) (sym (get_or-drop i ps k d)) (not_less_from (coordinate line.axis (get_or ps (i + k) d)) line.at (part.1 (i + k) d (omega arith) k_below));
   some = omega (arith, size);
   reached = (mid - i, p, omega (arith, rest, first), get_or-drop i ps (mid - i) p ∙ ap (λ k. get_or ps k p) back ∙ here, sym at);
-  few_past = few_past line.axis ps mid i p line.at up within here (subst (λ z. coordinate line.axis p ≤ℤ z) (sym at) (itself (coordinate line.axis p))) below half;
+  few_past = few_past line.axis ps mid i p line.at up within here (subst (λ z. coordinate line.axis p ≤ℤ z) (sym at) (≤ℤ_refl (coordinate line.axis p))) below half;
   few_before = inl (omega (arith, size, rest, first));
 }
   where
@@ -137,11 +110,8 @@ median_at line ps mid i p up within half half2 here at below part some = record 
     rest : length (drop i ps) ≡ length ps - i
     rest = length-drop i ps
 
-    itself : (z : ℤ) → z ≤ℤ z
-    itself z = omega (arith, ints)
-
     not_itself : (z : ℤ) → int_lt z z ≡ false
-    not_itself z = none_past z z (itself z)
+    not_itself z = less_no z z (≤ℤ_refl z)
 
     first : i ≤ mid
     first = elim (cases_lt mid i) [
@@ -150,7 +120,7 @@ median_at line ps mid i p up within half half2 here at below part some = record 
           let less : int_lt (coordinate line.axis p) (coordinate line.axis p) ≡ true =
           ap (λ q. int_lt (coordinate line.axis q) (coordinate line.axis p)) (sym here)
           ∙ ap (λ z. int_lt (coordinate line.axis (get_or ps mid p)) z) (sym at) ∙ part.0 mid p (omega arith) h in
-          absurd (differ (sym (not_itself (coordinate line.axis p)) ∙ less))
+          absurd (false≢true (sym (not_itself (coordinate line.axis p)) ∙ less))
     ]
 
     back : i + (mid - i) ≡ mid
@@ -160,7 +130,7 @@ median_at line ps mid i p up within half half2 here at below part some = record 
 none_less : (axis : Axis) (ps : List Position) (p o : Position) → Ascend axis ps → get_or ps 0 o ≡ o → coordinate axis p ≤ℤ coordinate axis o
     → (k : ℕ) (d : Position) → k < length ps → coordinate axis p ≤ℤ coordinate axis (get_or ps k d)
 none_less axis ps p o up first least k d l =
-    between (coordinate axis p) (coordinate axis o) (coordinate axis (get_or ps k d)) least
+    at_most_at_most (coordinate axis p) (coordinate axis o) (coordinate axis (get_or ps k d)) least
     (subst (λ r. coordinate axis r ≤ℤ coordinate axis (get_or ps k d)) (at_place ps 0 o d (omega arith) first) (up.up 0 k d (omega arith) l))
 
 -- a line at the coordinate of the first one past the least, where the middle one has the least
@@ -173,16 +143,16 @@ next_at line ps mid j o p q up within half start least here within2 here2 at par
   less = λ k d l.
       let k_below : k < j = omega (arith, size) in
       subst (λ r. coordinate line.axis r <ℤ line.at) (sym (get_or-take j ps k d k_below))
-      (subst (λ z. coordinate line.axis (get_or ps k d) <ℤ z) (sym at) (under (coordinate line.axis (get_or ps k d)) (coordinate line.axis p) (coordinate line.axis q) (most k d k_below) past));
+      (subst (λ z. coordinate line.axis (get_or ps k d) <ℤ z) (sym at) (at_most_less (coordinate line.axis (get_or ps k d)) (coordinate line.axis p) (coordinate line.axis q) (most k d k_below) past));
   not_less = λ k d l.
       let k_below : j + k < length ps = omega (arith, rest) in
       subst (λ r. line.at ≤ℤ coordinate line.axis r) (sym (get_or-drop j ps k d))
       (subst (λ z. z ≤ℤ coordinate line.axis (get_or ps (j + k) d)) (sym at)
       (subst (λ r. coordinate line.axis r ≤ℤ coordinate line.axis (get_or ps (j + k) d)) (at_place ps j q d within2 here2) (up.up j (j + k) d (omega arith) k_below)));
   some = omega (arith, size, first);
-  reached = (0, q, omega (arith, rest), get_or-drop j ps 0 q ∙ ap (λ k. get_or ps k q) (plain j) ∙ here2, sym at);
+  reached = (0, q, omega (arith, rest), get_or-drop j ps 0 q ∙ ap (λ k. get_or ps k q) (add-zero j) ∙ here2, sym at);
   few_past = few_past line.axis ps mid j p line.at up within here
-      (subst (λ z. coordinate line.axis p ≤ℤ z) (sym at) (weaker (coordinate line.axis p) (coordinate line.axis q) past)) (omega arith) half;
+      (subst (λ z. coordinate line.axis p ≤ℤ z) (sym at) (less_weak (coordinate line.axis p) (coordinate line.axis q) past)) (omega arith) half;
   few_before = inr (
     coordinate line.axis p,
     λ k d l.
@@ -199,24 +169,15 @@ next_at line ps mid j o p q up within half start least here within2 here2 at par
     rest : length (drop j ps) ≡ length ps - j
     rest = length-drop j ps
 
-    plain : (k : ℕ) → k + 0 ≡ k
-    plain k = omega arith
-
-    under : (a b c : ℤ) → a ≤ℤ b → b <ℤ c → a <ℤ c
-    under a b c h k = omega (arith, ints)
-
-    weaker : (a b : ℤ) → a <ℤ b → a ≤ℤ b
-    weaker a b h = omega (arith, ints)
-
     itself : (z : ℤ) → int_le z z ≡ true
     itself z = grind (arith, ints)
 
     most : (k : ℕ) (d : Position) → k < j → coordinate line.axis (get_or ps k d) ≤ℤ coordinate line.axis p
-    most k d l = is_most (coordinate line.axis (get_or ps k d)) (coordinate line.axis p) (part.0 k d (omega arith) l)
+    most k d l = at_most_from (coordinate line.axis (get_or ps k d)) (coordinate line.axis p) (part.0 k d (omega arith) l)
 
     past : coordinate line.axis p <ℤ coordinate line.axis q
     past = subst (λ r. coordinate line.axis p <ℤ coordinate line.axis r) here2
-        (is_more (coordinate line.axis (get_or ps j q)) (coordinate line.axis p) (part.1 j q (omega arith) within2))
+        (not_at_most_from (coordinate line.axis (get_or ps j q)) (coordinate line.axis p) (part.1 j q (omega arith) within2))
 
     first : mid < j
     first = elim (cases_lt mid j) [
@@ -224,7 +185,7 @@ next_at line ps mid j o p q up within half start least here within2 here2 at par
       | inr h ↦
           let more : int_le (coordinate line.axis p) (coordinate line.axis p) ≡ false =
           ap (λ r. int_le (coordinate line.axis r) (coordinate line.axis p)) (sym here) ∙ part.1 mid p h within in
-          absurd (differ (sym more ∙ itself (coordinate line.axis p)))
+          absurd (false≢true (sym more ∙ itself (coordinate line.axis p)))
     ]
 
 -- where no one is past the middle one, and none is less, all have its coordinate
@@ -234,7 +195,7 @@ pub all_at : (axis : Axis) (ps : List Position) (j : ℕ) (o p : Position) → A
 all_at axis ps j o p up start least end part = (
   coordinate axis p,
   λ k d l.
-      same (coordinate axis (get_or ps k d)) (coordinate axis p) (is_most (coordinate axis (get_or ps k d)) (coordinate axis p) (part.0 k d (omega arith) (omega arith)))
+      same (coordinate axis (get_or ps k d)) (coordinate axis p) (at_most_from (coordinate axis (get_or ps k d)) (coordinate axis p) (part.0 k d (omega arith) (omega arith)))
       (none_less axis ps p o up start least k d l),
 )
 
@@ -243,10 +204,7 @@ pub some_less : (axis : Axis) (ps : List Position) (i : ℕ) (o : Position) (z :
     → IsPartitionPoint (λ r. int_lt (coordinate axis r) z ≡ true) (λ r. int_lt (coordinate axis r) z ≡ false) ps i → 0 < i
 some_less axis ps zero o z within first less part =
     let no : int_lt (coordinate axis o) z ≡ false = ap (λ r. int_lt (coordinate axis r) z) (sym first) ∙ part.1 0 o (omega arith) within in
-    absurd (differ (sym no ∙ yes (coordinate axis o) z less))
-  where
-    yes : (a b : ℤ) → a <ℤ b → int_lt a b ≡ true
-    yes a b h = grind (arith, ints)
+    absurd (false≢true (sym no ∙ less_yes (coordinate axis o) z less))
 some_less axis ps (suc i) o z within first less part = omega arith
 
 -- the first one is before the line, and one is at it

@@ -1,11 +1,12 @@
 -- What the first records give, one by one: those of a text, some of which are left, or those that were read where no text is known.
-use Rattle.std.proofs.Common.{◌≡◌, ◌∙◌, ◌+◌, ◌++◌, ◌<◌, ◌≤◌, ℕ, zero, suc, List, [], ◌∷◌, Option, Result, Ok, Err, ap, arith, drop, get_or, length, map, refl}
+use Rattle.std.proofs.Common.{◌≡◌, ◌∙◌, ◌+◌, ◌++◌, ◌<◌, ℕ, List, [], ◌∷◌, Option, Result, Ok, Err, ap, arith, drop, get_or, length, map, refl, drop_at}
 use Rattle.std.proofs.lemmas.List.{append_assoc, get_or-map, length-append, length-map}
 use Rattle.std.proofs.lemmas.List.FromFn.{get_or-enumerate_from, length-enumerate_from}
 use Rattle.std.specs.List.{enumerate_from}
+use Rattle.basics.proofs.Lists.{past_end}
 use Rattle.csv.specs.declared.reader.Reader.{Reader}
 use Rattle.feature_table.proofs.EachLemmas.{Passed, passed_all, passed_fault, passed_more}
-use Rattle.feature_table.proofs.LoadingLemmas.{at_place, drop_front}
+use Rattle.feature_table.proofs.LoadingLemmas.{at_place}
 use Rattle.feature_table.specs.Reading.{StillGives}
 use Rattle.table_model.specs.Loading.{Record, each}
 use Rattle.table_model.specs.declared.faults.LoadFault.{LoadFault}
@@ -15,12 +16,6 @@ use Rattle.tiles.specs.Passes.{Of}
 -- what each record gives; the records are numbered from 1
 abbrev pub all_of : {A : Type 0} → Of A → List Record → List (Result A LoadFault)
 all_of of records = map of (enumerate_from 1 records)
-
--- where nothing is left the end is reached
-past_end : {X : Type 0} (xs : List X) (i : ℕ) → drop i xs ≡ [] → length xs ≤ i
-past_end [] i h = omega arith
-past_end (z ∷ zs) zero h = cc h
-past_end (z ∷ zs) (suc i) h = let more = past_end zs i h in omega (arith, more)
 
 -- there are as many answers as records
 length-all : {A : Type 0} (of : Of A) (records : List Record) → length (all_of of records) ≡ length records
@@ -102,7 +97,7 @@ read_more of place found fields x a is = record {
   count = omega (arith, length-append a.records (fields ∷ []), a.count);
   passed = λ more.
       rw (append_assoc a.records (fields ∷ []) more)
-      (answer_more of (a.records ++ fields ∷ more) place found fields more x (a.passed (fields ∷ more)) (drop_front a.records (fields ∷ more) place a.count) is);
+      (answer_more of (a.records ++ fields ∷ more) place found fields more x (a.passed (fields ∷ more)) (drop_at a.records (fields ∷ more) place a.count) is);
 }
 
 -- the next record that was read has a fault: the records so far and this one have it first
@@ -110,11 +105,11 @@ pub read_fault : {A : Type 0} (of : Of A) (place : ℕ) (found : List A) (fields
     → AreRead of place found → of (place + 1, fields) ≡ Err f → (records : List Record) × (each (all_of of records) ≡ Err f)
 read_fault of place found fields f a is = (
   a.records ++ fields ∷ [],
-  answer_fault of (a.records ++ fields ∷ []) place found fields [] f (a.passed (fields ∷ [])) (drop_front a.records (fields ∷ []) place a.count) is,
+  answer_fault of (a.records ++ fields ∷ []) place found fields [] f (a.passed (fields ∷ [])) (drop_at a.records (fields ∷ []) place a.count) is,
 )
 
 -- nothing more is read: the records so far give these values
 pub read_end : {A : Type 0} (of : Of A) (place : ℕ) (found : List A)
     → AreRead of place found → (records : List Record) × (each (all_of of records) ≡ Ok found)
 read_end of place found a =
-    (a.records ++ [], answer_end of (a.records ++ []) place found (a.passed []) (drop_front a.records [] place a.count))
+    (a.records ++ [], answer_end of (a.records ++ []) place found (a.passed []) (drop_at a.records [] place a.count))

@@ -1,5 +1,5 @@
 -- Of the places of what passes a test, those that are a given number: that one, if what is there passes, and else none.
-use Rattle.std.proofs.Common.{◌≡◌, ◌==◌, ◌+◌, ◌<◌, ℕ, zero, suc, Bool, true, false, cond, if◌then◌else◌, List, [], ◌∷◌, filter, map, option_map, unwrap_or, slice_get, arith, length, refl, ap, ◌∙◌}
+use Rattle.std.proofs.Common.{◌≡◌, ◌==◌, ◌+◌, ◌<◌, ℕ, zero, suc, Bool, true, false, cond, if◌then◌else◌, List, [], ◌∷◌, filter, map, option_map, unwrap_or, slice_get, arith, length, refl, ap, ◌∙◌, eq-eqb}
 use Rattle.std.proofs.lemmas.Bool.Decides.{nat_tests}
 use Rattle.std.proofs.lemmas.List.Elements.{All-cons, All-nil}
 use Rattle.std.specs.List.{All, enumerate_from}
@@ -23,9 +23,6 @@ keep j n rest h = ap (λ (b : Bool). cond b (n ∷ filter (λ m. m == j) rest) (
 apart : (n j : ℕ) → j < n → (n == j) ≡ false
 apart n j h = grind (arith, nat_tests)
 
-same : (n j : ℕ) → n ≡ j → (n == j) ≡ true
-same n j h = grind (arith, nat_tests)
-
 -- a number below all places is none of them
 below : {A : Type 0} (p : A → Bool) (n j : ℕ) (xs : List A) → j < n → filter (λ m. m == j) (places p n xs) ≡ []
 below p n j [] h = refl
@@ -38,7 +35,7 @@ below p n j (x ∷ xs) h = elim (p x) as (λ b. filter (λ m. m == j) (map (λ p
 pub found_once : {A : Type 0} (p : A → Bool) (n k j : ℕ) (xs : List A) → n + k ≡ j → filter (λ m. m == j) (places p n xs) ≡ (if passes_at p xs k then j ∷ [] else [])
 found_once p n k j [] h = refl
 found_once p n zero j (x ∷ xs) h = elim (p x) as (λ b. filter (λ m. m == j) (map (λ placed. placed.0) (cond b ((n, x) ∷ filter (λ placed. p placed.1) (enumerate_from (n + 1) xs)) (filter (λ placed. p placed.1) (enumerate_from (n + 1) xs)))) ≡ cond b (j ∷ []) []) [
-  | true ↦ (let e : n ≡ j = omega (arith, h) in keep j n (places p (n + 1) xs) (same n j e) ∙ ap (λ l. n ∷ l) (below p (n + 1) j xs (omega (arith, h))) ∙ ap (λ m. m ∷ []) e)
+  | true ↦ (let e : n ≡ j = omega (arith, h) in keep j n (places p (n + 1) xs) (eq-eqb n j e) ∙ ap (λ l. n ∷ l) (below p (n + 1) j xs (omega (arith, h))) ∙ ap (λ m. m ∷ []) e)
   | false ↦ below p (n + 1) j xs (omega (arith, h))
 ]
 found_once p n (suc k) j (x ∷ xs) h = elim (p x) as (λ b. filter (λ m. m == j) (map (λ placed. placed.0) (cond b ((n, x) ∷ filter (λ placed. p placed.1) (enumerate_from (n + 1) xs)) (filter (λ placed. p placed.1) (enumerate_from (n + 1) xs)))) ≡ cond (passes_at p xs k) (j ∷ []) []) [

@@ -1,6 +1,5 @@
 -- What stretches get of one record more.
-use Rattle.std.proofs.Common.{◌≡◌, ◌∙◌, ◌+◌, ◌-◌, ◌*◌, ◌/◌, ◌++◌, ◌<◌, ◌≤◌, ◌==◌, ◌⊎◌, inl, inr, ℕ, zero, suc, Bool, true, false, cond, List, [], ◌∷◌, Option, Some, None, ap, ap₂, append-nil, arith, get_or, length, map, option_map, replicate, take, drop, unwrap_or, slice_get, refl, sym, subst}
-use Rattle.std.specs.Prelude.{nat_lt}
+use Rattle.std.proofs.Common.{◌≡◌, ◌∙◌, ◌+◌, ◌-◌, ◌*◌, ◌/◌, ◌++◌, ◌<◌, ◌≤◌, ◌==◌, ◌⊎◌, inl, inr, ℕ, zero, suc, Bool, true, false, cond, List, [], ◌∷◌, Option, Some, None, ap, ap₂, append-nil, arith, get_or, length, map, option_map, replicate, take, drop, unwrap_or, slice_get, refl, sym, subst, le-ltb, lt-ltb}
 use Rattle.std.specs.List.{flat_map, range_with_len}
 use Rattle.std.proofs.lemmas.Bool.{cases_lt, cases_order}
 use Rattle.std.proofs.lemmas.Bool.Decides.{nat_tests}
@@ -12,6 +11,7 @@ use Rattle.std.proofs.Math.Nat.{lt-div-mul-add, mul-le-mul_right}
 use Rattle.std.proofs.Math.Seq.{take-add}
 use Rattle.std.proofs.lemmas.Grind.{flat_map-append}
 use Rattle.std.proofs.lemmas.List.Elements.{All-map}
+use Rattle.basics.proofs.Numbers.{to_end}
 use Rattle.table_model.specs.Loading.{Record}
 use Rattle.tiles.specs.Copies.{AreWritten, lines_of, stretch_count, stretch_of, stretches, table_at}
 use Rattle.tiles.specs.RecordLines.{line_of}
@@ -81,13 +81,6 @@ lines_push : (rows : List Record) (x : Record) → lines_of (rows ++ x ∷ []) �
 lines_push [] x = append-nil (line_of x)
 lines_push (y ∷ ys) x = ap (λ l. line_of y ++ l) (lines_push ys x) ∙ sym (append_assoc (line_of y) (lines_of ys) (line_of x))
 
--- tests of numbers
-later : (a b : ℕ) → a < b → nat_lt a b ≡ true
-later a b h = grind (arith, nat_tests)
-
-not_later : (a b : ℕ) → b ≤ a → nat_lt a b ≡ false
-not_later a b h = grind (arith, nat_tests)
-
 other : (a b : ℕ) → a < b → (b == a) ≡ false
 other a b h = grind (arith, nat_tests)
 
@@ -97,11 +90,11 @@ other_below a b h = grind (arith, nat_tests)
 -- the text of a stretch that is begun
 begun : (header : Record) (row : Record → Record) (size : ℕ) (read : List Record) (last k : ℕ) → k ≤ last
     → begun_at header row size read last k ≡ lines_of (header ∷ map row (stretch_of size read k))
-begun header row size read last k h = ap (λ (b : Bool). cond b [] (lines_of (header ∷ map row (stretch_of size read k)))) (not_later last k h)
+begun header row size read last k h = ap (λ (b : Bool). cond b [] (lines_of (header ∷ map row (stretch_of size read k)))) (le-ltb last k h)
 
 -- and of one that isn't
 not_begun : (header : Record) (row : Record → Record) (size : ℕ) (read : List Record) (last k : ℕ) → last < k → begun_at header row size read last k ≡ []
-not_begun header row size read last k h = ap (λ (b : Bool). cond b [] (lines_of (header ∷ map row (stretch_of size read k)))) (later last k h)
+not_begun header row size read last k h = ap (λ (b : Bool). cond b [] (lines_of (header ∷ map row (stretch_of size read k)))) (lt-ltb last k h)
 
 -- another cell gets nothing
 nothing_in : (number k : ℕ) (line : List ℕ) → (number == k) ≡ false → in_cell number line k ≡ []
@@ -193,7 +186,7 @@ filled_begun old mid new header row size read counts more rows was filled is gre
   texts = grow_same old new (λ k. begun_at header row size read (length counts) k ++ in_cell (length counts + 1) (line_of header) k) (begun_at header row size read (length more))
       (λ k. header_at header row size read (length counts) k sum ∙ ap (λ (n : ℕ). begun_at header row size read n k) (sym count)) (grow_trans old mid new (begun_at header row size read (length counts)) (in_cell (length counts + 1) (line_of header)) was.texts grew);
   full = is ∙ ap₂ (λ (l : List ℕ) (n : ℕ). l ++ n ∷ []) was.full filled ∙ replicate_more (length counts) size ∙ ap (λ n. replicate n size) (sym count);
-  sum = sum ∙ ap (λ n. n * size) (sym count) ∙ plain (length more * size);
+  sum = sum ∙ ap (λ n. n * size) (sym count) ∙ to_end (length more * size);
 }
   where
     count : length more ≡ length counts + 1
@@ -201,9 +194,6 @@ filled_begun old mid new header row size read counts more rows was filled is gre
 
     sum : length read ≡ (length counts + 1) * size
     sum = let e : (length counts + 1) * size ≡ length counts * size + size = omega arith in omega (arith, was.sum, filled, e)
-
-    plain : (n : ℕ) → n ≡ n + 0
-    plain n = omega arith
 
 -- a record more is in the last stretch
 pub filled_more : (old mid new : Texts) (header : Record) (row : Record → Record) (size : ℕ) (read : List Record) (x : Record) (counts : List ℕ) (rows : ℕ)

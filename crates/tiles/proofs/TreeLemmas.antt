@@ -6,6 +6,9 @@ use Rattle.std.proofs.lemmas.Int.{ints}
 use Rattle.std.proofs.lemmas.Bool.{and_parts, and_from, and_left, and_right}
 use Rattle.std.proofs.lemmas.List.{map-append}
 use Rattle.std.proofs.lemmas.List.Elements.{filter-append}
+use Rattle.basics.proofs.Bools.{by_contraries, four_from, four_parts}
+use Rattle.basics.proofs.Signs.{at_most_no, at_most_yes, less_yes}
+use Rattle.basics.proofs.Orders.{before}
 use Rattle.geometry_model.specs.Envelopes.{Envelope, overlap}
 use Rattle.rtree.specs.Found.{meeting_places, placed_meets}
 use Rattle.rtree.specs.Trees.{places_found}
@@ -19,39 +22,17 @@ use Rattle.tiles.specs.declared.trees.Tree.{Tree, Whole, Parted'}
 
 -- ---- overlaps, by their four comparisons
 
-pub four : (a b c d : Bool) → (a && b && c && d) ≡ true → (a ≡ true) × (b ≡ true) × (c ≡ true) × (d ≡ true)
-four a b c d h =
-    let last = and_parts (a && b && c) d h in
-    let third = and_parts (a && b) c last.0 in
-    let first = and_parts a b third.0 in
-    (first.0, first.1, third.1, last.1)
-
-pub all_four : (a b c d : Bool) → a ≡ true → b ≡ true → c ≡ true → d ≡ true → (a && b && c && d) ≡ true
-all_four a b c d h h2 h3 h4 = and_from (a && b && c) d (and_from (a && b) c (and_from a b h h2) h3) h4
-
-before : (z at : ℤ) → z <ℤ at → int_le z (at -ℤ pos 1) ≡ true
-before z at h = grind (arith, ints)
-
-below : (z at : ℤ) → z <ℤ at → int_lt z at ≡ true
-below z at h = grind (arith, ints)
-
 not_before : (z at : ℤ) → at ≤ℤ z → int_le z (at -ℤ pos 1) ≡ false
 not_before z at h = grind (arith, ints)
-
-behind : (at z : ℤ) → at ≤ℤ z → int_le at z ≡ true
-behind at z h = grind (arith, ints)
-
-not_behind : (at z : ℤ) → z <ℤ at → int_le at z ≡ false
-not_behind at z h = grind (arith, ints)
 
 -- an envelope that meets a box and reaches before a line meets the box's part there
 low_met : (axis : Axis) (at : ℤ) (box e : Envelope) → overlap box e ≡ true → least_along axis e <ℤ at → overlap (low_part axis at box) e ≡ true
 low_met X at box e h l =
-    let f = four (int_le box.least_x e.greatest_x) (int_le e.least_x box.greatest_x) (int_le box.least_y e.greatest_y) (int_le e.least_y box.greatest_y) h in
-    all_four (int_le box.least_x e.greatest_x) (int_le e.least_x (at -ℤ pos 1)) (int_le box.least_y e.greatest_y) (int_le e.least_y box.greatest_y) f.0 (before e.least_x at l) f.2 f.3
+    let f = four_parts (int_le box.least_x e.greatest_x) (int_le e.least_x box.greatest_x) (int_le box.least_y e.greatest_y) (int_le e.least_y box.greatest_y) h in
+    four_from (int_le box.least_x e.greatest_x) (int_le e.least_x (at -ℤ pos 1)) (int_le box.least_y e.greatest_y) (int_le e.least_y box.greatest_y) f.0 (before e.least_x at l) f.2 f.3
 low_met Y at box e h l =
-    let f = four (int_le box.least_x e.greatest_x) (int_le e.least_x box.greatest_x) (int_le box.least_y e.greatest_y) (int_le e.least_y box.greatest_y) h in
-    all_four (int_le box.least_x e.greatest_x) (int_le e.least_x box.greatest_x) (int_le box.least_y e.greatest_y) (int_le e.least_y (at -ℤ pos 1)) f.0 f.1 f.2 (before e.least_y at l)
+    let f = four_parts (int_le box.least_x e.greatest_x) (int_le e.least_x box.greatest_x) (int_le box.least_y e.greatest_y) (int_le e.least_y box.greatest_y) h in
+    four_from (int_le box.least_x e.greatest_x) (int_le e.least_x box.greatest_x) (int_le box.least_y e.greatest_y) (int_le e.least_y (at -ℤ pos 1)) f.0 f.1 f.2 (before e.least_y at l)
 
 low_missed : (axis : Axis) (at : ℤ) (box e : Envelope) → at ≤ℤ least_along axis e → overlap (low_part axis at box) e ≡ false
 low_missed X at box e l =
@@ -64,20 +45,20 @@ low_missed Y at box e l =
 -- one that meets a box and reaches behind a line meets the box's part there
 high_met : (axis : Axis) (at : ℤ) (box e : Envelope) → overlap box e ≡ true → at ≤ℤ greatest_along axis e → overlap (high_part axis at box) e ≡ true
 high_met X at box e h l =
-    let f = four (int_le box.least_x e.greatest_x) (int_le e.least_x box.greatest_x) (int_le box.least_y e.greatest_y) (int_le e.least_y box.greatest_y) h in
-    all_four (int_le at e.greatest_x) (int_le e.least_x box.greatest_x) (int_le box.least_y e.greatest_y) (int_le e.least_y box.greatest_y) (behind at e.greatest_x l) f.1 f.2 f.3
+    let f = four_parts (int_le box.least_x e.greatest_x) (int_le e.least_x box.greatest_x) (int_le box.least_y e.greatest_y) (int_le e.least_y box.greatest_y) h in
+    four_from (int_le at e.greatest_x) (int_le e.least_x box.greatest_x) (int_le box.least_y e.greatest_y) (int_le e.least_y box.greatest_y) (at_most_yes at e.greatest_x l) f.1 f.2 f.3
 high_met Y at box e h l =
-    let f = four (int_le box.least_x e.greatest_x) (int_le e.least_x box.greatest_x) (int_le box.least_y e.greatest_y) (int_le e.least_y box.greatest_y) h in
-    all_four (int_le box.least_x e.greatest_x) (int_le e.least_x box.greatest_x) (int_le at e.greatest_y) (int_le e.least_y box.greatest_y) f.0 f.1 (behind at e.greatest_y l) f.3
+    let f = four_parts (int_le box.least_x e.greatest_x) (int_le e.least_x box.greatest_x) (int_le box.least_y e.greatest_y) (int_le e.least_y box.greatest_y) h in
+    four_from (int_le box.least_x e.greatest_x) (int_le e.least_x box.greatest_x) (int_le at e.greatest_y) (int_le e.least_y box.greatest_y) f.0 f.1 (at_most_yes at e.greatest_y l) f.3
 
 high_missed : (axis : Axis) (at : ℤ) (box e : Envelope) → greatest_along axis e <ℤ at → overlap (high_part axis at box) e ≡ false
 high_missed X at box e l =
     and_left (int_le at e.greatest_x && int_le e.least_x box.greatest_x && int_le box.least_y e.greatest_y) (int_le e.least_y box.greatest_y)
     (and_left (int_le at e.greatest_x && int_le e.least_x box.greatest_x) (int_le box.least_y e.greatest_y)
-    (and_left (int_le at e.greatest_x) (int_le e.least_x box.greatest_x) (not_behind at e.greatest_x l)))
+    (and_left (int_le at e.greatest_x) (int_le e.least_x box.greatest_x) (at_most_no at e.greatest_x l)))
 high_missed Y at box e l =
     and_left (int_le box.least_x e.greatest_x && int_le e.least_x box.greatest_x && int_le at e.greatest_y) (int_le e.least_y box.greatest_y)
-    (and_right (int_le box.least_x e.greatest_x && int_le e.least_x box.greatest_x) (int_le at e.greatest_y) (not_behind at e.greatest_y l))
+    (and_right (int_le box.least_x e.greatest_x && int_le e.least_x box.greatest_x) (int_le at e.greatest_y) (at_most_no at e.greatest_y l))
 
 -- ---- what meets a part meets the box
 
@@ -89,28 +70,23 @@ over_start l at z h h2 = grind (arith, ints)
 
 low_within : (axis : Axis) (at : ℤ) (box e : Envelope) → passes axis at box ≡ true → overlap (low_part axis at box) e ≡ true → overlap box e ≡ true
 low_within X at box e p h =
-    let f = four (int_le box.least_x e.greatest_x) (int_le e.least_x (at -ℤ pos 1)) (int_le box.least_y e.greatest_y) (int_le e.least_y box.greatest_y) h in
+    let f = four_parts (int_le box.least_x e.greatest_x) (int_le e.least_x (at -ℤ pos 1)) (int_le box.least_y e.greatest_y) (int_le e.least_y box.greatest_y) h in
     let q = and_parts (int_lt box.least_x at) (int_le at box.greatest_x) p in
-    all_four (int_le box.least_x e.greatest_x) (int_le e.least_x box.greatest_x) (int_le box.least_y e.greatest_y) (int_le e.least_y box.greatest_y) f.0 (under_end at box.greatest_x e.least_x q.1 f.1) f.2 f.3
+    four_from (int_le box.least_x e.greatest_x) (int_le e.least_x box.greatest_x) (int_le box.least_y e.greatest_y) (int_le e.least_y box.greatest_y) f.0 (under_end at box.greatest_x e.least_x q.1 f.1) f.2 f.3
 low_within Y at box e p h =
-    let f = four (int_le box.least_x e.greatest_x) (int_le e.least_x box.greatest_x) (int_le box.least_y e.greatest_y) (int_le e.least_y (at -ℤ pos 1)) h in
+    let f = four_parts (int_le box.least_x e.greatest_x) (int_le e.least_x box.greatest_x) (int_le box.least_y e.greatest_y) (int_le e.least_y (at -ℤ pos 1)) h in
     let q = and_parts (int_lt box.least_y at) (int_le at box.greatest_y) p in
-    all_four (int_le box.least_x e.greatest_x) (int_le e.least_x box.greatest_x) (int_le box.least_y e.greatest_y) (int_le e.least_y box.greatest_y) f.0 f.1 f.2 (under_end at box.greatest_y e.least_y q.1 f.3)
+    four_from (int_le box.least_x e.greatest_x) (int_le e.least_x box.greatest_x) (int_le box.least_y e.greatest_y) (int_le e.least_y box.greatest_y) f.0 f.1 f.2 (under_end at box.greatest_y e.least_y q.1 f.3)
 
 high_within : (axis : Axis) (at : ℤ) (box e : Envelope) → passes axis at box ≡ true → overlap (high_part axis at box) e ≡ true → overlap box e ≡ true
 high_within X at box e p h =
-    let f = four (int_le at e.greatest_x) (int_le e.least_x box.greatest_x) (int_le box.least_y e.greatest_y) (int_le e.least_y box.greatest_y) h in
+    let f = four_parts (int_le at e.greatest_x) (int_le e.least_x box.greatest_x) (int_le box.least_y e.greatest_y) (int_le e.least_y box.greatest_y) h in
     let q = and_parts (int_lt box.least_x at) (int_le at box.greatest_x) p in
-    all_four (int_le box.least_x e.greatest_x) (int_le e.least_x box.greatest_x) (int_le box.least_y e.greatest_y) (int_le e.least_y box.greatest_y) (over_start box.least_x at e.greatest_x q.0 f.0) f.1 f.2 f.3
+    four_from (int_le box.least_x e.greatest_x) (int_le e.least_x box.greatest_x) (int_le box.least_y e.greatest_y) (int_le e.least_y box.greatest_y) (over_start box.least_x at e.greatest_x q.0 f.0) f.1 f.2 f.3
 high_within Y at box e p h =
-    let f = four (int_le box.least_x e.greatest_x) (int_le e.least_x box.greatest_x) (int_le at e.greatest_y) (int_le e.least_y box.greatest_y) h in
+    let f = four_parts (int_le box.least_x e.greatest_x) (int_le e.least_x box.greatest_x) (int_le at e.greatest_y) (int_le e.least_y box.greatest_y) h in
     let q = and_parts (int_lt box.least_y at) (int_le at box.greatest_y) p in
-    all_four (int_le box.least_x e.greatest_x) (int_le e.least_x box.greatest_x) (int_le box.least_y e.greatest_y) (int_le e.least_y box.greatest_y) f.0 f.1 (over_start box.least_y at e.greatest_y q.0 f.2) f.3
-
--- what is false of a box is false of its part
-back : (part whole : Bool) → (part ≡ true → whole ≡ true) → whole ≡ false → part ≡ false
-back true whole h missed = sym (h refl) ∙ missed
-back false whole h missed = refl
+    four_from (int_le box.least_x e.greatest_x) (int_le e.least_x box.greatest_x) (int_le box.least_y e.greatest_y) (int_le e.least_y box.greatest_y) f.0 f.1 (over_start box.least_y at e.greatest_y q.0 f.2) f.3
 
 -- ---- what is found
 
@@ -131,8 +107,8 @@ none_within (Whole n) box e parted h = found_none n box e h
 none_within (Parted' line p low q high) box e parted h =
     let last = and_parts (passes line.axis line.at box && is_parted low (low_part line.axis line.at box)) (is_parted high (high_part line.axis line.at box)) parted in
     let first = and_parts (passes line.axis line.at box) (is_parted low (low_part line.axis line.at box)) last.0 in
-    let l = none_within low (low_part line.axis line.at box) e first.1 (back (overlap (low_part line.axis line.at box) e) (overlap box e) (low_within line.axis line.at box e first.0) h) in
-    let r = none_within high (high_part line.axis line.at box) e last.1 (back (overlap (high_part line.axis line.at box) e) (overlap box e) (high_within line.axis line.at box e first.0) h) in
+    let l = none_within low (low_part line.axis line.at box) e first.1 (by_contraries (overlap (low_part line.axis line.at box) e) (overlap box e) (low_within line.axis line.at box e first.0) h) in
+    let r = none_within high (high_part line.axis line.at box) e last.1 (by_contraries (overlap (high_part line.axis line.at box) e) (overlap box e) (high_within line.axis line.at box e first.0) h) in
     found-append e (numbered_boxes low (low_part line.axis line.at box)) (numbered_boxes high (high_part line.axis line.at box))
     ∙ ap (λ xs. xs ++ places_found e (numbered_boxes high (high_part line.axis line.at box))) l
     ∙ r
@@ -236,8 +212,8 @@ numbered_parts old mid new line low high box low_box high_box is_low is_high l h
 
 -- a line that passes through a box parts it
 pub passes_through : (axis : Axis) (at : ℤ) (box : Envelope) → PassesThrough axis at box → passes axis at box ≡ true
-passes_through X at box h = and_from (int_lt box.least_x at) (int_le at box.greatest_x) (below box.least_x at h.0) (behind at box.greatest_x h.1)
-passes_through Y at box h = and_from (int_lt box.least_y at) (int_le at box.greatest_y) (below box.least_y at h.0) (behind at box.greatest_y h.1)
+passes_through X at box h = and_from (int_lt box.least_x at) (int_le at box.greatest_x) (less_yes box.least_x at h.0) (at_most_yes at box.greatest_x h.1)
+passes_through Y at box h = and_from (int_lt box.least_y at) (int_le at box.greatest_y) (less_yes box.least_y at h.0) (at_most_yes at box.greatest_y h.1)
 
 pub both_parted : (line : Line) (low high : Tree) (box low_box high_box : Envelope) → Parts line box low_box high_box
     → is_parted low low_box ≡ true → is_parted high high_box ≡ true

@@ -5,6 +5,7 @@ use Rattle.std.specs.List.{list_any}
 use Rattle.std.proofs.lemmas.Int.{ints, clamps}
 use Rattle.std.proofs.lemmas.List.{map-append}
 use Rattle.std.proofs.lemmas.Grind.{flat_map-append}
+use Rattle.std.proofs.lemmas.Bool.{or_right}
 use Rattle.geometry_model.specs.Points.{Position, Point, IsPoint, point_at}
 use Rattle.geometry_model.specs.Geometries.{Geometry, Edge, edges_of_lines, lines, rings}
 use Rattle.geometry_model.specs.Sides.{on}
@@ -81,10 +82,6 @@ record Shared (es fs : List Edge) : Type 0 where
   is_point : IsPoint at
   on_first : list_any (λ (e : Edge). on e at) es ≡ true
   on_second : list_any (λ (e : Edge). on e at) fs ≡ true
-
-or_right : (a b : Bool) → b ≡ true → a || b ≡ true
-or_right true b h = refl
-or_right false b h = h
 
 -- an edge that shares a point with one of a list: the point is on both, since the test decides exactly that
 shared_by_one : (e : Edge) (fs : List Edge) → list_any (share_point e) fs ≡ true → Shared (e ∷ []) fs

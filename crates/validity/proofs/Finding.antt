@@ -3,9 +3,10 @@ use Rattle.std.proofs.Common.{◌≡◌, refl, sym, ap, ◌∙◌, append_assoc,
 use Rattle.std.specs.List.{find, flat_map, range_with_len}
 use Rattle.std.specs.Option.{option_or, is_some, MatchOption}
 use Rattle.std.proofs.lemmas.List.Folds.{find-append}
+use Rattle.std.proofs.lemmas.List.{drop_all}
+use Rattle.basics.proofs.Lists.{drop_here}
 use Rattle.geometry_model.specs.FirstFaults.{numbers}
 use Rattle.geometry_model.specs.declared.validity_faults.ValidityFault.{ValidityFault}
-use Rattle.edge_boxes.proofs.Rests.{at_place, past_all}
 
 -- ---- the numbers that are left
 -- before the end the numbers from here are this one and the numbers from the next
@@ -56,19 +57,19 @@ none_among applies faults i n h = ap (λ ns. find applies (flat_map faults ns)) 
 -- what applies first among this part's faults is the first of all ..
 pub found_in_part : {A : Type 0} (applies : ValidityFault → Bool) (faults : A → List ValidityFault) (parts : List A) (m : ℕ) (part : A) (fault : ValidityFault) → slice_get parts m ≡ Some part
     → find applies (faults part) ≡ Some fault → find applies (flat_map faults (drop m parts)) ≡ Some fault
-found_in_part applies faults parts m part fault is e = ap (λ xs. find applies (flat_map faults xs)) (at_place parts m part is)
+found_in_part applies faults parts m part fault is e = ap (λ xs. find applies (flat_map faults xs)) (drop_here parts m part is)
     ∙ in_front applies (faults part) (flat_map faults (drop (m + 1) parts)) (Some fault) e
 
 -- .. where none of them applies the next part's are looked at ..
 pub passed_in_part : {A : Type 0} (applies : ValidityFault → Bool) (faults : A → List ValidityFault) (parts : List A) (m : ℕ) (part : A) → slice_get parts m ≡ Some part
     → find applies (faults part) ≡ None → find applies (flat_map faults (drop m parts)) ≡ find applies (flat_map faults (drop (m + 1) parts))
-passed_in_part applies faults parts m part is e = ap (λ xs. find applies (flat_map faults xs)) (at_place parts m part is)
+passed_in_part applies faults parts m part is e = ap (λ xs. find applies (flat_map faults xs)) (drop_here parts m part is)
     ∙ in_front applies (faults part) (flat_map faults (drop (m + 1) parts)) None e
 
 -- .. until none is left
 pub none_in_parts : {A : Type 0} (applies : ValidityFault → Bool) (faults : A → List ValidityFault) (parts : List A) (m : ℕ) → length parts ≤ m
     → find applies (flat_map faults (drop m parts)) ≡ None
-none_in_parts applies faults parts m h = ap (λ xs. find applies (flat_map faults xs)) (past_all parts m h)
+none_in_parts applies faults parts m h = ap (λ xs. find applies (flat_map faults xs)) (drop_all m parts h)
 
 -- ---- what was found there, or nothing
 pub some_is : (o : Option ValidityFault) → is_some o ≡ true → (fault : ValidityFault) × (o ≡ Some fault)

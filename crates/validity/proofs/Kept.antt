@@ -1,7 +1,8 @@
 -- A geometry without fault, with the boxes over its edges and the positions that are searched.
-use Rattle.std.proofs.Common.{◌≡◌, ◌≢◌, ◌⊎◌, inl, inr, ◌∙◌, refl, sym, ap, subst, Bool, true, false, ◌||◌, List, [], None, Some, Result, Ok, Err}
+use Rattle.std.proofs.Common.{◌≡◌, ◌≢◌, ◌⊎◌, inl, inr, ◌∙◌, refl, sym, ap, subst, false, ◌||◌, List, [], None, Some, Result, Ok, Err}
 use Rattle.std.specs.Prelude.{OnOk}
 use Rattle.std.specs.List.Sorted.{IsStrictlySortedBy}
+use Rattle.std.proofs.Math.Bool.{or-false}
 use Rattle.geometry_model.specs.Geometries as g
 use Rattle.geometry_model.specs.declared.shapes.GeometryType.TheVariants as types
 use Rattle.geometry_model.specs.declared.shapes.Kind.{Kind}
@@ -53,15 +54,11 @@ point_has_no_fault (g.MultiPolygon es) e = absurd cc
 pub point_is_kept : (g : Geometry) (edges : List Edge) (boxes : EdgeBoxes) → type_of g ≡ types.Point → edges ≡ [] → BoxesOf boxes edges → IsKept g boxes
 point_is_kept g none boxes point e are = is_kept g boxes (subst (BoxesOf boxes) (e ∙ sym (point_has_no_edges g point)) are) (point_has_no_fault g point)
 
-or_false : (b : Bool) → (b || false) ≡ b
-or_false true = refl
-or_false false = refl
-
 -- the one position of a POINT ascends
 pub point_is_searched : (g : Geometry) → type_of g ≡ types.Point → AreSearched (listed g) g
 unfolding IsStrictlySortedBy
 point_is_searched (g.Point None) e = record { ascend = tt; exact = λ p is. refl }
-point_is_searched (g.Point (Some a)) e = record { ascend = (tt, tt); exact = λ p is. sym (or_false (is_at p a || false)) }
+point_is_searched (g.Point (Some a)) e = record { ascend = (tt, tt); exact = λ p is. sym (or-false (is_at p a || false)) }
 point_is_searched (g.MultiPoint ps) e = absurd cc
 point_is_searched (g.LineString ps) e = absurd cc
 point_is_searched (g.MultiLineString ls) e = absurd cc

@@ -1,9 +1,13 @@
 -- The first fault that applies is among those of near numbers.
-use Rattle.std.proofs.Common.{◌≡◌, refl, sym, ap, ap₂, ◌∙◌, subst, ℕ, zero, suc, ◌+◌, ◌-◌, ◌<◌, ◌≤◌, ◌==◌, ◌⊎◌, inl, inr, not, Bool, true, false, ◌&&◌, ◌||◌, cond, int_le, nat_le, nat_lt, List, [], ◌∷◌, map, drop, length, get_or, Option, Some, None, slice_get, arith, All}
+use Rattle.std.proofs.Common.{◌≡◌, refl, sym, ap, ap₂, ◌∙◌, subst, ℕ, zero, suc, ◌+◌, ◌-◌, ◌<◌, ◌≤◌, ◌==◌, ◌⊎◌, inl, inr, not, Bool, true, false, ◌&&◌, ◌||◌, cond, int_le, nat_le, nat_lt, List, [], ◌∷◌, map, drop, length, get_or, Option, Some, None, slice_get, arith, All, le-ltb, lt-ltb, le-leb, ltb-true, ltb-false}
 use Rattle.std.specs.Prelude.{filter}
 use Rattle.std.specs.List.{find, enumerate_from}
-use Rattle.std.proofs.lemmas.List.{length-map}
+use Rattle.std.proofs.lemmas.List.{length-map, drop_all}
 use Rattle.std.proofs.lemmas.Option.{get_or_from_slice_get, slice_get_within}
+use Rattle.std.proofs.lemmas.Bool.{or_cases, lt-leb}
+use Rattle.std.proofs.Math.Nat.{sub-zero}
+use Rattle.basics.proofs.Bools.{and_second, and_middle}
+use Rattle.basics.proofs.Lists.{element_at, unmapped}
 use Rattle.geometry_model.specs.Points.{Position}
 use Rattle.geometry_model.specs.Geometries.{Geometry, lines, rings, elements, joined_rings}
 use Rattle.geometry_model.specs.Envelopes.{Envelope, envelope_of_positions, meets, overlap}
@@ -16,14 +20,12 @@ use Rattle.geometry_laws.specs.PieceLaws.{HasClosedRings}
 use Rattle.geometry_laws.proofs.Each.{Each, each_left, each_right}
 use Rattle.geometry_laws.proofs.RingParity.{each_from_all}
 use Rattle.geometry_laws.proofs.CoverTheorems.{all_from_each}
-use Rattle.geometry_laws.proofs.Scaling.{and_parts}
 use Rattle.rtree.specs.Found.{placed_meets, meeting_places}
 use Rattle.validity.specs.Neighbours.{first_near, ring_envelopes, element_envelope, element_envelopes}
 use Rattle.validity.specs.Outlines.{AreRings}
 use Rattle.validity.proofs.Envelopes.{rings_are_lines, sharing_meet, inside_meet, sharing_rings_meet, inside_rings_meet}
 use Rattle.validity.proofs.Finding.{none_left, found_here, passed_here}
-use Rattle.edge_boxes.proofs.Rests.{at_index, past_all}
-use Rattle.validity.proofs.PartFacts.{mapped_at}
+use Rattle.edge_boxes.proofs.Rests.{at_index}
 use Rattle.validity.proofs.RingNumbers.{rings_meet_at, holes_nested_at, elements_meet_at, lines_cover}
 
 -- ---- of all numbers the near ones
@@ -51,18 +53,6 @@ next_near g fault from end asked n o envelopes near j p h is = let less : j - n 
 first_is : (g : Geometry) (fault : ℕ → ValidityFault) (from end : ℕ) (asked : Option Envelope) (n : ℕ) (o : Option Envelope) (envelopes : List (Option Envelope)) → AreNear g fault from end asked n (o ∷ envelopes) → from ≤ n → n < end → has_fault g (fault n) ≡ true → meets o asked ≡ true
 first_is g fault from end asked n o envelopes near = let none : n - n ≡ 0 = omega arith in near n o (omega arith) (ap (slice_get (o ∷ envelopes)) none)
 
-le_yes : (a b : ℕ) → a ≤ b → nat_le a b ≡ true
-le_yes a b h = grind (arith, h)
-
-le_no : (a b : ℕ) → b < a → nat_le a b ≡ false
-le_no a b h = grind (arith, h)
-
-lt_yes : (a b : ℕ) → a < b → nat_lt a b ≡ true
-lt_yes a b h = grind (arith, h)
-
-lt_no : (a b : ℕ) → b ≤ a → nat_lt a b ≡ false
-lt_no a b h = grind (arith, h)
-
 -- a number that isn't counted may be left out
 left_out : (g : Geometry) (fault : ℕ → ValidityFault) (from end n : ℕ) (meet : Bool) (rest : List ℕ) → nat_le from n && nat_lt n end && has_fault g (fault n) ≡ false
     → first_near g fault from end (cond meet (n ∷ rest) rest) ≡ first_near g fault from end rest
@@ -84,11 +74,6 @@ first_no : (a b c : Bool) → a ≡ false → a && b && c ≡ false
 first_no true b c e = absurd cc
 first_no false b c e = refl
 
-second_no : (a b c : Bool) → b ≡ false → a && b && c ≡ false
-second_no true true c e = absurd cc
-second_no true false c e = refl
-second_no false b c e = refl
-
 third_no : (a b c : Bool) → c ≡ false → a && b && c ≡ false
 third_no true true c e = e
 third_no true false c e = refl
@@ -103,24 +88,18 @@ near_after g fault from end asked n (o ∷ envelopes) h k near =
     go (nat_lt n end) refl (has_fault g (fault n)) refl (near_after g fault from end asked (n + 1) envelopes (omega (arith, h)) (omega (arith, k)) (next_near g fault from end asked n o envelopes near))
     ∙ sym (ap (first_near g fault from end) (one_place asked n o envelopes))
   where
-    lt_from : (a b : ℕ) → nat_lt a b ≡ true → a < b
-    lt_from a b h = grind (arith, h)
-
-    le_from : (a b : ℕ) → nat_lt a b ≡ false → b ≤ a
-    le_from a b h = grind (arith, h)
-
     go : (b : Bool) → nat_lt n end ≡ b → (t : Bool) → has_fault g (fault n) ≡ t → find (has_fault g) (map fault (numbers (n + 1) end)) ≡ first_near g fault from end (places asked (n + 1) envelopes)
         → find (has_fault g) (map fault (numbers n end)) ≡ first_near g fault from end (cond (meets o asked) (n ∷ places asked (n + 1) envelopes) (places asked (n + 1) envelopes))
     go true within true applies rest =
-        found_here (has_fault g) fault n end (lt_from n end within) applies
-        ∙ sym (taken_first g fault from end n (meets o asked) (places asked (n + 1) envelopes) (first_is g fault from end asked n o envelopes near h (lt_from n end within) applies)
-        (three (nat_le from n) (nat_lt n end) (has_fault g (fault n)) (le_yes from n h) within ∙ applies))
+        found_here (has_fault g) fault n end (ltb-true n end within) applies
+        ∙ sym (taken_first g fault from end n (meets o asked) (places asked (n + 1) envelopes) (first_is g fault from end asked n o envelopes near h (ltb-true n end within) applies)
+        (three (nat_le from n) (nat_lt n end) (has_fault g (fault n)) (le-leb from n h) within ∙ applies))
     go true within false applies rest =
-        passed_here (has_fault g) fault n end (lt_from n end within) applies ∙ rest
+        passed_here (has_fault g) fault n end (ltb-true n end within) applies ∙ rest
         ∙ sym (left_out g fault from end n (meets o asked) (places asked (n + 1) envelopes) (third_no (nat_le from n) (nat_lt n end) (has_fault g (fault n)) applies))
     go false past t applies rest =
-        none_left (has_fault g) fault n end (le_from n end past) ∙ (sym (none_left (has_fault g) fault (n + 1) end (omega (arith, le_from n end past))) ∙ rest)
-        ∙ sym (left_out g fault from end n (meets o asked) (places asked (n + 1) envelopes) (second_no (nat_le from n) (nat_lt n end) (has_fault g (fault n)) past))
+        none_left (has_fault g) fault n end (ltb-false n end past) ∙ (sym (none_left (has_fault g) fault (n + 1) end (omega (arith, ltb-false n end past))) ∙ rest)
+        ∙ sym (left_out g fault from end n (meets o asked) (places asked (n + 1) envelopes) (and_middle (nat_le from n) (nat_lt n end) (has_fault g (fault n)) past))
 
 -- the same where some envelopes come before the first number asked for: their numbers aren't counted
 near_from : (g : Geometry) (fault : ℕ → ValidityFault) (from end : ℕ) (asked : Option Envelope) (m n : ℕ) (envelopes : List (Option Envelope)) → n + m ≡ from → end ≤ n + length envelopes
@@ -131,7 +110,7 @@ near_from g fault from end asked (suc m) n [] h k near = none_left (has_fault g)
 near_from g fault from end asked (suc m) n (o ∷ envelopes) h k near =
     near_from g fault from end asked m (n + 1) envelopes (omega (arith, h)) (omega (arith, k)) (next_near g fault from end asked n o envelopes near)
     ∙ sym (ap (first_near g fault from end) (one_place asked n o envelopes)
-    ∙ left_out g fault from end n (meets o asked) (places asked (n + 1) envelopes) (first_no (nat_le from n) (nat_lt n end) (has_fault g (fault n)) (le_no from n (omega (arith, h)))))
+    ∙ left_out g fault from end n (meets o asked) (places asked (n + 1) envelopes) (first_no (nat_le from n) (nat_lt n end) (has_fault g (fault n)) (lt-leb from n (omega (arith, h)))))
 
 -- the first fault that applies of a range of numbers is found by looking only at those whose envelopes meet
 pub near_found : (g : Geometry) (fault : ℕ → ValidityFault) (from end : ℕ) (asked : Option Envelope) (envelopes : List (Option Envelope)) → end ≤ length envelopes
@@ -143,7 +122,7 @@ near_found g fault from end asked envelopes h near = near_from g fault from end 
 pub found_near : (g : Geometry) (fault : ℕ → ValidityFault) (from end : ℕ) (near : List ℕ) (k j d : ℕ) → k < length near → j ≡ get_or near k d → from ≤ j → j < end → has_fault g (fault j) ≡ true
     → first_near g fault from end (drop k near) ≡ Some (fault j)
 found_near g fault from end near k j d within is low high applies = ap (first_near g fault from end) (at_index near k d j within is)
-    ∙ ap (λ (b : Bool). cond b (Some (fault j)) (first_near g fault from end (drop (k + 1) near))) (three (nat_le from j) (nat_lt j end) (has_fault g (fault j)) (le_yes from j low) (lt_yes j end high) ∙ applies)
+    ∙ ap (λ (b : Bool). cond b (Some (fault j)) (first_near g fault from end (drop (k + 1) near))) (three (nat_le from j) (nat_lt j end) (has_fault g (fault j)) (le-leb from j low) (lt-ltb j end high) ∙ applies)
 
 -- .. and one that isn't counted is passed: the search goes on behind it
 passed_number : (g : Geometry) (fault : ℕ → ValidityFault) (from end : ℕ) (near : List ℕ) (k j d : ℕ) → k < length near → j ≡ get_or near k d → nat_le from j && nat_lt j end && has_fault g (fault j) ≡ false
@@ -153,12 +132,12 @@ passed_number g fault from end near k j d within is fails = ap (first_near g fau
 -- a near number before the range is passed
 pub passed_early : (g : Geometry) (fault : ℕ → ValidityFault) (from end : ℕ) (near : List ℕ) (k j d : ℕ) → k < length near → j ≡ get_or near k d → j < from
     → first_near g fault from end (drop k near) ≡ first_near g fault from end (drop (k + 1) near)
-passed_early g fault from end near k j d within is early = passed_number g fault from end near k j d within is (first_no (nat_le from j) (nat_lt j end) (has_fault g (fault j)) (le_no from j early))
+passed_early g fault from end near k j d within is early = passed_number g fault from end near k j d within is (first_no (nat_le from j) (nat_lt j end) (has_fault g (fault j)) (lt-leb from j early))
 
 -- a near number behind the range is passed
 pub passed_late : (g : Geometry) (fault : ℕ → ValidityFault) (from end : ℕ) (near : List ℕ) (k j d : ℕ) → k < length near → j ≡ get_or near k d → end ≤ j
     → first_near g fault from end (drop k near) ≡ first_near g fault from end (drop (k + 1) near)
-passed_late g fault from end near k j d within is late = passed_number g fault from end near k j d within is (second_no (nat_le from j) (nat_lt j end) (has_fault g (fault j)) (lt_no j end late))
+passed_late g fault from end near k j d within is late = passed_number g fault from end near k j d within is (and_middle (nat_le from j) (nat_lt j end) (has_fault g (fault j)) (le-ltb j end late))
 
 -- a near number whose fault doesn't apply is passed
 pub passed_near : (g : Geometry) (fault : ℕ → ValidityFault) (from end : ℕ) (near : List ℕ) (k j d : ℕ) → k < length near → j ≡ get_or near k d → has_fault g (fault j) ≡ false
@@ -167,7 +146,7 @@ passed_near g fault from end near k j d within is fails = passed_number g fault 
 
 -- where all near numbers are passed no fault applies
 pub none_near : (g : Geometry) (fault : ℕ → ValidityFault) (from end : ℕ) (near : List ℕ) (k : ℕ) → length near ≤ k → first_near g fault from end (drop k near) ≡ None
-none_near g fault from end near k h = ap (first_near g fault from end) (past_all near k h)
+none_near g fault from end near k h = ap (first_near g fault from end) (drop_all k near h)
 
 -- ---- what a test of two says
 -- a test of two numbers that is passed is passed by the rings or polygons that have these numbers
@@ -201,43 +180,30 @@ meets_turned None (Some f) h = absurd cc
 meets_turned (Some e) None h = absurd cc
 meets_turned (Some e) (Some f) h = overlap_turned e f h
 
-no_zero : (j : ℕ) → j - 0 ≡ j
-no_zero j = omega arith
-
--- the ring or polygon with this number
-there : {A : Type 0} (xs : List A) (i : ℕ) → i < length xs → (x : A) × (slice_get xs i ≡ Some x)
-there [] i h = absurd (omega (arith, h))
-there (x ∷ xs) zero h = (x, refl)
-there (x ∷ xs) (suc i) h = there xs i (omega (arith, h))
-
 -- ---- rings of one polygon that share a point, or of which one is inside the other
 -- a later ring of the polygon that meets this one has an envelope that meets its own
 pub rings_near : (g : Geometry) (first end ring : ℕ) → HasClosedRings g → AreRings g first end → first ≤ ring → ring < end → AreNear g (RingsMeet ring) (ring + 1) end (get_or (ring_envelopes g) ring None) 0 (ring_envelopes g)
 rings_near g first end ring closed are low high j o h is later before applies =
-    let m = mapped_at envelope_of_positions (rings g) j o (ap (slice_get (ring_envelopes g)) (sym (no_zero j)) ∙ is) in
+    let m = unmapped envelope_of_positions (rings g) j o (ap (slice_get (ring_envelopes g)) (sym (sub-zero j)) ∙ is) in
     let s = closed_at (rings g) j m.0 closed m.1 in
     let same = rings_are_lines g j s.0 in
-    let own = there (rings g) ring (omega (arith, s.0, later)) in
+    let own = element_at (rings g) ring (omega (arith, s.0, later)) in
     let r = closed_at (rings g) ring own.0 closed own.1 in
     let share = both_there rings_share (slice_get (lines g) ring) (slice_get (lines g) j) own.0 m.0 (ap (λ l. slice_get l ring) (sym same) ∙ own.1) (ap (λ l. slice_get l j) (sym same) ∙ m.1)
     (sym (rings_meet_at g first end ring j are low (omega (arith, later)) before) ∙ applies) in
     ap₂ meets (sym m.2) (asked_envelope envelope_of_positions (rings g) ring own.0 own.1) ∙ sharing_rings_meet own.0 m.0 r.1 s.1 share
 
-one_of_two : (a b : Bool) → a || b ≡ true → (a ≡ true) ⊎ (b ≡ true)
-one_of_two true b h = inl refl
-one_of_two false b h = inr h
-
 -- of two holes of which one is inside the other the envelopes meet, whichever is the inner one
 pub holes_near : (g : Geometry) (first end hole : ℕ) → HasClosedRings g → AreRings g first end → first < hole → hole < end → AreNear g (HolesNested hole) (hole + 1) end (get_or (ring_envelopes g) hole None) 0 (ring_envelopes g)
 holes_near g first end hole closed are low high j o h is later before applies =
-    let m = mapped_at envelope_of_positions (rings g) j o (ap (slice_get (ring_envelopes g)) (sym (no_zero j)) ∙ is) in
+    let m = unmapped envelope_of_positions (rings g) j o (ap (slice_get (ring_envelopes g)) (sym (sub-zero j)) ∙ is) in
     let s = closed_at (rings g) j m.0 closed m.1 in
     let same = rings_are_lines g j s.0 in
-    let own = there (rings g) hole (omega (arith, s.0, later)) in
+    let own = element_at (rings g) hole (omega (arith, s.0, later)) in
     let r = closed_at (rings g) hole own.0 closed own.1 in
     let nested = both_there (λ a b. inside a b || inside b a) (slice_get (lines g) hole) (slice_get (lines g) j) own.0 m.0 (ap (λ l. slice_get l hole) (sym same) ∙ own.1) (ap (λ l. slice_get l j) (sym same) ∙ m.1)
     (sym (holes_nested_at g first end hole j are low (omega (arith, later)) before) ∙ applies) in
-    ap₂ meets (sym m.2) (asked_envelope envelope_of_positions (rings g) hole own.0 own.1) ∙ either_way own.0 m.0 r.1 s.1 (one_of_two (inside own.0 m.0) (inside m.0 own.0) nested)
+    ap₂ meets (sym m.2) (asked_envelope envelope_of_positions (rings g) hole own.0 own.1) ∙ either_way own.0 m.0 r.1 s.1 (or_cases (inside own.0 m.0) (inside m.0 own.0) nested)
   where
     either_way : (r s : List Position) → IsClosed r → IsClosed s → (inside r s ≡ true) ⊎ (inside s r ≡ true) → meets (envelope_of_positions s) (envelope_of_positions r) ≡ true
     either_way r s c d (inl e) = meets_turned (envelope_of_positions r) (envelope_of_positions s) (inside_rings_meet r s c e)
@@ -263,22 +229,19 @@ element_closed (Geometry.MultiPolygon es) i d closed is = all_from_each IsClosed
 -- a later polygon that meets this one has an envelope that meets its own
 pub elements_near : (g : Geometry) (element : ℕ) → HasClosedRings g → AreNear g (ElementsMeet element) (element + 1) (length (elements g)) (get_or (element_envelopes g) element None) 0 (element_envelopes g)
 elements_near g element closed j o h is later before applies =
-    let m = mapped_at element_envelope (elements g) j o (ap (slice_get (element_envelopes g)) (sym (no_zero j)) ∙ is) in
-    let own = there (elements g) element (omega (arith, before, later)) in
+    let m = unmapped element_envelope (elements g) j o (ap (slice_get (element_envelopes g)) (sym (sub-zero j)) ∙ is) in
+    let own = element_at (elements g) element (omega (arith, before, later)) in
     let share = both_there elements_share (slice_get (elements g) element) (slice_get (elements g) j) own.0 m.0 own.1 m.1 (sym (elements_meet_at g element j (omega (arith, later))) ∙ applies) in
     ap₂ meets (sym m.2) (asked_envelope element_envelope (elements g) element own.0 own.1)
     ∙ sharing_meet own.0 m.0 (element_closed g element own.0 closed own.1) (element_closed g j m.0 closed m.1) share
 
-second_of : (a b : Bool) → a && b ≡ true → b ≡ true
-second_of a b h = (and_parts a b h).1
-
 -- a polygon in which this one lies has an envelope that meets its own
 pub insides_near : (g : Geometry) (element : ℕ) → HasClosedRings g → element < length (elements g) → AreNear g (ElementInside element) 0 (length (elements g)) (get_or (element_envelopes g) element None) 0 (element_envelopes g)
 insides_near g element closed there_is j o h is later before applies =
-    let m = mapped_at element_envelope (elements g) j o (ap (slice_get (element_envelopes g)) (sym (no_zero j)) ∙ is) in
-    let own = there (elements g) element there_is in
+    let m = unmapped element_envelope (elements g) j o (ap (slice_get (element_envelopes g)) (sym (sub-zero j)) ∙ is) in
+    let own = element_at (elements g) element there_is in
     let within = both_there (λ d e. inside_element e d) (slice_get (elements g) element) (slice_get (elements g) j) own.0 m.0 own.1 m.1
-    (second_of (not (element == j)) (test_of_both (λ d e. inside_element e d) (slice_get (elements g) element) (slice_get (elements g) j)) applies) in
+    (and_second (not (element == j)) (test_of_both (λ d e. inside_element e d) (slice_get (elements g) element) (slice_get (elements g) j)) applies) in
     ap₂ meets (sym m.2) (asked_envelope element_envelope (elements g) element own.0 own.1)
     ∙ inside_meet own.0 m.0 (element_closed g j m.0 closed m.1) within
 

@@ -1,5 +1,5 @@
 -- The positions on which an odd number of ends lie.
-use Rattle.std.proofs.Common.{◌≡◌, ◌⊎◌, inl, inr, ℕ, zero, suc, ◌+◌, ◌-◌, ◌/◌, ◌<◌, ◌≤◌, Bool, true, false, not, ◌&&◌, ◌||◌, refl, sym, ap, ap₂, ◌∙◌, subst, List, [], ◌∷◌, ◌++◌, length, get_or, take, count_by, flat_map, cond, append_assoc, Result, Ok, Err, IfOk, arith, IsPermutation}
+use Rattle.std.proofs.Common.{◌≡◌, ◌⊎◌, inl, inr, ℕ, zero, suc, ◌+◌, ◌-◌, ◌<◌, ◌≤◌, Bool, true, false, not, ◌&&◌, ◌||◌, refl, sym, ap, ap₂, ◌∙◌, subst, List, [], ◌∷◌, ◌++◌, length, get_or, take, count_by, flat_map, cond, append_assoc, Result, Ok, Err, IfOk, arith, IsPermutation}
 use Rattle.std.specs.Prelude.{nat_lt}
 use Rattle.std.specs.List.{AllByRecursion, list_any}
 use Rattle.std.specs.List.Sorted.{IsSorted, IsStrictlySortedBy}
@@ -13,6 +13,9 @@ use Rattle.std.proofs.Math.Seq.{take-length}
 use Rattle.std.proofs.lemmas.Grind.{flat_map-append}
 use Rattle.std.proofs.lemmas.List.{take_more, append-nil, take_all}
 use Rattle.std.proofs.lemmas.List.Sorted.{sorted_far, ranks_by, sum_by-IsPermutation}
+use Rattle.std.proofs.lemmas.Bool.{and_parts}
+use Rattle.std.proofs.Math.Bool.{or-true}
+use Rattle.basics.proofs.Numbers.{earlier_or_last}
 use Rattle.geometry_model.specs.Points.{Position, Point, IsPoint, same_point, point_at, compare}
 use Rattle.geometry_model.specs.Crossings.{odd, exactly_one as xor}
 use Rattle.geometry_model.specs.Locations.{is_at, last_after, ends}
@@ -22,7 +25,6 @@ use Rattle.fraction.proofs.OrderLemmas.{position_order_is, same_position_is}
 use Rattle.geometry_laws.proofs.Each.{odd_count}
 use Rattle.geometry_laws.specs.PointLaws.{reversed}
 use Rattle.geometry_laws.proofs.PointOrder.{same_symmetric, same_transitive, equal_is_same, compare_reversed, less_transitive}
-use Rattle.geometry_laws.proofs.Scaling.{and_parts}
 use Rattle.geometry_laws.proofs.Xor.{xor_false}
 use Rattle.edge_boxes.proofs.RunSums.{odd_joined}
 use Rattle.validity.specs.OddEnds.{AreOddEnds, ends_in, toggled, HasParityOf, IsBeforeRest}
@@ -304,13 +306,6 @@ same_at [] k d e h = absurd (omega (arith, h))
 same_at (x ∷ xs) zero d e h = refl
 same_at (x ∷ xs) (suc k) d e h = same_at xs k d e (omega (arith, h))
 
-cases_less : (k m : ℕ) → k < m + 1 → (k < m) ⊎ (k ≡ m)
-cases_less k m h = go (nat_lt k m) refl
-  where
-    go : (t : Bool) → nat_lt k m ≡ t → (k < m) ⊎ (k ≡ m)
-    go true e = inl (grind (arith, nat_tests))
-    go false e = inr (grind (arith, nat_tests))
-
 -- where the middle position is less than the point, so are all before it, and the search goes on above it
 pub parted_less : (xs : List Position) (p : Point) (low high middle : ℕ) (a : Position) → IsPoint p → IsStrictlySortedBy position_order xs → middle < high → a ≡ get_or xs middle a → lies a p ≡ Less → IsParted xs p low high → IsParted xs p (middle + 1) high
 parted_less xs p low high middle a hp s m is e parts = record { below = below; above = parts.above; within = parts.within }
@@ -322,7 +317,7 @@ parted_less xs p low high middle a hp s m is e parts = record { below = below; a
     at d = ap (λ b. lies b p) (same_at xs middle d a inside ∙ sym is) ∙ e
 
     below : (k : ℕ) (d : Position) → k < middle + 1 → lies (get_or xs k d) p ≡ Less
-    below k d h = go (cases_less k middle h)
+    below k d h = go (earlier_or_last k middle h)
       where
         go : (k < middle) ⊎ (k ≡ middle) → lies (get_or xs k d) p ≡ Less
         go (inl l) = less_transitive (point_at (get_or xs k d)) (point_at (get_or xs middle d)) p (one_is_point (get_or xs k d)) (one_is_point (get_or xs middle d)) hp
@@ -346,7 +341,7 @@ parted_greater xs p low high middle a hp s m is e parts = record { below = parts
     at d = ap (λ b. lies b p) (same_at xs middle d a inside ∙ sym is) ∙ e
 
     above : (k : ℕ) (d : Position) → middle ≤ k → k < length xs → lies (get_or xs k d) p ≡ Greater
-    above k d h l = go (cases_less middle k (omega (arith, h)))
+    above k d h l = go (earlier_or_last middle k (omega (arith, h)))
       where
         go : (middle < k) ⊎ (middle ≡ k) → lies (get_or xs k d) p ≡ Greater
         go (inl m) = turn_back (point_at (get_or xs k d)) p (less_transitive p (point_at (get_or xs middle d)) (point_at (get_or xs k d)) hp (one_is_point (get_or xs middle d)) (one_is_point (get_or xs k d))
@@ -360,11 +355,7 @@ is_from p a e = (equal_is_same (point_at a) p).0 e
 pub found_there : (xs : List Position) (p : Point) (middle : ℕ) (a : Position) → middle < length xs → a ≡ get_or xs middle a → lies a p ≡ Equal → list_any (is_at p) xs ≡ true
 found_there [] p middle a h is e = absurd (omega (arith, h))
 found_there (x ∷ xs) p zero a h is e = ap (λ b. b || list_any (is_at p) xs) (ap (is_at p) (sym is) ∙ is_from p a e)
-found_there (x ∷ xs) p (suc m) a h is e = ap (λ b. is_at p x || b) (found_there xs p m a (omega (arith, h)) is e) ∙ any_true (is_at p x)
-  where
-    any_true : (b : Bool) → (b || true) ≡ true
-    any_true true = refl
-    any_true false = refl
+found_there (x ∷ xs) p (suc m) a h is e = ap (λ b. is_at p x || b) (found_there xs p m a (omega (arith, h)) is e) ∙ or-true (is_at p x)
 
 -- where no position compares as equal with the point it lies at none of them
 none_applies : (xs : List Position) (p : Point) → ((k : ℕ) (d : Position) → k < length xs → lies (get_or xs k d) p ≡ Equal → ⊥) → list_any (is_at p) xs ≡ false
@@ -388,17 +379,3 @@ not_there xs p low high h parts = none_applies xs p off
         go : (t : Bool) → nat_lt k low ≡ t → ⊥
         go true f = let under : k < low = grind (arith, nat_tests) in let n : Less ≡ Equal = sym (parts.below k d under) ∙ e in cc
         go false f = let past : high ≤ k = grind (arith, nat_tests) in let n : Greater ≡ Equal = sym (parts.above k d past l) ∙ e in cc
-
--- the middle of two places
-pub middle_within : (low high n : ℕ) → low < high → high ≤ n → low + (high - low) / 2 < n
-middle_within low high n h k = let m : (high - low) / 2 < high - low = half (high - low) (omega (arith, h)) in omega (arith, h, k, m)
-  where
-    half : (n : ℕ) → 0 < n → n / 2 < n
-    half n h = omega (arith, h)
-
--- and it is before the end of the search
-pub middle_before : (low high : ℕ) → low < high → low + (high - low) / 2 < high
-middle_before low high h = middle_within low high high h (same high)
-  where
-    same : (n : ℕ) → n ≤ n
-    same n = omega arith

@@ -1,9 +1,10 @@
 -- A geometry's edges, line by line and polygon by polygon.
-use Rattle.std.proofs.Common.{◌≡◌, refl, sym, ap, ap₂, ◌∙◌, ℕ, zero, suc, ◌+◌, ◌<◌, ◌≤◌, List, [], ◌∷◌, ◌++◌, map, length, take, Some, slice_get, arith, append-nil, length-append}
+use Rattle.std.proofs.Common.{◌≡◌, refl, sym, ap, ap₂, ◌∙◌, ℕ, zero, suc, ◌+◌, ◌<◌, ◌≤◌, List, [], ◌∷◌, ◌++◌, map, length, take, Some, slice_get, arith, append-nil, length-append, zero-add, add-one}
 use Rattle.std.specs.List.{flat_map}
 use Rattle.std.proofs.lemmas.List.Folds.{flat_map-map}
 use Rattle.std.proofs.lemmas.Grind.{flat_map-append}
-use Rattle.std.proofs.lemmas.List.{map-append, length-map, take_all}
+use Rattle.std.proofs.lemmas.List.{map-append, length-map, take_all, nil_from_length}
+use Rattle.basics.proofs.Numbers.{to_end}
 use Rattle.geometry_model.specs.Points.{Position}
 use Rattle.geometry_model.specs.Geometries.{Geometry, Edge, lines, edges, elements, joined_rings, edges_of_line, edges_of_lines}
 use Rattle.geometry_model.specs.Validity.{Element, elements_from}
@@ -46,10 +47,7 @@ outlined_none = record { by_line = refl; elements_end = refl; by_element = refl;
 
 -- the numbered polygons with one more
 numbered_more : (start : ℕ) (es : List (List (List Position))) (x : List (List Position)) → elements_from start (es ++ x ∷ []) ≡ elements_from start es ++ record { first = start + length (joined_rings es); rings = x } ∷ []
-numbered_more start [] x = ap (λ n. record { first = n; rings = x } ∷ []) (none start)
-  where
-    none : (n : ℕ) → n ≡ n + 0
-    none n = omega arith
+numbered_more start [] x = ap (λ n. record { first = n; rings = x } ∷ []) (to_end start)
 numbered_more start (y ∷ ys) x = ap (λ l. record { first = start; rings = y } ∷ l) (numbered_more (start + length y) ys x
     ∙ ap (λ n. elements_from (start + length y) ys ++ record { first = n; rings = x } ∷ []) (further (length y) (length (joined_rings ys)) (length (joined_rings (y ∷ ys))) (length-append y (joined_rings ys))))
   where
@@ -59,9 +57,6 @@ numbered_more start (y ∷ ys) x = ap (λ l. record { first = start; rings = y }
 -- one polygon more adds its rings behind those of the others
 joined_more : (es : List (List (List Position))) (x : List (List Position)) → joined_rings (es ++ x ∷ []) ≡ joined_rings es ++ x
 joined_more es x = flat_map-append (λ (rings : List (List Position)). rings) es (x ∷ []) ∙ ap (λ l. joined_rings es ++ l) (append-nil x)
-
-zero_first : (n : ℕ) → 0 + n ≡ n
-zero_first n = omega arith
 
 -- one polygon more adds its edges and rings behind, so the new ends are the numbers of all edges and of all rings so far
 pub outlined_more : (es : List (List (List Position))) (runs : List (List Edge)) (element_ends ring_ends : List ℕ) (x : List (List Position)) → Outlined es runs element_ends ring_ends
@@ -73,7 +68,7 @@ outlined_more es runs element_ends ring_ends x o =
     flat_map-append (λ (run : List Edge). run) runs (map edges_of_line x) ∙ ap (λ l. items ++ l) (joined_runs x) in
     let count : length (flat_map (λ (run : List Edge). run) (runs ++ map edges_of_line x)) ≡ length items + length more = ap length all ∙ length-append items more in
     let from_zero : elements_from 0 es ++ record { first = 0 + length (joined_rings es); rings = x } ∷ [] ≡ elements_from 0 es ++ record { first = length (joined_rings es); rings = x } ∷ [] =
-    ap (λ n. elements_from 0 es ++ record { first = n; rings = x } ∷ []) (zero_first (length (joined_rings es))) in
+    ap (λ n. elements_from 0 es ++ record { first = n; rings = x } ∷ []) (zero-add (length (joined_rings es))) in
     let rings : length (runs ++ map edges_of_line x) ≡ length (joined_rings es) + length x =
     length-append runs (map edges_of_line x) ∙ ap₂ (λ a b. a + b) (ap length o.by_line ∙ length-map (joined_rings es) edges_of_line) (length-map x edges_of_line) in
     record {
@@ -85,11 +80,8 @@ outlined_more es runs element_ends ring_ends x o =
 
 -- the polygons up to and with this one
 pub taken : {A : Type 0} (xs : List A) (m : ℕ) (x : A) → slice_get xs m ≡ Some x → take (m + 1) xs ≡ take m xs ++ x ∷ []
-taken xs m x e = ap (λ n. take n xs) (next m) ∙ go xs m x e
+taken xs m x e = ap (λ n. take n xs) (add-one m) ∙ go xs m x e
   where
-    next : (k : ℕ) → k + 1 ≡ suc k
-    next k = omega arith
-
     go : {A : Type 0} (xs : List A) (m : ℕ) (x : A) → slice_get xs m ≡ Some x → take (suc m) xs ≡ take m xs ++ x ∷ []
     go [] m x e = absurd cc
     go (y ∷ ys) zero x e = let same : y ≡ x = cc in ap (λ z. z ∷ []) same
@@ -125,14 +117,10 @@ outlined_all g m runs element_ends ring_ends some past o =
 
 -- a geometry without polygons has edges by line alone
 pub outlined_lines : (g : Geometry) (runs : List (List Edge)) → length (elements g) ≡ 0 → runs ≡ map edges_of_line (lines g) → IsOutline g runs [] []
-outlined_lines g runs none e = let no_elements = empty (elements g) none in
+outlined_lines g runs none e = let no_elements = nil_from_length (elements g) none in
     record {
       by_line = e;
       elements_end = λ h. absurd (omega (arith, h));
       by_element = ap (map edges_of_lines) (sym no_elements);
       rings_end = ap (λ (es : List (List (List Position))). map rings_end (elements_from 0 es)) (sym no_elements);
     }
-  where
-    empty : {A : Type 0} (xs : List A) → length xs ≡ 0 → xs ≡ []
-    empty [] h = refl
-    empty (x ∷ xs) h = absurd (omega (arith, h))

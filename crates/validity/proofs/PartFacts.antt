@@ -2,6 +2,7 @@
 use Rattle.std.proofs.Common.{◌≡◌, refl, sym, subst, ap₂, ◌∙◌, ℕ, zero, suc, ◌<◌, not, ◌||◌, length, get_or, List, [], ◌∷◌, map, Option, Some, None, slice_get, arith}
 use Rattle.std.proofs.lemmas.Option.{slice_get-get_or}
 use Rattle.std.proofs.lemmas.List.{append-nil}
+use Rattle.basics.proofs.Lists.{unmapped}
 use Rattle.geometry_model.specs.Points.{Position}
 use Rattle.geometry_model.specs.Geometries.{Edge, edges_of_line, edges_of_lines}
 use Rattle.geometry_model.specs.Validity.{inside, inside_element}
@@ -11,23 +12,17 @@ use Rattle.edge_boxes.specs.declared.boxes.EdgeBoxes.{EdgeBoxes}
 use Rattle.edge_boxes.specs.RingEdges.{edges_share, is_odd_above}
 use Rattle.edge_boxes.proofs.Runs.{polygons_by_their_edges, inside_by_edges}
 
--- what is at a place of a mapped list
-pub mapped_at : {A B : Type 0} (f : A → B) (xs : List A) (i : ℕ) (y : B) → slice_get (map f xs) i ≡ Some y → (x : A) × (slice_get xs i ≡ Some x) × (f x ≡ y)
-mapped_at f [] i y e = absurd cc
-mapped_at f (x ∷ xs) zero y e = (x, refl, cc)
-mapped_at f (x ∷ xs) (suc i) y e = mapped_at f xs i y e
-
 -- two polygons meet exactly where an edge of the one shares a point with an edge of the other
 pub elements_share_by_edges : (es : List (List (List Position))) (i j : ℕ) (r s : List Edge) → slice_get (map edges_of_lines es) i ≡ Some r → slice_get (map edges_of_lines es) j ≡ Some s
     → test_of_both elements_share (slice_get es i) (slice_get es j) ≡ edges_share r s
-elements_share_by_edges es i j r s e f = let k = mapped_at edges_of_lines es i r e in let l = mapped_at edges_of_lines es j s f in
+elements_share_by_edges es i j r s e f = let k = unmapped edges_of_lines es i r e in let l = unmapped edges_of_lines es j s f in
     ap₂ (λ (a b : Option (List (List Position))). test_of_both elements_share a b) k.1 l.1 ∙ (polygons_by_their_edges k.0 l.0 ∙ ap₂ edges_share k.2 l.2)
 
 -- a ring is inside another exactly where an odd number of the other's edges lie above its first position
 pub inside_ring_by_edges : (rings : List (List Position)) (outer ring : ℕ) (run : List Edge) (r : List Position) (p : Position) → slice_get (map edges_of_line rings) outer ≡ Some run → slice_get rings ring ≡ Some r
     → slice_get r 0 ≡ Some p → test_of_both inside (slice_get rings outer) (slice_get rings ring) ≡ is_odd_above run p
 inside_ring_by_edges rings outer ring run [] p e f h = absurd cc
-inside_ring_by_edges rings outer ring run (q ∷ qs) p e f h = let k = mapped_at edges_of_line rings outer run e in let same : q ≡ p = cc in
+inside_ring_by_edges rings outer ring run (q ∷ qs) p e f h = let k = unmapped edges_of_line rings outer run e in let same : q ≡ p = cc in
     ap₂ (λ (a b : Option (List Position)). test_of_both inside a b) k.1 f ∙ ((inside_by_edges q qs k.0 [] []).0 ∙ ap₂ is_odd_above k.2 same)
 
 -- a polygon is inside another exactly where an odd number of the other's edges,
@@ -37,7 +32,7 @@ pub inside_element_by_edges : (es : List (List (List Position))) (element other 
     → test_of_both (λ d e. inside_element e d) (slice_get es element) (slice_get es other) ≡ is_odd_above run p
 inside_element_by_edges es element other run [] r p e f h k = absurd cc
 inside_element_by_edges es element other run ([] ∷ holes) r p e f h k = let same : Some [] ≡ Some r = h in absurd cc
-inside_element_by_edges es element other run ((q ∷ qs) ∷ holes) r p e f h k = let l = mapped_at edges_of_lines es other run e in
+inside_element_by_edges es element other run ((q ∷ qs) ∷ holes) r p e f h k = let l = unmapped edges_of_lines es other run e in
     let ring : (q ∷ qs) ≡ r = cc in
     let same : q ≡ p = cc in
     ap₂ (λ (a b : Option (List (List Position))). test_of_both (λ d e. inside_element e d) a b) f l.1 ∙ ((inside_by_edges q qs [] holes l.0).1 ∙ ap₂ is_odd_above l.2 same)
@@ -63,7 +58,7 @@ not_inside rings outer ring h k = both (slice_get rings outer) (slice_get rings 
 -- two rings meet exactly where an edge of the one shares a point with an edge of the other
 pub rings_share_by_edges : (rings : List (List Position)) (i j : ℕ) (r s : List Edge) → slice_get (map edges_of_line rings) i ≡ Some r → slice_get (map edges_of_line rings) j ≡ Some s
     → test_of_both rings_share (slice_get rings i) (slice_get rings j) ≡ edges_share r s
-rings_share_by_edges rings i j r s e f = let k = mapped_at edges_of_line rings i r e in let l = mapped_at edges_of_line rings j s f in
+rings_share_by_edges rings i j r s e f = let k = unmapped edges_of_line rings i r e in let l = unmapped edges_of_line rings j s f in
     ap₂ (λ (a b : Option (List Position)). test_of_both rings_share a b) k.1 l.1 ∙ ap₂ edges_share k.2 l.2
 
 -- ---- boxes of a part's edges

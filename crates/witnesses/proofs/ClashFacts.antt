@@ -1,12 +1,13 @@
 -- Clashes by what two edges share, and edges of a line by their numbers.
-use Rattle.std.proofs.Common.{ℕ, zero, suc, ◌+◌, ◌-◌, ◌<◌, ◌≤◌, [], ◌∷◌, All, get_or, add-one, ◌≡◌, ◌≢◌, ◌⊎◌, inl, inr, Bool, true, false, ◌==◌, ◌&&◌, refl, sym, ap, subst, ◌∙◌, List, length, Some, eq-eqb, arith}
+use Rattle.std.proofs.Common.{ℕ, zero, suc, ◌+◌, ◌-◌, ◌<◌, ◌≤◌, [], ◌∷◌, All, get_or, add-one, ◌≡◌, ◌≢◌, ◌⊎◌, inl, inr, Bool, true, false, ◌==◌, ◌&&◌, refl, sym, ap, subst, ◌∙◌, List, length, Some, eq-eqb, arith, ne_eqb, eqb-true}
 use Rattle.std.specs.List.{slice_get}
 use Rattle.std.proofs.lemmas.Option.{slice_get_within, same_Some, get_or_from_slice_get}
 use Rattle.std.proofs.lemmas.List.{get_or_default}
+use Rattle.std.proofs.lemmas.Bool.{eqb-false, and_parts, and_from}
+use Rattle.basics.proofs.Numbers.{earlier_or_last}
 use Rattle.geometry_model.specs.Points.{Position}
 use Rattle.geometry_model.specs.Geometries.{Edge, edges_of_line}
 use Rattle.geometry_model.specs.Validity.{SharePoint, ShareOther, Clash, IsNotSimple, RingsShare}
-use Rattle.geometry_laws.proofs.Scaling.{and_parts, and_from}
 use Rattle.witnesses.specs.Places.{clash_by, ClashesWith, MeetsWith}
 
 -- ---- the test as cases
@@ -40,17 +41,8 @@ none_other false false x y true e f g = absurd (let h : true ≡ false = e in cc
 none_other false false x y false e f g = refl
 
 -- ---- numbers and their tests
-is_equal : (m n : ℕ) → (m == n) ≡ true → m ≡ n
-is_equal m n e = grind (arith, e)
-
-isnt_equal : (m n : ℕ) → (m == n) ≡ false → m ≡ n → ⊥
-isnt_equal m n e f = let z : true ≡ false = sym (eq-eqb m n f) ∙ e in absurd cc
-
-not_equal : (m n : ℕ) → (m ≡ n → ⊥) → (m == n) ≡ false
-not_equal m n h = grind (arith, h)
-
 closes_from : (i j n : ℕ) → (i == 0) && (j + 1 == n) ≡ true → (i ≡ 0) × (j + 1 ≡ n)
-closes_from i j n e = let b : ((i == 0) ≡ true) × ((j + 1 == n) ≡ true) = and_parts (i == 0) (j + 1 == n) e in (is_equal i 0 b.0, is_equal (j + 1) n b.1)
+closes_from i j n e = let b : ((i == 0) ≡ true) × ((j + 1 == n) ≡ true) = and_parts (i == 0) (j + 1 == n) e in (eqb-true i 0 b.0, eqb-true (j + 1) n b.1)
 
 closes_yes : (i j n : ℕ) → i ≡ 0 → j + 1 ≡ n → (i == 0) && (j + 1 == n) ≡ true
 closes_yes i j n e f = and_from (i == 0) (j + 1 == n) (eq-eqb i 0 e) (eq-eqb (j + 1) n f)
@@ -70,19 +62,16 @@ clash_yes n i j e f r x y z q hx hy hz t = go (by_cases (j == i + 1) ((i == 0) &
     both_no g h = let w : true ≡ false = sym (closes_yes i j n h.0 h.1) ∙ g in absurd cc
 
     go : (((j == i + 1) ≡ true) × (x ≡ true)) ⊎ ((((i == 0) && (j + 1 == n) ≡ true) × (y ≡ true)) ⊎ (((j == i + 1) ≡ false) × ((i == 0) && (j + 1 == n) ≡ false) × (z ≡ true))) → Clash n i j e f
-    go (inl h) = inl (is_equal j (i + 1) h.0, hx h.1)
+    go (inl h) = inl (eqb-true j (i + 1) h.0, hx h.1)
     go (inr (inl h)) = let c : (i ≡ 0) × (j + 1 ≡ n) = closes_from i j n h.0 in inr (inl (c.0, c.1, hy h.1))
-    go (inr (inr h)) = inr (inr (isnt_equal j (i + 1) h.0, both_no h.1, hz h.2))
+    go (inr (inr h)) = inr (inr (eqb-false j (i + 1) h.0, both_no h.1, hz h.2))
 
 pub clash_no : (n i j : ℕ) (e f : Edge) (r x y z : Bool) → r ≡ clash_by (j == i + 1) ((i == 0) && (j + 1 == n)) x y z → (x ≡ false → ShareOther e.end e f → ⊥) → (y ≡ false → ShareOther e.start e f → ⊥) → (z ≡ false → SharePoint e f → ⊥) → r ≡ false → Clash n i j e f → ⊥
 clash_no n i j e f r x y z q hx hy hz t (inl c) = hx (none_follows (j == i + 1) ((i == 0) && (j + 1 == n)) x y z (sym q ∙ t) (eq-eqb j (i + 1) c.0)) c.1
 clash_no n i j e f r x y z q hx hy hz t (inr (inl c)) = hy (none_closes (j == i + 1) ((i == 0) && (j + 1 == n)) x y z (sym q ∙ t) (closes_yes i j n c.0 c.1)) c.2
-clash_no n i j e f r x y z q hx hy hz t (inr (inr c)) = hz (none_other (j == i + 1) ((i == 0) && (j + 1 == n)) x y z (sym q ∙ t) (not_equal j (i + 1) c.0) (closes_no i j n c.1)) c.2
+clash_no n i j e f r x y z q hx hy hz t (inr (inr c)) = hz (none_other (j == i + 1) ((i == 0) && (j + 1 == n)) x y z (sym q ∙ t) (ne_eqb j (i + 1) c.0) (closes_no i j n c.1)) c.2
 
 -- ---- so far
-earlier_or_last : (k n : ℕ) → k < n + 1 → (k < n) ⊎ (k ≡ n)
-earlier_or_last k n h = grind (arith, h)
-
 same_edge : (es : List Edge) (i k : ℕ) (e f : Edge) → i ≡ k → slice_get es i ≡ Some e → slice_get es k ≡ Some f → e ≡ f
 same_edge es i k e f q h g = same_Some e f (sym h ∙ ap (λ (n : ℕ). slice_get es n) q ∙ g)
 

@@ -9,12 +9,13 @@ use Rattle.geometry_model.specs.Locations.{is_at, locate}
 use Rattle.geometry_model.specs.Labels.{above}
 use Rattle.geometry_model.specs.declared.point_sets.Location.TheVariants.{Interior, Exterior}
 use Rattle.basics.proofs.Signs.{at_most_yes}
+use Rattle.basics.proofs.Bools.{by_contraries}
 use Rattle.geometry_laws.specs.PieceLaws.{IsOff}
 use Rattle.geometry_laws.proofs.Each.{Each, each_map, parity_none}
 use Rattle.geometry_laws.proofs.RingParity.{parity_of_rings, each_from_all}
 use Rattle.geometry_laws.proofs.Scaling.{same_x}
 use Rattle.geometry_laws.proofs.Lines.{off_beyond}
-use Rattle.geometry_laws.proofs.Locating.{locate_off, by_contraries}
+use Rattle.geometry_laws.proofs.Locating.{locate_off}
 use Rattle.geometry_laws.proofs.CoverTheorems.{all_from_each}
 use Rattle.matrix_laws.specs.Witnessing.{IsFacePoint}
 use Rattle.witnesses.specs.FarPoints.{Reaches}

@@ -1,9 +1,9 @@
 -- How the line of a fault is written.
-use Rattle.std.proofs.Common.{◌≡◌, ◌∙◌, sym, ap, subst, ℕ, List, [], ◌∷◌, ◌++◌, Option, Result, Ok, Err, OnOk, OnErr, codes, decimal, append_assoc, append-nil}
+use Rattle.std.proofs.Common.{◌≡◌, ◌∙◌, sym, ap, subst, ℕ, List, [], ◌∷◌, ◌++◌, Option, Result, Ok, Err, OnErr, codes, decimal, append_assoc, append-nil}
 use Rattle.std.specs.List.{concat}
 use Rattle.std.specs.Io.KnownBytes.{Appends}
 use Rattle.streams.specs.Sinks.{AppendsFront}
-use Rattle.streams.proofs.SinkLemmas.{OnErr-holds, Appends-then, AppendsFront-more, AppendsFront-then}
+use Rattle.streams.proofs.SinkLemmas.{OnErr-holds, AppendsFront-more, AppendsFront-then}
 use Rattle.geometry_model.specs.CanonicalText.{position_text}
 use Rattle.geometry_model.specs.Geometries.{Edge}
 use Rattle.geometry_model.specs.Points.{Position}
@@ -47,11 +47,6 @@ pub reason_parts : (fault : ValidityFault) (place : Place) → fault_front fault
 reason_parts fault place = sym (append_assoc (fault_front fault) (place_text place) (codes "\n"))
 
 -- ---- one text after another
-
--- a text after what was put
-pub then-ok : {A E : Type 0} (r : Result A E) (a b c : Option (List ℕ)) (x y text : List ℕ) → x ++ y ≡ text → Appends a b x → OnOk r (Appends b c y) → OnOk r (Appends a c text)
-then-ok (Ok v) a b c x y text e first then = subst (λ l. Appends a c l) e (Appends-then a b c x y first then)
-then-ok (Err v) a b c x y text e first then = tt
 
 -- a beginning of a text after what was put
 pub then-front : {A E : Type 0} (r : Result A E) (a b c : Option (List ℕ)) (x y text : List ℕ) → x ++ y ≡ text → Appends a b x → OnErr r (AppendsFront b c y)

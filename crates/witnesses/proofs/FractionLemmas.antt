@@ -10,6 +10,8 @@ use Rattle.std.specs.Ordering.{int_eq}
 use Prim.Native.Nat.{◌∣◌}
 use Rattle.basics.proofs.Ring.{solve, var, ◌⊗◌, ◌⊖◌}
 use Rattle.basics.proofs.Signs.{cancel_zero}
+use Rattle.basics.proofs.Tests.{equal_yes}
+use Rattle.basics.proofs.Orders.{no_difference}
 use Rattle.geometry_model.specs.Points.{Point, gcd, least_form}
 use Rattle.geometry_model.proofs.LeastFormFacts.{least_is_same, least_is_point, least_is_least, least_is_unique}
 use Rattle.fraction.specs.Fractions.{Fraction, IsFraction}
@@ -23,19 +25,13 @@ on_axis n d = record { X = n; Y = pos 0; W = d }
 abbrev point_of : Fraction → Point
 point_of f = on_axis f.numerator f.denominator
 
-equal_test : (a b : ℤ) → a ≡ b → int_eq a b ≡ true
-equal_test a b e = (signed_Decides a b).1 e
-
 -- two quotients that are equal to a third are equal
 same_quotient : (a w n d m k : ℤ) → pos 0 <ℤ k → a *ℤ k ≡ m *ℤ w → n *ℤ k ≡ m *ℤ d → a *ℤ d ≡ n *ℤ w
-same_quotient a w n d m k above e f = apart (a *ℤ d) (n *ℤ w) (cancel_zero k (a *ℤ d -ℤ n *ℤ w) above
+same_quotient a w n d m k above e f = no_difference (a *ℤ d) (n *ℤ w) (cancel_zero k (a *ℤ d -ℤ n *ℤ w) above
     (solve (a ∷ w ∷ n ∷ d ∷ k ∷ []) (var 4 ⊗ (var 0 ⊗ var 3 ⊖ var 2 ⊗ var 1)) (var 0 ⊗ var 4 ⊗ var 3 ⊖ var 2 ⊗ var 4 ⊗ var 1) tt
     ∙ ap (λ (z : ℤ). z *ℤ d -ℤ n *ℤ k *ℤ w) e ∙ ap (λ (z : ℤ). m *ℤ w *ℤ d -ℤ z *ℤ w) f
     ∙ solve (m ∷ w ∷ d ∷ []) (var 0 ⊗ var 1 ⊗ var 2 ⊖ var 0 ⊗ var 2 ⊗ var 1) (var 0 ⊖ var 0) tt ∙ none m))
   where
-    apart : (x y : ℤ) → x -ℤ y ≡ pos 0 → x ≡ y
-    apart x y g = omega (arith, ints)
-
     none : (x : ℤ) → x -ℤ x ≡ pos 0
     none x = omega (arith, ints)
 
@@ -59,7 +55,7 @@ least_of f h =
 least_is_one : (f : Fraction) (a w n d : ℤ) → IsFraction f → IsLeastForm f a w → IsLeastForm f n d → on_axis a w ≡ on_axis n d
 least_is_one f a w n d h first second =
     least_is_unique (on_axis a w) (on_axis n d) first.positive second.positive (λ k x y z. first.least k x z) (λ k x y z. second.least k x z)
-    (and_from _ _ (equal_test _ _ (same_quotient a w n d f.numerator f.denominator h first.same second.same)) (equal_test _ _ (none d w)))
+    (and_from _ _ (equal_yes _ _ (same_quotient a w n d f.numerator f.denominator h first.same second.same)) (equal_yes _ _ (none d w)))
   where
     zero_times : (z : ℤ) → pos 0 *ℤ z ≡ pos 0
     zero_times (pos m) = omega (arith, ints)

@@ -2,6 +2,7 @@
 use Rattle.std.proofs.Common.{ℤ, pos, ◌+ℤ◌, ◌-ℤ◌, ◌*ℤ◌, ◌≤ℤ◌, ◌<ℤ◌, int_le, ◌≡◌, ◌⊎◌, inl, inr, true, ◌&&◌, ◌||◌, refl, sym, ap, ap₂, ◌∙◌, [], ◌∷◌, arith}
 use borrow.Author.Differences.{ints}
 use Rattle.std.specs.Ordering.{int_eq}
+use Rattle.std.proofs.lemmas.Bool.{and_from}
 use Rattle.geometry_model.specs.Points.{Position, Point, IsPoint, point_at}
 use Rattle.geometry_model.specs.Geometries.{Edge}
 use Rattle.geometry_model.specs.Sides.{side, on, between}
@@ -9,8 +10,8 @@ use Rattle.basics.proofs.Ring.{solve, var, lit, ◌⊕◌, ◌⊖◌, ◌⊗◌}
 use Rattle.basics.proofs.Signs.{plus_plus, strict_plus_plus, cancel_nonnegative, cancel_positive, at_most_or_less, at_most_yes, zero_times}
 use Rattle.basics.proofs.Quotients.{trans_at_most}
 use Rattle.basics.proofs.Tests.{equal_yes}
+use Rattle.basics.proofs.Orders.{weak_positive, between_cases, gap_weak, at_most_from_gap, gap_none}
 use Rattle.geometry_laws.specs.CoverLaws.{IsStraightOver}
-use Rattle.geometry_laws.proofs.Scaling.{and_from}
 use Rattle.geometry_laws.proofs.RingParity.{position_is_point}
 use Rattle.geometry_laws.proofs.LineSides.{side_turned}
 use Rattle.geometry_laws.proofs.LineOrder.{up}
@@ -87,11 +88,8 @@ line_of Lower a b p z rise run eu el er i k = line_lower a b p z rise run i.stra
 -- ---- the edge from a to b, which goes to the right: past every height that is at most its own
 pub clears_line : (side : Side) (p : Point) (a b : Position) (h : Height) (rise run : ℤ) → IsHeight h → pos 0 <ℤ run → (pos 0 <ℤ rise → (h.rise *ℤ run) ≤ℤ (rise *ℤ h.run))
     → ((z : Point) → IsAhead side p z → on (record { start = a; end = b }) z ≡ true → rise *ℤ z.W ≡ run *ℤ ahead side p z) → ClearsEdge side p h (record { start = a; end = b })
-clears_line side p a b h rise run hh hr least line z i k = past h.rise h.run rise run z.W (ahead side p z) hh.positive hh.forward rises (weak run hr) i.is_point i.ahead (least rises) (equal (rise *ℤ z.W) (run *ℤ ahead side p z) (line z i k))
+clears_line side p a b h rise run hh hr least line z i k = past h.rise h.run rise run z.W (ahead side p z) hh.positive hh.forward rises (weak_positive run hr) i.is_point i.ahead (least rises) (equal (rise *ℤ z.W) (run *ℤ ahead side p z) (line z i k))
   where
-    weak : (x : ℤ) → pos 0 <ℤ x → pos 0 ≤ℤ x
-    weak x h = omega (arith, ints)
-
     equal : (x y : ℤ) → x ≡ y → x ≤ℤ y
     equal x y e = omega (arith, ints)
 
@@ -99,37 +97,21 @@ clears_line side p a b h rise run hh hr least line z i k = past h.rise h.run ris
     above x y t e h f = omega (arith, ints)
 
     rises : pos 0 <ℤ rise
-    rises = cancel_positive z.W rise (weak z.W i.is_point) (above (rise *ℤ z.W) (run *ℤ ahead side p z) (z.W *ℤ rise) (line z i k) (strict_plus_plus run (ahead side p z) hr i.ahead) (swap rise z.W))
+    rises = cancel_positive z.W rise (weak_positive z.W i.is_point) (above (rise *ℤ z.W) (run *ℤ ahead side p z) (z.W *ℤ rise) (line z i k) (strict_plus_plus run (ahead side p z) hr i.ahead) (swap rise z.W))
 
 -- ---- an edge that p isn't under has no point straight ahead
 carried : (s t : ℤ) → s ≡ t → pos 0 ≤ℤ t → pos 0 ≤ℤ s
 carried s t e h = omega (arith, ints)
 
-gap : (x y : ℤ) → x ≤ℤ y → pos 0 ≤ℤ (y -ℤ x)
-gap x y h = omega (arith, ints)
-
-from_gap : (x y : ℤ) → pos 0 ≤ℤ (y -ℤ x) → x ≤ℤ y
-from_gap x y h = omega (arith, ints)
-
 pub left_along : (x : ℤ) (p z : Point) → IsPoint p → IsPoint z → IsStraightOver z p → (x *ℤ z.W) ≤ℤ z.X → (x *ℤ p.W) ≤ℤ p.X
-left_along x p z hp hz st h = from_gap (x *ℤ p.W) p.X (cancel_nonnegative z.W (p.X -ℤ x *ℤ p.W) hz (carried _ (p.W *ℤ (z.X -ℤ x *ℤ z.W))
+left_along x p z hp hz st h = at_most_from_gap (x *ℤ p.W) p.X (cancel_nonnegative z.W (p.X -ℤ x *ℤ p.W) hz (carried _ (p.W *ℤ (z.X -ℤ x *ℤ z.W))
     (solve (x ∷ p.X ∷ p.W ∷ z.W ∷ []) (var 3 ⊗ (var 1 ⊖ var 0 ⊗ var 2)) (var 1 ⊗ var 3 ⊖ var 0 ⊗ var 2 ⊗ var 3) tt ∙ ap (λ (t : ℤ). t -ℤ x *ℤ p.W *ℤ z.W) (sym st) ∙ solve (x ∷ z.X ∷ p.W ∷ z.W ∷ []) (var 1 ⊗ var 2 ⊖ var 0 ⊗ var 2 ⊗ var 3) (var 2 ⊗ (var 1 ⊖ var 0 ⊗ var 3)) tt)
-    (plus_plus p.W (z.X -ℤ x *ℤ z.W) (weak p.W hp) (gap (x *ℤ z.W) z.X h))))
-  where
-    weak : (x : ℤ) → pos 0 <ℤ x → pos 0 ≤ℤ x
-    weak x h = omega (arith, ints)
+    (plus_plus p.W (z.X -ℤ x *ℤ z.W) (weak_positive p.W hp) (gap_weak (x *ℤ z.W) z.X h))))
 
 pub right_along : (x : ℤ) (p z : Point) → IsPoint p → IsPoint z → IsStraightOver z p → z.X ≤ℤ (x *ℤ z.W) → p.X ≤ℤ (x *ℤ p.W)
-right_along x p z hp hz st h = from_gap p.X (x *ℤ p.W) (cancel_nonnegative z.W (x *ℤ p.W -ℤ p.X) hz (carried _ (p.W *ℤ (x *ℤ z.W -ℤ z.X))
+right_along x p z hp hz st h = at_most_from_gap p.X (x *ℤ p.W) (cancel_nonnegative z.W (x *ℤ p.W -ℤ p.X) hz (carried _ (p.W *ℤ (x *ℤ z.W -ℤ z.X))
     (solve (x ∷ p.X ∷ p.W ∷ z.W ∷ []) (var 3 ⊗ (var 0 ⊗ var 2 ⊖ var 1)) (var 0 ⊗ var 2 ⊗ var 3 ⊖ var 1 ⊗ var 3) tt ∙ ap (λ (t : ℤ). x *ℤ p.W *ℤ z.W -ℤ t) (sym st) ∙ solve (x ∷ z.X ∷ p.W ∷ z.W ∷ []) (var 0 ⊗ var 2 ⊗ var 3 ⊖ var 1 ⊗ var 2) (var 2 ⊗ (var 0 ⊗ var 3 ⊖ var 1)) tt)
-    (plus_plus p.W (x *ℤ z.W -ℤ z.X) (weak p.W hp) (gap z.X (x *ℤ z.W) h))))
-  where
-    weak : (x : ℤ) → pos 0 <ℤ x → pos 0 ≤ℤ x
-    weak x h = omega (arith, ints)
-
--- between two numbers: from the one up to the other, or the other way round
-pub between_cases : (a b x : ℤ) → (int_le a x && int_le x b) || (int_le b x && int_le x a) ≡ true → ((a ≤ℤ x) × (x ≤ℤ b)) ⊎ ((b ≤ℤ x) × (x ≤ℤ a))
-between_cases a b x e = grind (arith, ints)
+    (plus_plus p.W (x *ℤ z.W -ℤ z.X) (weak_positive p.W hp) (gap_weak z.X (x *ℤ z.W) h))))
 
 pub is_under : (p z : Point) (a b : Position) → IsPoint p → IsPoint z → IsStraightOver z p → a.x <ℤ b.x → on (record { start = a; end = b }) z ≡ true → int_le (a.x *ℤ p.W) p.X && int_le p.X (b.x *ℤ p.W) ≡ true
 is_under p z a b hp hz st lr k = go (between_cases (a.x *ℤ z.W) (b.x *ℤ z.W) z.X ((on_parts (record { start = a; end = b }) z k).in_x))
@@ -200,11 +182,8 @@ upright_on e p f st k = and_from (int_eq (side e.start e.end p) (pos 0) && betwe
     none : (x y : ℤ) → x ≡ y *ℤ pos 1 → y -ℤ x ≡ pos 0
     none x y e = omega (arith, ints)
 
-    level : (x y : ℤ) → x ≡ y → y -ℤ x ≡ pos 0
-    level x y e = omega (arith, ints)
-
     flat : side e.start e.end p ≡ pos 0
-    flat = ap₂ (λ (s t : ℤ). s *ℤ (p.Y -ℤ e.start.y *ℤ p.W) -ℤ (e.end.y -ℤ e.start.y) *ℤ t) (level e.start.x e.end.x f) (none (e.start.x *ℤ p.W) p.X st)
+    flat = ap₂ (λ (s t : ℤ). s *ℤ (p.Y -ℤ e.start.y *ℤ p.W) -ℤ (e.end.y -ℤ e.start.y) *ℤ t) (gap_none e.start.x e.end.x f) (none (e.start.x *ℤ p.W) p.X st)
         ∙ solve ((p.Y -ℤ e.start.y *ℤ p.W) ∷ (e.end.y -ℤ e.start.y) ∷ []) (lit (pos 0) ⊗ var 0 ⊖ var 1 ⊗ lit (pos 0)) (lit (pos 0)) tt
 
     both : (s t x : ℤ) → s ≡ x *ℤ pos 1 → s ≡ t → (int_le s x && int_le x t) || (int_le t x && int_le x s) ≡ true
@@ -218,23 +197,20 @@ abbrev IsAmid : Side → Position → Position → Point → Type 0
 IsAmid Upper n f z = ((n.y *ℤ z.W) ≤ℤ z.Y) × (z.Y ≤ℤ (f.y *ℤ z.W))
 IsAmid Lower n f z = (z.Y ≤ℤ (n.y *ℤ z.W)) × ((f.y *ℤ z.W) ≤ℤ z.Y)
 
-weak : (x : ℤ) → pos 0 <ℤ x → pos 0 ≤ℤ x
-weak x h = omega (arith, ints)
-
 -- the near end is no further ahead than z
 near_end : (sd : Side) (p z : Point) (n f : Position) → IsPoint p → IsAmid sd n f z → (ahead sd p (point_at n) *ℤ z.W) ≤ℤ ahead sd p z
-near_end Upper p z n f hp h = from_gap _ _ (carried (z.Y *ℤ p.W -ℤ p.Y *ℤ z.W -ℤ (n.y *ℤ p.W -ℤ p.Y *ℤ pos 1) *ℤ z.W) (p.W *ℤ (z.Y -ℤ n.y *ℤ z.W))
+near_end Upper p z n f hp h = at_most_from_gap _ _ (carried (z.Y *ℤ p.W -ℤ p.Y *ℤ z.W -ℤ (n.y *ℤ p.W -ℤ p.Y *ℤ pos 1) *ℤ z.W) (p.W *ℤ (z.Y -ℤ n.y *ℤ z.W))
     (solve (n.y ∷ p.Y ∷ p.W ∷ z.Y ∷ z.W ∷ []) (var 3 ⊗ var 2 ⊖ var 1 ⊗ var 4 ⊖ (var 0 ⊗ var 2 ⊖ var 1 ⊗ lit (pos 1)) ⊗ var 4) (var 2 ⊗ (var 3 ⊖ var 0 ⊗ var 4)) tt)
-    (plus_plus p.W (z.Y -ℤ n.y *ℤ z.W) (weak p.W hp) (gap (n.y *ℤ z.W) z.Y h.0)))
-near_end Lower p z n f hp h = from_gap _ _ (carried (p.Y *ℤ z.W -ℤ z.Y *ℤ p.W -ℤ (p.Y *ℤ pos 1 -ℤ n.y *ℤ p.W) *ℤ z.W) (p.W *ℤ (n.y *ℤ z.W -ℤ z.Y))
+    (plus_plus p.W (z.Y -ℤ n.y *ℤ z.W) (weak_positive p.W hp) (gap_weak (n.y *ℤ z.W) z.Y h.0)))
+near_end Lower p z n f hp h = at_most_from_gap _ _ (carried (p.Y *ℤ z.W -ℤ z.Y *ℤ p.W -ℤ (p.Y *ℤ pos 1 -ℤ n.y *ℤ p.W) *ℤ z.W) (p.W *ℤ (n.y *ℤ z.W -ℤ z.Y))
     (solve (n.y ∷ p.Y ∷ p.W ∷ z.Y ∷ z.W ∷ []) (var 1 ⊗ var 4 ⊖ var 3 ⊗ var 2 ⊖ (var 1 ⊗ lit (pos 1) ⊖ var 0 ⊗ var 2) ⊗ var 4) (var 2 ⊗ (var 0 ⊗ var 4 ⊖ var 3)) tt)
-    (plus_plus p.W (n.y *ℤ z.W -ℤ z.Y) (weak p.W hp) (gap z.Y (n.y *ℤ z.W) h.0)))
+    (plus_plus p.W (n.y *ℤ z.W -ℤ z.Y) (weak_positive p.W hp) (gap_weak z.Y (n.y *ℤ z.W) h.0)))
 
 -- so what is past the near end's height, and with it z, is past
 past_near : (r u w g a : ℤ) → pos 0 ≤ℤ u → pos 0 <ℤ w → (r *ℤ pos 1) ≤ℤ (u *ℤ g) → (g *ℤ w) ≤ℤ a → (r *ℤ w) ≤ℤ (u *ℤ a)
-past_near r u w g a hu hw h k = from_gap (r *ℤ w) (u *ℤ a) (sum (u *ℤ a -ℤ r *ℤ w) (w *ℤ (u *ℤ g -ℤ r *ℤ pos 1)) (u *ℤ (a -ℤ g *ℤ w))
+past_near r u w g a hu hw h k = at_most_from_gap (r *ℤ w) (u *ℤ a) (sum (u *ℤ a -ℤ r *ℤ w) (w *ℤ (u *ℤ g -ℤ r *ℤ pos 1)) (u *ℤ (a -ℤ g *ℤ w))
     (solve (r ∷ u ∷ w ∷ g ∷ a ∷ []) (var 1 ⊗ var 4 ⊖ var 0 ⊗ var 2) (var 2 ⊗ (var 1 ⊗ var 3 ⊖ var 0 ⊗ lit (pos 1)) ⊕ var 1 ⊗ (var 4 ⊖ var 3 ⊗ var 2)) tt)
-    (plus_plus w (u *ℤ g -ℤ r *ℤ pos 1) (weak w hw) (gap (r *ℤ pos 1) (u *ℤ g) h)) (plus_plus u (a -ℤ g *ℤ w) hu (gap (g *ℤ w) a k)))
+    (plus_plus w (u *ℤ g -ℤ r *ℤ pos 1) (weak_positive w hw) (gap_weak (r *ℤ pos 1) (u *ℤ g) h)) (plus_plus u (a -ℤ g *ℤ w) hu (gap_weak (g *ℤ w) a k)))
   where
     sum : (d x y : ℤ) → d ≡ x +ℤ y → pos 0 ≤ℤ x → pos 0 ≤ℤ y → pos 0 ≤ℤ d
     sum d x y e h k = omega (arith, ints)
@@ -243,9 +219,9 @@ past_near r u w g a hu hw h k = from_gap (r *ℤ w) (u *ℤ a) (sum (u *ℤ a -�
 amid : (n f : ℤ) (p z : Point) → IsPoint p → IsPoint z → (n *ℤ p.W) ≤ℤ (p.Y *ℤ pos 1) → pos 0 <ℤ (z.Y *ℤ p.W -ℤ p.Y *ℤ z.W) → z.Y ≤ℤ (f *ℤ z.W) → ((n *ℤ p.W) ≤ℤ p.Y) × (p.Y ≤ℤ (f *ℤ p.W))
 amid n f p z hp hz h k l = (
   one (n *ℤ p.W) p.Y h,
-  from_gap p.Y (f *ℤ p.W) (cancel_nonnegative z.W (f *ℤ p.W -ℤ p.Y) hz (sum _ (p.W *ℤ (f *ℤ z.W -ℤ z.Y)) (z.Y *ℤ p.W -ℤ p.Y *ℤ z.W)
+  at_most_from_gap p.Y (f *ℤ p.W) (cancel_nonnegative z.W (f *ℤ p.W -ℤ p.Y) hz (sum _ (p.W *ℤ (f *ℤ z.W -ℤ z.Y)) (z.Y *ℤ p.W -ℤ p.Y *ℤ z.W)
       (solve (f ∷ p.Y ∷ p.W ∷ z.Y ∷ z.W ∷ []) (var 4 ⊗ (var 0 ⊗ var 2 ⊖ var 1)) (var 2 ⊗ (var 0 ⊗ var 4 ⊖ var 3) ⊕ (var 3 ⊗ var 2 ⊖ var 1 ⊗ var 4)) tt)
-      (plus_plus p.W (f *ℤ z.W -ℤ z.Y) (weak p.W hp) (gap z.Y (f *ℤ z.W) l)) k)),
+      (plus_plus p.W (f *ℤ z.W -ℤ z.Y) (weak_positive p.W hp) (gap_weak z.Y (f *ℤ z.W) l)) k)),
 )
   where
     one : (x y : ℤ) → x ≤ℤ (y *ℤ pos 1) → x ≤ℤ y
@@ -256,9 +232,9 @@ amid n f p z hp hz h k l = (
 
 amid_below : (n f : ℤ) (p z : Point) → IsPoint p → IsPoint z → (p.Y *ℤ pos 1) ≤ℤ (n *ℤ p.W) → pos 0 <ℤ (p.Y *ℤ z.W -ℤ z.Y *ℤ p.W) → (f *ℤ z.W) ≤ℤ z.Y → ((f *ℤ p.W) ≤ℤ p.Y) × (p.Y ≤ℤ (n *ℤ p.W))
 amid_below n f p z hp hz h k l = (
-  from_gap (f *ℤ p.W) p.Y (cancel_nonnegative z.W (p.Y -ℤ f *ℤ p.W) hz (sum _ (p.W *ℤ (z.Y -ℤ f *ℤ z.W)) (p.Y *ℤ z.W -ℤ z.Y *ℤ p.W)
+  at_most_from_gap (f *ℤ p.W) p.Y (cancel_nonnegative z.W (p.Y -ℤ f *ℤ p.W) hz (sum _ (p.W *ℤ (z.Y -ℤ f *ℤ z.W)) (p.Y *ℤ z.W -ℤ z.Y *ℤ p.W)
       (solve (f ∷ p.Y ∷ p.W ∷ z.Y ∷ z.W ∷ []) (var 4 ⊗ (var 1 ⊖ var 0 ⊗ var 2)) (var 2 ⊗ (var 3 ⊖ var 0 ⊗ var 4) ⊕ (var 1 ⊗ var 4 ⊖ var 3 ⊗ var 2)) tt)
-      (plus_plus p.W (z.Y -ℤ f *ℤ z.W) (weak p.W hp) (gap (f *ℤ z.W) z.Y l)) k)),
+      (plus_plus p.W (z.Y -ℤ f *ℤ z.W) (weak_positive p.W hp) (gap_weak (f *ℤ z.W) z.Y l)) k)),
   one p.Y (n *ℤ p.W) h,
 )
   where

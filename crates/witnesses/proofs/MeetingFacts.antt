@@ -1,17 +1,14 @@
 -- A ring and some rings, and the rings of two polygons, one by one.
 use Rattle.std.proofs.Common.{◌≡◌, ◌⊎◌, inl, inr, sym, ap, subst, ◌∙◌, ℕ, ◌+◌, ◌<◌, ◌≤◌, List, length, Contains, Some, slice_get, arith}
-use Rattle.std.proofs.lemmas.Option.{slice_get-get_or}
+use Rattle.std.proofs.lemmas.Option.{slice_get-get_or, same_Some}
+use Rattle.basics.proofs.Numbers.{earlier_or_last}
 use Rattle.geometry_model.specs.Points.{Position}
 use Rattle.geometry_model.specs.Validity.{RingsShare, ElementsShare}
 use Rattle.witnesses.specs.FaultPlaces.{MeetsOne}
-use Rattle.witnesses.proofs.RingNumbers.{same_some}
-
-earlier_or_last : (k n : ℕ) → k < n + 1 → (k < n) ⊎ (k ≡ n)
-earlier_or_last k n h = grind (arith, h)
 
 -- what is contained at this place
 at_place : (rings : List (List Position)) (s t : List Position) (n : ℕ) (c : Contains rings s) → c.0 ≡ n → slice_get rings n ≡ Some t → s ≡ t
-at_place rings s t n c same at = same_some s t (sym (slice_get-get_or rings c.0 s c.1 ∙ ap Some c.2) ∙ (ap (slice_get rings) same ∙ at))
+at_place rings s t n c same at = same_Some s t (sym (slice_get-get_or rings c.0 s c.1 ∙ ap Some c.2) ∙ (ap (slice_get rings) same ∙ at))
 
 pub next_one : (r : List Position) (others : List (List Position)) (n : ℕ) (s : List Position) → slice_get others n ≡ Some s → (RingsShare r s → ⊥) → ((w : MeetsOne r others) → w.second.0 < n → ⊥) → (w : MeetsOne r others) → w.second.0 < n + 1 → ⊥
 next_one r others n s at none before w h = go (earlier_or_last w.second.0 n h)

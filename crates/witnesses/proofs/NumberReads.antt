@@ -1,10 +1,11 @@
 -- Numbers of calls, each read where it comes from.
 use Rattle.std.proofs.Common.{◌≡◌, ap, ap₂, ◌∙◌, ◌*◌, ◌≤◌, ℤ, ◌+ℤ◌, ◌-ℤ◌, ◌*ℤ◌, unsigned_abs, to_z, of_z, arith}
 use Rattle.std.proofs.lemmas.Int.{ints, to_z-of_z}
+use Rattle.basics.proofs.Numbers.{product_within}
 use mir.Syntax.{w32, w64, w128}
 use mir.Val.{SFits}
 use Rattle.geometry_model.specs.WellKnownText.{coordinate_limit}
-use Rattle.orient.proofs.Bounds.{read, product_within}
+use Rattle.orient.proofs.Bounds.{read}
 use Rattle.fraction.specs.Ranges.{denominator_limit}
 use Rattle.witnesses.specs.Heights.{rise_limit}
 

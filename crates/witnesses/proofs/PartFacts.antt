@@ -1,5 +1,5 @@
 -- Lines and rings by their numbers, and their first and last positions.
-use Rattle.std.proofs.Common.{◌≡◌, ◌≢◌, refl, sym, ap, subst, ◌∙◌, ℕ, suc, ◌-◌, ◌<◌, Bool, true, false, List, [], ◌∷◌, length, All, Some, None, slice_get, arith}
+use Rattle.std.proofs.Common.{◌≡◌, ◌≢◌, refl, sym, ap, subst, ◌∙◌, ℕ, ◌-◌, ◌<◌, Bool, true, false, List, [], ◌∷◌, length, All, Some, None, slice_get, arith}
 use Rattle.std.proofs.lemmas.Option.{slice_get_within, get_or_from_slice_get}
 use Rattle.geometry_model.specs.Points.{Position, point_at}
 use Rattle.geometry_model.specs.Geometries.{Geometry, kind, lines, rings}
@@ -11,8 +11,9 @@ use Rattle.geometry_model.specs.declared.validity_faults.ValidityFault.TheVarian
 use Rattle.geometry_model.specs.declared.shapes.Kind.TheVariants as kinds
 use Rattle.wkt.specs.KeptGeometries.{IsKept}
 use Rattle.std.specs.Ordering.{int_eq}
+use Rattle.std.proofs.lemmas.Bool.{and_from}
 use Rattle.basics.proofs.Tests.{equal_yes}
-use Rattle.geometry_laws.proofs.Scaling.{and_from}
+use Rattle.basics.proofs.Numbers.{one_less}
 use Rattle.geometry_laws.proofs.OtherPoints.{same_from}
 
 -- ---- no part is empty but an empty LINESTRING
@@ -67,9 +68,6 @@ no_first (p ∷ ps) h e = absurd cc
 last_is : (p : Position) (ps : List Position) → slice_get (p ∷ ps) (length ps) ≡ Some (last_after p ps)
 last_is p [] = refl
 last_is p (q ∷ qs) = last_is q qs
-
-one_less : (n : ℕ) → suc n - 1 ≡ n
-one_less n = omega arith
 
 last_of : (p : Position) (ps : List Position) (last : Position) → slice_get (p ∷ ps) (length (p ∷ ps) - 1) ≡ Some last → last_after p ps ≡ last
 last_of p ps last e = let h : Some (last_after p ps) ≡ Some last = sym (ap (slice_get (p ∷ ps)) (one_less (length ps)) ∙ last_is p ps) ∙ e in cc

@@ -1,6 +1,8 @@
 -- What a place shows, fault by fault.
-use Rattle.std.proofs.Common.{◌≡◌, ◌≢◌, ◌⊎◌, inl, inr, refl, sym, subst, ◌∙◌, ℕ, ◌+◌, ◌-◌, ◌<◌, Bool, true, false, List, [], ◌∷◌, length, Option, Some, None, IfSome, IfNone, slice_get, arith}
-use Rattle.std.proofs.lemmas.Option.{slice_get_within}
+use Rattle.std.proofs.Common.{◌≡◌, ◌≢◌, ◌⊎◌, inl, inr, refl, sym, subst, ◌∙◌, ℕ, ◌+◌, ◌-◌, ◌<◌, true, false, List, [], ◌∷◌, length, Option, Some, None, IfSome, IfNone, slice_get, arith}
+use Rattle.std.proofs.lemmas.Option.{slice_get_within, same_Some}
+use Rattle.basics.proofs.Lists.{contains_at}
+use Rattle.basics.proofs.Bools.{not_both}
 use Rattle.geometry_model.specs.Points.{Position, point_at}
 use Rattle.geometry_model.specs.Geometries.{Geometry, rings, elements}
 use Rattle.geometry_model.specs.Crossings.{odd_above}
@@ -13,7 +15,7 @@ use Rattle.witnesses.specs.declared.places.Place.{Place}
 use Rattle.witnesses.specs.declared.places.Place.TheVariants.{Shared, Outside, Inside}
 use Rattle.witnesses.specs.Numbers.{AreNumbersAround}
 use Rattle.witnesses.specs.FaultPlaces.{IsPlaceOf, AreOfOne, IsInsideAt}
-use Rattle.witnesses.proofs.RingNumbers.{same_some, contains_at, ring_there, one_polygon, ring_of_it}
+use Rattle.witnesses.proofs.RingNumbers.{ring_there, one_polygon, ring_of_it}
 use Rattle.witnesses.proofs.PartFacts.{isnt_closed, inside_first, polygon_first}
 
 pub if_none : {A : Type 0} (o : Option A) (P : Type 0) → P → IfNone o P
@@ -32,7 +34,7 @@ two_of_one g number first count h k l m n r s km ln later within at_m at_n = rec
 }
 
 same_ring : (g : Geometry) (n : ℕ) (r s : List Position) → slice_get (rings g) n ≡ Some r → slice_get (rings g) n ≡ Some s → r ≡ s
-same_ring g n r s e f = same_some r s (sym e ∙ f)
+same_ring g n r s e f = same_Some r s (sym e ∙ f)
 
 missing : (g : Geometry) (n : ℕ) (r : List Position) → slice_get (rings g) n ≡ None → slice_get (rings g) n ≡ Some r → ⊥
 missing g n r none at = let h : Some r ≡ None = sym at ∙ none in absurd cc
@@ -114,12 +116,9 @@ nested_no_second g i j none f = missing g j f.4 none (ring_there g f.0 f.2 j f.4
 pub nested_none : (g : Geometry) (i j : ℕ) (r s : List Position) → slice_get (rings g) i ≡ Some r → slice_get (rings g) j ≡ Some s → inside r s ≡ false → inside s r ≡ false → HasFault g (HolesNested i j) → ⊥
 nested_none g i j r s at_i at_j first second f = go (same_ring g i f.3 r (ring_there g f.0 f.1 i f.3 f.5 f.8) at_i) (same_ring g j f.4 s (ring_there g f.0 f.2 j f.4 f.5 f.9) at_j) f.10
   where
-    clash : (b : Bool) → b ≡ true → b ≡ false → ⊥
-    clash b t u = let z : true ≡ false = sym t ∙ u in absurd cc
-
     go : f.3 ≡ r → f.4 ≡ s → (inside f.3 f.4 ≡ true) ⊎ (inside f.4 f.3 ≡ true) → ⊥
-    go e g (inl odd) = clash (inside r s) (subst (λ (q : List Position). inside r q ≡ true) g (subst (λ (q : List Position). inside q f.4 ≡ true) e odd)) first
-    go e g (inr odd) = clash (inside s r) (subst (λ (q : List Position). inside s q ≡ true) e (subst (λ (q : List Position). inside q f.3 ≡ true) g odd)) second
+    go e g (inl odd) = not_both (inside r s) (subst (λ (q : List Position). inside r q ≡ true) g (subst (λ (q : List Position). inside q f.4 ≡ true) e odd)) first
+    go e g (inr odd) = not_both (inside s r) (subst (λ (q : List Position). inside s q ≡ true) e (subst (λ (q : List Position). inside q f.3 ≡ true) g odd)) second
 
 pub nested_place : (g : Geometry) (i j first count : ℕ) (r s : List Position) (at : Position) → AreNumbersAround g i first count → i < j → j - first < count → (first ≡ i → ⊥)
     → slice_get (rings g) i ≡ Some r → slice_get (rings g) j ≡ Some s → IsInsideAt (r ∷ []) s at ⊎ IsInsideAt (s ∷ []) r at → IsPlaceOf g (HolesNested i j) (Inside at)
@@ -137,7 +136,7 @@ nested_place g i j first count r s at h later within other at_i at_j odd = let f
 
 -- ---- V7 and V8
 same_element : (g : Geometry) (n : ℕ) (d e : List (List Position)) → slice_get (elements g) n ≡ Some d → slice_get (elements g) n ≡ Some e → d ≡ e
-same_element g n d e h k = same_some d e (sym h ∙ k)
+same_element g n d e h k = same_Some d e (sym h ∙ k)
 
 pub elements_within : (g : Geometry) (i j : ℕ) → HasFault g (ElementsMeet i j) → (i < j) × (j < length (elements g))
 elements_within g i j f = (f.2, slice_get_within (elements g) j f.1 f.4)

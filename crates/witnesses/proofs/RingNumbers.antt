@@ -3,33 +3,13 @@ use Rattle.std.proofs.Common.{◌≡◌, ◌⊎◌, inl, inr, refl, sym, ap, sub
 use Rattle.geometry_model.specs.Points.{Position}
 use Rattle.geometry_model.specs.Geometries.{Geometry, rings, elements, joined_rings}
 use Rattle.geometry_model.specs.Validity.{Element, elements_from, numbered_elements, IsRing}
-use Rattle.std.proofs.lemmas.Option.{slice_get_within, slice_get-get_or}
-use Rattle.std.proofs.lemmas.Option.{get_or_from_slice_get}
+use Rattle.std.proofs.lemmas.Option.{slice_get_within, same_Some}
+use Rattle.basics.proofs.Numbers.{earlier_or_last, in_order}
+use Rattle.basics.proofs.Lists.{place_of, behind, in_front}
 use Rattle.witnesses.specs.Numbers.{AreNumbersAround, IsNumberOfNone}
 
-pub same_some : {A : Type 0} (x y : A) → Some x ≡ Some y → x ≡ y
-same_some x y h = cc
-
 -- ---- two lists together
-in_front : {A : Type 0} (xs ys : List A) (p : ℕ) → p < length xs → slice_get (xs ++ ys) p ≡ slice_get xs p
-in_front [] ys p h = absurd (omega (arith, h))
-in_front (x ∷ xs) ys zero h = refl
-in_front (x ∷ xs) ys (suc p) h = in_front xs ys p (omega (arith, h))
-
-behind : {A : Type 0} (xs ys : List A) (p : ℕ) → slice_get (xs ++ ys) (length xs + p) ≡ slice_get ys p
-behind [] ys p = ap (slice_get ys) (zero-add p)
-behind (x ∷ xs) ys p = ap (slice_get (x ∷ (xs ++ ys))) (next (length xs) p) ∙ behind xs ys p
-  where
-    next : (n p : ℕ) → suc n + p ≡ suc (n + p)
-    next n p = omega arith
-
 -- ---- an element of a list and its place
-place_in : {A : Type 0} (xs : List A) (x : A) → Contains xs x → (k : ℕ) × (slice_get xs k ≡ Some x)
-place_in xs x c = (c.0, slice_get-get_or xs c.0 x c.1 ∙ ap Some c.2)
-
-pub contains_at : {A : Type 0} (xs : List A) (k : ℕ) (x : A) → slice_get xs k ≡ Some x → Contains xs x
-contains_at xs k x e = (k, slice_get_within xs k x e, get_or_from_slice_get xs k x x e)
-
 -- ---- numbers of polygons' rings
 -- how many rings these many of the first polygons have
 abbrev pub count_before : List (List (List Position)) → ℕ → ℕ
@@ -48,7 +28,7 @@ numbered_is start (x ∷ xs) (suc m) rings e = numbered_is (start + length x) xs
 
 numbered_from : (start : ℕ) (polygons : List (List (List Position))) (m : ℕ) (e : Element) → slice_get (elements_from start polygons) m ≡ Some e → (slice_get polygons m ≡ Some e.rings) × (e.first ≡ start + count_before polygons m)
 numbered_from start [] m e h = absurd cc
-numbered_from start (x ∷ xs) zero e h = let same = same_some (record { first = start; rings = x }) e h in let from : start ≡ e.first = ap (λ (f : Element). f.first) same in (ap (λ (f : Element). Some f.rings) same, omega (arith, from))
+numbered_from start (x ∷ xs) zero e h = let same = same_Some (record { first = start; rings = x }) e h in let from : start ≡ e.first = ap (λ (f : Element). f.first) same in (ap (λ (f : Element). Some f.rings) same, omega (arith, from))
 numbered_from start (x ∷ xs) (suc m) e h = let k = numbered_from (start + length x) xs m e h in (k.0, k.1 ∙ regrouped start (length x) (count_before xs m))
 
 next_count : (polygons : List (List (List Position))) (m : ℕ) (rings : List (List Position)) → slice_get polygons m ≡ Some rings → count_before polygons (suc m) ≡ count_before polygons m + length rings
@@ -80,7 +60,7 @@ ring_of_polygon g m e k h within = let at = numbered_from 0 (elements g) m e h i
 
 -- a ring of a polygon is the ring with its number
 pub ring_there : (g : Geometry) (e : Element) (k n : ℕ) (r : List Position) → Contains (numbered_elements g) e → IsRing e k n r → slice_get (rings g) n ≡ Some r
-ring_there g e k n r c is = let at = place_in (numbered_elements g) e c in ap (slice_get (rings g)) is.0 ∙ (ring_of_polygon g at.0 e k at.1 (slice_get_within e.rings k r is.1) ∙ is.1)
+ring_there g e k n r c is = let at = place_of (numbered_elements g) e c in ap (slice_get (rings g)) is.0 ∙ (ring_of_polygon g at.0 e k at.1 (slice_get_within e.rings k r is.1) ∙ is.1)
 
 -- ---- the polygon that has a number
 counted_from : (start : ℕ) (polygons : List (List (List Position))) (m : ℕ) (e : Element) → slice_get (elements_from start polygons) m ≡ Some e → start ≤ e.first
@@ -89,19 +69,16 @@ counted_from start polygons m e h = let at = numbered_from start polygons m e h 
 ordered : (start : ℕ) (polygons : List (List (List Position))) (m n : ℕ) (d e : Element) → m < n → slice_get (elements_from start polygons) m ≡ Some d → slice_get (elements_from start polygons) n ≡ Some e → d.first + length d.rings ≤ e.first
 ordered start [] m n d e h hd he = absurd cc
 ordered start (x ∷ xs) zero zero d e h hd he = absurd (omega (arith, h))
-ordered start (x ∷ xs) zero (suc n) d e h hd he = subst (λ (f : Element). f.first + length f.rings ≤ e.first) (same_some (record { first = start; rings = x }) d hd) (counted_from (start + length x) xs n e he)
+ordered start (x ∷ xs) zero (suc n) d e h hd he = subst (λ (f : Element). f.first + length f.rings ≤ e.first) (same_Some (record { first = start; rings = x }) d hd) (counted_from (start + length x) xs n e he)
 ordered start (x ∷ xs) (suc m) zero d e h hd he = absurd (omega (arith, h))
 ordered start (x ∷ xs) (suc m) (suc n) d e h hd he = ordered (start + length x) xs m n d e (omega (arith, h)) hd he
-
-in_order : (m n : ℕ) → (m < n) ⊎ ((m ≡ n) ⊎ (n < m))
-in_order m n = grind arith
 
 first_of_same : (first count : ℕ) (e : Element) (rings : List (List Position)) → record { first = first; rings = rings } ≡ e → count ≡ length rings → (e.first ≡ first) × (length e.rings ≡ count)
 first_of_same first count e rings same counted = (sym (ap (λ (f : Element). f.first) same), sym (counted ∙ ap (λ (f : Element). length f.rings) same))
 
 -- no other polygon has the number
 pub one_polygon : (g : Geometry) (number first count : ℕ) → AreNumbersAround g number first count → (e : Element) (k : ℕ) (r : List Position) → Contains (numbered_elements g) e → IsRing e k number r → (e.first ≡ first) × (length e.rings ≡ count)
-one_polygon g number first count h e k r c is = go (place_in (numbered_elements g) e c)
+one_polygon g number first count h e k r c is = go (place_of (numbered_elements g) e c)
   where
     within : k < length e.rings
     within = slice_get_within e.rings k r is.1
@@ -111,7 +88,7 @@ one_polygon g number first count h e k r c is = go (place_in (numbered_elements 
       where
         by_order : (at.0 < h.place) ⊎ ((at.0 ≡ h.place) ⊎ (h.place < at.0)) → (e.first ≡ first) × (length e.rings ≡ count)
         by_order (inl less) = let below = ordered 0 (elements g) at.0 h.place e (record { first = first; rings = h.rings }) less at.1 h.numbered in absurd (omega (arith, below, within, is.0, h.from))
-        by_order (inr (inl same)) = first_of_same first count e h.rings (same_some (record { first = first; rings = h.rings }) e (sym h.numbered ∙ ap (slice_get (numbered_elements g)) (sym same) ∙ at.1)) h.counted
+        by_order (inr (inl same)) = first_of_same first count e h.rings (same_Some (record { first = first; rings = h.rings }) e (sym h.numbered ∙ ap (slice_get (numbered_elements g)) (sym same) ∙ at.1)) h.counted
         by_order (inr (inr more)) = let above = ordered 0 (elements g) h.place at.0 (record { first = first; rings = h.rings }) e more h.numbered at.1 in absurd (omega (arith, above, h.counted, h.before, is.0))
 
 -- a ring with a number of the polygon is a ring of it
@@ -125,15 +102,12 @@ NotBefore g number n = (m : ℕ) (e : Element) → m < n → slice_get (numbered
 pub none_before : (g : Geometry) (number : ℕ) → NotBefore g number 0
 none_before g number m e h is = absurd (omega (arith, h))
 
-earlier_or_last : (k n : ℕ) → k < n + 1 → (k < n) ⊎ (k ≡ n)
-earlier_or_last k n h = grind (arith, h)
-
 pub next_before : (g : Geometry) (number n first count : ℕ) (rings : List (List Position)) → NotBefore g number n → slice_get (elements g) n ≡ Some rings → first ≡ count_before (elements g) n → count ≡ length rings → first + count ≤ number → NotBefore g number (n + 1)
 next_before g number n first count rings before at starts counted past m e h is = go (earlier_or_last m n h)
   where
     go : (m < n) ⊎ (m ≡ n) → e.first + length e.rings ≤ number
     go (inl less) = before m e less is
-    go (inr same) = let here = first_of_same (0 + count_before (elements g) n) (length rings) e rings (same_some (record { first = 0 + count_before (elements g) n; rings = rings }) e (sym (numbered_is 0 (elements g) n rings at) ∙ ap (slice_get (numbered_elements g)) (sym same) ∙ is)) refl in
+    go (inr same) = let here = first_of_same (0 + count_before (elements g) n) (length rings) e rings (same_Some (record { first = 0 + count_before (elements g) n; rings = rings }) e (sym (numbered_is 0 (elements g) n rings at) ∙ ap (slice_get (numbered_elements g)) (sym same) ∙ is)) refl in
         omega (arith, here.0, here.1, starts, counted, past)
 
 elements_count : (start : ℕ) (polygons : List (List (List Position))) → length (elements_from start polygons) ≡ length polygons
@@ -141,7 +115,7 @@ elements_count start [] = refl
 elements_count start (x ∷ xs) = ap suc (elements_count (start + length x) xs)
 
 pub none_at_all : (g : Geometry) (number n : ℕ) → length (elements g) ≤ n → NotBefore g number n → IsNumberOfNone g number
-none_at_all g number n all before e k r c is = go (place_in (numbered_elements g) e c)
+none_at_all g number n all before e k r c is = go (place_of (numbered_elements g) e c)
   where
     go : (m : ℕ) × (slice_get (numbered_elements g) m ≡ Some e) → ⊥
     go at = let past = before at.0 e (omega (arith, all, elements_count 0 (elements g), slice_get_within (numbered_elements g) at.0 e at.1)) at.1 in omega (arith, past, is.0, slice_get_within e.rings k r is.1)

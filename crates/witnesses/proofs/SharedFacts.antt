@@ -1,9 +1,10 @@
 -- What the points that two edges share say of shared points.
-use Rattle.std.proofs.Common.{pos, ◌≡◌, Bool, true, false, not, ◌&&◌, refl, sym, ap, ◌∙◌, List, [], ◌∷◌, All, arith}
+use Rattle.std.proofs.Common.{pos, ◌≡◌, Bool, true, false, ◌&&◌, refl, sym, ap, ◌∙◌, List, [], ◌∷◌, All, arith}
 use borrow.Author.Differences.{ints}
 use Rattle.std.specs.Ordering.{int_eq, is_le}
 use Rattle.std.specs.declared.cmp.Ordering.{Ordering}
 use Rattle.std.specs.declared.cmp.Ordering.TheVariants.{Less, Equal}
+use Rattle.std.proofs.lemmas.Bool.{and_parts, and_from}
 use Rattle.geometry_model.specs.Points.{Position, Point, IsPoint, point_at, same_point, compare}
 use Rattle.geometry_model.specs.Geometries.{Edge}
 use Rattle.geometry_model.specs.Sides.{on}
@@ -11,7 +12,6 @@ use Rattle.geometry_model.specs.Dimensions.{area}
 use Rattle.geometry_model.specs.Validity.{SharePoint, ShareOther}
 use Rattle.basics.proofs.Ring.{solve, var, lit, ◌⊕◌, ◌⊖◌, ◌⊗◌}
 use Rattle.basics.proofs.Tests.{equal_yes}
-use Rattle.geometry_laws.proofs.Scaling.{and_parts, and_from}
 use Rattle.geometry_laws.proofs.PointOrder.{same_reflexive, same_symmetric, same_transitive, equal_is_same}
 use Rattle.noding.specs.declared.answers.Meet.TheVariants.{Apart, At, Along}
 use Rattle.noding.specs.Meetings.{on_both, IsMeeting}
@@ -93,11 +93,3 @@ at_other p q r o e f n = go (same_point p r) refl
     go : (t : Bool) → same_point p r ≡ t → false ≡ same_point p r
     go true h = absurd (n (e ∙ ap (compare p) f ∙ (equal_is_same p r).1 h))
     go false h = sym h
-
-pub not_true : (b : Bool) → not b ≡ true → b ≡ false
-not_true true e = absurd (let h : false ≡ true = e in cc)
-not_true false e = refl
-
-pub not_false : (b : Bool) → not b ≡ false → b ≡ true
-not_false true e = refl
-not_false false e = absurd (let h : true ≡ false = e in cc)

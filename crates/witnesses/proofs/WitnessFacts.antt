@@ -9,6 +9,7 @@ use Rattle.std.specs.List.{position, position_or_len}
 use Rattle.geometry_laws.proofs.Each.{one_passes}
 use Rattle.geometry_laws.proofs.Cuts.{among_from_contains}
 use Rattle.std.specs.List.{list_any}
+use Rattle.std.proofs.lemmas.Bool.{and_parts}
 use Rattle.geometry_model.specs.Points.{Position, Point, IsPoint, point_at, same_point}
 use Rattle.geometry_model.specs.Geometries.{Geometry, edges, listed, rings}
 use Rattle.geometry_model.specs.Locations.{is_at, locate}
@@ -22,7 +23,6 @@ use Rattle.geometry_model.specs.declared.point_sets.Dimension.TheVariants.{Empty
 use Rattle.geometry_laws.specs.RingLaws.{IsClosed}
 use Rattle.geometry_laws.specs.PieceLaws.{HasClosedRings, IsPieceOf}
 use Rattle.geometry_laws.specs.CoverLaws.{IsSlantAt}
-use Rattle.geometry_laws.proofs.Scaling.{and_parts}
 use Rattle.geometry_laws.proofs.RingParity.{each_from_all}
 use Rattle.geometry_laws.proofs.PointOrder.{same_transitive}
 use Rattle.geometry_laws.proofs.Respect.{on_respects, odd_above_respects, odd_at_or_above_respects}

@@ -124,11 +124,6 @@ pub polygon_at : (index : ℕ) (before : List ℕ) (rings polygon : List (List P
 polygon_at index before rings polygon is same = ap₂ (λ o (l : List (List Position)). o ++ (join_with_byte 44 (map line_text l) ++ codes ")")) is same
     ∙ opened index (join_with_byte 44 (map line_text polygon) ++ codes ")")
 
--- the last of two parts
-pub then-put : {A E : Type 0} (r : Result A E) (a b c : Option (List ℕ)) (x y text : List ℕ) → x ++ y ≡ text → Appends a b x → OnOk r (Appends b c y) → OnOk r (Appends a c text)
-then-put (Ok v) a b c x y text e first last = subst (λ l. Appends a c l) e (Appends-then a b c x y first last)
-then-put (Err v) a b c x y text e first last = tt
-
 -- a front of the last part is a front of both, behind the first
 pub then-front : {A E : Type 0} (r : Result A E) (a b c : Option (List ℕ)) (x y text : List ℕ) → x ++ y ≡ text → Appends a b x → OnErr r (AppendsFront b c y) → OnErr r (AppendsFront a c text)
 then-front (Ok v) a b c x y text e first last = tt

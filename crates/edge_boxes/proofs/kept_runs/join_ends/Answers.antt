@@ -1,8 +1,8 @@
-use Rattle.std.proofs.Common.{◌≡◌, ℕ, ◌==◌, true, ◌&&◌, ap, rules, arith, to_z, of_z}
+use Rattle.std.proofs.Common.{◌≡◌, ◌==◌, ◌&&◌, ap, rules, to_z, of_z, eqb-true}
 use Rattle.std.proofs.lemmas.Int.{to_z-of_z}
+use Rattle.std.proofs.lemmas.Bool.{and_parts}
 use mir.Syntax.{w32}
 use mir.Val.{SFits}
-use Rattle.geometry_laws.proofs.Scaling.{and_parts}
 use Rattle.edge_boxes.proofs.RunSums.{goes_on, first_closed, second_closed}
 use Rattle.edge_boxes.proofs.kept_runs.join_ends.Goals as goal
 
@@ -26,9 +26,6 @@ returns-then-first c xs ys h k chain =
     let e : c.args.first.first_x ≡ c.args.first.last_x = simp to_z-of_z at (ap (to_z w32) c.if-first.true) in
     simp to_z-of_z (first_closed xs ys c.args.first.first_x c.args.first.last_x c.args.second.first_x c.args.second.last_x e (h both.0) (k both.1))
 
-same : (m n : ℕ) → (m == n) ≡ true → m ≡ n
-same m n e = grind arith
-
 pub returns-else-first : goal.returns-else-first
 returns-else-first c xs ys h k chain =
     let f1 : SFits w32 c.args.first.first_x = search rules in
@@ -37,5 +34,5 @@ returns-else-first c xs ys h k chain =
     let f4 : SFits w32 c.args.second.last_x = search rules in
     let closed = and_parts (c.args.first.is_chain && c.args.second.is_chain) (of_z w32 c.args.second.first_x == of_z w32 c.args.second.last_x) chain in
     let both = and_parts c.args.first.is_chain c.args.second.is_chain closed.0 in
-    let e : c.args.second.first_x ≡ c.args.second.last_x = simp to_z-of_z at (ap (to_z w32) (same (of_z w32 c.args.second.first_x) (of_z w32 c.args.second.last_x) closed.1)) in
+    let e : c.args.second.first_x ≡ c.args.second.last_x = simp to_z-of_z at (ap (to_z w32) (eqb-true (of_z w32 c.args.second.first_x) (of_z w32 c.args.second.last_x) closed.1)) in
     simp to_z-of_z (second_closed xs ys c.args.first.first_x c.args.first.last_x c.args.second.first_x c.args.second.last_x e (h both.0) (k both.1))

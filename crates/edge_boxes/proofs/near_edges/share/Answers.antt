@@ -1,10 +1,11 @@
 use Rattle.std.proofs.Common.{◌≡◌, ◌∙◌, ◌+◌, ◌∷◌, ◌||◌, sym, ap, Bool, drop, List}
 use Rattle.std.specs.List.{list_any}
+use Rattle.std.proofs.lemmas.List.{drop_all}
 use Rattle.geometry_model.specs.Geometries.{Edge}
 use Rattle.geometry_model.specs.FirstFaults.{share_point}
 use Rattle.edge_boxes.specs.RingEdges.{edges_share}
 use Rattle.edge_boxes.proofs.NearRingFacts.{share_more, share_none}
-use Rattle.edge_boxes.proofs.Rests.{at_index, past_all}
+use Rattle.edge_boxes.proofs.Rests.{at_index}
 use Rattle.edge_boxes.proofs.near_edges.share.Goals as goal
 
 -- the next of the others, and those behind it
@@ -24,4 +25,4 @@ loop-f-preserved c =
     ∙ ap (λ (b : Bool). b || edges_share c.args.edges.now (drop (c.loop-f.f-index + 1) c.args.others.now)) c.if-branch.false
 
 pub returns-clause-exact : goal.returns-clause-exact
-returns-clause-exact c = sym (c.loop-f.invariant ∙ ap (edges_share c.args.edges.now) (past_all c.args.others.now c.loop-f.f-index c.loop-f-test.false) ∙ share_none c.args.edges.now)
+returns-clause-exact c = sym (c.loop-f.invariant ∙ ap (edges_share c.args.edges.now) (drop_all c.loop-f.f-index c.args.others.now c.loop-f-test.false) ∙ share_none c.args.edges.now)

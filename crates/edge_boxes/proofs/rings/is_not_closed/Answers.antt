@@ -1,5 +1,6 @@
-use Rattle.std.proofs.Common.{rules, ◌≡◌, ℕ, suc, ◌-◌, not, List, [], ◌∷◌, length, Some, slice_get, refl, sym, ap, ap₂, ◌∙◌, arith}
+use Rattle.std.proofs.Common.{rules, ◌≡◌, ◌-◌, not, List, [], ◌∷◌, length, Some, slice_get, refl, sym, ap, ap₂, ◌∙◌}
 use Rattle.std.specs.Option.{option_copied}
+use Rattle.basics.proofs.Numbers.{one_less}
 use Rattle.geometry_model.specs.Points.{Position}
 use Rattle.geometry_model.specs.Locations.{last_after}
 use Rattle.geometry_model.specs.WellKnownText.{same_position}
@@ -9,9 +10,6 @@ use Rattle.edge_boxes.proofs.rings.is_not_closed.Goals as goal
 last_is : (p : Position) (ps : List Position) → slice_get (p ∷ ps) (length ps) ≡ Some (last_after p ps)
 last_is p [] = refl
 last_is p (q ∷ qs) = last_is q qs
-
-one_less : (n : ℕ) → suc n - 1 ≡ n
-one_less n = omega arith
 
 -- the first position and the last decide
 by_ends : (ring : List Position) (first last : Position) → Some first ≡ slice_get ring 0 → Some last ≡ slice_get ring (length ring - 1) → not (same_position last first) ≡ spec.is_not_closed ring

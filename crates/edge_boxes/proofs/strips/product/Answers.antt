@@ -1,9 +1,9 @@
 use Rattle.std.specs.Prelude.{◌≡◌, ◌≤◌, ◌*◌, ◌^◌, ℤ, ◌*ℤ◌, unsigned_abs}
 use Rattle.std.proofs.Common.{sym, ap, ap₂, ◌∙◌, subst, arith, to_z, of_z}
 use Rattle.std.proofs.lemmas.Int.{ints, to_z-of_z}
+use Rattle.basics.proofs.Numbers.{product_within}
 use mir.Syntax.{w32, w64}
 use mir.Val.{SFits}
-use Rattle.orient.proofs.Bounds.{product_within}
 use Rattle.edge_boxes.proofs.strips.product.Goals as goal
 
 long : (z : ℤ) → SFits w32 z → SFits w64 z

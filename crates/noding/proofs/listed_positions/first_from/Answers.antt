@@ -1,14 +1,11 @@
-use Rattle.std.proofs.Common.{rules, ◌≡◌, true, false, ℤ, ◌<ℤ◌, ◌≤ℤ◌, int_lt, List, get_or, arith}
+use Rattle.std.proofs.Common.{rules, ◌≡◌, true, false, ℤ, ◌<ℤ◌, ◌≤ℤ◌, int_lt, List, get_or}
 use Rattle.std.specs.List.Sorted.{IsPartitionedBy, IsPartitionPoint}
-use Rattle.std.proofs.lemmas.Int.{ints}
 use Rattle.std.proofs.lemmas.List.Sorted.{IsPartitionPoint-from_clause}
 use Rattle.basics.proofs.Signs.{less_from, not_less_from}
+use Rattle.basics.proofs.Orders.{still_less}
 use Rattle.geometry_model.specs.Points.{Position}
 use Rattle.noding.specs.Sweeps.{AscendPositions}
 use Rattle.noding.proofs.listed_positions.first_from.Goals as goal
-
-still_less : (a b x : ℤ) → a ≤ℤ b → int_lt b x ≡ true → int_lt a x ≡ true
-still_less a b x l h = grind (arith, ints)
 
 parted : (ps : List Position) (x : ℤ) → AscendPositions ps → IsPartitionedBy (λ a. int_lt a.x x) ps
 parted ps x up i j d l m = still_less (get_or ps i d).x (get_or ps j d).x x (up i j d l m)

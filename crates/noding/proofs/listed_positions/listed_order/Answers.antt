@@ -1,19 +1,16 @@
-use Rattle.std.proofs.Common.{subst, false, ℤ, ◌≡◌, ◌≤ℤ◌, List, get_or, IsPermutation, rules, arith}
+use Rattle.std.proofs.Common.{subst, List, get_or, IsPermutation, rules}
 use Rattle.std.specs.List.Sorted.{IsSortedByKey}
 use Rattle.std.specs.Ordering.{int_cmp, is_lt}
-use Rattle.std.proofs.lemmas.Int.{ints}
 use Rattle.std.proofs.lemmas.Cmp.{int_cmp_total}
 use Rattle.std.proofs.lemmas.Fn.{always_returns_same}
 use Rattle.std.proofs.lemmas.List.Sorted.{sorted_far, ranks_by}
+use Rattle.basics.proofs.Orders.{cmp_not_less}
 use Rattle.geometry_model.specs.Points.{Position}
 use Rattle.noding.specs.Sweeps.{AscendPositions}
 use Rattle.noding.proofs.listed_positions.listed_order.Goals as goal
 
-not_less : (a b : ℤ) → is_lt (int_cmp b a) ≡ false → a ≤ℤ b
-not_less a b e = grind (arith, ints)
-
 ascends : (ps : List Position) → IsSortedByKey (λ a. a.x) int_cmp ps → AscendPositions ps
-ascends ps h i j d l m = not_less (get_or ps i d).x (get_or ps j d).x (sorted_far (λ (a b : Position). is_lt (int_cmp a.x b.x)) (ranks_by int_cmp_total (λ (a : Position). a.x)) ps h i j d l m)
+ascends ps h i j d l m = cmp_not_less (get_or ps i d).x (get_or ps j d).x (sorted_far (λ (a b : Position). is_lt (int_cmp a.x b.x)) (ranks_by int_cmp_total (λ (a : Position). a.x)) ps h i j d l m)
 
 pub returns : goal.returns
 returns c = record {

@@ -1,14 +1,10 @@
-use Rattle.std.proofs.Common.{◌≡◌, ℕ, List, length, ◌++◌, drop, take, ap, sym, subst, ◌∙◌, IsPermutation}
-use Rattle.std.specs.List.{dedup, refill}
+use Rattle.std.proofs.Common.{length, ap, subst, ◌∙◌, IsPermutation}
+use Rattle.std.specs.List.{dedup}
 use Rattle.std.specs.Ordering.{eq_by_cmp}
-use Rattle.std.proofs.Math.Seq.{take-append_seam}
+use Rattle.basics.proofs.Lists.{refilled}
 use Rattle.fraction.specs.Orders.{point_order}
 use Rattle.noding.proofs.Ordered.{points_ordered}
 use Rattle.noding.proofs.sharing.put_in_order.Goals as goal
-
--- as many elements as there were take the places of all
-refilled : {X : Type 0} (n : ℕ) (xs ys : List X) → length ys ≡ n → refill n xs ys ≡ ys
-refilled n xs ys e = ap (λ k. take k (ys ++ drop (length ys) xs)) (sym e) ∙ take-append_seam ys (drop (length ys) xs)
 
 pub returns : goal.returns
 returns c = points_ordered c.args.points.now.items c.sort_unstable.new.self c.dedup.new.self.items c.requires

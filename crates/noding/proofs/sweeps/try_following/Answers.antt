@@ -1,16 +1,14 @@
-use Rattle.std.proofs.Common.{◌≡◌, ◌∙◌, ◌+◌, ◌-◌, ◌^◌, ◌<ℤ◌, ◌≤ℤ◌, min, false, true, ap, sym, arith, drop, ℤ, int_lt}
+use Rattle.std.proofs.Common.{◌≡◌, ◌∙◌, ◌+◌, ◌-◌, ◌^◌, ◌≤ℤ◌, min, false, ap, sym, arith, drop, ℤ, int_lt}
 use Rattle.std.specs.Int.{w32}
 use Rattle.std.specs.Prelude.{FitsSigned}
 use mir.Facts.{to_z-of_z}
-use Rattle.basics.proofs.Signs.{less_from, not_less_from}
+use Rattle.basics.proofs.Signs.{not_less_from}
+use Rattle.basics.proofs.Orders.{same_less_than}
 use Rattle.noding.specs.NodeRanges.{least_x, greatest_x, overlaps_with_first}
 use Rattle.noding.proofs.BreakPoints.{rest_apart}
 use Rattle.noding.proofs.Sweeping.{later_apart, none_common, overlaps_next}
 use Rattle.noding.proofs.Counting.{count_begins, count_goes_on, count_ends, count_step, count_done}
 use Rattle.noding.proofs.sweeps.try_following.Goals as goal
-
-past_is : (a b g l : ℤ) → a ≡ g → b ≡ l → int_lt a b ≡ true → g <ℤ l
-past_is a b g l e f h = less_from g l (ap (λ x. int_lt x l) (sym e) ∙ ap (int_lt a) (sym f) ∙ h)
 
 not_past_is : (a b g l : ℤ) → a ≡ g → b ≡ l → int_lt a b ≡ false → l ≤ℤ g
 not_past_is a b g l e f h = not_less_from g l (ap (λ x. int_lt x l) (sym e) ∙ ap (int_lt a) (sym f) ∙ h)
@@ -29,7 +27,7 @@ returns-then-end-least_x-clause-swept c =
     let fits2 : FitsSigned w32 c.least_x.result = record { sfits = c.least_x.type_inv } in
     λ ps h. rest_apart c.args.order.now ps c.args.place c.loop-next.next c.loop-next.breaks
     (none_common c.args.order.now c.args.place c.loop-next.next c.index-order-place.result c.index-order-next.result c.requires.place c.index-order-place.is c.requires.ascend c.index-order-next.is
-    (past_is _ _ (greatest_x c.index-order-place.result) (least_x c.index-order-next.result) (to_z-of_z fits ∙ c.greatest_x-end.ensures) (to_z-of_z fits2 ∙ c.least_x.ensures) c.if-end-least_x.true))
+    (same_less_than _ _ (greatest_x c.index-order-place.result) (least_x c.index-order-next.result) (to_z-of_z fits ∙ c.greatest_x-end.ensures) (to_z-of_z fits2 ∙ c.least_x.ensures) c.if-end-least_x.true))
     (c.loop-next.invariant.swept ps h)
 
 pub returns-then-end-least_x-clause-counted : goal.returns-then-end-least_x-clause-counted
@@ -39,7 +37,7 @@ returns-then-end-least_x-clause-counted c =
     count_done (2 ^ 64 - 1) c.loop-next.tests (overlaps_with_first (drop c.args.place c.args.order.now) (drop c.loop-next.next c.args.order.now)) _ c.loop-next.invariant.within
     (count_ends c.args.order.now c.args.place c.loop-next.next c.index-order-place.result c.requires.place c.index-order-place.is
     (later_apart c.args.order.now c.index-order-place.result c.index-order-next.result c.loop-next.next c.requires.ascend c.index-order-next.is
-    (past_is _ _ (greatest_x c.index-order-place.result) (least_x c.index-order-next.result) (to_z-of_z fits ∙ c.greatest_x-end.ensures) (to_z-of_z fits2 ∙ c.least_x.ensures) c.if-end-least_x.true)))
+    (same_less_than _ _ (greatest_x c.index-order-place.result) (least_x c.index-order-next.result) (to_z-of_z fits ∙ c.greatest_x-end.ensures) (to_z-of_z fits2 ∙ c.least_x.ensures) c.if-end-least_x.true)))
     c.loop-next.invariant.counted
 
 pub loop-next-preserved : goal.loop-next-preserved

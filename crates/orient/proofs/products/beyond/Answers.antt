@@ -1,10 +1,11 @@
 use Rattle.std.proofs.Common.{◌≡◌, sym, ap, ap₂, ◌∙◌, subst, refl, ℤ, ◌-ℤ◌, ◌*ℤ◌, ◌≤◌, ◌*◌, unsigned_abs, to_z, of_z}
 use Rattle.std.proofs.lemmas.Int.{to_z-of_z}
+use Rattle.basics.proofs.Numbers.{product_within}
 use mir.Syntax.{w32, w64, w128}
 use mir.Val.{SFits}
 use Rattle.geometry_model.specs.WellKnownText.{coordinate_limit}
 use Rattle.fraction.specs.Ranges.{denominator_limit}
-use Rattle.orient.proofs.Bounds.{BeyondFits, beyond_fits, product_within, product_read}
+use Rattle.orient.proofs.Bounds.{BeyondFits, beyond_fits, product_read}
 use Rattle.orient.proofs.products.beyond.Goals as goal
 
 -- the difference, each number read where it comes from, and that it fits

@@ -1,6 +1,7 @@
 use Rattle.std.proofs.Common.{◌+◌, ◌-◌, ◌/◌, length, refl, sym, ap, ◌∙◌}
+use Rattle.basics.proofs.Numbers.{middle_within, middle_before}
 use Rattle.geometry_model.specs.Points.{compare}
-use Rattle.validity.proofs.OddEndFacts.{parted_first, parted_less, parted_greater, found_there, not_there, middle_within, middle_before}
+use Rattle.validity.proofs.OddEndFacts.{parted_first, parted_less, parted_greater, found_there, not_there}
 use Rattle.validity.proofs.odd_ends.is_at_one.Goals as goal
 
 pub loop-low-init : goal.loop-low-init

@@ -1,13 +1,11 @@
-use Rattle.std.proofs.Common.{◌≡◌, ap, ap₂, ◌∙◌, ℕ, ◌≤◌, length, arith}
+use Rattle.std.proofs.Common.{ap, ap₂, ◌∙◌, length}
 use Rattle.std.proofs.lemmas.List.{take_all}
+use Rattle.basics.proofs.Numbers.{at_least_same}
 use Rattle.geometry_model.specs.Points.{Point, point_at}
 use Rattle.geometry_model.specs.Geometries.{edges_of_line}
 use Rattle.geometry_model.specs.Crossings.{exactly_one, strictly_above}
 use Rattle.witnesses.proofs.InsideFacts.{odd_edges, next_edge, odd_of_one}
 use Rattle.witnesses.proofs.insides.is_inside_ring.Goals as goal
-
-past : (n m j : ℕ) → n ≡ m → n ≤ j → m ≤ j
-past n m j e h = omega (arith, e, h)
 
 pub loop-index-preserved : goal.loop-index-preserved
 loop-index-preserved c = c.differ-is_odd.ensures
@@ -16,5 +14,5 @@ loop-index-preserved c = c.differ-is_odd.ensures
 
 pub returns : goal.returns
 returns c = c.loop-index.invariant
-    ∙ (ap (odd_edges (point_at c.args.at)) (take_all c.loop-index.index (edges_of_line c.args.ring.now) (past c.edge_count-index-end.result (length (edges_of_line c.args.ring.now)) c.loop-index.index c.edge_count-index-end.ensures c.loop-index-test.false))
+    ∙ (ap (odd_edges (point_at c.args.at)) (take_all c.loop-index.index (edges_of_line c.args.ring.now) (at_least_same c.edge_count-index-end.result (length (edges_of_line c.args.ring.now)) c.loop-index.index c.edge_count-index-end.ensures c.loop-index-test.false))
     ∙ odd_of_one (point_at c.args.at) c.args.ring.now)

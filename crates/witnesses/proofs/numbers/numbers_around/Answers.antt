@@ -1,10 +1,8 @@
-use Rattle.std.proofs.Common.{◌≡◌, refl, ap, ◌∙◌, ℕ, ◌+◌, ◌-◌, ◌<◌, ◌≤◌, length, arith}
+use Rattle.std.proofs.Common.{refl, ap, ◌∙◌, ℕ, ◌+◌, ◌-◌, ◌<◌, ◌≤◌, length, arith}
+use Rattle.basics.proofs.Numbers.{at_least_same}
 use Rattle.geometry_model.specs.Geometries.{elements}
 use Rattle.witnesses.proofs.RingNumbers.{counts_more, next_before, none_at_all, around}
 use Rattle.witnesses.proofs.numbers.numbers_around.Goals as goal
-
-past : (n m j : ℕ) → n ≡ m → n ≤ j → m ≤ j
-past n m j e h = omega (arith, e, h)
 
 within : (n f k : ℕ) → f ≤ n → n - f < k → n < f + k
 within n f k h l = omega (arith, h, l)
@@ -25,4 +23,4 @@ loop-element-preserved c = record {
 }
 
 pub returns-clause-none : goal.returns-clause-none
-returns-clause-none c = none_at_all c.args.geometry.now c.args.number c.loop-element.element (past c.element_count-element-end.result (length (elements c.args.geometry.now)) c.loop-element.element c.element_count-element-end.ensures c.loop-element-test.false) c.loop-element.invariant.before
+returns-clause-none c = none_at_all c.args.geometry.now c.args.number c.loop-element.element (at_least_same c.element_count-element-end.result (length (elements c.args.geometry.now)) c.loop-element.element c.element_count-element-end.ensures c.loop-element-test.false) c.loop-element.invariant.before

@@ -1,4 +1,5 @@
-use Rattle.std.proofs.Common.{ℕ, ◌+◌, ◌<◌, ◌≤◌, ◌≡◌, sym, subst, length, arith}
+use Rattle.std.proofs.Common.{ℕ, ◌+◌, ◌<◌, ◌≤◌, sym, subst, length, arith}
+use Rattle.basics.proofs.Numbers.{at_least_same}
 use Rattle.geometry_model.specs.Geometries.{edges_of_line}
 use Rattle.geometry_model.specs.Validity.{Clash}
 use Rattle.witnesses.proofs.ClashFacts.{later_clash, all_clashes}
@@ -6,9 +7,6 @@ use Rattle.witnesses.proofs.rings.clash_with.Goals as goal
 
 later : (i j : ℕ) → i + 1 ≤ j → i < j
 later i j h = omega (arith, h)
-
-past : (n m j : ℕ) → n ≡ m → n ≤ j → m ≤ j
-past n m j e h = omega (arith, e, h)
 
 pub returns-then-clashes-clause-place : goal.returns-then-clashes-clause-place
 returns-then-clashes-clause-place c = record {
@@ -35,4 +33,4 @@ loop-j-preserved c = later_clash c.args.ring.now c.args.i c.loop-j.j c.edge-firs
     (λ k. c.clashes.ensures.no c.if-clashes.false (subst (λ (n : ℕ). Clash n c.args.i c.loop-j.j c.edge-first.result c.edge-second.result) (sym c.edge_count-count.ensures) k)) c.loop-j.invariant
 
 pub returns-clause-none : goal.returns-clause-none
-returns-clause-none c = all_clashes c.args.ring.now c.args.i c.loop-j.j (past c.edge_count-count.result (length (edges_of_line c.args.ring.now)) c.loop-j.j c.edge_count-count.ensures c.loop-j-test.false) c.loop-j.invariant
+returns-clause-none c = all_clashes c.args.ring.now c.args.i c.loop-j.j (at_least_same c.edge_count-count.result (length (edges_of_line c.args.ring.now)) c.loop-j.j c.edge_count-count.ensures c.loop-j-test.false) c.loop-j.invariant

@@ -2,8 +2,8 @@
 use Rattle.std.proofs.Common.{codes, ◌++◌, subst}
 use Rattle.geometry_model.specs.CanonicalText.{position_text}
 use Rattle.streams.specs.Sinks.{AppendsFront}
-use Rattle.streams.proofs.SinkLemmas.{OnErr-holds, AppendsFront-more}
-use Rattle.wkt.proofs.PrintLemmas.{line_more, line_split, then-put, then-front}
+use Rattle.streams.proofs.SinkLemmas.{OnErr-holds, AppendsFront-more, then-put}
+use Rattle.wkt.proofs.PrintLemmas.{line_more, line_split, then-front}
 use Rattle.wkt.proofs.printing.put_joined_positions.Goals as goal
 
 pub returns-in_err-put_position-in-Some-clause-front : goal.returns-in_err-put_position-in-Some-clause-front
