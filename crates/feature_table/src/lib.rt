@@ -29,7 +29,7 @@ pub use headers::{Layout, field_at, layout_of};
 pub use indexes::Indexes;
 pub use keys::{double_key, key_of, order_by_key};
 pub use records::{Records, fault_of, next_record, record_reader};
-pub use schemas::{ColumnDef, ColumnType, Schema, TableDef, lawful};
+pub use schemas::{ColumnDef, ColumnType, Schema, TableDef, is_integer, lawful};
 pub use table_model::faults::{LoadFault, TableFault};
 pub use tables::Table;
 pub use typed_rows::row_of;
