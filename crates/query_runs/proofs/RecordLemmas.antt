@@ -3,7 +3,7 @@ use Rattle.std.proofs.Common.{◌≡◌, ℕ, List, [], ◌∷◌, ◌++◌, map
 use Rattle.std.specs.List.{concat}
 use Rattle.std.specs.Io.KnownBytes.{Appends}
 use Rattle.executor.specs.Streams.{GivesNext, Stream, to_come}
-use Rattle.executor.specs.FoundPairs.{RowPair}
+use Rattle.executor.specs.declared.row_pairs.RowPair.{RowPair}
 use Rattle.streams.specs.Sinks.{AppendsFront}
 use Rattle.streams.proofs.SinkLemmas.{Appends-none, Appends-then, AppendsFront-more, AppendsFront-then}
 use Rattle.table_model.specs.RunOutcomes.{MatrixOf}
