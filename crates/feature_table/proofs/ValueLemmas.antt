@@ -18,16 +18,16 @@ below_behind old new k b h = let size = ap length b.1 ∙ length-append old b.0 
 kept_more : (texts texts-2 : List (List ℕ)) (geometries geometries-2 : List GeometryValue) (c : Cell) → IsBehind texts texts-2 → IsBehind geometries geometries-2
     → IsKept texts geometries c → IsKept texts-2 geometries-2 c
 kept_more texts texts-2 geometries geometries-2 cell.Null t g h = tt
-kept_more texts texts-2 geometries geometries-2 (cell.Integer n) t g h = tt
+kept_more texts texts-2 geometries geometries-2 (cell.Int n) t g h = tt
 kept_more texts texts-2 geometries geometries-2 (cell.Text k) t g h = below_behind texts texts-2 k t h
-kept_more texts texts-2 geometries geometries-2 (cell.Geometry k) t g h = below_behind geometries geometries-2 k g h
+kept_more texts texts-2 geometries geometries-2 (cell.Geom k) t g h = below_behind geometries geometries-2 k g h
 
 value_more : (texts texts-2 : List (List ℕ)) (geometries geometries-2 : List GeometryValue) (c : Cell) → IsBehind texts texts-2 → IsBehind geometries geometries-2
     → IsKept texts geometries c → value_in texts-2 geometries-2 c ≡ value_in texts geometries c
 value_more texts texts-2 geometries geometries-2 cell.Null t g h = refl
-value_more texts texts-2 geometries geometries-2 (cell.Integer n) t g h = refl
+value_more texts texts-2 geometries geometries-2 (cell.Int n) t g h = refl
 value_more texts texts-2 geometries geometries-2 (cell.Text k) t g h = rw (t.1, in_front texts t.0 k h) refl
-value_more texts texts-2 geometries geometries-2 (cell.Geometry k) t g h = rw (g.1, in_front geometries g.0 k h) refl
+value_more texts texts-2 geometries geometries-2 (cell.Geom k) t g h = rw (g.1, in_front geometries g.0 k h) refl
 
 -- so it is for each of several
 pub all_kept : (texts texts-2 : List (List ℕ)) (geometries geometries-2 : List GeometryValue) (cells : List Cell) → IsBehind texts texts-2 → IsBehind geometries geometries-2

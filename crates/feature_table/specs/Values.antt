@@ -15,9 +15,9 @@ value_of of (Some x) = of x
 -- the value that a cell names, among these texts and geometries
 abbrev pub value_in : List (List ℕ) → List GeometryValue → Cell → Value GeometryValue
 value_in texts geometries cell.Null = value.Null
-value_in texts geometries (cell.Integer n) = value.Integer n
+value_in texts geometries (cell.Int n) = value.Integer n
 value_in texts geometries (cell.Text place) = value_of value.Text (slice_get texts place)
-value_in texts geometries (cell.Geometry place) = value_of value.Geometry (slice_get geometries place)
+value_in texts geometries (cell.Geom place) = value_of value.Geometry (slice_get geometries place)
 
 -- the values that cells name
 abbrev pub values_in : List (List ℕ) → List GeometryValue → List Cell → Row GeometryValue
@@ -26,9 +26,9 @@ values_in texts geometries cells = map (value_in texts geometries) cells
 -- the text or geometry that a cell names is there
 abbrev pub IsKept : List (List ℕ) → List GeometryValue → Cell → Type 0
 IsKept texts geometries cell.Null = ⊤
-IsKept texts geometries (cell.Integer n) = ⊤
+IsKept texts geometries (cell.Int n) = ⊤
 IsKept texts geometries (cell.Text place) = place < length texts
-IsKept texts geometries (cell.Geometry place) = place < length geometries
+IsKept texts geometries (cell.Geom place) = place < length geometries
 
 -- nothing but more was put behind the old
 abbrev pub IsBehind : {X : Type 0} → List X → List X → Type 0

@@ -18,11 +18,11 @@ pub(crate) enum Cell {
     /// No value.
     Null,
     /// A whole number.
-    Integer(i64),
+    Int(i64),
     /// The place of a text.
     Text(usize),
     /// The place of a geometry.
-    Geometry(usize),
+    Geom(usize),
 }
 
 /// The field that a cell names.
@@ -31,12 +31,12 @@ fn field_of<'a>(texts: &'a [OwnedText], geometries: &'a [Geometry], cell: Cell) 
 {
     match cell {
         Cell::Null => Field::Null,
-        Cell::Integer(number) => Field::Int(number),
+        Cell::Int(number) => Field::Int(number),
         Cell::Text(place) => match texts.get(place) {
             Some(text) => Field::Text(text.as_str()),
             None => Field::Null,
         },
-        Cell::Geometry(place) => match geometries.get(place) {
+        Cell::Geom(place) => match geometries.get(place) {
             Some(geometry) => Field::Geom(geometry),
             None => Field::Null,
         },
@@ -56,7 +56,7 @@ fn cell_of(
 {
     match value {
         Value::Null => Ok(Cell::Null),
-        Value::Integer(number) => Ok(Cell::Integer(number)),
+        Value::Integer(number) => Ok(Cell::Int(number)),
         Value::Text(text) => {
             let place = texts.len();
             texts.push(text)?;
@@ -65,7 +65,7 @@ fn cell_of(
         Value::Geometry(geometry) => {
             let place = geometries.len();
             geometries.push(geometry)?;
-            Ok(Cell::Geometry(place))
+            Ok(Cell::Geom(place))
         }
     }
 }

@@ -13,10 +13,10 @@ use Rattle.spatial_sql.specs.declared.sides.Side.TheVariants as sides
 -- the value of a side
 abbrev pub side_value : Side → Value Geometry
 side_value sides.Null = values.Null
-side_value (sides.Integer n) = values.Integer n
+side_value (sides.Int n) = values.Integer n
 side_value (sides.Text bytes) = values.Text bytes.now
 side_value (sides.Printed sink) = values.Text (memory_bytes sink)
-side_value (sides.Geometry geometry) = values.Geometry geometry.now
+side_value (sides.Geom geometry) = values.Geometry geometry.now
 
 -- the bytes of a field that is a text
 abbrev pub text_in : Value Geometry → Option (List ℕ)

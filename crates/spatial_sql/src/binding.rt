@@ -6,7 +6,7 @@ ghost use Rattle.table_model.specs.BoundQueries.{IsBound, geometry_fits};
 ghost use Rattle.table_model.specs.GeometryColumns.{geometry_binding};
 ghost use Rattle.table_model.specs.Outcomes.{Gives};
 
-use crate::Bound;
+use crate::{Bound, bind_to_tables};
 use feature_table::Database;
 use rtree::EnvelopeIndex;
 use sql_text::Query;
@@ -15,8 +15,8 @@ use table_model::faults::QueryFault;
 
 /// Binds a query to a database. Names of tables and columns become their places, without regard to ASCII case; strings become
 /// their values; each text of ST_GeomFromText becomes a valid geometry, read and tested once. The tables and columns of what
-/// it returns are there, and its types fit. The faults, each with its byte, and their order are those of `crate::query_binding::bind_to_tables`
-/// over the definitions of the database (SQL; 06-104r4, 7.2; the order: this project's choice).
+/// it returns are there, and its types fit. The faults, each with its byte, and their order are those of `bind_to_tables` over
+/// the definitions of the database (SQL; 06-104r4, 7.2; the order: this project's choice).
 pub fn bind<I: EnvelopeIndex + Drop>(
     alloc: Global,
     query: &Query<'_>,
@@ -26,5 +26,5 @@ pub fn bind<I: EnvelopeIndex + Drop>(
         (spec.binding geometry_binding database.now.definitions query.now) }
     ensures bound { IfOk result (IsBound geometry_fits database.now.definitions) }
 {
-    crate::query_binding::bind_to_tables(alloc, query, database.definitions())
+    bind_to_tables(alloc, query, database.definitions())
 }

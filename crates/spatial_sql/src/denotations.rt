@@ -12,7 +12,7 @@ use table_model::conditions::{ColumnPlace, GeometryArgument};
 use validity::Valid;
 
 /// The field at a place. A place that the rows don't have is NULL.
-pub(crate) fn field_at<'a>(rows: &[Row<'a>], place: ColumnPlace) -> Field<'a>
+pub fn field_at<'a>(rows: &[Row<'a>], place: ColumnPlace) -> Field<'a>
     ensures { shown result ≡ field_at rows.now place }
 {
     if let Some(row) = rows.get(place.reference) {

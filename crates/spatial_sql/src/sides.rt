@@ -25,11 +25,11 @@ use wkt::{MemorySink, print};
 #[derive(Drop)]
 pub(crate) enum Side<'a> {
     Null,
-    Integer(i64),
+    Int(i64),
     Text(&'a [u8]),
     /// A text that was printed for the comparison.
     Printed(MemorySink),
-    Geometry(&'a Valid),
+    Geom(&'a Valid),
 }
 
 /// The value of a field as a side.
@@ -38,14 +38,14 @@ fn field_side(field: Field<'_>) -> Side<'_>
 {
     match field {
         Field::Null => Side::Null,
-        Field::Int(number) => Side::Integer(number),
+        Field::Int(number) => Side::Int(number),
         Field::Text(text) => Side::Text(text.as_bytes()),
-        Field::Geom(geometry) => Side::Geometry(geometry),
+        Field::Geom(geometry) => Side::Geom(geometry),
     }
 }
 
 /// The canonical text of a geometry, which is ST_AsText (06-103r4, 6.1.2.2). It fails only when memory runs out.
-fn printed(alloc: Global, geometry: &Valid) -> Result<MemorySink, AllocError>
+pub fn printed(alloc: Global, geometry: &Valid) -> Result<MemorySink, AllocError>
     ensures { IfOk result (λ sink. memory_bytes sink ≡ canonical_text geometry.now) }
 {
     let mut sink = MemorySink::new(alloc);
@@ -67,7 +67,7 @@ fn text_side<'a>(alloc: Global, geometry: Option<&Valid>) -> Result<Side<'a>, Al
 }
 
 /// The dimension of geometries of a kind: 0 of points, 1 of lines, 2 of areas (06-103r4, 6.1.2.2).
-fn dimension(kind: Kind) -> i64
+pub fn dimension(kind: Kind) -> i64
     ensures { result ≡ spec.dimension kind }
 {
     match kind {
@@ -82,7 +82,7 @@ fn dimension_side<'a>(geometry: Option<&Valid>) -> Side<'a>
     ensures { side_value result ≡ spec.dimension_value (option_copied geometry.entry) }
 {
     match geometry {
-        Some(geometry) => Side::Integer(dimension(geometry.kind())),
+        Some(geometry) => Side::Int(dimension(geometry.kind())),
         None => Side::Null,
     }
 }
@@ -99,7 +99,7 @@ pub(crate) fn operand_side<'a>(
 {
     match operand {
         Operand::Column(place) => Ok(field_side(field_at(rows, *place))),
-        Operand::Integer(n) => Ok(Side::Integer(*n)),
+        Operand::Integer(n) => Ok(Side::Int(*n)),
         Operand::Text(bytes) => Ok(Side::Text(bytes.as_slice())),
         Operand::Null => Ok(Side::Null),
         Operand::AsText(argument) => text_side(alloc, geometry_at(rows, argument)),
@@ -115,7 +115,7 @@ impl Side<'_> {
         match self {
             Side::Text(bytes) => Some(*bytes),
             Side::Printed(sink) => Some(sink.bytes()),
-            Side::Null | Side::Integer(_) | Side::Geometry(_) => None,
+            Side::Null | Side::Int(_) | Side::Geom(_) => None,
         }
     }
 
@@ -125,7 +125,7 @@ impl Side<'_> {
     {
         match self {
             Side::Null => true,
-            Side::Integer(_) | Side::Text(_) | Side::Printed(_) | Side::Geometry(_) => false,
+            Side::Int(_) | Side::Text(_) | Side::Printed(_) | Side::Geom(_) => false,
         }
     }
 }
@@ -165,7 +165,7 @@ pub(crate) fn order_of(a: &Side<'_>, b: &Side<'_>) -> Option<Ordering>
     ensures { result ≡ spec.order_of (side_value a.now) (side_value b.now) }
 {
     match (a, b) {
-        (Side::Integer(a), Side::Integer(b)) => Some(a.cmp(b)),
+        (Side::Int(a), Side::Int(b)) => Some(a.cmp(b)),
         _ => order_of_texts(a.text(), b.text()),
     }
 }

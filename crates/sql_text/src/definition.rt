@@ -9,7 +9,7 @@ ghost use Rattle.table_model.specs.Parsers.{Reads};
 ghost use Rattle.table_model.specs.GeometryColumns.{shape_named};
 
 use crate::cursor::Cursor;
-use crate::schemas::{ColumnDef, ColumnShape, ColumnType, TableDef};
+use crate::schemas::{ColumnDef, ColumnShape, ColumnType, TableDef, is_integer};
 use geometry_model::GeometryType;
 use sqlite_items::Items;
 use std::alloc::{AllocError, Global};
@@ -176,16 +176,6 @@ fn null_mark(tokens: &mut Cursor<'_, '_>) -> Result<bool, SchemaFault>
         Ok(true)
     } else {
         Ok(false)
-    }
-}
-
-/// Whether a column holds whole numbers.
-fn is_integer(column_type: &ColumnType) -> bool
-    ensures { result ≡ is_integer column_type.now }
-{
-    match column_type {
-        ColumnType::Integer => true,
-        ColumnType::Text | ColumnType::Geometry(_) => false,
     }
 }
 

@@ -191,26 +191,14 @@ fn called(tokens: &Cursor<'_, '_>) -> Option<Function>
 }
 
 /// Reads a predicate, by the function that is called next; a comparison if none is.
-fn predicate_by_name<'a>(
-    alloc: Global,
-    tokens: &mut Cursor<'_, 'a>,
-) -> Result<WrittenCond<'a>, QueryFault>
-    ensures { Reads QueryFault.OutOfMemory
-        (names.predicate_by (names.function_by (named_in named_predicates tokens.old) tokens.old) tokens.old)
-        result tokens.new }
-{
-    match called(tokens) {
-        Some(function) => call(alloc, tokens, function),
-        None => comparison(alloc, tokens),
-    }
-}
-
-/// Reads a predicate.
 pub(crate) fn predicate<'a>(
     alloc: Global,
     tokens: &mut Cursor<'_, 'a>,
 ) -> Result<WrittenCond<'a>, QueryFault>
     ensures { Reads QueryFault.OutOfMemory (spec.predicate tokens.old) result tokens.new }
 {
-    predicate_by_name(alloc, tokens)
+    match called(tokens) {
+        Some(function) => call(alloc, tokens, function),
+        None => comparison(alloc, tokens),
+    }
 }

@@ -114,7 +114,7 @@ fn tables_differ(tables: &[TableDef]) -> bool
 }
 
 /// Whether a column holds whole numbers.
-fn is_integer(column_type: &ColumnType) -> bool
+pub(crate) fn is_integer(column_type: &ColumnType) -> bool
     ensures { result ≡ is_integer column_type.now }
 {
     match column_type {

@@ -156,20 +156,13 @@ fn assembled<'a, A: Drop, C: Drop>(
     }
 }
 
-/// Reads a query part by part.
-fn query_by_parts<'a>(alloc: Global, tokens: &mut Cursor<'_, 'a>) -> Result<Query<'a>, QueryFault>
-    ensures { Reads QueryFault.OutOfMemory (parts.by_parts tokens.old) result tokens.new }
-{
-    let head = head(alloc, tokens)?;
-    let sources = sources(alloc, tokens)?;
-    assembled(head, sources, ending(alloc, tokens))
-}
-
 /// Reads a query, to the end of its tokens.
 fn query<'a>(alloc: Global, tokens: &mut Cursor<'_, 'a>) -> Result<Query<'a>, QueryFault>
     ensures { Reads QueryFault.OutOfMemory (spec.query tokens.old) result tokens.new }
 {
-    query_by_parts(alloc, tokens)
+    let head = head(alloc, tokens)?;
+    let sources = sources(alloc, tokens)?;
+    assembled(head, sources, ending(alloc, tokens))
 }
 
 /// The place of the bad token, if there is one.

@@ -6,7 +6,7 @@ use Rattle.table_model.specs.AnswerTexts.{record_of}
 use Rattle.table_model.specs.GeometryColumns.{geometry_writing}
 use Rattle.table_model.specs.Meanings.{referenced}
 use Rattle.table_model.specs.Places.{AreThere, rows_at}
-use Rattle.executor.specs.FoundPairs.{IsPlace}
+use Rattle.executor.specs.Pairs.{IsPlace}
 use Rattle.query_runs.proofs.PairLemmas.{first-there, one-row, second-there, two-rows}
 use Rattle.query_runs.proofs.runs.pair_record.Goals as goal
 

@@ -1,7 +1,7 @@
 -- The records before this row's were put; this one's, or a beginning of it, comes after them.
 use Rattle.std.proofs.Common.{◌∙◌, List, ap, refl, subst}
 use Rattle.executor.proofs.StreamLemmas.{fewer, row_counted, row_given, row_there}
-use Rattle.executor.specs.FoundPairs.{IsPlace, choice_of}
+use Rattle.executor.specs.Pairs.{IsPlace, choice_of}
 use Rattle.executor.specs.Streams.{to_come}
 use Rattle.geometry_model.specs.Geometries.{Geometry}
 use Rattle.geometry_model.specs.Labels.{labelled_matrix}

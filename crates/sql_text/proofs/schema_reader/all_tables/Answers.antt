@@ -1,6 +1,5 @@
 use Rattle.std.proofs.Common.{rules, arith}
 use Rattle.std.proofs.lemmas.Grind.{common_steps}
-use Rattle.table_model.specs.SchemaReading as spec
 use Rattle.table_model.specs.SchemaReading.{tables_from}
 use Rattle.sql_text.proofs.Counts.{one_turn}
 use Rattle.sql_text.proofs.schema_reader.all_tables.Goals as goal

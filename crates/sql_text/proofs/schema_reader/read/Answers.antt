@@ -1,4 +1,3 @@
-use Rattle.table_model.specs.SchemaReading as spec
 use Rattle.grammar_laws.proofs.LawfulSchemas.{lawful-from_schema}
 use Rattle.sql_text.proofs.schema_reader.read.Goals as goal
 use Rattle.table_model.specs.GeometryColumns.{shape_named}

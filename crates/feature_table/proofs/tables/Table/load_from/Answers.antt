@@ -1,4 +1,4 @@
-use Rattle.std.proofs.Common.{◌-◌, arith, inl, [], ◌∙◌, ◌≡◌, ◌∷◌, ap, inr, length, refl}
+use Rattle.std.proofs.Common.{◌-◌, List, Ok, arith, inl, [], ◌∙◌, ◌≡◌, ◌∷◌, ap, inr, length, refl}
 use Rattle.std.proofs.lemmas.Result.{err_from_is_err_and}
 use Rattle.csv.specs.Records.{fields_of}
 use Rattle.feature_table.proofs.LoadLemmas.{header_fails, no_header, rows_fail, rows_pass}
@@ -6,7 +6,8 @@ use Rattle.feature_table.proofs.GeometryFieldLemmas.{table_rows}
 use Rattle.feature_table.specs.Records.{asked}
 use Rattle.feature_table.specs.GeometryFields.{reading}
 use Rattle.feature_table.specs.ReadRows.{rows_read}
-use Rattle.table_model.specs.Loading.{load}
+use Rattle.table_model.specs.Loading.{Record, load}
+use Rattle.feature_table.proofs.tables.Table.load_from.Goals.{In_ok-rows}
 use Rattle.feature_table.proofs.tables.Table.load_from.Goals as goal
 
 pub returns-then-not-found-clause-loads : goal.returns-then-not-found-clause-loads
@@ -91,41 +92,32 @@ returns-in_err-rows-clause-records g c =
     rw (p.1, p.2)
     (header ∷ some.0, λ other. rows_pass reading table header some.0 (rows_read (length table.columns) c.in_ok-read.read) layout.0 some.1 ∙ (rw c.len.ensures at (c.in_err-rows.ensures.fault (λ e. other (inr e)))))
 
-pub returns-clause-records : goal.returns-clause-records
-returns-clause-records g c =
+-- the rows are those of the header and of the records that were read
+loaded : (g : _) (c : In_ok-rows g) → (all : List Record) × (load reading c.args.table.now all ≡ Ok c.in_ok-rows.rows)
+loaded g c =
     let table = c.args.table.now in
     let header = fields_of c.next_record.new.record in
     let layout = rw c.as_slice.ensures at c.in_ok-layout.ensures.ok in
     let some = c.in_ok-read.ensures.records header layout.1 in
     (header ∷ some.0, rows_pass reading table header some.0 (rows_read (length table.columns) c.in_ok-read.read) layout.0 some.1 ∙ (rw c.len.ensures at c.in_ok-rows.ensures.ok))
 
+pub returns-clause-records : goal.returns-clause-records
+returns-clause-records g c = loaded g ((goal.at.returns-clause-records g c).In_ok-rows)
+
 pub returns-clause-rows : goal.returns-clause-rows
 returns-clause-rows g c =
-    let table = c.args.table.now in
-    let header = fields_of c.next_record.new.record in
-    let layout = rw c.as_slice.ensures at c.in_ok-layout.ensures.ok in
-    let some = c.in_ok-read.ensures.records header layout.1 in
-    table_rows table (header ∷ some.0) _ (rows_pass reading table header some.0 (rows_read (length table.columns) c.in_ok-read.read) layout.0 some.1 ∙ (rw c.len.ensures at c.in_ok-rows.ensures.ok))
+    let all = loaded g ((goal.at.returns-clause-rows g c).In_ok-rows) in
+    table_rows c.args.table.now all.0 _ all.1
 
 pub build-requires : goal.build-requires
 build-requires g c =
-    let table = c.args.table.now in
-    let header = fields_of c.next_record.new.record in
-    let layout = rw c.as_slice.ensures at c.in_ok-layout.ensures.ok in
-    let some = c.in_ok-read.ensures.records header layout.1 in
-    (table_rows table (header ∷ some.0) c.in_ok-rows.rows (rows_pass reading table header some.0 (rows_read (length table.columns) c.in_ok-read.read) layout.0 some.1 ∙ (rw c.len.ensures at c.in_ok-rows.ensures.ok)))
+    let all = loaded g ((goal.at.build-requires g c).In_ok-rows) in
+    table_rows c.args.table.now all.0 c.in_ok-rows.rows all.1
 
 pub invariant_of-result : goal.invariant_of-result
 invariant_of-result g c =
-    let table = c.args.table.now in
-    let header = fields_of c.next_record.new.record in
-    let layout = rw c.as_slice.ensures at c.in_ok-layout.ensures.ok in
-    let some = c.in_ok-read.ensures.records header layout.1 in (
-      record {
-        definition = table;
-        is_lawful = c.requires.lawful;
-        are_rows = table_rows table (header ∷ some.0) _ (rows_pass reading table header some.0 (rows_read (length table.columns) c.in_ok-read.read) layout.0 some.1 ∙ (rw c.len.ensures at c.in_ok-rows.ensures.ok));
-      },
+    let all = loaded g ((goal.at.invariant_of-result g c).In_ok-rows) in (
+      record { definition = c.args.table.now; is_lawful = c.requires.lawful; are_rows = table_rows c.args.table.now all.0 _ all.1 },
       c.in_ok-indexes.ensures,
     )
 
