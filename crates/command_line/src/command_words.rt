@@ -8,7 +8,7 @@ use clap::{Arg, ArgAction, Command};
 use std::alloc::{AllocError, Global};
 
 /// What `--version` prints.
-const VERSION: &str = "0.2.0";
+pub const VERSION: &str = "0.2.0";
 
 /// The command line of `sfq`, which needs a subcommand. It fails only if memory runs out.
 pub fn sfq_command<'a>(alloc: Global) -> Result<Command<'a>, AllocError>
@@ -94,8 +94,8 @@ Example, in a checkout:
 Statuses: 0 done, 3 the schema, 4 a table, 5 the query, 6 a file or the output,
 7 out of memory. docs/FAULTS.md and man sfq explain each fault.";
 
-/// The command with the words that name the schema's file and the directory of the tables.
-fn with_places<'a>(alloc: Global, command: Command<'a>) -> Result<Command<'a>, AllocError>
+/// The command with the words that name the schema's file and the directory of the tables. It fails only if memory runs out.
+pub fn with_places<'a>(alloc: Global, command: Command<'a>) -> Result<Command<'a>, AllocError>
     ensures { IfOk result (λ c. app_of c ≡ with_rule (with_rule (app_of command.entry)
         (required_word (codes "schema"))) (required_word (codes "directory"))) }
 {
@@ -288,7 +288,7 @@ fn fault_command<'a>(alloc: Global) -> Result<Command<'a>, AllocError>
 }
 
 /// A required word in its place.
-fn word<'a>(alloc: Global, id: &'a str, name: &'a str, help: &'a str) -> Arg<'a>
+pub fn word<'a>(alloc: Global, id: &'a str, name: &'a str, help: &'a str) -> Arg<'a>
     ensures rule { rule_of result ≡ required_word id.entry.now }
     ensures local { result.global ≡ false }
 {

@@ -5,8 +5,10 @@ mod command_words;
 mod known_commands;
 mod misuse;
 mod reading;
+mod words;
 
-pub use command_words::sfq_command;
+pub use command_words::{VERSION, sfq_command, with_places, word};
 pub use known_commands::Order;
 pub use misuse::Misuse;
 pub use reading::order;
+pub use words::{read_words, texts_of};

@@ -5,10 +5,9 @@ ghost use Rattle.csv.specs.Records.{fields_of};
 ghost use Rattle.record_reasons.specs.Reasons.{Finds, IsMissingName, IsOfName, IsRepeatedName};
 ghost use Rattle.table_model.specs.Texts as spec;
 
-use crate::named_fields::field_at;
 use crate::reason::Reason;
 use csv::ByteRecord;
-use feature_table::{ColumnDef, TableDef};
+use feature_table::{ColumnDef, TableDef, field_at};
 use table_model::texts::same_name;
 
 /// The first column whose name a header lacks.

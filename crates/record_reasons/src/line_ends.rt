@@ -6,10 +6,9 @@ ghost use Rattle.feature_table.specs.Outcomes.{IsFailure};
 ghost use Rattle.record_reasons.specs.LineEnds.{FindsLineEnd, IsFirstField, NoFieldHolds};
 ghost use Rattle.record_reasons.specs.LineEnds as spec;
 
-use crate::named_fields::field_at;
 use crate::seen_records::take_record;
 use csv::ByteRecord;
-use feature_table::Records;
+use feature_table::{Records, field_at};
 use std::alloc::Global;
 use std::io::Read;
 use table_model::definitions::ROW_LIMIT;

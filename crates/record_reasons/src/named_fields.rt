@@ -1,19 +1,12 @@
 //! The fields of a record, by their names in a header.
 
-ghost use Rattle.std.specs.Prelude.{◌≡◌, []};
-ghost use Rattle.std.specs.List.{slice_index_or};
+ghost use Rattle.std.specs.Prelude.{◌≡◌};
 ghost use Rattle.csv.specs.Records.{fields_of};
 ghost use Rattle.table_model.specs.Loading.{field_under};
 
 use csv::ByteRecord;
+use feature_table::field_at;
 use table_model::texts::same_name;
-
-/// The field of a record at a place; empty if there is none.
-pub(crate) fn field_at(record: &ByteRecord, place: usize) -> &[u8]
-    ensures { result.now ≡ slice_index_or (fields_of record.now) place [] }
-{
-    record.get(place).unwrap_or(&[])
-}
 
 /// The field of a record that a header calls by a name, of any ASCII case; the first field where no field of the header has that name.
 pub(crate) fn field_named<'r>(header: &ByteRecord, record: &'r ByteRecord, name: &[u8]) -> &'r [u8]

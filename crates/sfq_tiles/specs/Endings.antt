@@ -1,8 +1,5 @@
 -- Why the program ends early: what it prints then, and its status.
-use Rattle.std.specs.Prelude.{◌≡◌, ◌⊎◌, ◌++◌, ℕ, List, Option, codes}
-use Rattle.std.specs.Io.KnownBytes.{Appends}
-use Rattle.basics.specs.Counts.{one_more}
-use Rattle.streams.specs.Sinks.{AppendsFront}
+use Rattle.std.specs.Prelude.{◌++◌, ℕ, List, codes}
 use Rattle.failures.specs.Failures.{failure_line, failure_status}
 use Rattle.failures.specs.declared.failure.Failure.TheVariants as failed
 use Rattle.sfq_tiles.specs.declared.endings.Ending.{Ending}
@@ -34,7 +31,3 @@ abbrev pub ending_status : Ending → ℕ
 ending_status (e.Failed failure) = failure_status failure
 ending_status (e.Mistaken text) = 2
 ending_status e.Unwritable = 6
-
--- a line is printed: all of it, unless the sink failed once; then a beginning of it
-abbrev pub Prints : Option (List ℕ) → Option (List ℕ) → ℕ → ℕ → List ℕ → Type 0
-Prints old new before after line = (Appends old new line × (after ≡ before)) ⊎ (AppendsFront old new line × (after ≡ one_more before))

@@ -3,15 +3,13 @@
 ghost use Rattle.std.specs.Prelude.{◌≡◌, OnErr, OnOk};
 ghost use Rattle.std.specs.Io.KnownBytes.{Appends};
 ghost use Rattle.streams.specs.Sinks.{AppendsFront, CountsFailure};
-ghost use Rattle.sfq_tiles.specs.Endings.{Prints, ending_line, ending_status, mistake_line};
+ghost use Rattle.failures.specs.Ends.{Writes};
+ghost use Rattle.sfq_tiles.specs.Endings.{ending_line, ending_status, mistake_line};
 
 use crate::parts::Mistake;
-use failures::{Failure, fault_line, status};
+use failures::{Failure, MISUSE, fault_line, status};
 use std::alloc::{AllocError, AllocFailed};
 use streams::{Sink, SinkFault, put_all, put_parts};
-
-/// The status for words of the command line that aren't right.
-pub const MISUSE: u8 = 2;
 
 /// The status where a file can't be written.
 const UNWRITABLE: u8 = 6;
@@ -77,7 +75,7 @@ impl<'a> From<AllocError> for Ending<'a> {
 /// Prints the line of an ending, and returns the status, which is the same if the line can't be printed.
 pub fn ended<E: Sink>(ending: &Ending<'_>, err: &mut E) -> u8
     ensures status { result ≡ ending_status ending.now }
-    ensures line { Prints (E.taken err.old) (E.taken err.new) (E.failures err.old)
+    ensures line { Writes (E.taken err.old) (E.taken err.new) (E.failures err.old)
         (E.failures err.new) (ending_line ending.now) }
 {
     let _ = put_ending(ending, err);

@@ -1,10 +1,8 @@
 //! The words of the command line.
 
-use clap::{Arg, ArgAction, Command, Error};
+use clap::{ArgAction, Command, Error};
+use command_line::{VERSION, with_places, word};
 use std::alloc::{AllocError, Global};
-
-/// What `--version` prints.
-const VERSION: &str = "0.2.0";
 
 /// What the help shows below the words.
 const MORE: &str = "\
@@ -32,14 +30,6 @@ pub struct Words<'a> {
     pub parts: Vec<&'a str>,
 }
 
-/// A required word in its place.
-fn word<'a>(alloc: Global, id: &'a str, name: &'a str, help: &'a str) -> Arg<'a> {
-    Arg::new(alloc, id)
-        .value_name(name)
-        .help(help)
-        .required(true)
-}
-
 /// The command line of `sfq-tiles`. It fails only if memory runs out.
 fn command<'a>(alloc: Global) -> Result<Command<'a>, AllocError> {
     let rows = word(
@@ -58,23 +48,12 @@ fn command<'a>(alloc: Global) -> Result<Command<'a>, AllocError> {
     )
     .long("part")
     .action(ArgAction::Append);
-    Command::new(alloc, "sfq-tiles")
+    let bare = Command::new(alloc, "sfq-tiles")
         .about("Splits tables into tiles or stretches, each of which sfq runs alone")
         .version(VERSION)
         .arg_required_else_help(true)
-        .after_help(MORE)
-        .arg(word(
-            alloc,
-            "schema",
-            "SCHEMA",
-            "The file of CREATE TABLE statements",
-        ))?
-        .arg(word(
-            alloc,
-            "directory",
-            "DIR",
-            "The directory of the tables: t.csv for table t",
-        ))?
+        .after_help(MORE);
+    with_places(alloc, bare)?
         .arg(word(
             alloc,
             "out",
@@ -86,7 +65,7 @@ fn command<'a>(alloc: Global) -> Result<Command<'a>, AllocError> {
 }
 
 /// Reads the words of a command line, the program's name first.
-pub fn read_words<'a>(alloc: Global, words: &'a [&'a str]) -> Result<Words<'a>, Error> {
+pub fn words_of<'a>(alloc: Global, words: &'a [&'a str]) -> Result<Words<'a>, Error> {
     let matches = command(alloc)?.try_get_matches_from(words)?;
     let mut parts = Vec::new(alloc);
     if let Some(texts) = matches.get_strs("part") {
