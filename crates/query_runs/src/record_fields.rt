@@ -6,18 +6,15 @@ ghost use Rattle.csv.specs.Records.{fields_of, partial_of};
 ghost use Rattle.geometry_model.specs.CanonicalText.{canonical_text};
 ghost use Rattle.table_model.specs.AnswerTexts.{column_name, column_header, field_text, function_text, header, item_header, item_text, record_of, reference_header};
 ghost use Rattle.table_model.specs.GeometryColumns.{geometry_writing};
-ghost use Rattle.table_model.specs.Truths.{dimension, field_at};
 ghost use Rattle.feature_table.specs.Cells.{shown};
 ghost use Rattle.query_runs.specs.AnswerFields.{dimension_text, emptiness_text};
 
 use csv::ByteRecord;
 use feature_table::{Field, Geometry, Row, TableDef};
-use geometry_model::Kind;
 use itoa::Buffer;
-use spatial_sql::Bound;
+use spatial_sql::{Bound, dimension, field_at, printed};
 use std::alloc::{AllocError, Global};
 use table_model::conditions::{ColumnPlace, Item, Reference};
-use wkt::{MemorySink, print};
 
 /// The header record of a query's answer. It fails only when memory runs out.
 pub fn header_record(
@@ -183,18 +180,6 @@ fn push_item(
     }
 }
 
-/// The field at a place of some rows; null if there is none.
-fn field_at<'a>(rows: &'a [Row<'_>], place: ColumnPlace) -> Field<'a>
-    ensures { shown result ≡ field_at rows.entry.now place }
-{
-    if let Some(row) = rows.get(place.reference) {
-        if place.column < row.len() {
-            return row.field(place.column);
-        }
-    }
-    Field::Null
-}
-
 /// Adds the text of a field.
 fn push_field(alloc: Global, fields: &mut ByteRecord, field: Field<'_>) -> Result<(), AllocError>
     requires { partial_of fields.old ≡ [] }
@@ -249,17 +234,6 @@ fn push_emptiness(fields: &mut ByteRecord, field: Field<'_>) -> Result<(), Alloc
     }
 }
 
-/// ST_Dimension of geometries of a kind: 0 of points, 1 of lines, 2 of areas.
-fn dimension(kind: Kind) -> i64
-    ensures { result ≡ dimension kind }
-{
-    match kind {
-        Kind::Point => 0,
-        Kind::Line => 1,
-        Kind::Area => 2,
-    }
-}
-
 /// Adds a number.
 fn push_number(fields: &mut ByteRecord, number: i64) -> Result<(), AllocError>
     requires { partial_of fields.old ≡ [] }
@@ -271,7 +245,7 @@ fn push_number(fields: &mut ByteRecord, number: i64) -> Result<(), AllocError>
     fields.push_field(buffer.format(number).as_bytes())
 }
 
-/// Adds the canonical text of a geometry. A sink over memory fails only when memory runs out.
+/// Adds the canonical text of a geometry.
 fn push_geometry(
     alloc: Global,
     fields: &mut ByteRecord,
@@ -282,9 +256,6 @@ fn push_geometry(
         (fields_of fields.new ≡ fields_of fields.old ++ canonical_text geometry.now ∷ []) }
     ensures partial { OnOk result (partial_of fields.new ≡ []) }
 {
-    let mut text = MemorySink::new(alloc);
-    if print(geometry.geometry(), &mut text).is_err() {
-        return Err(AllocError);
-    }
+    let text = printed(alloc, geometry)?;
     fields.push_field(text.bytes())
 }
