@@ -17,7 +17,6 @@ def places(root: str = repository.ROOT) -> list[tuple[str, str]]:
     pages = sorted(os.path.relpath(it, root) for it in glob.glob(f"{root}/packaging/man/*.1"))
     return [
         ("crates/command_line/src/command_words.rt", 'const VERSION: &str = "{}";'),
-        ("crates/sfq_tiles/src/words.rt", 'const VERSION: &str = "{}";'),
         ("bindings/c/sfq.h", "#define SFQ_VERSION {}"),
         ("bindings/python/sfq/__init__.py", '__version__ = "{}"'),
         ("bindings/postgresql/sfq.control", "default_version = '{}'"),
