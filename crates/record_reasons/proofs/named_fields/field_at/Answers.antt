@@ -1,7 +1,7 @@
 use Rattle.std.proofs.Common.{◌∙◌, [], ap, unwrap_or}
+use Rattle.basics.proofs.Options.{lent}
 use Rattle.csv.specs.Records.{fields_of}
 use Rattle.feature_table.proofs.HeaderLemmas.{field_at-get}
-use Rattle.basics.proofs.Options.{lent}
 use Rattle.record_reasons.proofs.named_fields.field_at.Goals as goal
 
 pub returns : goal.returns
