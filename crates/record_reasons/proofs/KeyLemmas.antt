@@ -1,12 +1,13 @@
 -- Keys of records that were read, and a record with the key of another.
-use Rattle.std.proofs.Common.{◌≡◌, ◌∙◌, ◌+◌, ◌-◌, ◌<◌, ◌≤◌, ◌++◌, ◌^◌, ℕ, ℤ, pos, negsuc, zero, suc, Bool, true, false, List, [], ◌∷◌, Option, Some, None, ap, arith, length, map, refl, subst, sym}
+use Rattle.std.proofs.Common.{◌≡◌, ◌∙◌, ◌+◌, ◌-◌, ◌<◌, ◌≤◌, ◌++◌, ◌^◌, ℕ, ℤ, pos, negsuc, zero, suc, Bool, true, false, List, [], ◌∷◌, Option, Some, None, ap, arith, length, map, refl, subst, sym, ltb-true}
 use Rattle.std.proofs.lemmas.Bool.{and_parts}
-use Rattle.std.proofs.lemmas.Bool.Decides.{nat_tests}
 use Rattle.std.proofs.lemmas.List.{length-map, map-append}
 use Rattle.std.specs.Int.{w64}
-use Rattle.std.specs.Prelude.{FitsSigned, if◌then◌else◌, nat_lt, slice_get}
+use Rattle.std.specs.Prelude.{FitsSigned, if◌then◌else◌, slice_get}
 use Rattle.std.specs.Str.Parse.{signed_digits_value}
-use Rattle.record_reasons.proofs.ReasonLemmas.{in-front, some-is}
+use Rattle.std.proofs.lemmas.Option.{same_Some}
+use Rattle.basics.proofs.Numbers.{one_less}
+use Rattle.basics.proofs.Lists.{unmapped, mapped, found_in_front}
 use Rattle.record_reasons.specs.Reasons.{HasKey, HasNoKeyReason, IsKeyReason, IsOfKey, key_in, key_under}
 use Rattle.record_reasons.specs.SeenKeys.{AreKeys}
 use Rattle.record_reasons.specs.SeenRecords.{IsAbsent}
@@ -19,36 +20,17 @@ use Rattle.table_model.specs.declared.definitions.TableDef.{TableDef}
 
 -- ---- elements
 
--- what a list is mapped to at a place, from and to the list
-pub mapped : {X Y : Type 0} (of : X → Y) (xs : List X) (i : ℕ) (x : X) → slice_get xs i ≡ Some x → slice_get (map of xs) i ≡ Some (of x)
-mapped of [] i x is = cc is
-mapped of (y ∷ xs) zero x is = ap (λ z. Some (of z)) (some-is y x is)
-mapped of (y ∷ xs) (suc i) x is = mapped of xs i x is
-
-pub unmapped : {X Y : Type 0} (of : X → Y) (xs : List X) (i : ℕ) (y : Y) → slice_get (map of xs) i ≡ Some y
-    → (x : X) × (slice_get xs i ≡ Some x) × (of x ≡ y)
-unmapped of [] i y is = cc is
-unmapped of (x ∷ xs) zero y is = (x, refl, some-is (of x) y is)
-unmapped of (x ∷ xs) (suc i) y is = unmapped of xs i y is
-
 -- what is in a longer list is in its beginning, if it is within it
 pub back : {X : Type 0} (xs ys : List X) (i : ℕ) (x : X) → i < length xs → slice_get (xs ++ ys) i ≡ Some x → slice_get xs i ≡ Some x
 back [] ys i x within is = absurd (omega arith)
 back (y ∷ xs) ys zero x within is = is
 back (y ∷ xs) ys (suc i) x within is = let less : i < length xs = omega (arith, within) in back xs ys i x less is
 
--- the number before the next one
-less-one : (n : ℕ) → suc n - 1 ≡ n
-less-one n = omega arith
-
 -- ---- numbers
 
-true-lt : (m n : ℕ) → nat_lt m n ≡ true → m < n
-true-lt m n h = grind (arith, nat_tests)
-
 bits-fit : (z : ℤ) → fits_64_bits z ≡ true → FitsSigned w64 z
-bits-fit (pos n) h = record { sfits = true-lt n (2 ^ 63) h }
-bits-fit (negsuc n) h = record { sfits = true-lt n (2 ^ 63) h }
+bits-fit (pos n) h = record { sfits = ltb-true n (2 ^ 63) h }
+bits-fit (negsuc n) h = record { sfits = ltb-true n (2 ^ 63) h }
 
 -- a text is read as a whole number only within 64 bits
 number-fits : (text : List ℕ) (n : ℤ) → number_in text ≡ Some n → FitsSigned w64 n
@@ -103,14 +85,14 @@ moved : (table : TableDef ColumnShape) (header other : Record) (read mine more y
     → mine ++ more ≡ read ++ yours → number < length mine → HasKey table other read number key → HasKey table header mine number key
 moved table header other read mine more yours number key same is within has = (
   has.0,
-  back mine more number has.0 within (ap (λ rs. slice_get rs number) is ∙ in-front read yours number has.0 has.1),
+  back mine more number has.0 within (ap (λ rs. slice_get rs number) is ∙ found_in_front read yours number has.0 has.1),
   subst (λ h. key_under table h has.0 ≡ Some key) same has.2,
 )
 
 -- the first of two texts that begin with a header each
 same-header : (header other : Record) (rest read more yours : List Record) → (header ∷ rest) ++ more ≡ read ++ yours → slice_get read 0 ≡ Some other → other ≡ header
 same-header header other rest read more yours is first =
-    some-is other header (sym (in-front read yours 0 other first) ∙ ap (λ rs. slice_get rs 0) (sym is))
+    same_Some other header (sym (found_in_front read yours 0 other first) ∙ ap (λ rs. slice_get rs 0) (sym is))
 
 -- ---- reasons
 
@@ -120,7 +102,7 @@ pub key-reason : (known : Option (List ℕ)) (table : TableDef ColumnShape) (num
     → ((k : ℕ) → k < place → slice_get keys k ≡ Some (Some key) → ⊥) → IsKeyReason known table number (reasons.SameKey (place + 1) key)
 key-reason known table zero place keys key are low within here there first = absurd (omega (arith, low))
 key-reason known table (suc n) place keys key are low within here there first =
-    let here_too = subst (λ k. slice_get keys k ≡ Some (Some key)) (less-one n) here in
+    let here_too = subst (λ k. slice_get keys k ≡ Some (Some key)) (one_less n) here in
     let is : HasKey table are.header (are.header ∷ are.rest) (suc n) key = has-key table are.header are.rest keys n key are.are here_too in
     let earlier = has-key table are.header are.rest keys place key are.are there in
     let more : suc place ≡ place + 1 = omega arith in
@@ -167,7 +149,7 @@ pub absent-key : (known : Option (List ℕ)) (table : TableDef ColumnShape) (num
 absent-key known table number absent text is within reason has =
     let two = two-records table has.header has.read number reason has.has in
     let all = has.begins text refl in
-    let gone : None ≡ Some two.4.0 = sym (absent text is) ∙ ap (λ rs. slice_get rs number) all.1 ∙ in-front has.read all.0 number two.4.0 two.4.1 in
+    let gone : None ≡ Some two.4.0 = sym (absent text is) ∙ ap (λ rs. slice_get rs number) all.1 ∙ found_in_front has.read all.0 number two.4.0 two.4.1 in
     cc gone
 
 -- where the keys show none, there is none
@@ -190,5 +172,5 @@ no-key-reason known table (suc n) keys are low none text is within reason has =
         let here = moved table are.header has.header has.read (are.header ∷ are.rest) mine.0 yours.0 (suc n) key one both (omega (arith, size)) last in
         let there = moved table are.header has.header has.read (are.header ∷ are.rest) mine.0 yours.0 (suc i) key one both (omega (arith, size, less)) same in
         let mine_too = key-there table are.header are.rest keys n key are.are here in
-        none i key (omega (arith, less)) (subst (λ k. slice_get keys k ≡ Some (Some key)) (sym (less-one n)) mine_too)
+        none i key (omega (arith, less)) (subst (λ k. slice_get keys k ≡ Some (Some key)) (sym (one_less n)) mine_too)
         (key-there table are.header are.rest keys i key are.are there)

@@ -1,10 +1,10 @@
 -- Records of which no field holds a line end.
 use Rattle.std.proofs.Common.{◌≡◌, ◌∙◌, ◌+◌, ◌++◌, ◌<◌, ◌≤◌, ℕ, zero, suc, List, [], ◌∷◌, Option, Some, ap, append-nil, arith, length, subst}
 use Rattle.std.specs.Prelude.{slice_get}
+use Rattle.std.proofs.lemmas.Option.{same_Some}
 use Rattle.feature_table.specs.Records.{records_in}
 use Rattle.feature_table.specs.declared.records.Records.{Records}
 use Rattle.record_reasons.proofs.KeyLemmas.{back}
-use Rattle.record_reasons.proofs.ReasonLemmas.{some-is}
 use Rattle.record_reasons.proofs.SeenLemmas.{begins, last, read-more}
 use Rattle.record_reasons.specs.LineEnds.{HasNoLineEnd, IsFirstField, IsFirstLineEnd, NoFieldHolds}
 use Rattle.record_reasons.specs.SeenRecords.{GivesNext, GivesNone, HasRead}
@@ -16,7 +16,7 @@ NoneHolds read = (k : ℕ) (fields : Record) → slice_get read k ≡ Some field
 
 -- one record more
 pub none-more : (read : List Record) (fields : Record) → NoneHolds read → NoFieldHolds fields → NoneHolds (read ++ fields ∷ [])
-none-more [] fields all none zero other is = subst NoFieldHolds (some-is fields other is) none
+none-more [] fields all none zero other is = subst NoFieldHolds (same_Some fields other is) none
 none-more [] fields all none (suc k) other is = cc is
 none-more (x ∷ xs) fields all none zero other is = all zero other is
 none-more (x ∷ xs) fields all none (suc k) other is = none-more xs fields (λ j. all (suc j)) none k other is

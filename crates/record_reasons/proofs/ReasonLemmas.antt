@@ -1,6 +1,8 @@
 -- A reason in what was read, or none there.
-use Rattle.std.proofs.Common.{◌≡◌, ◌∙◌, ◌++◌, ℕ, zero, suc, List, [], ◌∷◌, Option, Some, None, Result, Ok, Err, IfOk, IfSome, IfNone, ap, refl, subst, sym}
+use Rattle.std.proofs.Common.{◌≡◌, ◌∙◌, ℕ, List, Option, Some, None, Result, Ok, Err, IfOk, IfSome, IfNone, ap, refl, subst, sym}
 use Rattle.std.specs.Prelude.{slice_get}
+use Rattle.std.proofs.lemmas.Option.{same_Some}
+use Rattle.basics.proofs.Lists.{found_in_front}
 use Rattle.feature_table.specs.Records.{records_in}
 use Rattle.record_reasons.specs.Reasons.{Finds, HasNoRecordReason, HasReason, IsFilledReason, IsGeometryReason, IsOfColumn, record_number}
 use Rattle.record_reasons.specs.SeenRecords.{AreSeen, IsAbsent}
@@ -14,20 +16,10 @@ use Rattle.table_model.specs.declared.faults.LoadFault.TheVariants as fault
 
 -- ---- elements
 
--- what is in a list is in a longer one
-pub in-front : {X : Type 0} (xs ys : List X) (n : ℕ) (x : X) → slice_get xs n ≡ Some x → slice_get (xs ++ ys) n ≡ Some x
-in-front [] ys n x is = cc is
-in-front (y ∷ xs) ys zero x is = is
-in-front (y ∷ xs) ys (suc n) x is = in-front xs ys n x is
-
--- a value that is there is one
-pub some-is : {X : Type 0} (x y : X) → Some x ≡ Some y → x ≡ y
-some-is x y is = cc is
-
 -- what holds of a value that is there, and where there is none
 pub some-is-so : {X : Type 0} (o : Option X) (x : X) (P : X → Type 0) → o ≡ Some x → IfSome o P → P x
 some-is-so None x P is fact = cc is
-some-is-so (Some y) x P is fact = subst P (some-is y x is) fact
+some-is-so (Some y) x P is fact = subst P (same_Some y x is) fact
 
 pub none-is-so : {X : Type 0} (o : Option X) (P : Type 0) → o ≡ None → IfNone o P → P
 none-is-so None P is fact = fact
@@ -40,8 +32,8 @@ seen-there : (known : Option (List ℕ)) (text : List ℕ) (header : Record) (nu
     → AreSeen known header number fields → (slice_get (records_in text) 0 ≡ Some header) × (slice_get (records_in text) number ≡ Some fields)
 seen-there known text header number fields is seen =
     let all = seen.begins text is in (
-      ap (λ rs. slice_get rs 0) all.1 ∙ in-front seen.read all.0 0 header seen.first,
-      ap (λ rs. slice_get rs number) all.1 ∙ in-front seen.read all.0 number fields seen.there,
+      ap (λ rs. slice_get rs 0) all.1 ∙ found_in_front seen.read all.0 0 header seen.first,
+      ap (λ rs. slice_get rs number) all.1 ∙ found_in_front seen.read all.0 number fields seen.there,
     )
 
 -- without its record a fault has no reason
@@ -60,8 +52,8 @@ seen-none (Ok (Some reason)) known table f header fields seen finds = tt
 seen-none (Ok None) known table f header fields seen finds = λ text is within reason has.
     let mine = seen-there known text header (record_number f) fields is seen in
     let other = seen-there (Some text) text has.header (record_number f) has.fields refl has.seen in
-    let same_header = some-is has.header header (sym other.0 ∙ mine.0) in
-    let same_fields = some-is has.fields fields (sym other.1 ∙ mine.1) in
+    let same_header = same_Some has.header header (sym other.0 ∙ mine.0) in
+    let same_fields = same_Some has.fields fields (sym other.1 ∙ mine.1) in
     finds reason (subst (λ h. HasReason table h fields f reason) same_header (subst (λ fs. HasReason table has.header fs f reason) same_fields has.has))
 
 -- a fault that is neither of the header nor of lengths has its reason in a column

@@ -1,6 +1,7 @@
 -- Records that are read one after another.
-use Rattle.std.proofs.Common.{◌≡◌, ◌∙◌, ◌++◌, ◌≤◌, Bool, true, false, ℕ, zero, suc, List, [], ◌∷◌, Option, None, Some, Result, Ok, Err, IfOk, true≢false, ap, append-nil, arith, length, append_assoc, refl, sym}
+use Rattle.std.proofs.Common.{◌≡◌, ◌∙◌, ◌++◌, ◌≤◌, Bool, true, false, ℕ, zero, suc, List, [], ◌∷◌, Option, Some, Result, Ok, Err, IfOk, true≢false, ap, append-nil, arith, length, append_assoc, refl, sym}
 use Rattle.std.specs.Prelude.{slice_get}
+use Rattle.std.proofs.lemmas.Option.{slice_get_past}
 use Rattle.feature_table.specs.Records.{Gives, GivesFirst, records_in}
 use Rattle.feature_table.specs.declared.records.Records.{Records}
 use Rattle.table_model.specs.Loading.{Record}
@@ -56,19 +57,13 @@ pub none-left : {R : Type 0} (remaining : R → Option (List ℕ)) (old new : Re
 none-left remaining old new true fields is takes = absurd (true≢false is)
 none-left remaining old new false fields is takes = takes
 
--- past the end of a list there is nothing
-pub past : {X : Type 0} (xs : List X) (n : ℕ) → length xs ≤ n → slice_get xs n ≡ None
-past [] n low = refl
-past (x ∷ xs) zero low = absurd (omega arith)
-past (x ∷ xs) (suc n) low = let less : length xs ≤ n = omega arith in past xs n less
-
 -- where no record is left, there is none of a greater number than were read
 pub absent : {R : Type 0} (remaining : R → Option (List ℕ)) (known : Option (List ℕ)) (records : Records R) (read : List Record) (number : ℕ)
     → HasRead remaining known records read → GivesNone remaining records → length read ≤ number → IsAbsent known number
 absent remaining known records read number has none low text is =
     let all = has text is in
     let whole : records_in text ≡ read = all.2 ∙ ap (λ rest. read ++ rest) (none all.0 all.1) ∙ append-nil read in
-    ap (λ xs. slice_get xs number) whole ∙ past read number low
+    ap (λ xs. slice_get xs number) whole ∙ slice_get_past read number low
 
 -- the first record is read
 pub first-read : {R : Type 0} (remaining : R → Option (List ℕ)) (known : Option (List ℕ)) (old new : Records R) (fields : Record)

@@ -1,6 +1,7 @@
 -- How commands end, by what their steps return.
-use Rattle.std.proofs.Common.{◌≡◌, inl, inr, ℕ, List, Option, None, Some, Result, Ok, Err, OnErr, OnOk, refl, sym, ◌∙◌, ap, subst}
-use Rattle.std.specs.Io.KnownBytes.{Appends, Keeps}
+use Rattle.std.proofs.Common.{◌≡◌, inl, inr, ℕ, List, Option, Result, Ok, Err, OnErr, OnOk, refl, sym, ◌∙◌, ap, subst}
+use Rattle.std.specs.Io.KnownBytes.{Appends}
+use Rattle.std.proofs.KnownBytes.{Keeps-refl}
 use Rattle.text_commands.specs.TextCommands.{RelateEnds, relate_outcome, relate_text}
 use Rattle.text_commands.specs.Ends.{Answers, Writes, failed_writes}
 use Rattle.failures.specs.declared.failure.Failure.{Failure}
@@ -22,11 +23,6 @@ pub writes : {A E : Type 0} (r : Result A E) (old new : Option (List ℕ)) (befo
 writes (Ok a) old new before after text whole front count = inl (whole, count)
 writes (Err e) old new before after text whole front count = inr (front, count)
 
--- nothing written keeps what there was
-pub keeps-same : (a : Option (List ℕ)) → Keeps a a
-keeps-same None = tt
-keeps-same (Some bytes) = refl
-
 -- ---- relate
 
 -- the refusals of two texts, and what is written where they are read so
@@ -35,10 +31,10 @@ refusal : (a b : Result Geometry GeometryFault) (matrix : MatrixOf) (failure : F
     → Answers (and_then (and_then (or_refused First a) (λ x. and_then (or_refused Second b) (λ y. Ok (matrix x y)))) (λ m. Ok (relate_text m))) (Err failure) old old
 refusal (Err e) b matrix failure old is =
     let same : f.Refused First e ≡ failure = cc is in
-    subst (λ x. Answers (Err (f.Refused First e)) (Err x) old old) same (refl, keeps-same old)
+    subst (λ x. Answers (Err (f.Refused First e)) (Err x) old old) same (refl, Keeps-refl old)
 refusal (Ok x) (Err e) matrix failure old is =
     let same : f.Refused Second e ≡ failure = cc is in
-    subst (λ x. Answers (Err (f.Refused Second e)) (Err x) old old) same (refl, keeps-same old)
+    subst (λ x. Answers (Err (f.Refused Second e)) (Err x) old old) same (refl, Keeps-refl old)
 refusal (Ok x) (Ok y) matrix failure old is = cc is
 
 -- and no failure of writing is among them
@@ -55,7 +51,7 @@ no_write (Ok x) (Ok y) matrix failure before is = cc is
 refused-answers : (matrix : MatrixOf) (first second : List ℕ) (failure : Failure) (old : Option (List ℕ)) → IsFailureOf (relation matrix first second) failure
     → Answers (relate_outcome matrix first second) (Err failure) old old
 refused-answers matrix first second failure old (inl is) =
-    subst (λ x. Answers (relate_outcome matrix first second) (Err x) old old) (sym is) (keeps-same old)
+    subst (λ x. Answers (relate_outcome matrix first second) (Err x) old old) (sym is) (Keeps-refl old)
 refused-answers matrix first second failure old (inr is) =
     refusal (tested (read_text first)) (tested (read_text second)) matrix failure old is
 

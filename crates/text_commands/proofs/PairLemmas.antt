@@ -9,6 +9,7 @@ use Rattle.std.proofs.lemmas.Bool.{false≢true}
 use Rattle.std.proofs.lemmas.Bool.Decides.{nat_tests}
 use Rattle.std.proofs.lemmas.Option.{same_Some}
 use Rattle.std.specs.Result.{is_err}
+use Rattle.std.proofs.Math.Bool.{or-false}
 use Rattle.csv.specs.declared.reader.Reader.{Reader}
 use Rattle.failures.specs.declared.failure.Failure.{Failure}
 use Rattle.failures.specs.declared.failure.Failure.TheVariants as f
@@ -96,15 +97,11 @@ text_first matrix fields rest is =
 lines_more : (matrix : MatrixOf) (read : List Record) (fields : Record) → pair_lines matrix (read ++ fields ∷ []) ≡ pair_lines matrix read ++ pair_line matrix fields
 lines_more matrix read fields = lines_append matrix read (fields ∷ []) ∙ ap (λ t. pair_lines matrix read ++ t) (append-nil (pair_line matrix fields))
 
-or_false : (b : Bool) → (b || false) ≡ b
-or_false true = refl
-or_false false = refl
-
 -- whether one of some pairs and one more is refused
 any_more : (matrix : MatrixOf) (read : List Record) (fields : Record)
     → list_any (is_refused matrix) (read ++ fields ∷ []) ≡ (list_any (is_refused matrix) read || is_refused matrix fields)
 any_more matrix read fields =
-    list_any-append (is_refused matrix) read (fields ∷ []) ∙ ap (λ b. list_any (is_refused matrix) read || b) (or_false (is_refused matrix fields))
+    list_any-append (is_refused matrix) read (fields ∷ []) ∙ ap (λ b. list_any (is_refused matrix) read || b) (or-false (is_refused matrix fields))
 
 -- ---- the records of a reader
 

@@ -1,11 +1,11 @@
 -- The first place of the record's key is before the record, or the key is at no place before it.
 use Rattle.std.proofs.Common.{◌≡◌, ◌∙◌, ◌-◌, ◌<◌, Some, ap, arith, length, of_z, subst, sym, to_z, ℤ}
 use Rattle.std.proofs.lemmas.Int.{to_z-of_z}
-use Rattle.std.proofs.lemmas.Option.{get_or_from_slice_get, slice_get-get_or}
+use Rattle.std.proofs.lemmas.Option.{get_or_from_slice_get, slice_get-get_or, same_Some}
 use Rattle.std.specs.Prelude.{slice_get}
 use mir.Syntax.{w64}
 use Rattle.record_reasons.proofs.KeyLemmas.{as-many, key-fits, key-reason, no-key-reason}
-use Rattle.record_reasons.proofs.ReasonLemmas.{none-is-so, some-is, some-is-so}
+use Rattle.record_reasons.proofs.ReasonLemmas.{none-is-so, some-is-so}
 use Rattle.record_reasons.proofs.same_keys.same_key.Goals as goal
 
 pub returns-in_default-index-clause-none : goal.returns-in_default-index-clause-none
@@ -30,7 +30,7 @@ returns-in_default-place_of_key-clause-none g c =
     let back = to_z-of_z w64 raw (key-fits known c.args.table.now c.args.number (c.args.number - 1) items raw are mine) in
     no-key-reason known c.args.table.now c.args.number items are (omega (arith, c.if-number-eq0.false))
     (λ i key less here there.
-    let same : key ≡ to_z w64 (of_z w64 raw) = some-is key raw (some-is (Some key) (Some raw) (sym here ∙ mine)) ∙ sym back in
+    let same : key ≡ to_z w64 (of_z w64 raw) = same_Some key raw (same_Some (Some key) (Some raw) (sym here ∙ mine)) ∙ sym back in
     let at_place = subst (λ (k : ℤ). slice_get items i ≡ Some (Some k)) same there in
     none-is-so c.place_of_key.result _ c.in_default-place_of_key.is c.place_of_key.ensures.none i (omega (arith, less))
     (ap (λ ks. slice_get ks i) c.as_slice.ensures.value ∙ at_place))

@@ -1,4 +1,5 @@
-use Rattle.std.proofs.Common.{◌≡◌, ◌∙◌, ap, unwrap_or, option_map, get_or, List, [], ◌∷◌, ℕ, zero, suc, Option, Some, None, Bor, refl}
+use Rattle.std.proofs.Common.{◌≡◌, ◌∙◌, ap, unwrap_or, get_or, List, [], ◌∷◌, ℕ, zero, suc, refl}
+use Rattle.basics.proofs.Options.{lent}
 use Rattle.csv.specs.Records.{field_at, fields_of}
 use Rattle.text_commands.proofs.pair_records.field_at.Goals as goal
 
@@ -8,11 +9,6 @@ unfolding field_at
 field_at-get [] i = refl
 field_at-get (f ∷ fs) zero = refl
 field_at-get (f ∷ fs) (suc i) = field_at-get fs i
-
--- what an optional loan lends
-lent : {X : Type 0} (o : Option (Bor X)) (d : Bor X) → (unwrap_or o d).now ≡ unwrap_or (option_map (λ s. s.now) o) d.now
-lent None d = refl
-lent (Some s) d = refl
 
 pub returns : goal.returns
 returns c =

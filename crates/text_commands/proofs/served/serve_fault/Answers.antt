@@ -1,7 +1,7 @@
 -- Each exit: no fault has the code, its page is written, or it can't be.
 use Rattle.std.proofs.Common.{Err, Ok, refl, subst}
 use Rattle.std.specs.Io.KnownBytes.{Appends}
-use Rattle.text_commands.proofs.EndLemmas.{keeps-same}
+use Rattle.std.proofs.KnownBytes.{Keeps-refl}
 use Rattle.failures.specs.declared.failure.Failure.TheVariants as f
 use Rattle.streams.specs.Sinks.{AppendsFront}
 use Rattle.text_commands.proofs.served.serve_fault.Goals as goal
@@ -10,7 +10,7 @@ pub returns-in_default : goal.returns-in_default
 returns-in_default g c = record {
   serves = record {
     end = Err f.UnknownCode;
-    ends = record { page = (c.in_default.ensures.none, keeps-same (g.S.Sink.taken c.args.out.now)); failures = refl };
+    ends = record { page = (c.in_default.ensures.none, Keeps-refl (g.S.Sink.taken c.args.out.now)); failures = refl };
     returned = c.failed.ensures.status;
     reported = c.failed.ensures.line;
   };
