@@ -33,3 +33,5 @@ mod tile_text_tests;
 mod tree_tests;
 #[cfg(test)]
 mod unsearchable_index_tests;
+#[cfg(test)]
+mod word_tests;
