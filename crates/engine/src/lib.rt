@@ -4,7 +4,7 @@
 #![tactic(auto)]
 
 mod commands;
-mod first_run;
+pub mod first_run;
 
 pub use commands::{serve, serve_observed};
 pub use failures::{Failure, Fault, GeometryWord, fault_line, status};

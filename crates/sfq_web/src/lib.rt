@@ -4,4 +4,4 @@
 #![tactic(auto)]
 
 mod calls;
-mod queries;
+pub mod queries;
