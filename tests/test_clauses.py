@@ -2,13 +2,11 @@
 import pathlib
 import shutil
 import subprocess
-import sys
 import tempfile
 import unittest
 
-from support import ROOT
+import support  # finds the modules
 
-sys.path.insert(0, f"{ROOT}/tools")
 import clauses
 
 LISTS = """//! Lists.

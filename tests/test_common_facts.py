@@ -1,12 +1,10 @@
 """Which statements tools/common_facts.py takes to be one fact, and which it leaves to their crate."""
 import pathlib
-import sys
 import tempfile
 import unittest
 
-from support import ROOT
+import support  # finds the modules
 
-sys.path.insert(0, f"{ROOT}/tools")
 import antt
 import common_facts
 

@@ -1,12 +1,10 @@
 """What tools/counts.py counts of a small repository, and what it finds past its bounds."""
 import pathlib
-import sys
 import tempfile
 import unittest
 
-from support import ROOT
+import support  # finds the modules
 
-sys.path.insert(0, f"{ROOT}/tools")
 import counts
 
 CODE = """//! Lists.

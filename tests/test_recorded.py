@@ -1,12 +1,10 @@
 """What tools/recorded.py counts in each crate, what it reports past a table, and which numbers it writes."""
 import pathlib
-import sys
 import tempfile
 import unittest
 
-from support import ROOT
+import support  # finds the modules
 
-sys.path.insert(0, f"{ROOT}/tools")
 import recorded
 
 FACT = "use Rattle.std.specs.Prelude.{◌≡◌, ℕ}\n\nsame : (n : ℕ) → n ≡ n\nsame n = refl\n"
