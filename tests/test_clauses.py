@@ -5,7 +5,7 @@ import subprocess
 import tempfile
 import unittest
 
-from support import ROOT
+import support  # finds the modules
 
 import clauses
 

@@ -22,7 +22,7 @@ CLEAN = {
 }
 
 # What ./lint counts with.
-TOOLS = ["antt", "common_facts", "counts", "proved_page", "recorded", "repository"]
+TOOLS = ["antt", "common_facts", "counts", "paths", "proved_page", "recorded", "repository"]
 # A stand-in for `rt`, whose layout is that no line ends with a space.
 LAYS_OUT = f"""#!{sys.executable}
 import pathlib

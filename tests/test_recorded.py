@@ -3,7 +3,7 @@ import pathlib
 import tempfile
 import unittest
 
-from support import ROOT
+import support  # finds the modules
 
 import recorded
 

@@ -4,6 +4,7 @@ A statement is brought into a form that doesn't depend on the names of its bound
 whether they are in braces: `{a : ℕ} (b : ℕ) → a ≡ b → b ≡ a` and `(x y : ℕ) (same : x ≡ y) → y ≡ x` have one form.
 """
 import re
+from typing import Optional
 
 # Words that aren't names: they are the same in each file.
 PUNCTUATION = "(){},;"
@@ -15,14 +16,14 @@ TYPE_HEAD = re.compile(r"(?:pub )?(record|data)(?: pub)? (\S+)(.*)")
 class Declaration:
     """A definition or a lemma: its name, whether others see it, its statement or type, its whole text, its first line, its lines."""
 
-    def __init__(self, name, is_public, kind, statement, line):
+    def __init__(self, name: str, is_public: bool, kind: str, statement: str, line: int) -> None:
         self.name, self.is_public, self.kind, self.statement, self.line = name, is_public, kind, statement, line
-        self.lines = []
+        self.lines: list[str] = []
 
-    def text(self):
+    def text(self) -> str:
         return "\n".join(self.lines)
 
-    def parts(self):
+    def parts(self) -> list[str]:
         """The fields of a record, the constructors of a type."""
         if self.kind not in ("record", "data"):
             return []
@@ -33,12 +34,17 @@ class Declaration:
 class File:
     """A source of the logic: its imports as the local name's path, its modules' paths, its declarations at the top."""
 
-    def __init__(self, text):
-        self.imports, self.modules, self.declarations, self.exports = {}, {}, [], []
+    def __init__(self, text: str) -> None:
+        self.imports: dict[str, str] = {}
+        self.modules: dict[str, str] = {}
+        self.declarations: list[Declaration] = []
+        self.exports: list[tuple[str, str]] = []
         self.read(text)
 
-    def read(self, text):
-        current, modules, inside, use = None, [], False, ""
+    def read(self, text: str) -> None:
+        current: Optional[Declaration] = None
+        modules: list[tuple[int, str]] = []
+        inside, use = False, ""
         for number, whole in enumerate(text.split("\n"), 1):
             indent = len(whole) - len(whole.lstrip(" "))
             while modules and whole.strip() and indent < modules[-1][0]:
@@ -72,7 +78,9 @@ class File:
                 if current:
                     current.lines.append(line)
 
-    def read_line(self, line, number, current, telescope):
+    def read_line(
+        self, line: str, number: int, current: Optional[Declaration], telescope: str
+    ) -> tuple[Optional[Declaration], bool]:
         """Returns the declaration that a line belongs to, and whether its statement may go on in the next line."""
         of_type, head = TYPE_HEAD.match(line), HEAD.match(line)
         if of_type:
@@ -84,14 +92,14 @@ class File:
         elif line.startswith("unfolding ") or line.startswith("}") or line.startswith(")"):
             return current, False
         else:
-            name = re.match(r"(?:pub )?(\S+)", line)[1]
+            name = re.findall(r"^(?:pub )?(\S+)", line)[0]
             if current and (name == current.name or "◌" in current.name or not re.match(r"[\w-]+$", name)):
                 return current, False
             made = Declaration(name, line.startswith("pub "), "unsigned", "", number)
         self.declarations.append(made)
         return made, not of_type
 
-    def read_use(self, line):
+    def read_use(self, line: str) -> None:
         path, brace, names = re.sub(r"^(?:pub )?use ", "", line).partition(".{")
         if brace:
             for it in filter(str.strip, names.rpartition("}")[0].split(",")):
@@ -106,7 +114,7 @@ class File:
                 self.exports.append((own or path.rpartition(".")[2], path))
 
 
-def parts_of(imports):
+def parts_of(imports: dict[str, str]) -> dict[str, str]:
     """Returns the words of imported mixfix names with their paths, such as `if`, `then` and `else` of `if◌then◌else◌`."""
     found = {}
     for name, path in imports.items():
@@ -120,16 +128,17 @@ def parts_of(imports):
 class Statement:
     """A statement in its form, with the paths that its names are imported from and the names of its own file in it."""
 
-    def __init__(self, file, text):
+    def __init__(self, file: File, text: str) -> None:
         self.words = WORD.findall(text)
         self.imports = {**parts_of(file.imports), **file.imports}
         self.modules = file.modules
         self.own = {it.name for it in file.declarations}
         self.own |= {part for name in self.own if "◌" in name for part in name.split("◌") if part}
-        self.paths, self.locals = set(), set()
+        self.paths: set[str] = set()
+        self.locals: set[str] = set()
         self.form = " ".join(self.arrows(self.words, {}, 0))
 
-    def name(self, word, bound):
+    def name(self, word: str, bound: dict[str, str]) -> str:
         """Returns a word as the form has it, and notes where it comes from."""
         head, dot, rest = word.partition(".")
         if word in PUNCTUATION or word in ("→", "×", ":", "="):
@@ -148,10 +157,10 @@ class Statement:
             self.locals.add(head)
         return word
 
-    def arrows(self, words, bound, depth):
+    def arrows(self, words: list[str], bound: dict[str, str], depth: int) -> list[str]:
         """Returns the form of a type: its arguments, each by its place, and what is behind the last arrow."""
-        parts, made, place = split_arrows(words), [], 0
-        bound = dict(bound)
+        made: list[str] = []
+        parts, place, bound = split_arrows(words), 0, dict(bound)
         for part in parts[:-1]:
             for names, inner in telescope(part):
                 types = self.arrows(inner, bound, depth + 1)
@@ -162,9 +171,10 @@ class Statement:
                     made += ["("] + types + [")", "→"] if len(types) > 1 else types + ["→"]
         return made + self.body(parts[-1], bound, depth)
 
-    def body(self, words, bound, depth):
+    def body(self, words: list[str], bound: dict[str, str], depth: int) -> list[str]:
         """Returns the form of words without an arrow at the top."""
-        made, at, bound = [], 0, dict(bound)
+        made: list[str] = []
+        at, bound = 0, dict(bound)
         words = without_parentheses(words)
         while at < len(words):
             word = words[at]
@@ -181,22 +191,23 @@ class Statement:
                 at = end + 1
             elif word.startswith("λ"):
                 binders, behind = lambda_head(words, at)
-                inner = {**bound, **{it: f"%{depth}.{index}" for index, it in enumerate(binders)}}
-                made += ["λ"] + [inner[it] for it in binders] + ["."] + self.arrows(words[behind:], inner, depth + 1)
+                known = {**bound, **{it: f"%{depth}.{index}" for index, it in enumerate(binders)}}
+                made += ["λ"] + [known[it] for it in binders] + ["."] + self.arrows(words[behind:], known, depth + 1)
                 at = len(words)
             else:
                 made.append(self.name(word, bound))
                 at += 1
         return made
 
-    def names(self, names, bound, depth, place):
+    def names(self, names: list[str], bound: dict[str, str], depth: int, place: int) -> list[str]:
         for index, it in enumerate(names):
             bound[it] = f"&{depth}.{place}.{index}"
         return [bound[it] for it in names]
 
-    def listed(self, words, bound, depth):
+    def listed(self, words: list[str], bound: dict[str, str], depth: int) -> list[str]:
         """Returns the form of what is between parentheses: parts with commas between."""
-        made, start = [], 0
+        made: list[str] = []
+        start = 0
         for at in [*commas(words), len(words)]:
             made += self.arrows(words[start:at], bound, depth)
             if at < len(words):
@@ -205,9 +216,10 @@ class Statement:
         return made
 
 
-def lambda_head(words, at):
+def lambda_head(words: list[str], at: int) -> tuple[list[str], int]:
     """Returns the variables of the lambda at a place, and the place behind its dot. Their types, where written, are left out."""
-    binders, place = [], at
+    binders: list[str] = []
+    place = at
     while place < len(words):
         word = words[place].removeprefix("λ")
         if word in ("(", "{"):
@@ -224,7 +236,7 @@ def lambda_head(words, at):
     return binders, place
 
 
-def closing(words, at):
+def closing(words: list[str], at: int) -> int:
     """Returns the place of the parenthesis that closes the one at a place."""
     depth = 0
     for place in range(at, len(words)):
@@ -235,8 +247,9 @@ def closing(words, at):
     return len(words) - 1
 
 
-def commas(words):
-    depth, found = 0, []
+def commas(words: list[str]) -> list[int]:
+    found: list[int] = []
+    depth = 0
     for place, word in enumerate(words):
         depth += word in ("(", "{")
         depth -= word in (")", "}")
@@ -245,10 +258,12 @@ def commas(words):
     return found
 
 
-def without_parentheses(words):
+def without_parentheses(words: list[str]) -> list[str]:
     """Returns words without the parentheses that the operators at the top don't need, as in `(a || b) ≡ true` and `(p) ⊎ (q)`."""
-    for operators, binding in ((("⊎", "×"), set()), (("≡",), {"≡"})):
-        parts, depth = [[]], 0
+    levels: list[tuple[tuple[str, ...], set[str]]] = [(("⊎", "×"), set()), (("≡",), {"≡"})]
+    for operators, binding in levels:
+        parts: list[list[str]] = [[]]
+        depth = 0
         for word in words:
             depth += word in ("(", "{")
             depth -= word in (")", "}")
@@ -262,7 +277,7 @@ def without_parentheses(words):
     return words
 
 
-def operand(part, weak):
+def operand(part: list[str], weak: set[str]) -> list[str]:
     """Returns an operand without the parentheses around all of it, unless what is inside binds less than the operator."""
     if part[:1] != ["("] or closing(part, 0) != len(part) - 1:
         return without_parentheses(part)
@@ -275,9 +290,10 @@ def operand(part, weak):
     return without_parentheses(inner)
 
 
-def split_arrows(words):
+def split_arrows(words: list[str]) -> list[list[str]]:
     """Returns the parts between the arrows at the top; what is behind a lambda's dot is part of its body."""
-    parts, depth, is_lambda = [[]], 0, False
+    parts: list[list[str]] = [[]]
+    depth, is_lambda = 0, False
     for word in words:
         depth += word in ("(", "{")
         depth -= word in (")", "}")
@@ -289,9 +305,10 @@ def split_arrows(words):
     return parts
 
 
-def telescope(words):
+def telescope(words: list[str]) -> list[tuple[list[str], list[str]]]:
     """Returns what is before an arrow as pairs of names and their type; a type alone has the name ""."""
-    found, at = [], 0
+    found: list[tuple[list[str], list[str]]] = []
+    at = 0
     while at < len(words):
         if words[at] not in ("(", "{"):
             return [([""], words)]
@@ -308,7 +325,7 @@ def telescope(words):
     return found
 
 
-def origin(path):
+def origin(path: str) -> str:
     """Returns the crate that a path is of, or its first word for what isn't of a crate."""
     parts = path.split(".")
     return parts[1] if parts[0] == "Rattle" and len(parts) > 1 else parts[0]

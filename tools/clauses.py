@@ -20,11 +20,15 @@ import subprocess
 import sys
 import tarfile
 import tempfile
+from typing import Any, Callable, Optional
 
 import antt
 import contracts
 import repository
+from contracts import Key
 
+# What names a file: its crate, src or specs, and its name.
+FileKey = tuple[str, str, str]
 # What makes the status 1, in the order in which it is printed; then what is only reported.
 WRONG = [
     "function gone", "type gone", "model gone", "clause gone", "clause changed", "new requires", "signature changed", "type changed",
@@ -39,16 +43,20 @@ REPORTED = [
 class State:
     """What a state of the repository has: items of the sources, definitions of specs/, each file's imports."""
 
-    def __init__(self, root):
+    def __init__(self, root: str) -> None:
         self.crates = repository.read_crates(root)
-        self.items, self.public, self.files, self.definitions, self.parts = {}, set(), {}, {}, {}
+        self.items: dict[Key, contracts.Item] = {}
+        self.public: set[Key] = set()
+        self.files: dict[FileKey, set[Any]] = {}
+        self.definitions: dict[FileKey, antt.File] = {}
+        self.parts: dict[tuple[str, str, str, str], str] = {}
         tests = repository.crates_with_tests(root)
         for crate in self.crates:
             if crate not in tests:
                 self.read_sources(root, crate)
             self.read_specs(root, crate)
 
-    def read_sources(self, root, crate):
+    def read_sources(self, root: str, crate: str) -> None:
         library = f"{root}/crates/{crate}/src/lib.rt"
         shown = contracts.Root(read(library), True) if os.path.isfile(library) else contracts.Root("", False)
         for path in sorted(glob.glob(f"{root}/crates/{crate}/src/**/*.rt", recursive=True)):
@@ -63,7 +71,7 @@ class State:
                 if shown.shows(it):
                     self.public.add(key)
 
-    def read_specs(self, root, crate):
+    def read_specs(self, root: str, crate: str) -> None:
         for path in sorted(glob.glob(f"{root}/crates/{crate}/specs/**/*.antt", recursive=True)):
             name = os.path.basename(path)[: -len(".antt")]
             file = antt.File(read(path))
@@ -73,7 +81,7 @@ class State:
                 for part in it.parts():
                     self.parts[crate, "specs", name, part] = it.name
 
-    def definition_of(self, path, seen=()):
+    def definition_of(self, path: str, seen: tuple[str, ...] = ()) -> Optional[tuple[FileKey, str]]:
         """Returns where a path of the logic leads: a file of the repository and the name in it; None if it isn't of the repository."""
         parts = path.split(".")
         if len(parts) < 4 or parts[0] != "Rattle" or parts[1] not in self.crates:
@@ -89,7 +97,7 @@ class State:
         return (crate, kind, rest[0]), ".".join(rest[1:])
 
 
-def difference(before, after):
+def difference(before: str, after: str) -> str:
     """Returns where two texts of words differ, as a line."""
     one, two = before.split(" "), after.split(" ")
     front = 0
@@ -103,7 +111,7 @@ def difference(before, after):
     return " -> ".join(f"{it[:300]} .." if len(it) > 300 else it for it in shown)
 
 
-def read(path):
+def read(path: str) -> str:
     with open(path, encoding="utf-8") as text:
         return text.read()
 
@@ -111,19 +119,19 @@ def read(path):
 class Moves:
     """Where the files, items and definitions of the old state are in the new one."""
 
-    def __init__(self, old, new, given):
+    def __init__(self, old: State, new: State, given: dict[FileKey, FileKey]) -> None:
         self.old, self.new = old, new
         self.files = {it: self.new_file(it, given) for it in old.files}
-        self.crates = {}
+        self.crates: dict[str, str] = {}
         for crate in old.crates:
             votes = collections.Counter(to[0] for it, to in self.files.items() if it[0] == crate and to)
             self.crates[crate] = votes.most_common(1)[0][0] if votes else crate
-        self.by_name = collections.defaultdict(list)
+        self.by_name: dict[str, list[tuple[FileKey, str]]] = collections.defaultdict(list)
         for file, its in new.definitions.items():
             for it in its.declarations:
                 self.by_name[it.name].append((file, it.name))
 
-    def new_file(self, file, given):
+    def new_file(self, file: FileKey, given: dict[FileKey, FileKey]) -> Optional[FileKey]:
         """Returns the file of the new state with the most of the names of a file of the old one; itself if it has one still."""
         if file in given:
             return given[file]
@@ -135,7 +143,7 @@ class Moves:
                   for it, its in self.new.files.items() if it[1] == file[1] and names & its]
         return max(ranked)[-1] if ranked else None
 
-    def definition(self, file, name):
+    def definition(self, file: FileKey, name: str) -> Optional[tuple[FileKey, str]]:
         """Returns where a definition of the old state is in the new one, or None."""
         to = self.files.get(file)
         if to in self.new.definitions and name in self.new.files[to]:
@@ -143,7 +151,7 @@ class Moves:
         found = self.by_name.get(name, [])
         return found[0] if len(found) == 1 else None
 
-    def place(self, file, rest):
+    def place(self, file: FileKey, rest: str) -> str:
         """Returns, as a text, where what a path leads to is in the new state."""
         name, dot, more = rest.partition(".")
         whole = name if name in self.old.files.get(file, ()) else self.old.parts.get((*file, name))
@@ -158,14 +166,14 @@ class Moves:
 class Words:
     """Brings a text of the logic into a form that is the same where names are imported from another place than before."""
 
-    def __init__(self, state, place):
+    def __init__(self, state: State, place: Callable[[FileKey, str], str]) -> None:
         self.state, self.place = state, place
 
-    def form(self, text, imports, modules, own=None):
-        made = []
+    def form(self, text: str, imports: dict[str, str], modules: dict[str, str], own: Optional[FileKey] = None) -> str:
+        made: list[str] = []
         for word in antt.WORD.findall(re.sub(r"^\s*--.*$", "", text, flags=re.M)):
             head, dot, rest = word.partition(".")
-            found = None
+            found: Optional[str] = None
             if word in imports:
                 made.append(self.target(imports[word], word))
                 continue
@@ -178,7 +186,7 @@ class Words:
             made.append(found or word)
         return " ".join(made)
 
-    def target(self, path, word):
+    def target(self, path: str, word: str) -> str:
         found, name = self.state.definition_of(path), path.rpartition(".")[2]
         if found:
             return self.place(*found)
@@ -188,28 +196,30 @@ class Words:
 class Comparison:
     """All that differs between two states, by what it is."""
 
-    def __init__(self, old, new, given={}):
+    def __init__(self, old: State, new: State, given: dict[Key, Key] = {}) -> None:
         self.old, self.new = old, new
         self.given = given
-        self.moves = Moves(old, new, {key: to for key, to in given.items() if len(key) == 3})
+        files: dict[Any, Any] = {key: to for key, to in given.items() if len(key) == 3}
+        self.moves = Moves(old, new, files)
         self.old_words = Words(old, self.moves.place)
         self.new_words = Words(new, lambda file, rest: f"{'/'.join(file)}.{rest}")
-        self.found = {it: [] for it in WRONG + REPORTED}
+        self.found: dict[str, list[str]] = {it: [] for it in WRONG + REPORTED}
         self.compare_items(self.paired())
         self.compare_definitions()
 
-    def contract(self, words, item):
+    def contract(self, words: Words, item: contracts.Item) -> dict[str, str]:
         return {name: words.form(text, item.imports.imports, item.imports.modules) for name, text in item.clauses.items()}
 
-    def expected(self, key):
+    def expected(self, key: Key) -> Key:
         """Returns the key that an item of the old state has in the new one, if it moved with its file."""
         kind, crate, module, *rest = key
         to = self.moves.files.get((crate, "src", module)) or (crate, "src", module)
         return (kind, to[0], to[2], *rest)
 
-    def paired(self):
+    def paired(self) -> dict[Key, Key]:
         """Returns the item of the new state for each of the old one: by its file, by its name elsewhere, or by its contract."""
-        pairs, left = {}, []
+        pairs: dict[Key, Key] = {}
+        left: list[Key] = []
         for key, item in self.old.items.items():
             to = self.given.get((item.crate, item.module, item.owner, item.name)) or self.expected(key)
             if to in self.new.items:
@@ -227,20 +237,20 @@ class Comparison:
                     left.remove(key)
         return pairs
 
-    def has_same_name(self, key, other):
+    def has_same_name(self, key: Key, other: Key) -> bool:
         return key[3:] == other[3:]
 
-    def has_same_contract(self, key, other):
+    def has_same_contract(self, key: Key, other: Key) -> bool:
         one, two = self.old.items[key], self.new.items[other]
         if not one.clauses or one.owner != two.owner or one.trait != two.trait:
             return False
         nameless = [re.sub(rf"\bfn {it.name}\b", "fn", it.signature) for it in (one, two)]
         return nameless[0] == nameless[1] and self.contract(self.old_words, one) == self.contract(self.new_words, two)
 
-    def add(self, what, text):
+    def add(self, what: str, text: str) -> None:
         self.found[what].append(text)
 
-    def compare_items(self, pairs):
+    def compare_items(self, pairs: dict[Key, Key]) -> None:
         kinds = {"function": "function", "type": "type", "ghost": "model"}
         for key in sorted(self.old.public):
             item, to = self.old.items[key], pairs.get(key)
@@ -267,13 +277,13 @@ class Comparison:
         for key in sorted(self.new.public - set(pairs.values())):
             self.add(f"new public {kinds[key[0]]}", self.new.items[key].path())
 
-    def compare_function(self, item, other):
+    def compare_function(self, item: contracts.Item, other: contracts.Item) -> None:
         signatures = [re.sub(rf"\bfn {it.name}\b", "fn", it.signature) for it in (item, other)]
         if signatures[0] != signatures[1]:
             self.add("signature changed", f"{other.path()}: {difference(*signatures)}")
         self.compare_clauses(item, other, "clause gone", "clause changed")
 
-    def compare_clauses(self, item, other, gone, changed):
+    def compare_clauses(self, item: contracts.Item, other: contracts.Item, gone: str, changed: str) -> None:
         before, after = self.contract(self.old_words, item), self.contract(self.new_words, other)
         for name in before.keys() - after.keys():
             self.add("requires gone" if name.startswith("requires") else gone, f"{other.path()}: {name}")
@@ -283,7 +293,7 @@ class Comparison:
             if before[name] != after[name]:
                 self.add(changed, f"{other.path()}: {name}: {difference(before[name], after[name])}")
 
-    def compare_definitions(self):
+    def compare_definitions(self) -> None:
         seen = set()
         for file, its in sorted(self.old.definitions.items()):
             for it in its.declarations:
@@ -305,21 +315,21 @@ class Comparison:
                 if (file, it.name) not in seen:
                     self.add("new definition", f"{'/'.join(file)}.{it.name}")
 
-    def text_of(self, words, file, its, declaration):
+    def text_of(self, words: Words, file: FileKey, its: antt.File, declaration: antt.Declaration) -> str:
         return words.form(declaration.text(), {**antt.parts_of(its.imports), **its.imports}, its.modules, file)
 
-    def lines(self):
+    def lines(self) -> list[str]:
         shown = [f"{what}: {it}" for what in WRONG + REPORTED for it in sorted(self.found[what])]
         counts = ", ".join(f"{len(its)} {what}" for what, its in self.found.items() if its)
         return shown + [f"of {len(self.old.public)} public items: {counts or 'nothing differs'}"]
 
-    def is_wrong(self):
+    def is_wrong(self) -> bool:
         return any(self.found[it] for it in WRONG)
 
 
-def table(text):
+def table(text: str) -> dict[Key, Key]:
     """Returns what a table of moved names says: files by their crate, kind and name, functions by the key of the new one."""
-    given = {}
+    given: dict[Key, Key] = {}
     for line in text.splitlines():
         words = line.partition("#")[0].split()
         if len(words) != 2:
@@ -335,7 +345,7 @@ def table(text):
     return given
 
 
-def state_of(name, root=repository.ROOT):
+def state_of(name: str, root: str = repository.ROOT) -> State:
     """Returns the state of a folder, or of a commit."""
     if os.path.isdir(name):
         return State(name)
@@ -346,13 +356,14 @@ def state_of(name, root=repository.ROOT):
         for it in files:
             if it.isfile() and (it.name == "crates.txt" or re.match(r"crates/\w+/(?:src|specs)/", it.name)):
                 os.makedirs(os.path.dirname(f"{room}/{it.name}"), exist_ok=True)
+                source = files.extractfile(it)
                 with open(f"{room}/{it.name}", "wb") as copy:
-                    copy.write(files.extractfile(it).read())
+                    copy.write(source.read() if source else b"")
         return State(room)
 
 
-def main(words):
-    given = {}
+def main(words: list[str]) -> int:
+    given: dict[Key, Key] = {}
     if words[:1] == ["--moved"] and len(words) > 1:
         given, words = table(read(words[1])), words[2:]
     if len(words) != 2:

@@ -1,7 +1,11 @@
 """What sources promise: functions with their signatures and clauses, models of types, and what the root of a crate makes public."""
 import re
+from typing import Any
 
 import antt
+
+# What names an item: its kind, its crate, its module and what it is called there; a number where that names several.
+Key = tuple[Any, ...]
 
 FUNCTION = re.compile(r'( *)(pub(?:\([a-z]+\))? )?(?:const |unsafe |ghost |extern "C" )*fn (\w+)')
 TYPE = re.compile(r"pub (struct|enum|trait|type|const) (\w+)")
@@ -14,24 +18,27 @@ PROOFS = {"laws", "total", "coded", "inverse", "matches_eq", "matches_partial_cm
 class Item:
     """A function, a ghost of an impl, or a type: where it is, whether it is marked public, its signature, its clauses by name."""
 
-    def __init__(self, kind, crate, module, owner, trait, name, is_marked, signature, clauses, imports):
+    def __init__(
+        self, kind: str, crate: str, module: str, owner: str, trait: str, name: str,
+        is_marked: bool, signature: str, clauses: dict[str, str], imports: "Imports",
+    ) -> None:
         self.kind, self.crate, self.module, self.owner, self.trait, self.name = kind, crate, module, owner, trait, name
         self.is_marked, self.signature, self.clauses, self.imports = is_marked, signature, clauses, imports
 
-    def key(self):
+    def key(self) -> Key:
         return self.kind, self.crate, self.module, self.own_key()
 
-    def own_key(self):
+    def own_key(self) -> tuple[str, str, str]:
         """What it is called in its module."""
         return self.owner, self.trait, self.name
 
-    def path(self):
+    def path(self) -> str:
         """How it is shown."""
         owner = f"{self.owner} as {self.trait}" if self.trait else self.owner
         return "::".join(it for it in (self.crate, self.module, owner, self.name) if it)
 
 
-def closing_brace(text, at):
+def closing_brace(text: str, at: int) -> int:
     """Returns the place of the brace that closes the one at a place."""
     depth = 0
     for place in range(at, len(text)):
@@ -41,7 +48,7 @@ def closing_brace(text, at):
     return len(text) - 1
 
 
-def plain(text):
+def plain(text: str) -> str:
     """Returns a text of Rust on one line, without paths, comments and what the layout adds."""
     text = re.sub(r"//[^\n]*", "", text)
     text = re.sub(r"\s+", " ", text).strip()
@@ -50,9 +57,11 @@ def plain(text):
     return re.sub(r"\b(?:[a-z_]\w*::)+(?=[A-Za-z_])", "", text)
 
 
-def contract_at(lines, at):
+def contract_at(lines: list[str], at: int) -> tuple[str, dict[str, str]]:
     """Returns the signature of the function that begins at a line, and its clauses by name."""
-    signature, end = [], at
+    signature: list[str] = []
+    clauses: dict[str, str] = {}
+    end = at
     for end in range(at, len(lines)):
         line = lines[end]
         if end > at and re.match(r"\s*(?:where\b|requires\b|ensures\b|\{)", line):
@@ -60,9 +69,10 @@ def contract_at(lines, at):
         signature.append(re.sub(r"\s*(?:\{.*|;)$", "", line))
         if re.search(r"(?:^|\s)\{(?:.*\})?$|;$", line):
             return plain(" ".join(signature)), {}
-    text, place, clauses = "\n".join(lines[end : end + 400]), 0, {}
+    text, place = "\n".join(lines[end : end + 400]), 0
     while True:
-        place = re.compile(r"(?:\s|//[^\n]*)*").match(text, place).end()
+        space = re.compile(r"(?:\s|//[^\n]*)*").match(text, place)
+        place = space.end() if space else place
         bound = re.compile(r"where\b[^{]*?(?=\s(?:requires|ensures)\b|\s\{)").match(text, place)
         head = re.compile(r"(requires|ensures)\b *(\w*) *\{").match(text, place)
         if bound:
@@ -79,7 +89,7 @@ def contract_at(lines, at):
             return plain(" ".join(signature)), clauses
 
 
-def imports_of(lines, indent):
+def imports_of(lines: list[str], indent: int) -> antt.File:
     """Returns the imports for contracts that are written at an indent, as a file of the logic."""
     uses = re.findall(rf"^ {{{indent}}}ghost (use [^;]*);", "\n".join(lines), re.M)
     return antt.File("\n".join(" ".join(it.split()) for it in uses))
@@ -88,24 +98,25 @@ def imports_of(lines, indent):
 class Imports:
     """What names of a contract are imported as: those of the file, and those of the impl that it is in."""
 
-    def __init__(self, *files):
-        self.imports, self.modules = {}, {}
+    def __init__(self, *files: antt.File) -> None:
+        self.imports: dict[str, str] = {}
+        self.modules: dict[str, str] = {}
         for it in files:
             self.imports.update({**antt.parts_of(it.imports), **it.imports})
             self.modules.update(it.modules)
 
 
-def block_head(lines, at):
+def block_head(lines: list[str], at: int) -> tuple[str, str, int]:
     """Returns the type and the trait of an impl, or the trait whose calls begin, and the line after its head."""
     end = next(it for it in range(at, len(lines)) if re.search(r"\{(?:\})?$", lines[it]))
     head = " ".join(it.strip() for it in lines[at : end + 1])
-    rest = re.match(r"(?:pub )?(?:impl|trait)\b(?:<(?:[^<>]|<[^<>]*>)*>)? *(.*)", head)[1]
+    rest: str = re.findall(r"^(?:pub )?(?:impl|trait)\b(?:<(?:[^<>]|<[^<>]*>)*>)? *(.*)", head)[0]
     trait, of, whose = rest.partition(" for ")
-    owner = re.match(r"(?:\w+::)*(\w+)", whose if of else rest)[1]
+    owner: str = re.findall(r"^(?:\w+::)*(\w+)", whose if of else rest)[0]
     return owner, plain(trait) if of else "", end + 1
 
 
-def type_text(lines, at, kind):
+def type_text(lines: list[str], at: int, kind: str) -> str:
     """Returns what others see of a type: all of an enum, the public fields of a structure, the value of a constant."""
     if kind == "trait":
         return ""
@@ -116,9 +127,10 @@ def type_text(lines, at, kind):
     return plain("\n".join(shown))
 
 
-def items_of(crate, module, text):
+def items_of(crate: str, module: str, text: str) -> list[Item]:
     """Returns the items of a source, as `rt fmt` lays it out."""
-    found, lines = [], text.split("\n")
+    found: list[Item] = []
+    lines = text.split("\n")
     outer = imports_of(lines, 0)
     owner, trait, is_public, imports, at = "", "", False, Imports(outer), 0
     for at, line in enumerate(lines):
@@ -149,16 +161,16 @@ def items_of(crate, module, text):
 class Root:
     """What the root file of a crate makes public."""
 
-    def __init__(self, text, is_library):
+    def __init__(self, text: str, is_library: bool) -> None:
         self.is_library = is_library
         self.modules = set(re.findall(r"^pub mod (\w+);", text, re.M))
-        self.names = set()
+        self.names: set[str] = set()
         for part in re.findall(r"^pub use ([^;]*);", text, re.M):
             for it in re.sub(r".*?\{|\}", "", part, flags=re.S).split(",") if "{" in part else [part]:
                 if it.strip():
                     self.names.add(re.split(r"::| as ", it)[-1].strip())
 
-    def shows(self, item):
+    def shows(self, item: Item) -> bool:
         """Whether an item may be named from outside the crate."""
         if not item.is_marked:
             return False

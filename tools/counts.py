@@ -24,16 +24,18 @@ WALKS = "tools/walks.txt"
 class Walk:
     """A way through the code: its name, how many crates it may cross, the line that begins it, the functions of each line."""
 
-    def __init__(self, name, most, line):
-        self.name, self.most, self.line, self.functions = name, most, line, []
+    def __init__(self, name: str, most: int, line: int) -> None:
+        self.name, self.most, self.line = name, most, line
+        self.functions: list[tuple[int, str]] = []
 
-    def crates(self):
+    def crates(self) -> list[str]:
         return sorted({it.partition("::")[0] for _, it in self.functions})
 
 
-def walks_in(text):
+def walks_in(text: str) -> tuple[list[Walk], list[tuple[int, str]]]:
     """Returns the walks of a text, as tools/walks.txt has them, and the lines that are none."""
-    found, wrong = [], []
+    found: list[Walk] = []
+    wrong: list[tuple[int, str]] = []
     for number, line in enumerate(text.splitlines(), 1):
         head = re.fullmatch(r"(.*), at most (\d+) crates:", line)
         if head:
@@ -45,7 +47,7 @@ def walks_in(text):
     return found, wrong
 
 
-def functions_of(crate, root):
+def functions_of(crate: str, root: str) -> list[str]:
     """Returns the names of the functions of a crate, as tools/walks.txt writes them, of those that have a body."""
     found = []
     for path in sorted(glob.glob(f"{root}/crates/{crate}/src/**/*.rt", recursive=True)):
@@ -56,11 +58,11 @@ def functions_of(crate, root):
     return found
 
 
-def ways_down(crates):
+def ways_down(crates: dict[str, list[str]]) -> int:
     """Returns how many ways lead from each crate down through the crates that it uses, the sum over all crates."""
-    ways = {}
+    ways: dict[str, int] = {}
 
-    def below(crate):
+    def below(crate: str) -> int:
         if crate not in ways:
             ways[crate] = sum(1 + below(it) for it in crates[crate] if it in crates)
         return ways[crate]
@@ -68,7 +70,7 @@ def ways_down(crates):
     return sum(below(it) for it in crates)
 
 
-def lines_below(folder):
+def lines_below(folder: str) -> int:
     """Returns how many lines the files below a folder have, without what builds leave in out/."""
     total = 0
     for at, folders, names in os.walk(folder):
@@ -79,7 +81,7 @@ def lines_below(folder):
     return total
 
 
-def checked_walks(text, functions):
+def checked_walks(text: str, functions: set[str]) -> tuple[list[repository.Row], list[repository.Finding]]:
     """Returns rows of counts, and findings as triples, of the walks of a text over the names of all functions."""
     walks, wrong = walks_in(text)
     found = [(WALKS, number, what) for number, what in wrong]
@@ -89,11 +91,11 @@ def checked_walks(text, functions):
             what = f"{walk.name} crosses {len(crates)} crates of at most {walk.most}: {', '.join(crates)}"
             found.append((WALKS, walk.line, what))
         found += [(WALKS, number, f"no function {it}") for number, it in walk.functions if it not in functions]
-    rows = [(f"crates crossed by {it.name}", len(it.crates()), f"at most {it.most}") for it in walks]
+    rows: list[repository.Row] = [(f"crates crossed by {it.name}", len(it.crates()), f"at most {it.most}") for it in walks]
     return rows, found
 
 
-def count(root=repository.ROOT):
+def count(root: str = repository.ROOT) -> tuple[list[repository.Row], list[repository.Finding]]:
     """Returns the counts as rows of a name, a number and a remark, and the findings as triples of a file, a line and a text."""
     crates = repository.read_crates(root)
     functions = {it: functions_of(it, root) for it in crates}
@@ -102,7 +104,7 @@ def count(root=repository.ROOT):
     with_edits = [it for it in crates if edits[it]]
     total, lines = sum(edits.values()), lines_below(f"{root}/crates")
     median = statistics.median(len(it) for it in functions.values()) if crates else 0
-    rows = [
+    rows: list[repository.Row] = [
         ("crates", len(crates), f"at most {MOST_CRATES}"),
         ("ways down through crates.txt", ways_down(crates), ""),
         ("functions a crate, in the median", median, f"greatest: {len(functions.get(greatest, []))}, {greatest}"),
@@ -110,7 +112,7 @@ def count(root=repository.ROOT):
         ("edits in must-fail/", total, f"in {len(with_edits)} crates; {'at most' if EDITS_ARE_BOUNDED else 'aim:'}"
          f" {MOST_EDITS} in {MOST_CRATES_WITH_EDITS}"),
     ]
-    found = []
+    found: list[repository.Finding] = []
     if len(crates) > MOST_CRATES:
         found.append(("crates.txt", 1, f"{len(crates)} crates of at most {MOST_CRATES}"))
     if LINES_ARE_BOUNDED and lines > MOST_LINES:
@@ -125,14 +127,14 @@ def count(root=repository.ROOT):
     return rows, found
 
 
-def shown(rows):
+def shown(rows: list[repository.Row]) -> list[str]:
     """Returns rows of counts as lines, one below the other."""
     width = max(len(name) for name, _, _ in rows)
     numbers = [int(it) if it == int(it) else it for _, it, _ in rows]
     return [f"{name:<{width}} {it:>8,}  {remark}".rstrip() for (name, _, remark), it in zip(rows, numbers)]
 
 
-def main(words):
+def main(words: list[str]) -> int:
     rows, found = count(*words)
     for path, line, what in found:
         print(f"{path}:{line}: {what}")

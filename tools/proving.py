@@ -14,6 +14,7 @@ import subprocess
 import sys
 import threading
 import time
+from typing import Optional, Sequence
 
 import pace
 import repository
@@ -21,9 +22,11 @@ import shared_rt
 
 # What a check from nothing takes at most, in bytes: two of four that ran beside each other took this much.
 MEMORY_OF_A_CHECK = 3_000_000_000
+# The name of a command; a line of it, or None at its end; its status and its processor seconds, which are 0 before.
+Event = tuple[str, Optional[str], tuple[int, float]]
 
 
-def processors():
+def processors() -> int:
     """Returns the number of processors, or what the control group's quota leaves of them."""
     count = len(os.sched_getaffinity(0))
     try:
@@ -34,32 +37,32 @@ def processors():
         return count
 
 
-def free_memory():
+def free_memory() -> int:
     """Returns the bytes of memory that are free, by the system and by the control group."""
     with open("/proc/meminfo", encoding="ascii") as file:
-        free = int(re.search(r"MemAvailable:\s+(\d+)", file.read())[1]) * 1024
+        free = int(re.findall(r"MemAvailable:\s+(\d+)", file.read())[0]) * 1024
     try:
         with open("/sys/fs/cgroup/memory.max", encoding="ascii") as most:
             with open("/sys/fs/cgroup/memory.stat", encoding="ascii") as used:
-                held = int(re.search(r"^anon (\d+)", used.read(), re.M)[1])
-                return min(free, int(most.read()) - held)
-    except (OSError, ValueError, TypeError):
+                held = re.search(r"^anon (\d+)", used.read(), re.M)
+                return min(free, int(most.read()) - int(held[1])) if held else free
+    except (OSError, ValueError):
         return free
 
 
-def span(seconds):
-    minutes, seconds = divmod(int(seconds), 60)
-    return f"{minutes} min {seconds} s" if minutes else f"{seconds} s"
+def span(seconds: float) -> str:
+    minutes, rest = divmod(int(seconds), 60)
+    return f"{minutes} min {rest} s" if minutes else f"{rest} s"
 
 
-def rt_words():
+def rt_words() -> tuple[list[str], bool]:
     """Returns the words that begin a call of `rt` in a crate's folder, and whether such calls work side by side."""
     words = [sys.executable, "-B", os.path.realpath(shared_rt.__file__)]
     ran = subprocess.run(words, stdout=subprocess.DEVNULL, stderr=subprocess.DEVNULL)
     return (words, True) if ran.returncode == 0 else (["rt"], False)
 
 
-def link(root, crate):
+def link(root: str, crate: str) -> tuple[int, str]:
     """Links the program of a crate over what is proved, and returns the status and the log."""
     log = f"{root}/crates/{crate}/out/link.log"
     with open(log, "wb") as out:
@@ -68,7 +71,7 @@ def link(root, crate):
     return ran.returncode, log
 
 
-def read_mark(name, root=repository.ROOT):
+def read_mark(name: str, root: str = repository.ROOT) -> list[str]:
     """Returns the lines of a crate's mark: its sum, the last line of its check, and the processor seconds of that, where it was from nothing."""
     try:
         with open(f"{root}/crates/{name}/out/proved", encoding="utf-8") as file:
@@ -80,16 +83,18 @@ def read_mark(name, root=repository.ROOT):
 class Crate:
     """A crate, and what is known of its proof."""
 
-    def __init__(self, name, root, below, logic, libraries):
+    def __init__(self, name: str, root: str, below: "list[Crate]", logic: str, libraries: list[str]) -> None:
         self.name, self.root, self.below, self.out = name, root, below, f"{root}/crates/{name}/out"
         self.own = self.sum_of_files()
         total = hashlib.sha256(repr((logic, libraries, self.own)).encode())
         total.update(repr([it.sum for it in below]).encode())
-        self.every_below = {low.name: low for it in below for low in [*it.every_below.values(), it]}
-        self.sum, self.line, self.text = total.hexdigest(), None, ""
-        self.is_done, self.is_lost = False, False
+        self.every_below: dict[str, Crate] = {low.name: low for it in below for low in [*it.every_below.values(), it]}
+        self.sum: str = total.hexdigest()
+        self.text = ""
+        self.line: Optional[str] = None
+        self.is_done, self.is_lost, self.is_new = False, False, False
 
-    def sum_of_files(self):
+    def sum_of_files(self) -> str:
         total, self.lines = hashlib.sha256(), 0
         for path in repository.files_of(self.name, self.root):
             with open(path, "rb") as file:
@@ -98,23 +103,23 @@ class Crate:
             self.lines += text.count(b"\n") * path.endswith(".rt")
         return total.hexdigest()
 
-    def has_kept(self):
+    def has_kept(self) -> bool:
         """Whether `rt` kept work of an earlier check."""
         kept = f"{self.out}/incremental"
         return os.path.isdir(kept) and bool(os.listdir(kept))
 
-    def read_mark(self):
+    def read_mark(self) -> bool:
         """Takes over what an earlier run, or one beside this one, proved. Returns whether there is something."""
         total, line, _ = read_mark(self.name, self.root)
         if total == self.sum:
             self.line, self.is_done = line, True
         return self.is_done
 
-    def note(self, line):
+    def note(self, line: str) -> None:
         """Notes that the crate is proved. `line` is the last one of its check; '-' where it was proved before and rt says no more."""
         self.line, self.is_done = line, True
 
-    def write_mark(self, line, seconds=""):
+    def write_mark(self, line: str, seconds: str = "") -> None:
         """Notes that the crate is proved, for later runs too."""
         self.note(line)
         os.makedirs(self.out, exist_ok=True)
@@ -122,16 +127,17 @@ class Crate:
             file.write(f"{self.sum}\n{line}\n{seconds}\n")
         os.replace(f"{self.out}/proved.new", f"{self.out}/proved")
 
-    def functions(self):
+    def functions(self) -> int:
         found = re.search(r"\bfunctions=(\d+)", self.line or "")
         return int(found[1]) if found else 0
 
 
-def crates_of(root, logic, tops=()):
+def crates_of(root: str, logic: str, tops: Sequence[str] = ()) -> list[Crate]:
     """Returns the crates that these are made of, all where none is named, each after those below it."""
-    lines, made = repository.read_crates(root), {}
+    made: dict[str, Crate] = {}
+    lines = repository.read_crates(root)
 
-    def make(name):
+    def make(name: str) -> Crate:
         if name not in made:
             below = [make(it) for it in lines[name] if it in lines]
             made[name] = Crate(name, root, below, logic, lines[name])
@@ -149,51 +155,54 @@ class Proving:
     # The most processes that one check gets.
     most_jobs = pace.MOST_JOBS
 
-    def __init__(self, root, kit, jobs=0, tops=()):
+    def __init__(self, root: str, kit: str, jobs: int = 0, tops: Sequence[str] = ()) -> None:
         self.root, self.kit, self.crates = root, kit, crates_of(root, repository.logic_of(kit), tops)
         self.named = {it.name: it for it in self.crates}
         self.jobs = jobs or max(1, min(self.processes(), free_memory() // MEMORY_OF_A_CHECK))
         self.take_over()
-        self.children, self.events = {}, queue.Queue()
+        self.children: dict[str, subprocess.Popen[str]] = {}
+        self.events: queue.Queue[Event] = queue.Queue()
         self.failed, self.was_edited, self.begun = False, False, time.monotonic()
-        self.on_terminal, self.clock = sys.stdout.isatty(), None
+        self.on_terminal = sys.stdout.isatty()
+        # Until there is a plan, no time is left.
+        self.clock = pace.Clock(pace.Plan({}, {}, 0, 0))
 
-    def processes(self):
+    def processes(self) -> int:
         # A check that several processes share leaves some of them idle at its begin and end.
         return processors() * 5 // 4
 
-    def take_over(self):
+    def take_over(self) -> None:
         for it in self.crates:
             it.read_mark()
 
-    def make_plan(self, is_in_turn=False):
+    def make_plan(self, is_in_turn: bool = False) -> None:
         noted = pace.read_seconds()
         seconds = {it.name: pace.seconds_of(it.name, it.lines, noted) for it in self.crates}
         below = {it.name: [low.name for low in it.below] for it in self.crates}
         self.clock = pace.Clock(pace.Plan(below, seconds, self.jobs, 1 if is_in_turn else self.jobs, self.most_jobs))
 
-    def proved(self):
+    def proved(self) -> list[Crate]:
         return [it for it in self.crates if it.line is not None]
 
-    def ended(self):
+    def ended(self) -> set[str]:
         """Returns the names of the crates that need no more time: proved ones, failed ones and those above these."""
         return {it.name for it in self.crates if it.is_done or it.is_lost or self.is_above_lost(it)}
 
-    def is_above_lost(self, crate):
+    def is_above_lost(self, crate: Crate) -> bool:
         return any(it.is_lost for it in crate.every_below.values())
 
-    def head(self):
+    def head(self) -> str:
         done = sum(it.is_done for it in self.crates)
         text = f"{done} of {len(self.crates)} crates proved"
-        left = self.clock.left(self.ended(), time.monotonic()) if self.clock else 0
+        left = self.clock.left(self.ended(), time.monotonic())
         return f"{text}; {pace.words_of(left)}" if left else text
 
-    def say(self, text):
+    def say(self, text: str) -> None:
         if self.on_terminal:
             print("\r\x1b[K", end="")
         print(text, flush=True)
 
-    def renew(self):
+    def renew(self) -> None:
         """Renews the one line that a terminal shows."""
         if not self.on_terminal:
             return
@@ -202,11 +211,11 @@ class Proving:
         width = os.get_terminal_size(1).columns or 80
         print(f"\r{line[: width - 1]}\x1b[K", end="", flush=True)
 
-    def say_proved(self, crate):
+    def say_proved(self, crate: Crate) -> None:
         if not self.on_terminal:
             self.say(f"{self.head()}; last {crate.name}")
 
-    def say_not_proved(self, crate):
+    def say_not_proved(self, crate: Crate) -> None:
         self.failed = crate.is_lost = True
         crate.line, crate.is_done = None, False
         os.makedirs(crate.out, exist_ok=True)
@@ -216,7 +225,7 @@ class Proving:
         self.say(f"NOT PROVED: {crate.name}; see {place}")
         self.say("\n".join(crate.text.splitlines()[-15:]))
 
-    def start(self, words, folder, name=""):
+    def start(self, words: list[str], folder: str, name: str = "") -> None:
         """Starts a command whose lines, and None with its status and its processor seconds at the end, come as events of this name."""
         child = subprocess.Popen(
             words,
@@ -230,16 +239,16 @@ class Proving:
         )
         self.children[name] = child
 
-        def read():
-            for line in child.stdout:
-                self.events.put((name, line, None))
+        def read() -> None:
+            for line in child.stdout or ():
+                self.events.put((name, line, (0, 0.0)))
             _, status, used = os.wait4(child.pid, 0)
             child.returncode = os.waitstatus_to_exitcode(status)
             self.events.put((name, None, (child.returncode, used.ru_utime + used.ru_stime)))
 
         threading.Thread(target=read, daemon=True).start()
 
-    def wait(self):
+    def wait(self) -> Event:
         """Returns the next event, and renews the line meanwhile."""
         while True:
             self.renew()
@@ -248,7 +257,7 @@ class Proving:
             except queue.Empty:
                 continue
 
-    def work(self):
+    def work(self) -> None:
         """Checks each crate that isn't proved, once those below it are."""
         self.words, is_shared = rt_words()
         self.make_plan(is_in_turn=not is_shared)
@@ -264,7 +273,7 @@ class Proving:
             self.take(self.named[name], *ended)
             self.begin_next()
 
-    def begin_next(self):
+    def begin_next(self) -> None:
         """Begins the checks for which there are processes."""
         while True:
             found = self.clock.plan.next(self.ended(), {it: jobs for it, (jobs, _) in self.clock.begun.items()})
@@ -277,7 +286,7 @@ class Proving:
             verb = "lib" if name in self.used else "check"
             self.start([*self.words, verb, "--jobs", str(jobs)], f"{self.root}/crates/{name}", name)
 
-    def take(self, crate, status, seconds):
+    def take(self, crate: Crate, status: int, seconds: float) -> None:
         """Takes what rt said of a crate, once its check has ended."""
         if status == shared_rt.CHANGED or crate.sum_of_files() != crate.own:
             self.was_edited = crate.is_lost = True
@@ -291,7 +300,7 @@ class Proving:
                 crate.write_mark("-")
             self.say_proved(crate)
 
-    def run(self):
+    def run(self) -> bool:
         """Proves what isn't proved, and returns whether every crate is. Ends its checks where it is broken off."""
         kept = len(self.proved())
         if kept:
@@ -310,7 +319,7 @@ class Proving:
             print("sfq: a source was edited meanwhile: run ./build again", file=sys.stderr)
         return not self.failed and len(self.proved()) == len(self.crates)
 
-    def end(self):
+    def end(self) -> None:
         """Ends the checks that run still: each is a group of its own, which this run started."""
         left = [it for it in self.children.values() if it.returncode is None]
         for sign in (signal.SIGTERM, signal.SIGKILL):
@@ -331,13 +340,13 @@ class Verdict(Proving):
 
     most_jobs = 1
 
-    def processes(self):
+    def processes(self) -> int:
         return processors()
 
-    def take_over(self):
+    def take_over(self) -> None:
         pass
 
-    def guess(self):
+    def guess(self) -> None:
         """Notes which crates `rt all` works on now: the first that wait for none."""
         now, ended = time.monotonic(), self.ended()
         for it in [it for it in self.clock.begun if it in ended]:
@@ -347,10 +356,12 @@ class Verdict(Proving):
             if it not in self.clock.begun:
                 self.clock.begin(it, 1, now)
 
-    def work(self):
+    def work(self) -> None:
         self.make_plan()
         self.start(["rt", "all", "verdict", "--jobs", str(self.jobs)], self.root)
-        name, text, line = "", [], ""
+        text: list[str] = []
+        line: Optional[str] = ""
+        name = ""
         while line is not None:
             self.guess()
             _, line, ended = self.wait()
@@ -366,7 +377,7 @@ class Verdict(Proving):
             name, text = (line or "").removeprefix("== ").strip(), []
         self.failed = self.failed or ended[0] != 0
 
-    def take_block(self, name, text):
+    def take_block(self, name: str, text: str) -> None:
         """Takes what rt said of a crate, once it is done with it."""
         crate = self.named.get(name)
         if crate is None or crate.is_done:
@@ -377,7 +388,7 @@ class Verdict(Proving):
             crate.note(found[-1])
             self.say_proved(crate)
 
-    def take_summary(self, text):
+    def take_summary(self, text: str) -> None:
         """Takes the lines that rt closes with: each crate is ok, failed or wasn't run."""
         for name, said in re.findall(r"^(\w+): (ok|failed .*|not run, .*)$", text, re.M):
             crate = self.named.get(name)

@@ -10,6 +10,9 @@ from typing import NoReturn
 
 ROOT = os.path.dirname(os.path.dirname(os.path.realpath(__file__)))
 PROGRAM = f"{ROOT}/crates/sfq/out/sfq"
+# What ./lint finds: a file, a line and a text. What it counts: a name, a number and a remark.
+Finding = tuple[str, int, str]
+Row = tuple[str, float, str]
 
 
 def fail(text: str) -> NoReturn:

@@ -14,6 +14,7 @@ import inspect
 import os
 import shutil
 import sys
+from typing import Any, Callable, Iterable
 
 # The status where a crate below was changed since it was built, and where the kit's `rt` has another form.
 CHANGED, UNKNOWN = 75, 76
@@ -21,18 +22,21 @@ CHANGED, UNKNOWN = 75, 76
 FORM = {"lock": ["crates"], "Crate.stamp": ["self"], "Crate.build_rlib": ["self", "flags", "anew"], "Crate.is_built": ["self"]}
 
 
-def load():
+def load() -> Any:
     """Returns the kit's `rt` as a module, or None where it has another form."""
     path = os.path.realpath(shutil.which("rt") or "")
     if not os.path.isfile(f"{os.path.dirname(path)}/rtlib.py"):
         return None
     loader = importlib.machinery.SourceFileLoader("rt_of_the_kit", path)
-    rt = importlib.util.module_from_spec(importlib.util.spec_from_loader(loader.name, loader))
+    spec = importlib.util.spec_from_loader(loader.name, loader)
+    if spec is None:
+        return None
+    rt = importlib.util.module_from_spec(spec)
     loader.exec_module(rt)
     return rt if has_form(rt) else None
 
 
-def has_form(rt):
+def has_form(rt: Any) -> bool:
     try:
         for name, parameters in FORM.items():
             found = rt.rtlib
@@ -45,11 +49,12 @@ def has_form(rt):
         return False
 
 
-def reading_once(stamp):
+def reading_once(stamp: Callable[[Any], Any]) -> Callable[[Any], Any]:
     """Returns `stamp`, the sum over a crate's files and those below it, so that each call reads a crate once."""
-    known, depth = {}, 0
+    known: dict[str, Any] = {}
+    depth = 0
 
-    def read(crate):
+    def read(crate: Any) -> Any:
         nonlocal depth
         depth += 1
         try:
@@ -64,9 +69,9 @@ def reading_once(stamp):
     return read
 
 
-def hold(crates):
+def hold(crates: Iterable[Any]) -> list[int]:
     """Waits until nobody else works in these crates. Holds the one of this folder alone, and the others together with who only reads them."""
-    held = []
+    held: list[int] = []
     # In one order everywhere, that of `rt`, so that no two wait for each other.
     for folder in sorted({os.path.realpath(it.folder) for it in crates}):
         kind = fcntl.LOCK_EX if folder == os.path.realpath(os.getcwd()) else fcntl.LOCK_SH
@@ -79,10 +84,10 @@ def hold(crates):
     return held
 
 
-def only_here(build):
+def only_here(build: Callable[[Any, Any, Any], Any]) -> Callable[[Any, Any, Any], Any]:
     """Returns `build_rlib` so that it builds the crate of this folder alone."""
 
-    def build_here(crate, flags, anew):
+    def build_here(crate: Any, flags: Any, anew: Any) -> Any:
         if os.path.realpath(crate.folder) == os.path.realpath(os.getcwd()):
             return build(crate, flags, anew)
         if crate.is_built():
@@ -93,7 +98,7 @@ def only_here(build):
     return build_here
 
 
-def main(words):
+def main(words: list[str]) -> int:
     rt = load()
     if rt is None:
         return UNKNOWN
@@ -103,7 +108,8 @@ def main(words):
     crate.stamp = reading_once(crate.stamp)
     crate.build_rlib = only_here(crate.build_rlib)
     rt.rtlib.lock = hold
-    return rt.main(words)
+    status: int = rt.main(words)
+    return status
 
 
 if __name__ == "__main__":
