@@ -381,8 +381,8 @@ class SideBySide(WithBuild):
     def test_the_longest_chain_comes_first_and_a_crate_alone_gets_all_processes(self):
         self.assertEqual(self.build("--jobs", "4").returncode, 0)
         begun = self.notes("begin")
-        self.assertEqual(begun[0], ["low", "--jobs", "2"])
-        self.assertEqual(begun[1], ["command_line", "--jobs", "2"])
+        # These two begin together, and which of them notes it first is left open.
+        self.assertEqual(sorted(begun[:2]), [["command_line", "--jobs", "2"], ["low", "--jobs", "2"]])
         self.assertEqual([it for it in begun if it[0] in ("middle", "sfq")], [["middle", "--jobs", "4"], ["sfq", "--jobs", "4"]])
 
     def test_each_crate_is_read_once_for_a_question(self):
