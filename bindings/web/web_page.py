@@ -240,7 +240,7 @@ def make_module(it: Module, jobs: int = 0) -> bytes:
 def inputs(it: Module) -> str:
     """Returns a sum over all that a module is made of: the crate with all below it, the kit's logic, and files beside this one."""
     total = hashlib.sha256(calls.crate_of(it.crate).sum.encode())
-    for name in ("build.py", "page.h", *it.sources):
+    for name in ("web_page.py", "page.h", *it.sources):
         with open(f"{WEB}/{name}", "rb") as file:
             total.update(file.read())
     return total.hexdigest()
