@@ -6,6 +6,7 @@ are small, so that a text of 10,000 positions can be a word of a command line.
 
 import math
 import random
+import re
 
 from relate import combs as straight_combs
 
@@ -50,6 +51,18 @@ def points(positions):
 def twice(text):
     """A geometry, and itself."""
     return text, text
+
+
+def backwards(text):
+    """A geometry without holes with its positions, lines and polygons in reverse order."""
+    kind, _, body = text.partition("(")
+    tokens = re.findall(r"[(),]|[^(),]+", "(" + body)[::-1]
+    return kind + "".join({"(": ")", ")": "("}.get(token, token) for token in tokens)
+
+
+def both_backwards(pair):
+    """Both geometries of a pair with their positions, lines and polygons in reverse order."""
+    return tuple(map(backwards, pair))
 
 
 def at_random(chance):
@@ -293,6 +306,97 @@ def nested_chevrons_twice(count):
     return twice(nested_chevrons(count))
 
 
+def comb_of(teeth, back):
+    """A comb of teeth, each over the one before it, on an upright back to the left of them."""
+    ring = [position for tooth in teeth for position in tooth]
+    return polygon(ring + [(back, ring[-1][1]), (back, ring[0][1])])
+
+
+def upright_rows(count, reach):
+    """Upright rows across a shape of this reach, from below it to above it. No edge of the shapes here lies on one of them."""
+    step = 2 * reach // count
+    return [[(x, -3 * reach), (x, 3 * reach)] for x in (step * k - reach + 1 for k in range(count))]
+
+
+def mown(rows):
+    """One line of rows, of which every second one goes back."""
+    return line([position for k, row in enumerate(rows) for position in row[:: -1 if k % 2 else 1]])
+
+
+def chevron_comb_and_rows(count):
+    """A comb of chevrons, and a line of as many upright rows across it."""
+    reach = 8 * count
+    return comb_of([chevron(k, reach) for k in range(count)], -reach - 4), mown(upright_rows(count, reach))
+
+
+def chevron_comb_and_rows_backwards(count):
+    """The same backwards."""
+    return both_backwards(chevron_comb_and_rows(count))
+
+
+def rows_and_chevron_comb(count):
+    """The same the other way round."""
+    return chevron_comb_and_rows(count)[::-1]
+
+
+def nested_chevrons_and_streets(count):
+    """Chevrons, each in the next, and as many upright streets across them."""
+    return nested_chevrons(count), lines(upright_rows(count, 8 * count))
+
+
+def nested_chevrons_and_streets_backwards(count):
+    """The same backwards."""
+    return both_backwards(nested_chevrons_and_streets(count))
+
+
+def level_comb_and_rows(count):
+    """A comb of level teeth, and a line of as many upright rows through all of them."""
+    reach = 8 * count
+    teeth = [[(-reach, y), (reach, y), (reach, y + 2), (-reach, y + 2)] for y in range(0, 4 * count, 4)]
+    return comb_of(teeth, -reach - 4), mown(upright_rows(count, reach))
+
+
+def edge_and_chevrons(count):
+    """A line of one edge, and the chevrons of a nest as lines, all of which it crosses."""
+    reach = 8 * count
+    return line([(-reach, 4 * count + 1), (reach, 4 * count + 2)]), lines([chevron(k, reach)[:3] for k in range(count)])
+
+
+def edge_and_chevrons_backwards(count):
+    """The same backwards."""
+    return both_backwards(edge_and_chevrons(count))
+
+
+def edge_and_scribble(count):
+    """A line of one edge, and a scribble across it."""
+    return line([(-SPAN, 1), (SPAN, 2)]), scribble(count)[0]
+
+
+def edge_and_spiral_askew(count):
+    """A line of one edge, and a spiral askew across it."""
+    return line([(-4 * count, 1), (4 * count, 2)]), spiral_askew(count)
+
+
+def chevrons_and_touching_lines(count):
+    """Lines of chevrons and of stubs, and level lines across the chevrons, of which each begins where a stub ends."""
+    reach, heights = 8 * count, range(count)
+    stubs = [[(-2 * reach, 4 * count + k), (-reach, 4 * count + k)] for k in heights]
+    level = [[(-reach, 4 * count + k), (2 * reach, 4 * count + k)] for k in heights]
+    return lines([chevron(k, reach)[:3] for k in heights] + stubs), lines(level)
+
+
+def chevrons_and_touching_lines_backwards(count):
+    """The same backwards."""
+    return both_backwards(chevrons_and_touching_lines(count))
+
+
+def level_lines_and_upright(count):
+    """Level lines, and a line that goes to and fro on the upright through their ends."""
+    chance = random.Random(count)
+    level = [[(0, k), (9, k)] for k in range(count)]
+    return lines(level), line([(0, chance.randint(-1, count)) for _ in range(count)])
+
+
 def frame(k):
     """A square frame round smaller ones."""
     outer, inner = 4 * k + 4, 4 * k + 2
@@ -307,6 +411,12 @@ def nested_frames(count):
 def nested_frames_twice(count):
     """The same, related to itself."""
     return twice(nested_frames(count))
+
+
+def nested_frames_and_bars(count):
+    """Frames in frames, and as many thin upright bars across them."""
+    bars = [[row[0], (row[0][0] + 2, row[0][1]), (row[1][0] + 2, row[1][1]), row[1]] for row in upright_rows(count, 4 * count)]
+    return nested_frames(2 * count), polygons([[bar] for bar in bars])
 
 
 def holes_in_spiral(count):
@@ -349,6 +459,16 @@ def spiral_twice(count):
 def spiral_askew(count):
     """The same, turned by half a right angle, so that bounds overlap."""
     return polygon([(x - y, x + y) for x, y in spiral_ring(count)])
+
+
+def spiral_and_streets(count):
+    """A spiral of four times as many positions as there are upright streets across it."""
+    return spiral(4 * count), lines(upright_rows(count, 4 * count))
+
+
+def spiral_and_streets_backwards(count):
+    """The same backwards."""
+    return both_backwards(spiral_and_streets(count))
 
 
 def odd_spokes(count):
@@ -482,9 +602,24 @@ def points_in_holes(count):
     return points([(x + 2, y + 2) for (x, y), *_ in holes]), polygon(around, *holes)
 
 
+def closed_lines(count):
+    """Closed lines, each round those before it, as lines of equal height are on a map."""
+    return lines([[(-r, -r), (r, -r), (r, r), (-r, r), (-r, -r)] for r in range(4, 4 * count + 4, 4)])
+
+
 def rings_round_one_point(count):
-    """Closed lines, each round those before it."""
-    return twice(lines([[(-r, -r), (r, -r), (r, r), (-r, r), (-r, -r)] for r in range(4, 4 * count + 4, 4)]))
+    """Such lines to themselves."""
+    return twice(closed_lines(count))
+
+
+def point_in_closed_lines(count):
+    """A point, and such lines round it."""
+    return points([(1, 2)]), closed_lines(count)
+
+
+def line_in_closed_lines(count):
+    """A short line, and such lines round it."""
+    return line([(1, 2), (2, 3)]), closed_lines(count)
 
 
 def spirals_along(count):

@@ -8,7 +8,7 @@ import math
 import random
 from typing import NamedTuple, Optional
 
-from bad_shapes import polygon, squares_in_rows, star_ring
+from bad_shapes import closed_lines, lines, polygon, scribble, squares_in_rows, star_ring
 
 SPAN = 1_000_000
 
@@ -301,6 +301,31 @@ def points_on_scribble(count):
     return of_shapes(scattered(count, point), [f'"LINESTRING({ends})"'])
 
 
+def edges_and_scribble(count):
+    """Twenty lines of one edge, and one scribble of so many positions."""
+    edges = scattered(20, lambda x, y: edge(-9_000, y, 18_000, 1), high=9_000)
+    return of_shapes(edges, [f'"{scribble(count)[0]}"'])
+
+
+def points_in_closed_lines(count):
+    """Thirty points, and so many closed lines round them in one geometry."""
+    return of_shapes([point(k % 3, k // 3 - 3) for k in range(30)], [f'"{closed_lines(count)}"'], "touches")
+
+
+def points_beside_closed_lines(count):
+    """Points anywhere, and 1,000 small closed lines side by side in one geometry."""
+    rings = [ring + ring[:1] for ring in squares_in_rows(1_000, 10_000, 1 - SPAN)]
+    return of_shapes(scattered(count, point), [f'"{lines(rings)}"'])
+
+
+def points_and_upright_side(count):
+    """Points anywhere, and one square whose first side is upright and has as many positions."""
+    cuts = min(count, 9_990)
+    side = [(-SPAN, SPAN - 2 * SPAN * k // cuts) for k in range(cuts)]
+    ring = polygon([*side, (-SPAN, -SPAN), (SPAN, -SPAN), (SPAN, SPAN)])
+    return of_shapes(scattered(count, point), [f'"{ring}"'], "within")
+
+
 def many_predicates(count):
     """A join by so many predicates, and as many of its first table and a constant: each is a probe that a plan may make."""
     two = " AND ".join(["ST_Within(a.geom,b.geom)"] * count)
@@ -370,6 +395,108 @@ def one_row_of_each(count):
     return of_values(numbered(count), numbered(count, 1), "a.number = 3 AND b.number = 5")
 
 
+def one_row_of_second(count):
+    """A condition on the second table alone, which one row of it meets."""
+    rows = numbered(count)
+    return Tables(rows, rows, "number INTEGER, name TEXT", f"SELECT a.id FROM first a, second b WHERE b.name = 'name{count // 2}'")
+
+
+def some_of_first(count):
+    """An OR of the first table alone, which two rows of it meet, and an order of two columns."""
+    return of_values(numbered(count), numbered(count, 1), "(a.number = 1 OR a.number = 2) AND a.name < b.name")
+
+
+def texts_behind(count, condition):
+    """Equality of two columns of texts, behind a condition."""
+    return of_values(numbered(count), numbered(count, 1), f"{condition} AND a.name = b.name")
+
+
+def texts_behind_or(count):
+    """The same behind an OR."""
+    return texts_behind(count, "(a.number = 1 OR a.number = 2)")
+
+
+def texts_behind_not(count):
+    """The same behind a NOT."""
+    return texts_behind(count, "NOT (a.number = 1)")
+
+
+def texts_behind_null(count):
+    """The same behind IS NOT NULL, which is a NOT."""
+    return texts_behind(count, "a.name IS NOT NULL")
+
+
+def of_equal_columns(first, second, names):
+    """A count of the pairs of rows that are equal in columns of numbers."""
+    condition = " AND ".join(f"a.{name} = b.{name}" for name in names)
+    columns = ", ".join(f"{name} INTEGER" for name in names)
+    return Tables(first, second, columns, f"SELECT COUNT(*) FROM first a JOIN second b ON {condition}")
+
+
+def fifth_equality(count):
+    """Five equalities, of which the fifth alone tells rows apart."""
+    rows = [f"7,7,7,7,{place}" for place in range(count)]
+    return of_equal_columns(rows, rows, ("number", "c", "d", "e", "f"))
+
+
+def pairs_of_values(count):
+    """Two equalities: each value is in as many rows as there are values, and each pair of values in one."""
+    side = math.isqrt(count)
+    rows = [f"{place % side},{place // side}" for place in range(count)]
+    return of_equal_columns(rows, rows, ("number", "c"))
+
+
+def missing_codes(count):
+    """Two equalities: of a code that most rows of the second table lack, which have 0 for it, and of a flag."""
+    first = [f"{place + 1},{place % 2}" for place in range(count)]
+    second = [f"{0 if place % 10 < 6 else place + 1},{place % 2}" for place in range(count)]
+    return of_equal_columns(first, second, ("number", "flag"))
+
+
+def one_key_or_other(count):
+    """A key that equals one column or another."""
+    rows = [f"{(place * 7) % count},{(place * 11) % count}" for place in range(count)]
+    query = "SELECT COUNT(*) FROM first a JOIN second b ON a.number = b.id OR a.c = b.id"
+    return Tables(rows, rows, "number INTEGER, c INTEGER", query)
+
+
+def keys_between(count):
+    """A key between two columns, of which few are."""
+    rows = [f"{place},{place + 3}" for place in range(count)]
+    query = "SELECT COUNT(*) FROM first a JOIN second b ON b.id >= a.number AND b.id < a.c"
+    return Tables(rows, rows, "number INTEGER, c INTEGER", query)
+
+
+def second_predicate(count):
+    """Two predicates, the first of lines of which each pair has overlapping envelopes, the second of points of which few are equal."""
+    rows = [f'"LINESTRING(0 0,{SPAN} {SPAN - place})",{point(place, 0)}' for place in range(count)]
+    query = "SELECT COUNT(*) FROM first a JOIN second b ON ST_Intersects(a.wide, b.wide) AND ST_Equals(a.place, b.place)"
+    return Tables(rows, rows, "wide LINESTRING, place POINT", query, None)
+
+
+def stars(count, turn=0):
+    """So many stars of 40 positions, side by side."""
+    ring = star_ring(40)
+    far = 2 * max(max(abs(x), abs(y)) for x, y in ring)
+    return [f'"POLYGON(({",".join(f"{x + far * (place + turn)} {y}" for x, y in ring + ring[:1])}))"' for place in range(count)]
+
+
+def predicate_or_number(count):
+    """Other numbers, or a predicate: each pair computes a matrix."""
+    rows = [f"{text},{place}" for place, text in enumerate(stars(count))]
+    query = "SELECT COUNT(*) FROM first a JOIN second b ON a.number <> b.number OR ST_Touches(a.geom, b.geom)"
+    return Tables(rows, rows, "geom POLYGON, number INTEGER", query, None)
+
+
+def constant_and_number(count):
+    """A predicate of the first table and a constant, and an equality of which each row of the second table has a partner."""
+    first = [f"{text},{place}" for place, text in enumerate(stars(4))]
+    second = [f'"POLYGON EMPTY",{place % 4}' for place in range(count)]
+    constant = f"ST_Intersects(a.geom, ST_GeomFromText('{stars(1)[0][1:-1]}'))"
+    query = f"SELECT COUNT(*) FROM first a JOIN second b ON {constant} AND a.number = b.number"
+    return Tables(first, second, "geom POLYGON, number INTEGER", query, None)
+
+
 def no_numbers(count):
     """Equality of two columns of which each is NULL in every row."""
     rows = [f",name{k}" for k in range(count)]
@@ -380,6 +507,18 @@ def keys_downwards(count):
     """One table whose keys go down, and a condition on it."""
     query = "SELECT COUNT(*) FROM first a WHERE a.number = 3"
     return Tables(numbered(count), [], "number INTEGER, name TEXT", query, is_descending=True)
+
+
+def one_long_text(count):
+    """So many items of one long text."""
+    return Tables([f"{'a' * 100_000}"], [], "name TEXT", f"SELECT {','.join(['name'] * count)} FROM first", None)
+
+
+def constants_and_predicates(count):
+    """So many predicates of the first table and a constant, and twice as many of both tables: each is a probe that a plan may make."""
+    one = " AND ".join(["ST_Within(a.g,ST_GeomFromText('POINT EMPTY'))"] * count)
+    two = " AND ".join(["ST_Within(a.g,b.g)"] * (2 * count))
+    return Tables([point(1, 1)], [point(1, 1)], "g GEOMETRY", f"SELECT a.id FROM first a, second b WHERE {one} AND {two}", None)
 
 
 def many_comparisons(count):

@@ -1,12 +1,13 @@
 #!/usr/bin/env python3
-"""Writes DEFINITIONS.md: what has to be believed, from the comments of the specifications.
+"""Writes DEFINITIONS.md and its further pages: what has to be believed, from the comments of the specifications.
 
 Run it anywhere: python3 docs/definitions.py. With --check it writes nothing and ends with status 1
-where the page isn't what it would write.
+where a page isn't what it would write.
 
 A definition's words are the comment above it, and its clause of the standard the parenthesis at the
-end of that comment. PAGE lists the sections, their files, and in each file the helpers that are left
-out, or the one definition that is listed, behind a +. SHOWN names the definitions that are printed whole.
+end of that comment. Each page has sections with their files, and in each file the helpers that are left
+out, or the definitions that are listed, behind a +. SHOWN names the definitions that are printed whole.
+One name has one meaning: a name that two files define is on no page twice.
 """
 
 import pathlib
@@ -43,8 +44,10 @@ PAGE = [
      [(G, "Patterns", "character_of characters_of pattern_of dimension_character"),
       (G, "Predicates", "like wants_point wants_common_point forces_meeting")]),
     ("Validity",
-     "Each fault, V1 to V8, is a fact about rational points. A geometry without fault is valid.",
-     [(G, "Validity", "Element elements_from numbered_elements IsRing")]),
+     "Each fault, V1 to V8, is a fact about rational points. A geometry without fault is valid. Of several faults"
+     " the first in the order of `in_order` is reported.",
+     [(G, "Validity", "Element elements_from numbered_elements IsRing"),
+      (G, "FirstFaults", "+numbers of_pairs of_every_two of_elements in_order validity_fault")]),
     ("Well-known text",
      "A relation for each rule of the grammar, between a text and what it spells. Refusals are stated"
      " without a reader, by the bytes before them.",
@@ -102,15 +105,6 @@ PAGE = [
        " PutsFront ReturnsQuery CountsQuery"),
       (T, "Outcomes", ""),
       (T, "FaultLines", "memory_text")]),
-    ("Tiles",
-     "Cells cut the grid, and rows are copied to cells. Laws prove that the query over tiles gives the rows of"
-     " the query over the whole.",
-     [("table_laws", "Cells", "Cell cells_of mark owner owns"),
-      ("table_laws", "Tiles", "geometry_at marks marked is_zero"),
-      ("table_laws", "Orders", "key_in keys_of"),
-      ("table_laws", "TileLaws", "GeometryStatement AreKeyedRows FieldOnGrid AreOnGrid Forces IsTiled tiles_in rows_of_tiles"
-       " DatabaseIsWhole TilesGiveRows CountsOfTilesAddUp SortedTileIsTile HasMarks TileIsKeyed"),
-      ("table_laws", "StretchLaws", "blocks_of IsStretched IsOverBlocks BlocksGiveRows MergedBlocksAreMeant CountsOfBlocksAddUp")]),
     ("Plans and work",
      "Only EXPLAIN and EXPLAIN ANALYZE show these. The rows of an answer don't depend on them.",
      [(T, "Plans", "can_search expected_rows first_of_least is_column_of is_known places_where access_methods accesses_of nested predicates_by_parts"
@@ -119,9 +113,90 @@ PAGE = [
        " work_of up_to_passing candidates_to_row work_to_row counted"),
       (T, "ExplainTexts", "conjunct_number line count_line limit_line method_text access_lines filters_text")]),
 ]
+WHY = [
+    ("What shows a cell of a matrix",
+     "`find_witnesses` returns a [`Witness`](../crates/witnesses/src/witness.rt) for each part of one geometry and each"
+     " part of the other: a point, an open stretch, a face point, or nothing. The laws `stretch_has_segment` and"
+     " `face_point_has_triangle` prove that a stretch shows the dimension 1 and a face point 2.",
+     [("geometry_laws", "PieceLaws", "+IsOff"),
+      ("matrix_laws", "Witnessing", "+IsStrictlyBetween HoldsStretch IsFacePoint"),
+      ("witnesses", "Shown", "+witness_at shown_dimension shown_matrix IsShownBy ShowsAll")]),
+    ("What shows a fault",
+     "`place_of` returns a [`Place`](../crates/witnesses/src/places.rt) of a fault, and `verdict_of` the first fault of a"
+     " text's geometry with its place. Two edges share a [`Meet`](../crates/noding/src/answers.rt).",
+     [("noding", "Meetings", "named is_common_cut NamesCommonCuts"),
+      ("witnesses", "Places", "+IsClashOf IsMeetingOf"),
+      ("witnesses", "FaultPlaces", "IsMeetingWithOne MeetsOne"),
+      ("witnesses", "Verdicts", "IsFirstFaultIn")]),
+    ("The lines that are written",
+     "Nine lines of witnesses, or one of a verdict. A coordinate is a fraction in least form.",
+     [("witnesses", "PointTexts", "piece_text"),
+      ("witnesses", "WitnessTexts", ""),
+      ("witnesses", "FaultTexts", ""),
+      ("witnesses", "VerdictTexts", "")]),
+]
+LIBRARY = [
+    ("Texts",
+     "What calls that take texts return of them.",
+     [("library_calls", "Texts", "")]),
+    ("Arrays",
+     "A geometry as arrays: the number of its type, all positions one after another, and the sizes of its parts.",
+     [("library_calls", "Written", ""),
+      ("library_calls", "Arrays", ""),
+      ("library_calls", "ArrayLaws", "")]),
+    ("Kept geometries",
+     "What calls return of geometries that the caller keeps, and what is owned of them.",
+     [("library_calls", "Kept", "position"),
+      ("library_calls", "Numbers", ""),
+      ("library_calls", "Meeting", ""),
+      ("library_calls", "Keeping", "")]),
+    ("Relations",
+     "Eleven relations have a number: the eight named predicates, and three that are this project's choice.",
+     [("library_calls", "Relations", "")]),
+    ("Faults in numbers, and statuses",
+     "A fault is its letter, its number and two places.",
+     [("library_calls", "Refusals", "numbers status_of_second")]),
+    ("Lines of witnesses",
+     "What `sfq_why` and `sfq_reason` hand out; the rest is in [DEFINITIONS-WHY](DEFINITIONS-WHY.md).",
+     [("library_calls", "Explained", "")]),
+]
+TILES = [
+    ("Tiles",
+     "Cells cut the grid, and rows are copied to cells. Laws prove that the query over tiles gives the rows of"
+     " the query over the whole.",
+     [("fraction", "Ranges", "+IsOnGrid"),
+      ("table_laws", "Cells", "Cell cells_of mark owner owns"),
+      ("table_laws", "Tiles", "geometry_at marks marked is_zero"),
+      ("table_laws", "Orders", "key_in keys_of"),
+      ("table_laws", "TileLaws", "GeometryStatement AreKeyedRows FieldOnGrid AreOnGrid Forces IsTiled tiles_in rows_of_tiles"
+       " DatabaseIsWhole TilesGiveRows CountsOfTilesAddUp SortedTileIsTile HasMarks TileIsKeyed"),
+      ("table_laws", "StretchLaws", "blocks_of IsStretched IsOverBlocks BlocksGiveRows MergedBlocksAreMeant CountsOfBlocksAddUp")]),
+    ("How the grid is cut",
+     "`Cells::cut` cuts a box at the median of its sample, again and again.",
+     [("tiles", "Lines", "+coordinate low_part high_part whole"),
+      ("tiles", "Cuts", "HasBothSides LiesWithin")]),
+    ("What is checked and written",
+     "Records are those of a reader. A tile has those that are copied to a cell, a stretch the next ones.",
+     [("tiles", "Checks", "counted"),
+      ("tiles", "Passes", "+Counts IsOf"),
+      ("tiles", "Copies", "+header_of AreRecordsOfTable copied_fields marked_fields tiles tiles_of size_of stretch_of stretch_count"
+       " stretches stretches_of AreWritten"),
+      ("tiles", "RecordLines", "+mark_text mark_fields"),
+      ("tiles", "Faults", "")]),
+    ("The schema and the list of the parts",
+     "The schema that is written is read again as exactly the tables of the parts.",
+     [("sfq_tiles", "MadeTables", "IsMade"),
+      ("sfq_tiles", "Lists", "")]),
+]
 SHOWN = ["IsPoint", "side", "on", "IsInterior", "IsBoundary", "IsExterior", "HasTriangle", "HasDimension", "common",
          "IsMatrix", "GivesMatrix", "crosses", "holds", "IsValid", "Spells", "IsQuery", "and_of", "related", "truth_by_parts",
-         "truth", "search_condition", "filtered", "meaning", "answer", "outcome", "ByEveryMatrix", "RunsOver"]
+         "truth", "search_condition", "filtered", "meaning", "answer", "outcome", "ByEveryMatrix", "RunsOver", "in_order",
+         "HoldsStretch", "IsFacePoint", "IsOff", "IsShownBy", "ShowsAll", "IsMeeting", "IsClashOf", "IsMeetingOf",
+         "IsPlaceOf", "IsVerdictOn", "HasMatrix", "HasRelation", "covers", "covered_by", "contains_properly",
+         "text_fault_in_numbers", "validity_fault_in_numbers", "fault_in_numbers", "IsMade", "IsTaken", "fits", "LiesAt", "bounds_of", "IsSpelled",
+         "CutsGrid", "IsMedian", "IsCutAtMedians", "AreMade", "ok", "first_refused", "second_refused", "out_of_memory", "unknown", "too_small", "none_there"]
+# Names that the crates of definitions have twice, on one page, each with its file beside it.
+TWICE = ["takes", "ReturnsFirst"]
 HEAD = """# Definitions
 
 For whoever doubts the proof. The machine proves that the program does what the definitions say, not
@@ -143,8 +218,33 @@ says it of every x, `{T : Type 0} → ..` of every type, `¬ A` that A isn't so;
 the whole numbers from 0 on and ℤ those with a sign; `<ℤ` and the like are of ℤ, and `pos n` is n in
 ℤ. `codes "T*"` are a text's bytes. `fold-Cond` goes through a condition from the inside out.
 
-`docs/definitions.py` makes this page from the comments in the specifications. Change it there.
+`docs/definitions.py` makes this page from the comments in the specifications: change it there. It
+also makes the pages for [`why`](DEFINITIONS-WHY.md), the [library](DEFINITIONS-LIBRARY.md) and
+[tiles](DEFINITIONS-TILES.md).
 """
+REST = """
+[DEFINITIONS](DEFINITIONS.md) explains the rows and the symbols, and has what these definitions name:
+points, geometries, parts, matrices, validity, texts, tables. `docs/definitions.py` makes this page.
+"""
+WHY_HEAD = """# Definitions for `why`
+
+For whoever doubts what `why` says: what it means that a point, a stretch or a face point shows a
+cell of a matrix, and that a place shows a fault.
+""" + REST
+LIBRARY_HEAD = """# Definitions for the library
+
+For whoever doubts what the calls of [`sfq.h`](../bindings/c/sfq.h) return: what the contracts of
+`sfq_c` mean, where the proof ends. [LIBRARY](LIBRARY.md#what-is-proved) lists these contracts.
+""" + REST
+TILES_HEAD = """# Definitions for tiles
+
+For whoever doubts what `sfq-tiles` writes: what a tile or a stretch of a table is, when the rows of
+all of them are those of the whole, and what calls check and write. [SCALE](SCALE.md#what-is-proved) lists the contracts.
+""" + REST
+PAGES = {
+    "DEFINITIONS": (HEAD, PAGE), "DEFINITIONS-WHY": (WHY_HEAD, WHY), "DEFINITIONS-LIBRARY": (LIBRARY_HEAD, LIBRARY),
+    "DEFINITIONS-TILES": (TILES_HEAD, TILES),
+}
 
 
 def entries(path):
@@ -192,7 +292,7 @@ def wrapped(text, width=100):
     return "\n".join(lines)
 
 
-def section(title, words, files, problems):
+def section(title, words, files, problems, listed):
     links = [f"[{module}](../crates/{crate}/specs/{module}.antt)" for crate, module, _ in files]
     lead = "Files: " if len(links) > 1 else "File: "
     text = f"\n## {title}\n\n{wrapped(words)}\n\n{lead}" + ",\n".join(links) + ".\n"
@@ -204,27 +304,32 @@ def section(title, words, files, problems):
             continue
         found = entries(path)
         names = [name for name, _, _, _ in found]
+        problems += [f"no definition {name} in {module}" for name in left_out.lstrip("+").split() if name not in names]
         if left_out.startswith("+"):
-            left_out = " ".join(name for name in names if name != left_out[1:])
-        problems += [f"no definition {name} in {module}" for name in left_out.split() if name not in names]
+            left_out = " ".join(name for name in names if name not in left_out[1:].split())
         for name, said, clause, whole in found:
             if name[0].isalpha() and name not in left_out.split():
                 rows += f"| `{name}` | {cell(said)} | {cell(shortened(clause))} |\n"
                 shown += f"{whole}\n\n" if name in SHOWN else ""
+                listed.setdefault(name, []).append(f"{crate}/specs/{module}.antt")
     text += f"\n| name | what it is | standard |\n|---|---|---|\n{rows}"
     return text + (f"\n```text\n{shown.rstrip()}\n```\n" if shown else "")
 
 
 def main():
-    problems = []
-    text = HEAD + "".join(section(*part, problems) for part in PAGE)
-    page = HERE / "DEFINITIONS.md"
+    problems, listed, same = [], {}, True
+    for name, (head, sections) in PAGES.items():
+        text = head + "".join(section(*part, problems, listed) for part in sections)
+        page = HERE / f"{name}.md"
+        if "--check" in sys.argv[1:]:
+            same = same and page.is_file() and page.read_text(encoding="utf-8") == text
+        else:
+            page.write_text(text, encoding="utf-8")
+    problems += [f"{name} has two meanings: {', '.join(places)}" for name, places in listed.items() if len(places) > 1 and name not in TWICE]
+    problems += [f"no definition {name} on a page" for name in SHOWN if name not in listed]
     for problem in problems:
         print(f"definitions.py: {problem}", file=sys.stderr)
-    if "--check" in sys.argv[1:]:
-        return 1 if problems or page.read_text(encoding="utf-8") != text else 0
-    page.write_text(text, encoding="utf-8")
-    return 1 if problems else 0
+    return 0 if same and not problems else 1
 
 
 if __name__ == "__main__":

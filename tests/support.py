@@ -15,11 +15,12 @@ runpy.run_path(f"{ROOT}/tools/paths.py")
 import answers
 import printed
 import repository
+from repository import read
 
 # Calls whose answers tests look at, beside those that documents show.
 HELP_CALLS = [
     [], ["--help"], ["--version"], ["run", "--help"], ["check", "-h"], ["help", "relate"], ["why", "--help"], ["help", "pairs"],
-    ["rum"], ["relate", "POINT(1 1)"],
+    ["rum"], ["relate", "POINT(1 1)"], ["relate", "--help"], ["fault", "-h"], ["-V"], ["fault", "v3"], ["fault", "L10"], ["fault", "V9"],
 ]
 
 # A stand-in for `rt`. It notes each call, and does what the file `behaviour` beside it says, a piece of Python.
@@ -40,7 +41,7 @@ exec(open(room + "/behaviour").read())
 
 
 def python_command(python, name):
-    """Returns the words that run sfq-import, sfq-export or sfq-scale of this repository by a Python, as the launcher does by Debian's."""
+    """Returns the words that run sfq-import, sfq-export, sfq-schema or sfq-scale of this repository by a Python, as the launcher does by Debian's."""
     folder = f"{ROOT}/bindings/python"
     return [python, "-B", folder, f"{folder}/bin/{name}"]
 
@@ -79,9 +80,18 @@ def write(path, text, mode=None):
         os.chmod(path, mode)
 
 
-def read(path):
-    with open(path, encoding="utf-8") as file:
-        return file.read()
+def write_all(room, files):
+    """Writes texts into a folder, by their paths in it."""
+    for path, text in files.items():
+        write(f"{room}/{path}", text)
+
+
+def python_with(module):
+    """Returns a Python that has a module, or None."""
+    for it in (sys.executable, "/usr/bin/python3"):
+        if os.path.isfile(it) and subprocess.run([it, "-c", f"import {module}"], capture_output=True).returncode == 0:
+            return it
+    return None
 
 
 class Checkout:
@@ -97,7 +107,7 @@ class Checkout:
             os.makedirs(self.root, exist_ok=True)
             shutil.copy(f"{ROOT}/{name}", f"{self.root}/{name}")
         leave_out = shutil.ignore_patterns("__pycache__")
-        for name in ("tools", "packaging", "bindings/python"):
+        for name in ("tools", "packaging", "bindings/python", "docs", "examples"):
             shutil.copytree(f"{ROOT}/{name}", f"{self.root}/{name}", ignore=leave_out)
         for name in ("CHANGELOG.md", "VERSION"):
             shutil.copy(f"{ROOT}/{name}", self.root)

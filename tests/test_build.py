@@ -1,4 +1,5 @@
 """./build, with a stand-in for `rt`: the order of the checks, going on after a break, installing, packages."""
+import gzip
 import hashlib
 import os
 import pty
@@ -11,7 +12,7 @@ import tarfile
 import time
 import unittest
 
-from support import WithCheckout, needs, read, write
+from support import ROOT, WithCheckout, needs, read, write
 
 import pace
 import repository
@@ -235,7 +236,7 @@ class Builds(WithBuild):
         prefix = f"{self.checkout.room}/prefix"
         ran = self.build("--install", prefix)
         self.assertEqual(ran.returncode, 0, ran.stderr)
-        self.assertEqual(sorted(os.listdir(f"{prefix}/bin")), ["sfq", "sfq-export", "sfq-import"])
+        self.assertEqual(sorted(os.listdir(f"{prefix}/bin")), ["sfq", "sfq-export", "sfq-import", "sfq-schema"])
         for it in ("sfq-tiles and sfq-scale, which need ./build --tiles", "the C library and what is over it, which need ./build --library"):
             self.assertIn(f"not installed: {it}\n", ran.stdout.decode())
         self.assertEqual(self.build("--uninstall", prefix).returncode, 0)
@@ -450,10 +451,10 @@ class Paces(unittest.TestCase):
 
 
 class Commands(WithBuild):
-    """The commands beside sfq: sfq-tiles, which ./build --tiles makes, sfq-scale over it, sfq-import and sfq-export."""
+    """The commands beside sfq: sfq-tiles, which ./build --tiles makes, sfq-scale over it, sfq-import, sfq-export and sfq-schema."""
 
     MORE_CRATES = WITH_TILES
-    NAMES = ["sfq", "sfq-export", "sfq-import", "sfq-scale", "sfq-tiles"]
+    NAMES = ["sfq", "sfq-export", "sfq-import", "sfq-scale", "sfq-schema", "sfq-tiles"]
 
     def test_tiles_are_made_of_what_is_proved(self):
         ran = self.build("--tiles")
@@ -497,7 +498,7 @@ class Commands(WithBuild):
                 self.assertIn(f"share/{path.format(it)}", found)
         for it in ("sfq", "sfq-tiles"):
             self.assertEqual(subprocess.run([f"{prefix}/bin/{it}"], capture_output=True).stdout, b"proved\n")
-        for it in ("sfq-scale", "sfq-import", "sfq-export"):
+        for it in ("sfq-scale", "sfq-import", "sfq-export", "sfq-schema"):
             ran = subprocess.run([f"{prefix}/bin/{it}", "--version"], capture_output=True, text=True, cwd="/")
             self.assertEqual((ran.stdout, ran.stderr), (f"{it} {repository.version()}\n", ""))
         self.assertEqual(self.installed(prefix), found)
@@ -566,12 +567,37 @@ class Packages(WithBuild):
             listed = subprocess.run(["dpkg-deb", "-c", one[it]], capture_output=True, text=True, check=True).stdout
             for name in Commands.NAMES:
                 self.assertIn(f"./usr/bin/{name}\n", listed)
-                self.assertIn(f"./usr/share/man/man1/{name}.1\n", listed)
+                self.assertIn(f"./usr/share/man/man1/{name}.1.gz\n", listed)
                 self.assertIn(f"./usr/share/zsh/vendor-completions/_{name}\n", listed)
             self.assertNotIn("site-functions", listed)
             self.assertIn("root/root", listed)
             about = subprocess.run(["dpkg-deb", "-f", one[it]], capture_output=True, text=True, check=True).stdout
-            self.assertIn("Depends: libc6 (>= 2.34)", about)
+            self.assertIn("Depends: libc6 (>= 2.34), python3\n", about)
+
+    @needs("lintian", "lintian")
+    def test_lintian_has_no_error_but_for_the_licence(self):
+        path = next(it for name, it in self.make(self.checkout.root).items() if name.endswith(".deb"))
+        ran = subprocess.run(["lintian", "--allow-root", "--fail-on", "none", path], capture_output=True, text=True, check=True)
+        found = [it for it in ran.stdout.splitlines() if it.startswith("E: ")]
+        self.assertEqual([it for it in found if "licen" not in it and "copyright" not in it], [])
+
+    @needs("dpkg", "dpkg-deb")
+    def test_what_help_and_faults_name_is_in_the_packages(self):
+        made = self.make(self.checkout.root)
+        folder = f"{self.checkout.room}/unpacked"
+        subprocess.run(["dpkg-deb", "-x", next(it for name, it in made.items() if name.endswith(".deb")), folder], check=True)
+        with tarfile.open(next(it for name, it in made.items() if name.endswith(".tar.gz"))) as archive:
+            listed = {it.partition("/share/doc/sfq/")[2] for it in archive.getnames()}
+        source = read(f"{ROOT}/crates/command_line/src/command_words.rt")
+        names = set(re.findall(r"(?:examples|docs)/[\w./-]*\w", source))
+        self.assertIn("docs/FAULTS.md", names)
+        for it in sorted(names):
+            self.assertTrue(os.path.exists(f"{folder}/usr/share/doc/sfq/{it}"), it)
+            self.assertTrue(any(each == it or each.startswith(f"{it}/") for each in listed), it)
+        text = gzip.open(f"{folder}/usr/share/doc/sfq/changelog.gz", "rt").read()
+        self.assertTrue(text.startswith(f"sfq ({repository.version()}) "), text)
+        self.assertEqual(gzip.open(f"{folder}/usr/share/man/man1/sfq.1.gz", "rt").read(), read(f"{ROOT}/packaging/man/sfq.1"))
+        self.assertIn("No licence has been chosen yet", read(f"{folder}/usr/share/doc/sfq/copyright"))
 
 
 if __name__ == "__main__":

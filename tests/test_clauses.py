@@ -1,11 +1,10 @@
 """What tools/clauses.py says of two small states of a repository, each with one change."""
-import pathlib
 import shutil
 import subprocess
 import tempfile
 import unittest
 
-import support  # finds the modules
+import support
 
 import clauses
 
@@ -114,10 +113,7 @@ class Clauses(unittest.TestCase):
         states = []
         for files in (old, new):
             with tempfile.TemporaryDirectory(prefix="sfq-clauses-") as name:
-                for file, text in files.items():
-                    path = pathlib.Path(name) / file
-                    path.parent.mkdir(parents=True, exist_ok=True)
-                    path.write_text(text, encoding="utf-8")
+                support.write_all(name, files)
                 states.append(clauses.state_of(name))
         return clauses.Comparison(*states, given)
 
@@ -243,10 +239,7 @@ class Clauses(unittest.TestCase):
     @unittest.skipUnless(shutil.which("git"), "needs the package git")
     def test_a_commit(self):
         with tempfile.TemporaryDirectory(prefix="sfq-clauses-") as name:
-            for file, text in OLD.items():
-                path = pathlib.Path(name) / file
-                path.parent.mkdir(parents=True, exist_ok=True)
-                path.write_text(text, encoding="utf-8")
+            support.write_all(name, OLD)
             git = ["git", "-c", "user.name=one", "-c", "user.email=one@example.org", "-C", name]
             for words in (["init", "-q"], ["add", "."], ["commit", "-q", "-m", "One"]):
                 subprocess.run([*git, *words], check=True)

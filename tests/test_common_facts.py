@@ -1,9 +1,8 @@
 """Which statements tools/common_facts.py takes to be one fact, and which it leaves to their crate."""
-import pathlib
 import tempfile
 import unittest
 
-import support  # finds the modules
+import support
 
 import antt
 import common_facts
@@ -63,10 +62,7 @@ REPOSITORY = {
 class Repository(unittest.TestCase):
     def facts(self):
         with tempfile.TemporaryDirectory(prefix="sfq-facts-") as name:
-            for file, text in REPOSITORY.items():
-                path = pathlib.Path(name) / file
-                path.parent.mkdir(parents=True, exist_ok=True)
-                path.write_text(text, encoding="utf-8")
+            support.write_all(name, REPOSITORY)
             return common_facts.facts_of(name)
 
     def test_a_fact_of_two_crates(self):

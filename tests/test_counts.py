@@ -1,9 +1,8 @@
 """What tools/counts.py counts of a small repository, and what it finds past its bounds."""
-import pathlib
 import tempfile
 import unittest
 
-import support  # finds the modules
+import support
 
 import counts
 
@@ -53,10 +52,7 @@ REPOSITORY = {
 class Counts(unittest.TestCase):
     def counted(self, more={}):
         with tempfile.TemporaryDirectory(prefix="sfq-counts-") as name:
-            for file, text in {**REPOSITORY, **more}.items():
-                path = pathlib.Path(name) / file
-                path.parent.mkdir(parents=True, exist_ok=True)
-                path.write_text(text, encoding="utf-8")
+            support.write_all(name, {**REPOSITORY, **more})
             rows, found = counts.count(name)
         return {name: number for name, number, _ in rows}, found
 

@@ -50,6 +50,24 @@ class Pages(unittest.TestCase):
             self.assertLessEqual(max(map(len, page.split("\n"))), 78, code)
             self.assertNotRegex(page, r"[`\t]|\]\(", code)
 
+    def test_no_example_writes_into_the_folder_of_the_reader(self):
+        for code, page in fault_pages.pages().items():
+            for _, commands in examples_of(page):
+                for target in re.findall(r"(?:>|\bmkdir) *(\S+)", commands.replace("'", "")):
+                    self.assertTrue(target.startswith('"$D/') or code[0] not in "SL", commands)
+                self.assertEqual(code[0] in "SL", commands.startswith("D=$(mktemp -d)\n"), commands)
+
+    def test_what_to_do_is_for_the_case(self):
+        pages = {code: words_of(text) for code, text in fault_pages.pages().items()}
+        for code, parts in (
+            ("Q1", ["close the string", "write names without quotes and texts in single quotes"]), ("Q5", ["name a column of the schema", "write the alias"]),
+            ("Q2", ["FROM t LEFT JOIN u isn't refused and joins as JOIN does"]), ("V1", ["two positions that differ", "a smaller step of the grid"]),
+            ("L1", ["blanks count and case doesn't", "a file that is empty"]), ("L10", ["ask by sfq-scale"]), ("S1", ["byte order mark"]),
+        ):
+            for it in parts:
+                self.assertIn(it, pages[code])
+        self.assertNotIn("DISTINCT, outer joins", pages["Q2"])
+
     def test_each_text_of_an_example_is_in_its_page(self):
         """What the tests of the documents run as an example of a line, its page shows."""
         with tempfile.TemporaryDirectory(prefix="sfq-pages-") as room:

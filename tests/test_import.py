@@ -17,7 +17,7 @@ import unittest
 import xml.etree.ElementTree as tree
 from fractions import Fraction
 
-from support import ROOT, needs, needs_build, python_command, read, write
+from support import ROOT, needs, needs_build, python_command, python_with, read, write
 
 import answers
 import bindings
@@ -28,7 +28,7 @@ import pairs as drawing
 import postgresql_server
 import repository
 import sfq
-from sfq import _grid, _reading, _tables, _wkb, imports
+from sfq import _checking, _grid, _reading, _tables, _wkb, exports, imports
 
 # Positions of one polygon whose own reason to be refused is in the key.
 REFUSED = {
@@ -43,15 +43,7 @@ REFUSED = {
 }
 
 
-def python_with_gdal():
-    """Returns a Python that has GDAL's module, or None."""
-    for it in (sys.executable, "/usr/bin/python3"):
-        if os.path.isfile(it) and subprocess.run([it, "-c", "import osgeo.ogr"], capture_output=True).returncode == 0:
-            return it
-    return None
-
-
-PYTHON = python_with_gdal()
+PYTHON = python_with("osgeo.ogr")
 csv.field_size_limit(sys.maxsize)
 
 
@@ -126,6 +118,54 @@ class Rounding(unittest.TestCase):
         for it in ("0", "-1", "x", "nan", "inf", "1e99", ""):
             with self.assertRaises(ValueError):
                 _grid.Grid(it)
+
+
+class Scales(unittest.TestCase):
+    """Whole numbers of decimal ones, which need no GDAL. The values are computed by hand."""
+
+    def test_nearest(self):
+        for step, given, wanted in (
+            ("0.01", ("3.25", "3.255", "-3.255", "0", "-0", "", "7", "1e2"), ("325", "326", "-325", "0", "0", "", "700", "10000")),
+            ("0.5", ("0.25", "-0.25", ".75", "1."), ("1", "0", "2", "2")), ("1000", ("1499", "1500", "-1500"), ("1", "2", "-1")),
+            ("1", ("9223372036854775807", "-9223372036854775808"), ("9223372036854775807", "-9223372036854775808")),
+        ):
+            self.assertEqual(tuple(_grid.Scale(step).field(it) for it in given), wanted, step)
+
+    def test_what_is_moved(self):
+        scale = _grid.Scale("0.01")
+        for it in ("3.25", "3.254", "1.009"):
+            scale.field(it)
+        self.assertEqual((scale.moved, scale.greatest), (2, Fraction(4, 1000)))
+
+    def test_what_is_no_number_or_too_large(self):
+        for it in ("inf", "nan", "1/2", "1_0", "x", "1,5", " 1", "9223372036854775807.5", "1e19"):
+            with self.assertRaises(_grid.NotANumber):
+                _grid.Scale("1").field(it)
+
+    def test_steps_of_the_command_line(self):
+        self.assertEqual(imports.steps_of(["a=0.01", "b=c=2"], "id"), {"a": "0.01", "b=c": "2"})
+        for it in (["a"], ["=1"], ["a=0"], ["a=x"], ["a=1", "a=2"], ["id=1"]):
+            with self.assertRaises(ValueError):
+                imports.steps_of(it, "id")
+
+    def test_numbers_come_back_as_numbers(self):
+        for text, kind, wanted in (
+            ("7", "INTEGER", "7"), ("", "REAL", "null"), ("3.25", "REAL", "3.25"), ("1e+22", "REAL", "1e+22"), ("-0.5", "REAL", "-0.5"),
+            ("inf", "REAL", '"inf"'), ("007", "REAL", '"007"'), ("3.25", "TEXT", '"3.25"'), ("326", "0.01", "3.26"), ("-7", "0.01", "-0.07"),
+            ("3", "1000", "3000"), ("ä", "TEXT", '"ä"'),
+        ):
+            self.assertEqual(exports.value(text, kind), wanted)
+
+
+class Programs(unittest.TestCase):
+    """Which program checks."""
+
+    def test_the_script_of_a_checkout_without_a_proved_program_checks_nothing(self):
+        with tempfile.TemporaryDirectory() as room:
+            shutil.copy(f"{ROOT}/sfq", f"{room}/sfq")
+            shutil.copytree(f"{ROOT}/tools", f"{room}/tools")
+            with self.assertRaisesRegex(_checking.LibraryError, "/sfq has no proved program, and would make .*: run .*/build first"):
+                _checking.checker(f"{room}/sfq")
 
 
 class Texts(unittest.TestCase):
@@ -308,7 +348,8 @@ class Imports(engine_rows.WithLibrary):
         self.assertIn("(x from 0 to 30000001, y from 0 to 21; no origin takes all with a step below 1.5)", said)
 
     def test_where_everything_is_too_far_an_origin_is_named(self):
-        _, said = self.imported([feature(("Point", [563_000.25 + it, 5_934_000.5])) for it in range(3)], grid="0.01")
+        far = [feature(("Point", [563_000.25 + it, 5_934_000.5])) for it in range(3)]
+        _, said = self.imported(far, "--allow-empty", grid="0.01")
         self.assertIn("x from 563000.25 to 563002.25, y from 5934000.5 to 5934000.5; --origin 563000,5934000 takes all", said)
 
     def test_curves_m_and_no_numbers(self):
@@ -434,6 +475,45 @@ class Imports(engine_rows.WithLibrary):
             "fid": "INTEGER", "a": "INTEGER", "b": "TEXT", "c": "TEXT", "d": "TEXT", "e": "TEXT", "f": "TEXT", "g": "INTEGER", "h": "TEXT",
             "geom": "POINT"})
 
+    def test_numbers_with_a_point(self):
+        features = [feature(("Point", [0, 0]), width=it, n=7) for it in (3.25, 3.255, None, -0.5)]
+        folder, said = self.imported(features)
+        self.assertEqual((self.column(folder, "width"), self.columns(folder)["width"]), (["3.25", "3.255", "", "-0.5"], "TEXT"))
+        self.assertIn("t: numbers with a point are TEXT, which sfq compares as texts: width; --scale width=STEP makes whole ones\n", said)
+        folder, said = self.imported(features, "--scale", "width=0.01", "n=7")
+        self.assertEqual((self.column(folder, "width"), self.columns(folder)["width"]), (["325", "326", "", "-50"], "INTEGER"))
+        self.assertEqual(self.column(folder, "n"), ["1"] * 4)
+        self.assertIn("t: width counts steps of 0.01: 1 numbers moved by at most 0.005\n", said)
+        self.assertNotIn("TEXT", said)
+        ran = self.command("sfq-export", f"{folder}/t.csv", "--like", folder, "--to", f"{folder}/o.geojson")
+        self.assertEqual((ran.returncode, ran.stderr), (0, ""))
+        found = [it["properties"] for it in json.loads(read(f"{folder}/o.geojson"), parse_float=str)["features"]]
+        self.assertEqual([(it["width"], it["n"]) for it in found], [("3.25", 7), ("3.26", 7), (None, 7), ("-0.50", 7)])
+        folder, _ = self.imported([feature(None, w=1e30), feature(None, w=1.5)], "--scale", "w=0.5")
+        self.assertEqual(self.left_out(folder), [("t", "1", "L5: w: '1e+30' is past 64 bits in steps of 0.5", "left out")])
+        ran = self.command("sfq-import", self.source(features), "--grid", "1", "--out", "none", "--scale", "depth=1")
+        self.assertEqual((ran.returncode, ran.stderr), (2, "sfq-import: --scale: no layer has a column depth\n"))
+
+    def test_an_import_that_keeps_nothing(self):
+        for features, said in (([feature(("Point", [1, 2, 3]))], "no record was kept: empty/left-out.csv says why; --allow-empty takes that"),
+                               ([], "no record was kept: the source has none; --allow-empty takes that")):
+            ran = self.command("sfq-import", self.source(features), "--grid", "1", "--out", "empty")
+            self.assertEqual((ran.returncode, ran.stderr.splitlines()[-1]), (4, f"sfq-import: {said}"))
+            self.assertTrue(os.path.isfile(f"{self.room}/empty/left-out.csv"))
+            shutil.rmtree(f"{self.room}/empty")
+            self.imported(features, "--allow-empty")
+
+    def test_a_layer_without_geometries_has_no_coordinate_system(self):
+        path = f"{tempfile.mkdtemp(dir=self.room)}/two.gpkg"
+        script = (
+            "import sys; from osgeo import ogr, osr; at = osr.SpatialReference(); at.ImportFromEPSG(25832); "
+            "made = ogr.GetDriverByName('GPKG').CreateDataSource(sys.argv[1]); a = made.CreateLayer('a', at, ogr.wkbPoint); "
+            "b = made.CreateLayer('b', None, ogr.wkbNone); f = ogr.Feature(a.GetLayerDefn()); "
+            "f.SetGeometry(ogr.CreateGeometryFromWkt('POINT(1 2)')); a.CreateFeature(f); b.CreateFeature(ogr.Feature(b.GetLayerDefn()))"
+        )
+        subprocess.run([PYTHON, "-c", script, path], check=True, capture_output=True)
+        self.assertNotIn("different coordinate systems", self.imported(path)[1])
+
     def test_names_that_clash(self):
         folder, said = self.imported([feature(("Point", [0, 0]), **{"no.": 1, "no,": 2, "NO_": 3, "fid": 4, "geom": 5, "select": 6})])
         self.assertEqual(self.table(folder)[0], ["fid", "no_", "no__2", "NO__3", "fid_2", "geom", "_select", "geom_2"])
@@ -473,8 +553,8 @@ class Imports(engine_rows.WithLibrary):
                          [("Größe 1", "Gro_e_1", "EPSG:4326"), ("lines", "lines", "EPSG:25832")])
         self.assertIn("the layer is Gro_e_1", said)
         self.assertIn("the layers have different coordinate systems", said)
-        folder, _ = self.imported(path, "--layer", "lines", "--key", "fid", grid="0.5")
-        self.assertEqual(self.table(folder, "lines")[0], ["fid", "nr", "geom"])
+        folder, _ = self.imported(path, "--layer", "lines", "--key", "fid", "--allow-empty", grid="0.5")
+        self.assertEqual(self.table(folder, "lines"), [["fid", "nr", "geom"]])
         self.assertEqual(sorted(os.listdir(folder)), ["grid.json", "left-out.csv", "lines.csv", "schema.sql"])
         ran = self.command("sfq-import", path, "--grid", "1", "--out", "x", "--layer", "nope")
         self.assertEqual((ran.returncode, ran.stderr), (2, "sfq-import: no layer nope; there are Größe 1, lines\n"))
@@ -662,7 +742,7 @@ class Documents(engine_rows.WithLibrary):
             known = {**os.environ, "PATH": f"{room}/bin:{os.environ['PATH']}", "SFQ_LIBRARY": library.SHARED, "PYTHONDONTWRITEBYTECODE": "1"}
             for script, shown in blocks:
                 ran = subprocess.run(["bash", "-e", "-c", script], cwd=room, env=known, stdout=subprocess.PIPE, stderr=subprocess.STDOUT, text=True)
-                said = "".join(it for it in ran.stdout.splitlines(True) if "unproved build" not in it)
+                said = "".join(it for it in ran.stdout.splitlines(True) if "unproved build" not in it and "./build takes" not in it)
                 self.assertEqual((ran.returncode, said), (0, shown), script)
             self.assertIn('class="row"', read(f"{room}/oats.svg"))
 

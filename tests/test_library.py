@@ -11,6 +11,7 @@ from concurrent.futures import ThreadPoolExecutor
 
 from support import ROOT, needs, needs_build, read
 
+import closure
 import engine_rows
 import library
 import pairs as drawing
@@ -211,15 +212,12 @@ def lines_of_whys():
     return calls
 
 
-class WithLibrary(unittest.TestCase):
+class WithLibrary(engine_rows.WithLibrary):
     """Compiles the program tests/library/calls.c, and has it make calls."""
-
-    ASKS_LIBRARY = True
 
     @classmethod
     def setUpClass(cls):
-        if not library.is_made():
-            raise unittest.SkipTest("needs ./build --library")
+        super().setUpClass()
         cls.room = tempfile.TemporaryDirectory(prefix="sfq-library-")
 
     @classmethod
@@ -284,6 +282,46 @@ class WithLibrary(unittest.TestCase):
         used = {"W1": 1, "W2": 1, "W3": 1, "W4": 0, "V4": 2, "V6": 2, "V7": 2, "V8": 2}.get(fault, 1)
         at = ["at"] if fault[0] == "W" and used else []
         return " ".join(["sfq:", "first" if status == "1" else "second", fault, *at, *places[:used]])
+
+
+class Border(unittest.TestCase):
+    """bindings/c/sfq.c beside the calls of the crate sfq_c, without either proved or made."""
+
+    # How C has what a call takes: a slice is a pointer and a number, and a value that comes back is behind a pointer.
+    AS_C = {
+        "u32": "uint32_t", "i32": "int32_t", "bool": "bool", "": "void", "KeptGeometry": "struct kept", "&mut Slot": "struct kept *",
+        "&mut Fault": "sfq_fault *", "&mut bool": "bool *", "&mut u32": "uint32_t *", "&mut usize": "size_t *",
+        "&mut [u8; 9]": "uint8_t *", "&mut [bool; 11]": "bool *", "&mut [i32; 4]": "int32_t *", "&[u8]": "const uint8_t *, size_t",
+        "&mut [u8]": "uint8_t *, size_t", "&[usize]": "const size_t *, size_t", "&[Coordinates]": "const struct position *, size_t",
+    }
+
+    def exports(self, crate):
+        """Returns the calls that a crate exports, as C declares them."""
+        found = {}
+        for it in closure.Closure().functions():
+            head = re.fullmatch(r'extern "C" fn (\w+)\((.*)\)(?: -> (\w+))?', it.signature)
+            if it.crate == crate and head:
+                types = [one.partition(": ")[2] for one in re.split(r", (?=\w+: )", head[2])]
+                found[head[1]] = (self.AS_C[head[3] or ""], ", ".join(self.AS_C[one] for one in types if one != "Global"))
+        return found
+
+    def test_prototypes_are_those_of_the_exports(self):
+        text = re.sub(r"\s+", " ", read(f"{ROOT}/bindings/c/sfq.c"))
+        declared = {}
+        for result, name, words in re.findall(r"(?<=[;}] )(\w+) (sfq_proved_\w+)\(([^()]*)\);", text):
+            declared[name] = (result, re.sub(r"\b\w+(?=,|$)", "", words).replace(" ,", ",").strip())
+        exported = self.exports("sfq_c")
+        self.assertGreater(len(exported), 15)
+        self.assertEqual(declared, exported)
+
+    @needs("gcc", "cc")
+    def test_null_texts_and_arrays_are_empty(self):
+        with tempfile.TemporaryDirectory(prefix="sfq-border-") as room:
+            flags = ["-std=c99", "-Wall", "-Wextra", "-Werror", "-ffunction-sections", "-Wl,--gc-sections", f"-I{ROOT}/bindings/c"]
+            subprocess.run(["cc", *flags, f"{ROOT}/tests/library/nulls.c", "-o", f"{room}/nulls"], check=True)
+            ran = subprocess.run([f"{room}/nulls"], capture_output=True, text=True)
+        # Of nulls nothing is handed on, and of texts that are there all their bytes.
+        self.assertEqual((ran.returncode, ran.stdout), (0, "0 16\n"))
 
 
 @needs("gcc", "cc")

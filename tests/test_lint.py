@@ -7,6 +7,8 @@ import sys
 import tempfile
 import unittest
 
+import support
+
 ROOT = pathlib.Path(__file__).resolve().parent.parent
 
 CLEAN = {
@@ -42,9 +44,7 @@ class Refused(unittest.TestCase):
         """Runs ./lint in the clean repository with more files and one file changed, and returns its status and lines."""
         with tempfile.TemporaryDirectory(prefix="sfq-lint-") as name:
             room = pathlib.Path(name)
-            for file, clean in {**CLEAN, **more, **({path: text} if path else {})}.items():
-                (room / file).parent.mkdir(parents=True, exist_ok=True)
-                (room / file).write_text(clean, encoding="utf-8")
+            support.write_all(name, {**CLEAN, **more, **({path: text} if path else {})})
             shutil.copy(ROOT / "lint", room / "lint")
             (room / "bin").mkdir(exist_ok=True)
             for program in (room / "bin").iterdir():

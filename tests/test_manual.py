@@ -9,17 +9,20 @@ import unittest
 
 from support import ROOT, asked, needs, python_command, read
 
+import fault_pages
 import repository
 import scale_programs
 
 PAGE = f"{ROOT}/packaging/man/sfq.1"
 COMPLETIONS = ("sfq.bash", "_sfq", "sfq.fish")
+GEOMETRIES = ["POINT(", "MULTIPOINT(", "LINESTRING(", "MULTILINESTRING(", "POLYGON(", "MULTIPOLYGON("]
 # The other commands, and the words that print their options.
 OTHERS = {
     "sfq-tiles": [scale_programs.TILES, "--help"],
     "sfq-scale": [*python_command(sys.executable, "sfq-scale"), "run", "--help"],
     "sfq-import": [*python_command(sys.executable, "sfq-import"), "--help"],
     "sfq-export": [*python_command(sys.executable, "sfq-export"), "--help"],
+    "sfq-schema": [*python_command(sys.executable, "sfq-schema"), "--help"],
 }
 
 
@@ -42,22 +45,11 @@ class ManualPage(unittest.TestCase):
             self.assertEqual((ran.stderr, ran.returncode), ("", 0))
             self.assertIn("EXIT STATUS", re.sub(r".\x08|\x1b\[[\d;]*m", "", ran.stdout))
 
-    def test_each_fault_and_status_of_the_document_is_in_it(self):
+    def test_each_status_and_line_without_a_code_is_in_it(self):
         page, faults = read(PAGE), read(f"{ROOT}/docs/FAULTS.md")
-        codes = set(re.findall(r"`sfq: [^`]*?\b([SLQWV]\d+)\b", faults))
-        self.assertGreater(len(codes), 30)
-        for it in sorted(codes):
-            self.assertRegex(page, rf"(?m)^\.B .*\b{it}\b", it)
         for it in re.findall(r"^\| (\d) \|", faults, re.M):
             self.assertRegex(page, rf"(?m)^\.B {it}$", f"status {it}")
         for it in re.findall(r"`sfq: (?:t )?((?:schema )?unreadable|write failed|out of memory)`", faults):
-            self.assertIn(it, page)
-
-    def test_each_function_and_type_of_the_readme_is_in_it(self):
-        page, readme = read(PAGE), read(f"{ROOT}/README.md")
-        for it in sorted(set(re.findall(r"\bST_\w+", readme))):
-            self.assertIn(it, page)
-        for it in ("GEOMETRY", "MULTIPOINT", "MULTILINESTRING", "MULTIPOLYGON", "BIGINT"):
             self.assertIn(it, page)
 
 
@@ -96,7 +88,7 @@ class Help(unittest.TestCase):
         whole = helps["--help",].out.decode()
         self.assertEqual(helps[()].status, 2)
         self.assertEqual((helps[()].out, helps[()].err.decode()), (b"", whole))
-        asking = ("run", "--help"), ("check", "-h"), ("help", "relate"), ("why", "--help"), ("help", "pairs")
+        asking = ("run", "--help"), ("check", "-h"), ("help", "relate"), ("relate", "--help"), ("why", "--help"), ("help", "pairs")
         for words in asking:
             name = next(it for it in words if it.isalpha() and it != "help")
             text, status = helps[words].out.decode(), helps[words].status
@@ -104,6 +96,8 @@ class Help(unittest.TestCase):
             self.assertRegex(text, rf"(?m)^Usage: sfq {name} ")
             self.assertRegex(text, rf"(?m)^  sfq {name} ")
             self.assertIn("Statuses: 0 done", text)
+            # Each of these takes a file, or a word that can name one.
+            self.assertIn("6 a file or the output", text)
             self.assertIn("man sfq", text)
         for it in ("Example", "Statuses: 0 done, 2 the command line", "man sfq"):
             self.assertIn(it, whole)
@@ -162,6 +156,11 @@ def completions(name):
     return [f"{name}.bash", f"_{name}", f"{name}.fish"]
 
 
+def codes():
+    """Returns the codes that `sfq fault` knows."""
+    return sorted(fault_pages.pages())
+
+
 class Completions(unittest.TestCase):
     def complete(self, *words, folder=ROOT):
         """Returns what bash offers for the last of these words."""
@@ -180,6 +179,8 @@ class Completions(unittest.TestCase):
         self.assertEqual(self.complete("sfq", "run", "-"), ["-h", "--help"])
         self.assertIn("POLYGON(", self.complete("sfq", "relate", "P"))
         self.assertIn("POLYGON(", self.complete("sfq", "why", "POINT(1 1)", "P"))
+        self.assertEqual(sorted(self.complete("sfq", "fault", "")), sorted(codes()))
+        self.assertEqual(self.complete("sfq", "fault", "L1"), ["L1", "L10", "L11"])
         with tempfile.TemporaryDirectory() as room:
             os.mkdir(f"{room}/tables")
             for it in ("schema.sql", "t.csv"):
@@ -192,10 +193,23 @@ class Completions(unittest.TestCase):
             self.assertEqual(self.complete("sfq-scale", "run", "--rows", "9", "schema.sql", "t", folder=room), ["tables"])
             self.assertEqual(self.complete("sfq-import", "--out", "", folder=room), ["tables"])
             self.assertEqual(self.complete("sfq-export", "t.", folder=room), ["t.csv"])
+            self.assertEqual(self.complete("sfq-schema", "", folder=room), ["tables"])
         self.assertEqual(self.complete("sfq-scale", "r"), ["run"])
         self.assertEqual(self.complete("sfq-scale", "run", "s", "d", "S"), ["SELECT"])
         self.assertEqual(self.complete("sfq-import", "--invalid", "m"), ["mend"])
         self.assertEqual(self.complete("sfq-tiles", "--part", ""), [])
+
+    def by_zsh(self, line, seconds):
+        """Returns what zsh offers at the end of a line, typed into one that has a terminal."""
+        script = (
+            "zmodload zsh/zpty; zpty z zsh -f -i; w() { zpty -w z \"$1\"; }; "
+            f"w \"PS1=; stty -echo; fpath=('{ROOT}/packaging/completions' \\$fpath); autoload -Uz compinit; compinit -u -D\"; "
+            "w 'zstyle \":completion:*\" list-prompt \"\"; LISTMAX=1000; setopt no_beep; echo BEGUN'; "
+            "while zpty -r z line && [[ $line != *BEGUN* ]]; do :; done; "
+            f"zpty -w -n z $'{line}\\C-d'; sleep {seconds}; zpty -rt z text; print -r -- \"$text\"; while zpty -rt z text; do print -r -- \"$text\"; done; zpty -d z"
+        )
+        ran = subprocess.run([shutil.which("zsh"), "-f", "-c", script], capture_output=True, text=True, timeout=60)
+        return re.sub(r"\x1b\[[\d;?]*[A-Za-z]", "", ran.stdout).split()
 
     @needs("zsh", "zsh")
     def test_zsh(self):
@@ -203,14 +217,19 @@ class Completions(unittest.TestCase):
             ran = subprocess.run(["zsh", "-n", f"{ROOT}/packaging/completions/_{name}"], capture_output=True, text=True)
             self.assertEqual((ran.stderr, ran.returncode), ("", 0))
             self.assertEqual(read(f"{ROOT}/packaging/completions/_{name}").splitlines()[0], f"#compdef {name}")
+        for line, wanted in (("sfq fault ", codes()), ("sfq relate ", [it.replace("(", "\\(") for it in GEOMETRIES]), ("sfq r", ["relate", "run"])):
+            # The terminal may be slow on a busy machine.
+            found = next((it for it in (self.by_zsh(line, seconds) for seconds in (1, 5, 20)) if set(wanted) <= set(it)), None)
+            self.assertIsNotNone(found, line)
 
     @needs("fish", "fish")
     def test_fish(self):
         for line, wanted in (
-            ("sfq r", ["relate", "run"]), ("sfq-tiles --r", ["--rows"]), ("sfq-scale ru", ["run"]), ("sfq-scale run --se", ["--send"]),
-            ("sfq-import --invalid ", ["leave-out", "mend", "stop"]), ("sfq-export --w", ["--wgs84"]),
+            ("sfq r", ["relate", "run"]), ("sfq relate ", GEOMETRIES), ("sfq why P", ["POINT(", "POLYGON("]), ("sfq fault ", codes()),
+            ("sfq fault W", ["W1", "W2", "W3", "W4"]), ("sfq help wh", ["why"]), ("sfq-tiles --r", ["--rows"]), ("sfq-scale ru", ["run"]), ("sfq-scale run --se", ["--send"]),
+            ("sfq-import --invalid ", ["leave-out", "mend", "stop"]), ("sfq-export --w", ["--wgs84"]), ("sfq-schema --v", ["--version"]),
         ):
             script = f"source '{ROOT}/packaging/completions/{line.partition(' ')[0]}.fish'; complete -C '{line}'"
             ran = subprocess.run([shutil.which("fish"), "--no-config", "-c", script], capture_output=True, text=True)
-            self.assertEqual(ran.returncode, 0, ran.stderr)
-            self.assertEqual(sorted(it.split("\t")[0] for it in ran.stdout.splitlines()), wanted)
+            self.assertEqual((ran.stderr, ran.returncode), ("", 0), line)
+            self.assertEqual(sorted(it.split("\t")[0] for it in ran.stdout.splitlines()), sorted(wanted))

@@ -2,7 +2,6 @@
 import re
 import resource
 import shutil
-import subprocess
 import tempfile
 import unittest
 from concurrent.futures import ThreadPoolExecutor
@@ -13,25 +12,19 @@ import proving
 import worst
 from faults import deep, sweeps
 
-# The greatest memory of a run, as the README says it: these bytes, and so many for each byte of the tables and for each
-# pair of rows that a join finds before it sorts them; under LIMIT n for at most 2n pairs.
-BASE, EACH_BYTE, EACH_PAIR = 8 << 20, 64, 48
+# The greatest memory of a run, as the README says it: these bytes, and so many for each byte of the tables, for each byte of
+# the longest record that is written, and for each pair of rows that a join finds before it sorts them; under LIMIT n for at most
+# 2n pairs. A join of hundreds of predicates takes so much more.
+BASE, EACH_BYTE, EACH_WRITTEN, EACH_PAIR, PREDICATES = 8 << 20, 64, 6, 48, 96 << 20
+# Of `pairs` for each byte of the longest record, and of `why` for each point where edges meet.
+EACH_READ, EACH_MEETING = 4, 2048
 
 QUERY_BYTES = 65_536
 
 
 def run(words, folder, room):
     """Runs the program within so much memory, and returns what it wrote and its status."""
-    ran = subprocess.run(
-        [sweeps.program(), *words],
-        cwd=folder,
-        env={},
-        stdin=subprocess.DEVNULL,
-        capture_output=True,
-        timeout=sweeps.PATIENCE,
-        preexec_fn=lambda: resource.setrlimit(resource.RLIMIT_AS, (room, room)),
-    )
-    return ran.stdout, ran.stderr, ran.returncode
+    return sweeps.run_within(words, folder, resource.RLIMIT_AS, room)
 
 
 class WithFolder(unittest.TestCase):
@@ -118,6 +111,51 @@ class Queries(WithFolder):
                 self.assertEqual(self.query(text, room), (answer, b"", 0))
 
     @needs_build
+    def test_a_long_record(self):
+        # A text that is written over and over, once with nothing but quotes, each of which is written twice.
+        for text in ("a" * 100_000, '"' * 100_000):
+            field = text if text[0] == "a" else f'"{2 * text}"'
+            size = self.write("CREATE TABLE t (id INTEGER PRIMARY KEY, name TEXT);", t=f"id,name\n1,{field}\n")
+            items = 1000
+            room = BASE + EACH_BYTE * size + EACH_WRITTEN * items * len(text)
+            out, err, status = self.query(f"SELECT {','.join(['name'] * items)} FROM t", room)
+            with self.subTest(text=text[:1]):
+                self.assertEqual((len(out.partition(b"\n")[2]), err, status), (items * (len(field) + 1), b"", 0))
+
+    @needs_build
+    def test_a_join_of_many_predicates(self):
+        schema = "".join(f"CREATE TABLE {table} (id INTEGER PRIMARY KEY, {it} POINT);" for table, it in ("tp", "uq"))
+        size = self.write(schema, t="id,p\n1,POINT(0 0)\n", u="id,q\n1,POINT(0 0)\n")
+        head, one = "SELECT t.id FROM t, u WHERE t.id = 1", " AND ST_Equals({},ST_GeomFromText('POINT(0 0)'))"
+        both = one.format("p") + one.format("q")
+        query = head + both * ((QUERY_BYTES - len(head)) // len(both))
+        self.assertGreater(query.count("ST_Equals"), 1200)
+        self.assertEqual(self.query(query, BASE + EACH_BYTE * size + PREDICATES), (b"t.id\n1\n", b"", 0))
+
+    def comb(self, teeth, upright):
+        """A line with so many long teeth, which go up, or to the right."""
+        tooth, high = ((0, 0), (0, 1), (2, 1), (2, 0)), 4 * teeth
+        corners = [(4 * at + x, high * y) for at in range(teeth) for x, y in tooth]
+        return f"LINESTRING({','.join(f'{x} {y}' if upright else f'{y} {x + 1}' for x, y in corners)})"
+
+    @needs_build
+    def test_why_of_combs(self):
+        for teeth in (20, 100):
+            room = BASE + EACH_MEETING * 4 * teeth * teeth
+            out, err, status = run(["why", self.comb(teeth, True), self.comb(teeth, False)], self.folder, room)
+            with self.subTest(teeth=teeth):
+                self.assertEqual((out.count(b"\n"), err, status), (9, b"", 0))
+
+    @needs_build
+    def test_pairs_of_the_longest_geometries(self):
+        for bad in worst.PAIRS:
+            record = ",".join(f'"{it}"' for it in bad.make(2 * bad.size)) + "\n"
+            sweeps.write(f"{self.folder}/pairs.csv", record)
+            out, err, status = run(["pairs", "pairs.csv"], self.folder, BASE + EACH_READ * len(record))
+            with self.subTest(pair=bad.label):
+                self.assertEqual((len(out), err, status), (10, b"", 0))
+
+    @needs_build
     def test_the_longest_geometries_of_relate(self):
         pairs = [(bad.label, bad.make(2 * bad.size)) for bad in worst.PAIRS]
         with ThreadPoolExecutor(proving.processors()) as pool:
@@ -201,9 +239,18 @@ class TooLittle(unittest.TestCase):
 
 
 class Readme(unittest.TestCase):
+    def numbers_of(self, name):
+        """Returns the numbers of a row of the README, with their units."""
+        row = re.search(rf"(?m)^\| {name} \| (.*) \| \|$", read(f"{ROOT}/README.md"))
+        return re.findall(r"\b(\d[\d,]*) (MiB|KiB|bytes|for each byte)", row[1])
+
     def test_it_has_these_numbers(self):
-        row = re.search(r"(?m)^\| memory \| at most (\d+) MiB, and (\d+) bytes .* at most (\d+) bytes for each pair", read(f"{ROOT}/README.md"))
-        self.assertEqual([int(it) for it in row.groups()], [BASE >> 20, EACH_BYTE, EACH_PAIR])
+        of_runs = [("8", "MiB"), ("64", "bytes"), ("6", "for each byte"), ("48", "bytes"), ("96", "MiB")]
+        self.assertEqual(self.numbers_of("memory of `run` and `check`"), of_runs)
+        self.assertEqual([8 << 20, 64, 6, 48, 96 << 20], [BASE, EACH_BYTE, EACH_WRITTEN, EACH_PAIR, PREDICATES])
+        of_others = [("8", "MiB"), ("4", "bytes"), ("2", "KiB")]
+        self.assertEqual(self.numbers_of("memory besides"), of_others)
+        self.assertEqual([4, 2 << 10], [EACH_READ, EACH_MEETING])
 
 
 if __name__ == "__main__":

@@ -1,10 +1,13 @@
 """What docs/PROVED.md says of clauses and theorems and ample_memory.txt of tests is so, and what isn't so is found."""
+import glob
+import os
 import re
 import unittest
 
-from support import ROOT
+from support import ROOT, read
 
 import proved_page
+import repository
 
 SOURCE = """//! Lists.
 
@@ -94,7 +97,7 @@ class Page(unittest.TestCase):
         page = proved_page.text_of_pages()
         self.assertGreater(len(proved_page.rows_of(page)), 40)
         self.assertEqual(proved_page.wrong_clauses(page, functions), [])
-        tests = proved_page.listed(proved_page.read(proved_page.LIST))
+        tests = proved_page.listed(read(proved_page.LIST))
         self.assertGreater(len(tests), 20)
         self.assertEqual(proved_page.wrong_tests(needed, tests, proved_page.sources(), functions), [])
 
@@ -104,7 +107,56 @@ class Page(unittest.TestCase):
         self.assertEqual(makers, {"relate", "relate_texts", "matrix_of"})
         for it in makers - {"relate"}:
             self.assertIn("relate", proved_page.reached(it, functions))
-        self.assertRegex(proved_page.read(f"{ROOT}/crates/de9im/src/matrix.rt"), r"pub struct Matrix \{\n    cells: MatrixCells,\n\}")
+        self.assertRegex(read(f"{ROOT}/crates/de9im/src/matrix.rt"), r"pub struct Matrix \{\n    cells: MatrixCells,\n\}")
+
+    def test_two_calls_make_a_geometry(self):
+        callers = {}
+        for path in glob.glob(f"{ROOT}/crates/*/src/*.rt"):
+            if re.search(r"\bGeometry::kept\(", proved_page.read(path)):
+                callers[os.path.relpath(path, f"{ROOT}/crates")] = len(re.findall(r"\bGeometry::kept\(", proved_page.read(path)))
+        self.assertEqual(callers, {"wkt/src/reading.rt": 1, "library_calls/src/checking.rt": 1})
+
+    def test_calls_are_below_their_crates_and_have_their_stars(self):
+        functions, _ = proved_page.all_functions()
+        crates = list(repository.read_crates())
+        page = proved_page.read(f"{ROOT}/docs/PROVED.md")
+        self.assertEqual(proved_page.wrong_rows(page, functions, crates), [])
+        self.assertGreater(page.count("`\\*"), 25)
+        for old, new, wrong in [
+            ("| `run`\\*", "| `run`", "run has a requires and no star"),
+            ("| `place_of` |", "| `place_of`\\* |", "place_of has a star and no requires"),
+            ("In `sql_text` and `spatial_sql`.", "In `spatial_sql`.", "read_schema is in no crate that is named above its table"),
+            ("| `Database::load`\\* |", "| `Rows::next` |", "Rows::next is in no crate that is named above its table"),
+        ]:
+            with self.subTest(wrong=wrong):
+                self.assertEqual(page.count(old), 1)
+                self.assertIn(wrong, proved_page.wrong_rows(page.replace(old, new), functions, crates))
+
+    def test_the_headline_stands_once(self):
+        readme, places = proved_page.read(f"{ROOT}/README.md"), proved_page.places_of_headlines()
+        words = proved_page.headline(readme)
+        self.assertRegex(words, r"^For every schema .* as sets of rational points\.$")
+        self.assertEqual(proved_page.plain_words(readme).count(words), 1)
+        self.assertEqual(proved_page.wrong_headlines(places, readme), [])
+        for path in proved_page.HEADLINES:
+            without = re.sub(r"LIMIT\s+0", "LIMIT 1", places[path])
+            wrong = [f"{path} doesn't have the headline as the README has it"]
+            self.assertEqual(proved_page.wrong_headlines({**places, path: without}, readme), wrong)
+            self.assertEqual(proved_page.wrong_headlines({**places, path: ""}, readme), wrong)
+        said = "It is proved that the answer is the rows for which WHERE is true."
+        self.assertEqual(len(proved_page.wrong_headlines({**places, "docs/DATA.md": places["docs/DATA.md"] + said}, readme)), 1)
+        self.assertEqual(len(proved_page.wrong_headlines(places, readme.replace("LIMIT n", "LIMIT"))), len(proved_page.HEADLINES))
+
+    def test_no_text_says_what_is_not_so(self):
+        texts = {**proved_page.places_of_headlines(), **{it: proved_page.read(f"{ROOT}/{it}") for it in ("README.md", "docs/PROVED.md")}}
+        self.assertLess({"bindings/c/sfq.h", "bindings/sqlite/sfq0.c", "bindings/python/sfq/__init__.py"}, set(texts))
+        self.assertEqual(proved_page.wrong_sentences(texts), [])
+        for said in ("What the library\nreturns is proved.", "and each such text <b>has</b> this fault", "That probes search indexes."):
+            self.assertEqual(len(proved_page.wrong_sentences({**texts, "docs/DATA.md": said})), 1, said)
+        # Where the proof ends is said wherever somebody may look for it.
+        for path in texts:
+            if re.search(r"bindings/(?:c/sfq\.h|sqlite/|postgresql/(?:sfq\.c|asking\.h)|python/sfq/(?:__init__|_library)\.py)", path):
+                self.assertRegex(proved_page.plain_words(texts[path]).replace(" * ", " "), r"\bcalls of the crate sfq_c\b", path)
 
     def test_functions_of_a_source(self):
         found = [(it.owner, it.name, it.is_public, it.takes_memory(), sorted(it.clauses)) for it in self.functions]

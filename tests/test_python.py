@@ -13,9 +13,10 @@ import tempfile
 import threading
 import unittest
 
-from support import ROOT, needs, read, write
+from support import ROOT, needs, python_with, read, write
 
 import engine_rows
+import language
 import library
 import pairs as drawing
 import repository
@@ -24,21 +25,8 @@ from sfq import _faults, _library, _progress, _texts
 
 SQUARE = "POLYGON((0 0,4 0,4 4,0 4,0 0))"
 # The methods of a Geometry, by the names that SQL has for them.
-METHODS = {
-    "ST_Equals": "equals", "ST_Disjoint": "disjoint", "ST_Intersects": "intersects", "ST_Touches": "touches", "ST_Crosses": "crosses",
-    "ST_Within": "within", "ST_Contains": "contains", "ST_Overlaps": "overlaps",
-}
-
-
-def python_with_shapely():
-    """Returns a Python that has shapely, or None."""
-    for it in (sys.executable, "/usr/bin/python3"):
-        if os.path.isfile(it) and subprocess.run([it, "-c", "import shapely"], capture_output=True).returncode == 0:
-            return it
-    return None
-
-
-PYTHON = python_with_shapely()
+METHODS = {it: it.removeprefix("ST_").lower() for it in language.PREDICATES}
+PYTHON = python_with("shapely")
 # What is asked with arrays of numpy.
 ARRAYS = """
 import numpy, sfq
@@ -384,8 +372,8 @@ class Installation(unittest.TestCase):
             *places, last = run(python, "-c", text).splitlines()
             for it in places:
                 self.assertRegex(it, rf"^{room}/venv/lib/.*/__init__.py True$")
-            self.assertEqual(last, f"{repository.version()} sfq-export sfq-import sfq-scale")
-            for it in ("sfq-import", "sfq-export", "sfq-scale"):
+            self.assertEqual(last, f"{repository.version()} sfq-export sfq-import sfq-scale sfq-schema")
+            for it in ("sfq-import", "sfq-export", "sfq-scale", "sfq-schema"):
                 self.assertEqual(run(f"{room}/venv/bin/{it}", "--version"), f"{it} {repository.version()}\n")
             run(python, "-m", "pip", "uninstall", "-q", "-y", "--disable-pip-version-check", "sfq")
             self.assertEqual([it for it in os.listdir(f"{room}/venv/bin") if it.startswith("sfq")], [])

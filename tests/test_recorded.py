@@ -3,7 +3,7 @@ import pathlib
 import tempfile
 import unittest
 
-import support  # finds the modules
+import support
 
 import recorded
 
@@ -25,13 +25,10 @@ class Recorded(unittest.TestCase):
         room = tempfile.TemporaryDirectory(prefix="sfq-recorded-")
         self.addCleanup(room.cleanup)
         self.room = pathlib.Path(room.name)
-        for file, text in REPOSITORY.items():
-            self.write(file, text)
+        support.write_all(self.room, REPOSITORY)
 
     def write(self, file, text):
-        path = self.room / file
-        path.parent.mkdir(parents=True, exist_ok=True)
-        path.write_text(text, encoding="utf-8")
+        support.write(self.room / file, text)
 
     def found(self):
         return [it[:2] for it in recorded.check(self.room)[1]]

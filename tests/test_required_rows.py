@@ -1,7 +1,7 @@
 """The rows of required_rows.txt are tested, and a row that no test has is found."""
 import unittest
 
-import support  # finds the modules
+from support import read
 
 import required_rows
 
@@ -49,7 +49,7 @@ class RequiredRows(unittest.TestCase):
         return required_rows.missing(lines, tests)
 
     def test_no_row_is_missing(self):
-        lines = required_rows.read(required_rows.LIST).splitlines()
+        lines = read(required_rows.LIST).splitlines()
         self.assertGreater(len(lines), 200)
         self.assertEqual(required_rows.missing(lines, required_rows.all_tests()), [])
 

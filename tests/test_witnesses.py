@@ -10,18 +10,10 @@ from support import ROOT, needs_build, read
 import exact_cells
 import exact_places
 from faults import sweeps
+from required_rows import written_out
 
 SCRIPTS = f"{ROOT}/crates/scripts/data"
 SQUARE = "POLYGON((0 0,4 0,4 4,0 4,0 0))"
-
-
-def written_out(text):
-    """Returns a text of a script with its repeated parts, `{1 to 3 of PART}`, written out."""
-
-    def repeated(found):
-        return "".join(found[3].replace("$", str(at)) for at in range(int(found[1]), int(found[2]) + 1))
-
-    return re.sub(r"\{(\d+) to (\d+) of ([^}]*)\}", repeated, text)
 
 
 def rows_of_scripts():

@@ -24,8 +24,8 @@ class Declaration:
         return "\n".join(self.lines)
 
     def parts(self) -> list[str]:
-        """The fields of a record, the constructors of a type."""
-        if self.kind not in ("record", "data"):
+        """The constructors of a type. The fields of a record are no names of their own: a field comes after a point."""
+        if self.kind != "data":
             return []
         heads = [re.match(r"\s+(\S+(?: \S+)*?) :(?: |$)", it) for it in self.lines[1:]]
         return [name for it in heads if it for name in it[1].split() if name != "field"]

@@ -25,6 +25,7 @@ from typing import Any, Callable, Optional
 import antt
 import contracts
 import repository
+from repository import read
 from contracts import Key
 
 # What names a file: its crate, src or specs, and its name.
@@ -109,11 +110,6 @@ def difference(before: str, after: str) -> str:
     start = max(front - 3, 0)
     shown = [" ".join(it[start : len(it) - end + 3 if end > 3 else len(it)]) for it in (one, two)]
     return " -> ".join(f"{it[:300]} .." if len(it) > 300 else it for it in shown)
-
-
-def read(path: str) -> str:
-    with open(path, encoding="utf-8") as text:
-        return text.read()
 
 
 class Moves:

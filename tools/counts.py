@@ -52,7 +52,7 @@ def functions_of(crate: str, root: str) -> list[str]:
     found = []
     for path in sorted(glob.glob(f"{root}/crates/{crate}/src/**/*.rt", recursive=True)):
         module = os.path.basename(path)[: -len(".rt")]
-        for it in proved_page.functions_in(crate, module, proved_page.read(path)):
+        for it in proved_page.functions_in(crate, module, repository.read(path)):
             if it.body:
                 found.append("::".join(part for part in (crate, module, it.owner, it.name) if part))
     return found
@@ -122,7 +122,7 @@ def count(root: str = repository.ROOT) -> tuple[list[repository.Row], list[repos
         found.append(("crates", 1, what))
     if os.path.isfile(f"{root}/{WALKS}"):
         names = {it for its in functions.values() for it in its}
-        more, wrong = checked_walks(proved_page.read(f"{root}/{WALKS}"), names)
+        more, wrong = checked_walks(repository.read(f"{root}/{WALKS}"), names)
         rows, found = rows + more, found + wrong
     return rows, found
 

@@ -19,6 +19,8 @@ import repository
 DOCUMENT = f"{repository.ROOT}/docs/FAULTS.md"
 SOURCE = f"{repository.ROOT}/crates/text_commands/src"
 WIDTH = 78
+# The files of an example are in a folder of its own, for a reader may have files of these names.
+ROOM, CHECK = "D=$(mktemp -d)", 'sfq check "$D/schema.sql" "$D"'
 
 # What each letter of a code is about, with its status; the files of its pages; and sentences of the document that hold of all
 # its lines.
@@ -77,15 +79,15 @@ def example_of(code: str, header: str, line: str, cell: str) -> list[str]:
     if not texts:
         return [plain(first)] if first.strip() else []
     if code[0] == "S":
-        return [*echoed(texts[0]), "sfq check schema.sql ."]
+        return [ROOM, *echoed(texts[0]), CHECK]
     if code[0] == "Q":
         return call(["sfq", "run", "schema.sql", "."], [quoted(texts[0])])
     if code[0] in "WV":
         pair = [quoted(texts[0]), '"POINT(0 0)"']
         return call(["sfq", "relate"], pair if "first" in line else pair[::-1])
     schema, table = printed.Faults.loaded(header, line, first.strip(), texts)
-    made = "mkdir t.csv" if table is None else "printf '" + table.replace("\n", "\\n") + "' > t.csv"
-    return [*echoed(schema), *wrapped_text(made), "sfq check schema.sql ."]
+    made = 'mkdir "$D/t.csv"' if table is None else "printf '" + table.replace("\n", "\\n") + "' > \"$D/t.csv\""
+    return [ROOM, *echoed(schema), *wrapped_text(made), CHECK]
 
 
 def quoted(text: str) -> str:
@@ -95,7 +97,7 @@ def quoted(text: str) -> str:
 
 def echoed(schema: str) -> list[str]:
     """Returns the commands that write a schema's text. A long one is cut at a blank, as echo joins its words by blanks."""
-    lines, end = [], " > schema.sql"
+    lines, end = [], ' > "$D/schema.sql"'
     while len(f'echo "{schema}"{end}') > WIDTH - 4:
         cut = schema.rindex(" ", 0, WIDTH - 4 - len('echo "" \\'))
         lines.append(f'"{schema[:cut]}" \\')

@@ -1,7 +1,8 @@
-"""Installs the program with its manual page and its shell completions, sfq-import and sfq-export, sfq-tiles with sfq-scale and the C
+"""Installs the program with its manual page and its shell completions, sfq-import, sfq-export and sfq-schema, sfq-tiles with sfq-scale and the C
 library with what is over it where they are made; makes a tarball and a Debian package of the programs."""
 import datetime
 import gzip
+import hashlib
 import io
 import os
 import re
@@ -32,8 +33,20 @@ def described(name: str) -> list[bindings.File]:
     return [(source.format(name), target.format(name), 0o644) for source, target in [("packaging/man/{}.1", "share/man/man1/{}.1"), *found]]
 
 
+def documents() -> list[bindings.File]:
+    """Returns the documents for users, their pictures, and the examples, which lie under the prefix as in the repository."""
+    found = ["CHANGELOG.md", *(f"docs/{it}.md" for it in ("DATA", "FAULTS", "SCALE"))]
+    found += [f"docs/pictures/{it}.svg" for it in ("cells", "scale", "why-not-simple")]
+    for at, folders, names in os.walk(f"{repository.ROOT}/examples"):
+        folders[:] = sorted(it for it in folders if not it.startswith(("_", ".")))
+        found += [os.path.relpath(f"{at}/{it}", repository.ROOT) for it in sorted(names)]
+    return [(it, f"{DOCUMENTS}/{it}", 0o644) for it in found]
+
+
+# Where documents are installed.
+DOCUMENTS = "share/doc/sfq"
 # What is installed: where it lies in the repository, where under the prefix, and its mode.
-PROGRAM = [("crates/sfq/out/sfq", "bin/sfq", 0o755), *described("sfq"), ("CHANGELOG.md", "share/doc/sfq/CHANGELOG.md", 0o644)]
+PROGRAM = [("crates/sfq/out/sfq", "bin/sfq", 0o755), *described("sfq"), *documents()]
 # sfq-scale is of no use without sfq-tiles.
 TILES = [
     (tiles.PROGRAM, "bin/sfq-tiles", 0o755), *described("sfq-tiles"),
@@ -45,6 +58,22 @@ DATA.append(("bindings/python/__main__.py", f"{SHARE}/__main__.py", 0o644))
 FILES = PROGRAM + TILES + DATA
 # Debian's zsh looks elsewhere for the completions of its packages.
 OF_DEBIAN = {"share/zsh/site-functions/": "share/zsh/vendor-completions/"}
+MAINTAINER = "The sfq project <sfq@localhost.localdomain>"
+# What lintian is to leave out.
+OVERRIDES = """\
+# The project has no address for mail yet.
+sfq: bogus-mail-host *
+sfq: bogus-mail-host-in-debian-changelog *
+"""
+COPYRIGHT = """\
+Format: https://www.debian.org/doc/packaging-manuals/copyright-format/1.0/
+Upstream-Name: sfq
+
+Files: *
+Copyright: 2026 The sfq project
+License: not-chosen-yet
+ No licence has been chosen yet: nobody but its authors may copy or change sfq.
+"""
 
 
 def copy(files: Iterable[bindings.File], prefix: str) -> None:
@@ -111,8 +140,8 @@ def make_tarball(path: str, top: str, seconds: int) -> None:
             entry.size, entry.mode, entry.mtime = len(text), mode, seconds
             entry.uname = entry.gname = "root"
             archive.addfile(entry, io.BytesIO(text))
-    with open(path, "wb") as made, gzip.GzipFile("", "wb", 9, made, mtime=seconds) as packed:
-        packed.write(room.getvalue())
+    with open(path, "wb") as made:
+        made.write(packed(room.getvalue(), seconds))
 
 
 def wanted_libc(programs: Iterable[str]) -> str:
@@ -127,14 +156,55 @@ def wanted_libc(programs: Iterable[str]) -> str:
 def control(version: str, libc: str, size: int) -> str:
     return (
         f"Package: sfq\nVersion: {version}\nArchitecture: amd64\nSection: database\nPriority: optional\n"
-        f"Maintainer: The sfq project <sfq@localhost>\nDepends: libc6 (>= {libc})\n"
-        f"Suggests: python3, python3-gdal, python3-dask, python3-distributed\nInstalled-Size: {size}\n"
+        f"Maintainer: {MAINTAINER}\nDepends: libc6 (>= {libc}), python3\n"
+        f"Suggests: python3-gdal, gdal-bin, python3-dask, python3-distributed\nInstalled-Size: {size}\n"
         "Description: SQL over tables of an integer grid, by exact geometry\n"
-        " sfq reads a schema, one CSV file per table and a SELECT, and writes the rows that the\n"
-        " SELECT means. Its spatial predicates are exact, and what it writes is proved by machine.\n"
-        " sfq-import and sfq-export, which need GDAL, bring data in and answers out; sfq-scale runs\n"
-        " a query over more rows on a Dask cluster.\n"
+        " sfq reads a schema, one CSV file per table and a SELECT, and writes the rows\n"
+        " that the SELECT means. Its spatial predicates are exact, and what it writes is\n"
+        " proved by machine. sfq-import and sfq-export, which need GDAL, bring data in\n"
+        " and answers out; sfq-schema proposes a schema for CSV files; sfq-scale runs a\n"
+        " query over more rows on a Dask cluster.\n .\n"
+        " No licence has been chosen yet.\n"
     )
+
+
+def changelog(version: str, seconds: int) -> str:
+    """Returns the changelog of Debian's form: the entry of this version, which says where the others are."""
+    day = datetime.datetime.fromtimestamp(seconds, datetime.timezone.utc).strftime("%a, %d %b %Y %H:%M:%S +0000")
+    text = f"  * Version {version}: /usr/{DOCUMENTS}/CHANGELOG.md says what is new."
+    return f"sfq ({version}) unstable; urgency=medium\n\n{text}\n\n -- {MAINTAINER}  {day}\n"
+
+
+def packed(text: bytes, seconds: int) -> bytes:
+    """Returns a text compressed by gzip, the same bytes on each machine."""
+    room = io.BytesIO()
+    with gzip.GzipFile("", "wb", 9, room, mtime=seconds) as file:
+        file.write(text)
+    return room.getvalue()
+
+
+def files_of_deb(version: str, seconds: int) -> Iterable[tuple[str, bytes, int]]:
+    """Returns each file of the Debian package: its place under /usr, its bytes and its mode. Manual pages are compressed."""
+    for source, target, mode in FILES:
+        for usual, other in OF_DEBIAN.items():
+            target = target.replace(usual, other)
+        with open(os.path.join(repository.ROOT, source), "rb") as file:
+            text = file.read()
+        is_page = target.startswith("share/man/")
+        yield (f"{target}.gz", packed(text, 0), mode) if is_page else (target, text, mode)
+    yield f"{DOCUMENTS}/changelog.gz", packed(changelog(version, seconds).encode(), 0), 0o644
+    yield f"{DOCUMENTS}/copyright", COPYRIGHT.encode(), 0o644
+    yield "share/lintian/overrides/sfq", OVERRIDES.encode(), 0o644
+
+
+def sums(room: str) -> str:
+    """Returns the sums of the files below a folder, as dpkg has them."""
+    found = sorted(os.path.relpath(f"{at}/{it}", room) for at, _, names in os.walk(f"{room}/usr") for it in names)
+    lines = []
+    for it in found:
+        with open(f"{room}/{it}", "rb") as file:
+            lines.append(f"{hashlib.md5(file.read()).hexdigest()}  {it}\n")
+    return "".join(lines)
 
 
 def make_deb(path: str, version: str, seconds: int) -> bool:
@@ -144,22 +214,24 @@ def make_deb(path: str, version: str, seconds: int) -> bool:
     with tempfile.TemporaryDirectory(prefix="sfq-deb-") as room:
         os.chmod(room, 0o755)
         size = 0
-        for source, target, mode in FILES:
-            for usual, other in OF_DEBIAN.items():
-                target = target.replace(usual, other)
+        for target, text, mode in files_of_deb(version, seconds):
             to = f"{room}/usr/{target}"
             os.makedirs(os.path.dirname(to), 0o755, exist_ok=True)
-            shutil.copyfile(os.path.join(repository.ROOT, source), to)
+            with open(to, "wb") as made:
+                made.write(text)
             os.chmod(to, mode)
-            size += os.path.getsize(to)
+            size += len(text)
         os.mkdir(f"{room}/DEBIAN", 0o755)
+        with open(f"{room}/DEBIAN/md5sums", "w", encoding="utf-8") as file:
+            file.write(sums(room))
         with open(f"{room}/DEBIAN/control", "w", encoding="utf-8") as file:
             file.write(control(version, wanted_libc([repository.PROGRAM, tiles.PROGRAM]), (size + 1023) // 1024))
         for at, _, names in os.walk(room):
             os.chmod(at, 0o755)
             for it in [at, *(f"{at}/{name}" for name in names)]:
                 os.utime(it, (seconds, seconds))
-        os.chmod(f"{room}/DEBIAN/control", 0o644)
+        for it in ("control", "md5sums"):
+            os.chmod(f"{room}/DEBIAN/{it}", 0o644)
         subprocess.run(
             ["dpkg-deb", "--root-owner-group", "-Zgzip", "-z9", "--build", room, path],
             env={**os.environ, "SOURCE_DATE_EPOCH": str(seconds), "LC_ALL": "C"},

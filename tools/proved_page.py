@@ -4,16 +4,21 @@ status 1 if something is.
 
 usage: python3 tools/proved_page.py
 
-Each clause of the pages' tables has to be one of the call beside it, and each theorem a function. The list of tests has to
-have each public function that may run out of memory, and each test has to call the functions that are listed with it.
+Each clause of the pages' tables has to be one of the call beside it, and each theorem a function. In PROVED each call has to be of
+a crate that is named above its table, and has a star exactly if it has a `requires`. The list of tests has to have each public
+function that may run out of memory, and each test has to call the functions that are listed with it. What other places say of the
+headline has to be the README's, word for word.
 """
+import functools
 import glob
+import html
 import os
 import re
 import sys
 from typing import Iterable
 
 import repository
+from repository import read
 
 PAGES = [f"{repository.ROOT}/docs/{it}.md" for it in ("PROVED", "SCALE", "LIBRARY")]
 # Programs, whose functions nobody else calls; the pages name clauses of the last ones.
@@ -27,11 +32,6 @@ GROWTHS = r"\b(?:AllocError|LoadFault|WktFault|PutFault|Error)\b"
 Triple = tuple[str, str, list[str]]
 
 
-def read(path: str) -> str:
-    with open(path, encoding="utf-8") as text:
-        return text.read()
-
-
 def text_of_pages() -> str:
     return "\n".join(read(it) for it in PAGES)
 
@@ -40,10 +40,11 @@ class Function:
     """A function of a crate: its name, the type that it is a method of or "", its signature, its clauses and its body."""
 
     def __init__(
-        self, crate: str, module: str, owner: str, name: str, is_public: bool, signature: str, clauses: set[str], body: str
+        self, crate: str, module: str, owner: str, name: str, is_public: bool, signature: str, clauses: set[str], body: str,
+        requires: bool = False,
     ) -> None:
         self.crate, self.module, self.owner, self.name = crate, module, owner, name
-        self.is_public, self.signature, self.clauses, self.body = is_public, signature, clauses, body
+        self.is_public, self.signature, self.clauses, self.body, self.requires = is_public, signature, clauses, body, requires
 
     def is_named(self, name: str) -> bool:
         """Whether the page means it by a name: its own, behind its type or its crate, or that of its type alone."""
@@ -69,6 +70,16 @@ def owner_of(line: str) -> str:
     return named[0] if named else ""
 
 
+@functools.lru_cache(maxsize=None)
+def fields_of_records() -> dict[str, set[str]]:
+    """Returns the names of the fields of each record of the definitions."""
+    found: dict[str, set[str]] = {}
+    for path in glob.glob(f"{repository.ROOT}/crates/*/specs/*.antt"):
+        for name, fields in re.findall(r"^pub record (\w+).*\n((?:  .*\n)+)", read(path), re.M):
+            found.setdefault(name, set()).update(re.findall(r"^  pub (\w+) :", fields, re.M))
+    return found
+
+
 def functions_in(crate: str, module: str, text: str) -> list[Function]:
     """Returns the functions of a source, as `rt fmt` lays it out, and whether each may be called from outside the crate."""
     found, owner, is_trait = [], "", False
@@ -88,9 +99,13 @@ def functions_in(crate: str, module: str, text: str) -> list[Function]:
         whole = "\n".join(lines[at : begin + 1])
         signature = re.split(r"\n\s*(?:where|requires|ensures)\b", whole)[0]
         clauses = set(re.findall(r"^\s*(?:requires|ensures) (\w+) \{", whole, re.M))
+        # The promises of a lone clause without a name are the fields of its record.
+        lone = re.search(r"^\s*ensures \{ (?:\([^()]*\) → .* → )?(\w+) ", re.sub(r"\n\s*→", " →", whole), re.M)
+        clauses |= fields_of_records().get(lone[1], set()) if lone else set()
         body = "\n".join(lines[begin : end + 1]) if has_body else ""
         is_public = is_trait or head[2] == "pub "
-        found.append(Function(crate, module, owner, head[3], is_public, signature, clauses, body))
+        requires = bool(re.search(r"^\s*requires\b", whole, re.M))
+        found.append(Function(crate, module, owner, head[3], is_public, signature, clauses, body, requires))
     return found
 
 
@@ -223,6 +238,95 @@ def wrong_clauses(page: str, functions: list[Function]) -> list[str]:
     return found + [f"{it} is no theorem" for it in theorems if it not in known]
 
 
+def meant_by(name: str, functions: list[Function], crates: Iterable[str]) -> list[Function]:
+    """Returns the public functions of some crates that a name in a table means: a bare name no method where it is a function's."""
+    found = [it for it in functions if it.is_public and it.is_named(name) and it.crate in crates]
+    alone = [it for it in found if not it.owner]
+    return alone if alone and "::" not in name else found
+
+
+def crates_above(lead: str, crates: list[str]) -> list[str]:
+    """Returns the crates that the text above a table names, also as a range of crates.txt."""
+    ends = re.search(r"from `(\w+)` to `(\w+)`", lead)
+    if ends:
+        return crates[crates.index(ends[1]) : crates.index(ends[2]) + 1]
+    return [it for it in re.findall(r"`(\w+)`", lead) if it in crates]
+
+
+def wrong_rows(page: str, functions: list[Function], crates: list[str]) -> list[str]:
+    """Returns the calls of a page that no crate above their table has, and those whose star is wrong."""
+    found: list[str] = []
+    for section in re.split(r"^## ", page, flags=re.M)[1:]:
+        lead, head, table = section.partition("\n| call | clauses |")
+        above = crates_above(lead, crates)
+        for line in table.split("\n") if head and above else []:
+            for name, star in re.findall(r"`([\w:]+)`(\\\*)?", re.split(r"(?<!\\)\|", line)[1] if line.startswith("| ") else ""):
+                meant = meant_by(name, functions, above)
+                if not meant and name not in above:
+                    found.append(f"{name} is in no crate that is named above its table")
+                if meant and bool(star) != any(it.requires for it in meant):
+                    found.append(f"{name} has a star and no requires" if star else f"{name} has a requires and no star")
+    return found
+
+
+# Where the headline is written again, word for word; what else says when WHERE is true is no statement of it.
+HEADLINES = ["packaging/man/sfq.1", "bindings/web/tables.html"]
+SAYS_ROWS = re.compile(r"\brows (?:of the product )?for which WHERE is true\b")
+
+
+# What texts said once and isn't so, and what is.
+NOT_SO = [
+    (r"proved[^.]*down to this interface", "the proof ends at the calls of the crate sfq_c"),
+    (r"What the library(?:'s calls)? returns? is proved", "the proof ends at the calls of the crate sfq_c"),
+    (r"what the standards' definitions say", "the definitions are the project's, and restate the standards'"),
+    (r"each such text has this fault", "W3 has another place, and W4 comes first"),
+    (r"what a call would have written is as it was,? unless the status is 0", "a size is written, and a fault"),
+    (r"makes null texts empty", "arrays too, and the length is 0 then"),
+    (r"[Pp]robes search indexes", "rows may be found by their key or a value"),
+    (r"the work counts each matrix that a caller", "two calls hand a matrix on without a count"),
+    (r"[Tt]he splitting (?:is|are) proved|each part and the splitting are proved", "what each call of it writes is"),
+    (r"has it at that place", "the byte of W1 is only tested"),
+]
+
+
+def wrong_sentences(texts: dict[str, str]) -> list[str]:
+    """Returns the places, by their paths, that say what isn't so."""
+    return [f"{path} says what isn't so: {so}" for path, text in texts.items() for it, so in NOT_SO if re.search(it, plain_words(text))]
+
+
+def plain_words(text: str) -> str:
+    """Returns the words of a text of Markdown, a manual page or HTML, with a blank between."""
+    text = html.unescape(re.sub(r"<[^>]*>", "", text))
+    text = re.sub(r"^(?:\.[A-Z]+ ?|> )", "", text, flags=re.M)
+    return " ".join(re.sub(r"\\(?=[-*])|`", "", text).split())
+
+
+def headline(readme: str) -> str:
+    """Returns the words of the headline, which is quoted in the README."""
+    return plain_words("\n".join(re.findall(r"^> .*$", readme.partition("The headline, word for word")[2], re.M)))
+
+
+def wrong_headlines(texts: dict[str, str], readme: str) -> list[str]:
+    """Returns the places, by their paths, that don't have the headline word for word though they should, or say it otherwise."""
+    words = headline(readme)
+    found = ["the README has no headline"] if not SAYS_ROWS.search(words) else []
+    for path, text in texts.items():
+        times = len(SAYS_ROWS.findall(plain_words(text)))
+        has = plain_words(text).count(words) if words else 0
+        if times != has or (path in HEADLINES and has != 1):
+            found.append(f"{path} doesn't have the headline as the README has it")
+    return found
+
+
+def places_of_headlines() -> dict[str, str]:
+    """Returns the texts for users, without the README and PROVED, whose chain takes the headline apart."""
+    kinds = ("docs/*.md", "packaging/**/*", "bindings/**/*.html", "bindings/**/*.py", "bindings/**/*.[ch]", "examples/**/*.md", "bench/*.md")
+    paths = {it for kind in kinds for it in glob.glob(f"{repository.ROOT}/{kind}", recursive=True) if os.path.isfile(it)}
+    left_out = (f"{repository.ROOT}/docs/PROVED.md",)
+    texts = (it for it in sorted(paths) if it not in left_out and "/out/" not in it)
+    return {os.path.relpath(it, repository.ROOT): read(it) for it in texts}
+
+
 def wrong_tests(names: Iterable[str], triples: list[Triple], texts: dict[str, str], functions: list[Function]) -> list[str]:
     """Returns what is wrong in a list: the functions that are needed, the list, the sources, all functions of the libraries."""
     found = []
@@ -248,6 +352,10 @@ def wrong_tests(names: Iterable[str], triples: list[Triple], texts: dict[str, st
 def main() -> int:
     functions, public = all_functions()
     found = wrong_clauses(text_of_pages(), functions) + wrong_tests(needed(public), listed(read(LIST)), sources(), functions)
+    found += wrong_rows(read(PAGES[0]), functions, list(repository.read_crates()))
+    readme = read(f"{repository.ROOT}/README.md")
+    found += wrong_headlines(places_of_headlines(), readme)
+    found += wrong_sentences({**places_of_headlines(), "README.md": readme, "docs/PROVED.md": read(PAGES[0])})
     for it in found:
         print(it)
     return 1 if found else 0

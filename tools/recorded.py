@@ -13,13 +13,9 @@ from typing import Callable
 
 import common_facts
 import repository
+from repository import read
 
 COLUMNS = 130
-
-
-def read(path: str) -> str:
-    with open(path, encoding="utf-8") as text:
-        return text.read()
 
 
 def long_lines(root: str = repository.ROOT) -> dict[str, int]:

@@ -19,6 +19,12 @@ def fail(text: str) -> NoReturn:
     sys.exit(f"sfq: {text}")
 
 
+def read(path: str) -> str:
+    """Returns the text of a file."""
+    with open(path, encoding="utf-8") as file:
+        return file.read()
+
+
 def need_rt() -> str:
     """Returns the path of the kit's command. The program ends where it isn't on the path."""
     return shutil.which("rt") or fail("the command rt of the Rattle kit isn't on the path")

@@ -10,6 +10,7 @@ import sys
 from typing import Iterable
 
 import repository
+from repository import read
 
 SCRIPTS = f"{repository.ROOT}/crates/scripts"
 # The files that a kind of line names: tests that need code, worked examples that are proved, and system tests.
@@ -21,11 +22,6 @@ FILES = {
 LIST = f"{repository.ROOT}/tests/required_rows.txt"
 # What `$S` means in a script.
 SQUARE = "ST_GeomFromText('POLYGON((0 0,4 0,4 4,0 4,0 0))')"
-
-
-def read(path: str) -> str:
-    with open(path, encoding="utf-8") as text:
-        return text.read()
 
 
 def written_out(text: str) -> str:

@@ -15,6 +15,8 @@ from types import TracebackType
 from typing import IO, Any, Iterable, Iterator, Optional, Union
 
 import calls
+import cost
+import edits
 import library
 import proving
 import repository
@@ -257,23 +259,24 @@ def without_proof(is_long: bool, named: list[str]) -> int:
 def gate(counts: Counts) -> bool:
     """Runs `rt ci`, whose lines go through, and counts what it counted. Returns whether it went well."""
     before, begun = repository.current("sum")[1], time.monotonic()
-    child = subprocess.Popen(["rt", "ci"], cwd=ROOT, stdout=subprocess.PIPE, text=True, errors="replace")
     last = ""
-    try:
-        for line in child.stdout or ():
-            print(line, end="", flush=True)
-            last = line.strip() or last
-        status = child.wait()
-    finally:
-        if child.poll() is None:
-            child.terminate()
+    with cost.Cost() as spent:
+        child = subprocess.Popen(["rt", "ci"], cwd=ROOT, stdout=subprocess.PIPE, text=True, errors="replace")
+        try:
+            for line in child.stdout or ():
+                print(line, end="", flush=True)
+                last = line.strip() or last
+            status = child.wait()
+        finally:
+            if child.poll() is None:
+                child.terminate()
     found = re.fullmatch(r"(\d+) passed, (\d+) failed", last)
     passed, failed = (int(found[1]), int(found[2])) if found else (0, 0)
     counts.passed += passed
     is_well = status == 0 and found is not None and failed == 0
     if not is_well:
         counts.failed += [f"rt ci ({last})"] * max(1, failed)
-    print(f"{'ok' if is_well else 'FAILED'}: rt ci ({proving.span(time.monotonic() - begun)})", flush=True)
+    print(f"{'ok' if is_well else 'FAILED'}: rt ci ({proving.span(time.monotonic() - begun)}; {spent.line()})", flush=True)
     if is_well and repository.current("sum")[1] == before:
         # What rt ci leaves are the proved programs.
         if os.path.isfile(repository.PROGRAM):
@@ -344,7 +347,7 @@ def with_proof() -> int:
 
 
 def try_edits(crates: list[str]) -> int:
-    """Tries the edits of crates/CRATE/edits by `rt must-fail`, in a copy of the repository whose must-fail/ they are."""
+    """Tries the edits of crates/CRATE/edits in a copy of the repository."""
     counts = Counts()
     with tempfile.TemporaryDirectory(prefix="sfq-edits-") as room:
         shutil.copyfile(f"{ROOT}/HANDLES", f"{room}/HANDLES")
@@ -352,13 +355,13 @@ def try_edits(crates: list[str]) -> int:
         for it in crates or known:
             if it not in known:
                 repository.fail(f"no crate {it}")
-            edits = sorted(glob.glob(f"{ROOT}/crates/{it}/edits/*.edit"))
-            if edits:
+            paths = sorted(glob.glob(f"{ROOT}/crates/{it}/edits/*.edit"))
+            if paths:
                 copy_crates(known, it, room)
                 with open(f"{room}/crates.txt", "w", encoding="utf-8") as file:
                     copied = sorted(os.listdir(f"{room}/crates"))
                     file.write("".join(f"{name}: {' '.join(known[name])}\n" for name in copied))
-                try_edits_of(counts, it, edits, room)
+                try_edits_of(counts, it, paths, room)
             elif crates:
                 counts.skip(f"edits of {it}", "it has none")
     return counts.close()
@@ -373,15 +376,37 @@ def copy_crates(known: dict[str, list[str]], crate: str, room: str) -> None:
             copy_crates(known, it, room)
 
 
-def try_edits_of(counts: Counts, crate: str, edits: list[str], room: str) -> None:
-    folder = f"{room}/crates/{crate}/must-fail"
-    os.mkdir(folder)
-    for it in edits:
-        shutil.copy(it, folder)
+def try_edits_of(counts: Counts, crate: str, paths: list[str], room: str) -> None:
+    """Tries edits of different functions by one check, and by `rt must-fail` those that this doesn't settle."""
+    folder = f"{room}/crates/{crate}"
+    groups, left = edits.parted(crate, folder, [edits.Edit(it) for it in paths])
+    for group in groups:
+        refused, took = tried_together(crate, folder, group)
+        for edit in refused:
+            counts.take(f"edit {crate}/{edit.name}", True, took / len(group))
+        left += [it for it in group if it not in refused]
+    if not left:
+        return
+    os.mkdir(f"{folder}/must-fail")
+    for edit in left:
+        shutil.copy(edit.path, f"{folder}/must-fail")
     status, out, err, took = run(["rt", "must-fail", crate], room)
-    for it in edits:
-        name = f"{crate}/{os.path.basename(it)}"
+    for edit in left:
+        name = f"{crate}/{edit.name}"
         said = next((line for line in (out + err).splitlines() if f"must-fail {name}: " in line), "")
         print(said or out + err, flush=True)
         is_refused = f"must-fail {name}: refused" in said
-        counts.take(f"edit {name}", is_refused, took / len(edits), text=f"rt must-fail: status {status}")
+        counts.take(f"edit {name}", is_refused, took / len(left), text=f"rt must-fail: status {status}")
+
+
+def tried_together(crate: str, folder: str, group: list[edits.Edit]) -> tuple[list[edits.Edit], float]:
+    """Returns those of a group of edits that one check refuses, and how long that took."""
+    known = edits.texts_of(folder, group)
+    changed = edits.changed(known, group)
+    if changed is None:
+        return [], 0.0
+    edits.write(folder, changed)
+    _, out, err, took = run(["rt", "check"], folder)
+    edits.write(folder, known)
+    refused = edits.refused_in(out + err)
+    return [it for it in group if it.functions(crate, known[it.file]) & refused], took

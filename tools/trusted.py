@@ -1,16 +1,20 @@
-"""What a reader has to trust: the kit, its libraries, and the definitions that the headline's contract is written in."""
+"""What a reader has to trust: the kit, its libraries, and the definitions that the contracts of each program are written in."""
 import os
 import re
 import shutil
 
+import closure
+import proved_page
 import repository
 
 CHAIN = re.compile(r"^#+ .*\bchain\b.*$", re.I | re.M)
 PATH = re.compile(r"(?:crates/)?\b(\w+/(?:specs|src)/[\w/]+\.(?:antt|rt))\b")
+LINK = re.compile(r"\[([^\]]*)\]\([^)]*?" + PATH.pattern + r"\)")
 # The crates of definitions, whose files are listed where docs/PROVED.md has no chain.
 MODELS = ("geometry_model", "table_model")
-# The crates of the programs that users run.
+# The crates of the programs that users run, and that of the library's calls.
 PROGRAMS = ("sfq", "sfq_tiles")
+LIBRARY = "sfq_c"
 
 
 def copy_sources(root: str, room: str) -> None:
@@ -21,32 +25,71 @@ def copy_sources(root: str, room: str) -> None:
         shutil.copyfile(f"{root}/{name}", f"{room}/{name}")
 
 
-def chain(root: str = repository.ROOT) -> list[str]:
-    """Returns the files that the chain of docs/PROVED.md names, from the headline down to the definitions."""
-    try:
-        with open(f"{root}/docs/PROVED.md", encoding="utf-8") as file:
-            text = file.read()
-    except OSError:
-        text = ""
+def page(name: str, root: str) -> str:
+    """Returns the text of a document, or nothing where there is none."""
+    path = f"{root}/docs/{name}.md"
+    return closure.read(path) if os.path.isfile(path) else ""
+
+
+def below(crate: str, crates: dict[str, list[str]]) -> list[str]:
+    return [it for it in [crate, *crates.get(crate, [])] if it in crates]
+
+
+def add_laws(made: closure.Closure, text: str) -> None:
+    """Adds the laws that a text names: functions that take nothing and return nothing."""
+    named = set(re.findall(r"`(\w+)`", text))
+    for it in made.functions() if named else []:
+        if it.name in named and it.is_marked and not it.owner and it.signature.endswith(f"fn {it.name}()"):
+            made.add_item(it)
+
+
+def of_headline(root: str) -> closure.Closure:
+    """Returns what the chain of docs/PROVED.md reaches: the definitions and calls that it links, and the laws that it names."""
+    made, text = closure.Closure(root), page("PROVED", root)
     found = CHAIN.search(text)
-    paths: list[str] = []
-    if found:
-        part = text[found.end() :]
-        following = re.search(r"^#", part, re.M)
-        for it in PATH.findall(part[: following.start()] if following else part):
-            path = f"crates/{it}"
-            if os.path.isfile(f"{root}/{path}") and path not in paths:
-                paths.append(path)
-    if paths:
-        return paths
-    names = [it for crate in MODELS for it in repository.files_of(crate, root) if "/specs/" in it]
-    return [os.path.relpath(it, root) for it in names]
+    part = re.split(r"^#", text[found.end() :], maxsplit=1, flags=re.M)[0] if found else ""
+    for words, path in LINK.findall(part):
+        if os.path.isfile(f"{root}/crates/{path}"):
+            made.add(f"crates/{path}", re.findall(r"\w+", words))
+    add_laws(made, part)
+    if not made.files:
+        for it in [it for crate in MODELS for it in repository.files_of(crate, root) if "/specs/" in it]:
+            made.files.add(os.path.relpath(it, root))
+    return made
+
+
+def of_library(root: str) -> closure.Closure:
+    """Returns what the contracts of the library's calls reach."""
+    made = closure.Closure(root)
+    for it in made.functions():
+        if it.crate == LIBRARY and 'extern "C"' in it.signature:
+            made.add_item(it)
+    return made
+
+
+def of_tiles(root: str) -> closure.Closure:
+    """Returns what the calls and laws that docs/SCALE.md lists reach, of sfq-tiles and of what it is made of."""
+    made, text = closure.Closure(root), page("SCALE", root)
+    crates = below("sfq_tiles", made.crates)
+    named = {name for names, _ in proved_page.rows_of(text) for name in names}
+    for it in made.functions():
+        if it.crate in crates and it.is_marked and (f"{it.owner}::{it.name}" if it.owner else it.name) in named:
+            made.add_item(it)
+    add_laws(made, text)
+    return made
+
+
+CHAINS = {
+    "the headline, by the chain of docs/PROVED.md": of_headline,
+    "the C library, by the calls of sfq_c": of_library,
+    "sfq-tiles, by the calls and laws of docs/SCALE.md": of_tiles,
+}
 
 
 def kit_libraries(root: str = repository.ROOT) -> list[str]:
     """Returns the kit's libraries that the programs are built from: their contracts are taken as the kit proved them."""
     crates, used = repository.read_crates(root), {"std"}
-    left = [it for it in PROGRAMS if it in crates]
+    left = [it for it in (*PROGRAMS, LIBRARY) if it in crates]
     while left:
         for it in crates[left.pop()]:
             if it in crates:
@@ -57,15 +100,19 @@ def kit_libraries(root: str = repository.ROOT) -> list[str]:
 
 
 def show(kit: str, programs: dict[str, str], root: str = repository.ROOT) -> None:
-    """Prints the trusted base. `programs` are the SHA-256 of the programs that were built from nothing, by their names."""
+    """Prints the trusted base. `programs` are the SHA-256 of what was made, by their names."""
     print("\nWhat you trust:")
     print(f"  the kit that proved and compiled it: {kit}")
     print(f"  its logic: {repository.logic_of(kit)}")
     print(f"  its libraries: {', '.join(kit_libraries(root))}")
-    print("  that these definitions say what the standards mean:")
-    for it in chain(root):
-        print(f"    {repository.sum_of_file(f'{root}/{it}')}  {it}")
+    print("  that these definitions, and the clauses and types of these sources, say what is meant:")
+    for name, of in CHAINS.items():
+        sums = of(root).sums()
+        if sums:
+            print(f"  {name}:")
+            print("".join(f"    {one}  {path}\n" for one, path in sums), end="")
+            print(f"    {closure.total(sums)}  all {len(sums)} files")
     print("What follows from it:")
     for name, total in programs.items():
-        print(f"    {total}  the program {name}")
+        print(f"    {total}  the {'library' if name.startswith('lib') else 'program'} {name}")
     print()

@@ -1,6 +1,7 @@
 """Runs one call of sfq by an unproved build with run-time checks, which `rt try` makes anew for each call.
 
-./sfq runs this where ./build hasn't made the program. `rt try` runs the program in a folder of its own, so the schema and
+./sfq runs this where ./build hasn't made the program. What is the same for every input, such as help, is printed without a build.
+`rt try` runs the program in a folder of its own, so the schema and
 the tables are handed in. Standard output, standard error and the status are those of the program; where there is no whole
 answer, nothing is written but one line that says why, and the status is 1, which the program itself never gives.
 """
@@ -15,9 +16,13 @@ import tempfile
 import time
 from typing import Callable
 
+import own_texts
+
 ROOT = os.path.dirname(os.path.dirname(os.path.realpath(__file__)))
 NOTICE = "sfq: answered by an unproved build with run-time checks, made anew for each call; ./build proves and keeps the program"
 NO_ANSWER = 1
+# After a call that took as many seconds, a line says how to end the waiting.
+LONG = 10.0
 # The calls of `rt` that run now.
 RUNNING: set[subprocess.Popen[bytes]] = set()
 # The last lines of `rt try`'s standard error, after what the program wrote there.
@@ -248,8 +253,27 @@ def pass_on(out: bytes, err: bytes, status: int) -> int:
     return status
 
 
+def minutes_of_build() -> int:
+    """Returns how long ./build takes here from what is proved already, in minutes, by the seconds that are noted of each crate."""
+    import proving
+    import repository
+
+    run = proving.Proving(ROOT, repository.kit_line(), tops=["sfq"])
+    run.make_plan()
+    return max(1, round(run.clock.left(run.ended(), 0) / 60))
+
+
+def say_waiting(seconds: float) -> None:
+    """Says how long an answer took, and what ends the waiting."""
+    if seconds >= LONG:
+        say(f"this took {seconds:.0f} s, as each call will; ./build takes about {minutes_of_build()} min, once, and then a call takes milliseconds")
+
+
 def answer(words: list[str]) -> int:
     """Runs the call, and returns the status."""
+    known = own_texts.text_of(words)
+    if known:
+        return pass_on(known.out.encode(), known.err.encode(), known.status)
     if not shutil.which("rt"):
         say("the command rt of the Rattle kit is needed to build the program")
         return NO_ANSWER
@@ -257,6 +281,7 @@ def answer(words: list[str]) -> int:
         # No word that isn't UTF-8 can be handed on; this is what the program says of one.
         sys.stderr.write("error: invalid UTF-8 was detected in one or more arguments\n")
         return 2
+    begun = time.monotonic()
     with tempfile.TemporaryDirectory(prefix="sfq-") as room:
         handed = HandedIn(room, os.getcwd())
         named = handed.words(words)
@@ -268,7 +293,9 @@ def answer(words: list[str]) -> int:
     status = int(ended[1])
     out, err = with_own_name(words, status, out, said[: ended.start()])
     print(NOTICE, file=sys.stderr, flush=True)
-    return pass_on(out, err, status)
+    status = pass_on(out, err, status)
+    say_waiting(time.monotonic() - begun)
+    return status
 
 
 def main() -> int:

@@ -52,10 +52,16 @@ uint32_t sfq_proved_reason(const uint8_t *text, size_t text_length, uint8_t *roo
 
 static const struct kept empty_slot = { NULL };
 
-/* A text as a pointer that isn't null. */
+/* A text as a pointer that isn't null: a text that is null is empty, whatever its length. */
 static const uint8_t *bytes_of(const char *text)
 {
     return (const uint8_t *)(text != NULL ? text : "");
+}
+
+/* How many items there are behind a pointer: none behind null. */
+static size_t count_of(const void *items, size_t count)
+{
+    return items != NULL ? count : 0;
 }
 
 /* Sizes as a pointer that isn't null. */
@@ -108,7 +114,7 @@ uint32_t sfq_version(void)
 int sfq_check(const char *text, size_t length, sfq_fault *fault)
 {
     sfq_fault other = { 0, 0, 0, 0 };
-    return (int)sfq_proved_fault(bytes_of(text), length, written(fault, &other));
+    return (int)sfq_proved_fault(bytes_of(text), count_of(text, length), written(fault, &other));
 }
 
 int sfq_relate_texts(const char *first, size_t first_length, const char *second, size_t second_length, char matrix[10],
@@ -116,8 +122,8 @@ int sfq_relate_texts(const char *first, size_t first_length, const char *second,
 {
     uint8_t nine[9] = { 0 };
     sfq_fault other = { 0, 0, 0, 0 };
-    uint32_t status = sfq_proved_relate_texts(bytes_of(first), first_length, bytes_of(second), second_length, nine,
-                                              written(fault, &other));
+    uint32_t status = sfq_proved_relate_texts(bytes_of(first), count_of(first, first_length), bytes_of(second),
+                                              count_of(second, second_length), nine, written(fault, &other));
     return with_end(status, nine, matrix);
 }
 
@@ -127,8 +133,8 @@ int sfq_answer_texts(const char *first, size_t first_length, const char *second,
     uint8_t nine[9] = { 0 };
     bool all[SFQ_RELATIONS] = { false };
     sfq_fault other = { 0, 0, 0, 0 };
-    uint32_t status = sfq_proved_answer_texts(bytes_of(first), first_length, bytes_of(second), second_length, nine, all,
-                                              written(fault, &other));
+    uint32_t status = sfq_proved_answer_texts(bytes_of(first), count_of(first, first_length), bytes_of(second),
+                                              count_of(second, second_length), nine, all, written(fault, &other));
     if (status == SFQ_OK) {
         memcpy(holds, all, sizeof all);
     }
@@ -143,7 +149,7 @@ int sfq_read(const char *text, size_t length, sfq_geometry *geometry, sfq_fault 
     if (geometry->kept != NULL) {
         return SFQ_NO_GEOMETRY;
     }
-    status = sfq_proved_read(bytes_of(text), length, &slot, written(fault, &other));
+    status = sfq_proved_read(bytes_of(text), count_of(text, length), &slot, written(fault, &other));
     if (status == SFQ_OK) {
         geometry->kept = slot.at;
     }
@@ -161,8 +167,8 @@ int sfq_read_positions(uint32_t type, const int32_t *coordinates, size_t positio
         return SFQ_NO_GEOMETRY;
     }
     status = sfq_proved_read_positions(type, coordinates != NULL ? (const struct position *)(const void *)coordinates : &none,
-                                       positions, sizes_of(lines), line_count, sizes_of(polygons), polygon_count, &slot,
-                                       written(fault, &other));
+                                       count_of(coordinates, positions), sizes_of(lines), count_of(lines, line_count),
+                                       sizes_of(polygons), count_of(polygons, polygon_count), &slot, written(fault, &other));
     if (status == SFQ_OK) {
         geometry->kept = slot.at;
     }
@@ -264,10 +270,10 @@ int sfq_relate_pattern(sfq_geometry *first, sfq_geometry *second, const char *pa
         return SFQ_NO_GEOMETRY;
     }
     if (first->kept == second->kept) {
-        status = sfq_proved_matches_itself(taken(first), bytes_of(pattern), length, &found, &one);
+        status = sfq_proved_matches_itself(taken(first), bytes_of(pattern), count_of(pattern, length), &found, &one);
         two = one;
     } else {
-        status = sfq_proved_matches(taken(first), taken(second), bytes_of(pattern), length, &found, &one, &two);
+        status = sfq_proved_matches(taken(first), taken(second), bytes_of(pattern), count_of(pattern, length), &found, &one, &two);
     }
     first->kept = one.at;
     second->kept = two.at;
@@ -374,5 +380,6 @@ int sfq_reason(const char *text, size_t text_length, char *room, size_t size, si
 {
     uint8_t nothing = 0, *bytes = room != NULL ? (uint8_t *)room : &nothing;
     sfq_fault other = { 0, 0, 0, 0 };
-    return (int)sfq_proved_reason(bytes_of(text), text_length, bytes, room != NULL ? size : 0, length, written(fault, &other));
+    return (int)sfq_proved_reason(bytes_of(text), count_of(text, text_length), bytes, count_of(room, size), length,
+                                  written(fault, &other));
 }

@@ -2,14 +2,15 @@
  * sfq: the DE-9IM matrix of two geometries in well-known text, exactly (OGC 06-103r4).
  *
  * Geometries are points, lines and areas on a grid of whole coordinates, each from -10,000,000 to 10,000,000, with at most
- * 10,000 positions and 1,000 rings or elements. What each call returns is proved in the crate sfq_c, down to this interface.
+ * 10,000 positions and 1,000 rings or elements. The proof ends at the calls of the crate sfq_c, by which bindings/c/sfq.c makes
+ * those of this header: sfq.c itself is tested, not proved.
  *
  * Statuses. Each call returns one of the statuses below. Unless it is SFQ_OK, what the call would have written is as it was
  * before; what differs from that is said at the call.
  *
  * Pointers. A pointer to what a call writes must not be null, but for `fault`, which may be null where it isn't wanted. A text
- * may be null where its length is 0. A text needs no 0 at its end, and is the caller's. What a call writes must not overlap
- * anything else that it is handed.
+ * or an array that is null is empty, whatever its length. A text needs no 0 at its end, and is the caller's. What a call writes
+ * must not overlap anything else that it is handed.
  *
  * Geometries. An `sfq_geometry` is either empty, as SFQ_EMPTY makes it, or holds one geometry from sfq_read until sfq_free. A
  * copy of the struct isn't a second geometry: use one of the two only. A call that fails leaves the geometries that it was handed
@@ -144,7 +145,7 @@ int sfq_read(const char *text, size_t length, sfq_geometry *geometry, sfq_fault 
  * The same from numbers: the geometry, or the fault, of the text of this `sfq_type` with these coordinates. There are `positions`
  * positions, each an x and a y. `lines` has how many positions each line or ring has, of SFQ_MULTILINESTRING, SFQ_POLYGON and
  * SFQ_MULTIPOLYGON, and `polygons` how many rings each polygon has, of SFQ_MULTIPOLYGON; elsewhere both are empty. None of these
- * numbers may be 0. An array may be null where it is empty. Without positions the geometry is EMPTY, and a position that is equal
+ * numbers may be 0. An array that is null is empty. Without positions the geometry is EMPTY, and a position that is equal
  * to the one before it on a line or ring is left out, as in a text.
  *
  * SFQ_UNKNOWN where no type has such parts. A fault is W4, else W3 with the number of the position, from 0, in `first`, else one

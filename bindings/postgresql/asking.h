@@ -2,10 +2,10 @@
  * The calls of the library, for PostgreSQL's arguments. The last geometry of each argument is in fn_extra, and is freed with the
  * memory of the call's FmgrInfo. A process runs one call at a time, so a geometry serves one at a time, as the library demands.
  *
- * Of the library's calls it is proved that the matrix is that of the sets of points of both texts, and the fault the first one.
- * Not proved is what is here and in keeping.h: a text is there, whole and with its length, until the function returns; what is
- * kept belongs to the same value; and no call of the library calls back into PostgreSQL, so no error of PostgreSQL's leaves one
- * half way.
+ * Of the calls of the crate sfq_c, over which the library is made, it is proved that the matrix is that of the sets of points of
+ * both texts, and the fault the first one. Not proved are the library's own sfq.c, and what is here and in keeping.h: a text is
+ * there, whole and with its length, until the function returns; what is kept belongs to the same value; and no call of the library
+ * calls back into PostgreSQL, so no error of PostgreSQL's leaves one half way.
  */
 #include "utils/memutils.h"
 

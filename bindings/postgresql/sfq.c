@@ -1,8 +1,9 @@
 /*
  * The functions of the extension sfq of PostgreSQL, over texts. The functions over PostGIS's geometries are SQL over these.
  *
- * What the library's calls return is proved; asking.h says where the proof ends. Not proved are this file, which turns what they
- * return into PostgreSQL's values and errors, and PostgreSQL, which finds the rows. All functions are STRICT: NULL in, NULL out.
+ * The proof ends at the calls of the crate sfq_c. Not proved are bindings/c/sfq.c over them, asking.h, this file, which turns what
+ * the library returns into PostgreSQL's values and errors, and PostgreSQL, which finds the rows. All functions are STRICT: NULL in,
+ * NULL out.
  * A text that is refused is an error with the fault, but for ST_IsValid and ST_IsValidReason.
  */
 #include "postgres.h"

@@ -2,9 +2,9 @@
  * The calls of the library, for SQLite's arguments. A function of a connection keeps the last geometry of each of its arguments.
  * SQLite calls the functions of a connection one at a time, so a geometry serves one call at a time, as the library demands.
  *
- * Of the library's calls it is proved that the matrix is that of the sets of points of both texts, and the fault the first one.
- * Not proved is what is here and in keeping.h: SQLite's texts are there, with their lengths, until the function returns, and what
- * is kept belongs to the same text.
+ * Of the calls of the crate sfq_c, over which the library is made, it is proved that the matrix is that of the sets of points of
+ * both texts, and the fault the first one. Not proved are the library's own sfq.c, and what is here and in keeping.h: SQLite's
+ * texts are there, with their lengths, until the function returns, and what is kept belongs to the same text.
  */
 #include "faults.h"
 #include "keeping.h"

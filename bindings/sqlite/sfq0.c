@@ -2,8 +2,9 @@
  * A loadable extension of SQLite: ST_Relate, the eight predicates of 06-104r4, ST_Covers, ST_CoveredBy, ST_ContainsProperly,
  * ST_IsValid and ST_IsValidReason, over columns of well-known text.
  *
- * What the library's calls return is proved; asking.h says where the proof ends. Not proved are this file, which turns what they
- * return into SQLite's values and errors, and SQLite, which finds the rows. There is no state: connections may be in any threads.
+ * The proof ends at the calls of the crate sfq_c. Not proved are bindings/c/sfq.c over them, asking.h, this file, which turns what
+ * the library returns into SQLite's values and errors, and SQLite, which finds the rows. There is no state: connections may be in
+ * any threads.
  *
  * NULL in, NULL out. A text that is refused is an error with the fault, but for ST_IsValid and ST_IsValidReason.
  */

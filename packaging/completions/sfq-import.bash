@@ -8,10 +8,10 @@ _sfq_import() {
         compopt -o filenames
         mapfile -t COMPREPLY < <(compgen -d -- "$word")
         ;;
-    --grid | --origin | --layer | --key) ;;
+    --grid | --origin | --layer | --key | --scale) ;;
     *)
         if [[ $word == -* ]]; then
-            mapfile -t COMPREPLY < <(compgen -W '--grid --origin --out --layer --key --invalid --flat --sfq -h --help --version' -- "$word")
+            mapfile -t COMPREPLY < <(compgen -W '--grid --origin --out --layer --key --scale --invalid --flat --allow-empty --sfq -h --help --version' -- "$word")
         else
             compopt -o filenames
             mapfile -t COMPREPLY < <(compgen -f -- "$word")

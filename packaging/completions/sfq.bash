@@ -33,6 +33,7 @@ _sfq() {
         compopt -o filenames
         mapfile -t COMPREPLY < <(compgen -f -- "$word")
         ;;
+    fault:2) mapfile -t COMPREPLY < <(compgen -W "$(echo S{1..6} L{1..11} Q{1..12} W{1..4} V{1..8})" -- "$word") ;;
     help:2) mapfile -t COMPREPLY < <(compgen -W 'run check relate why pairs fault help' -- "$word") ;;
     esac
 }

@@ -1,6 +1,11 @@
 # Completion of sfq for fish.
 set -l commands run check relate why pairs fault help
-set -l geometries 'POINT(' 'MULTIPOINT(' 'LINESTRING(' 'MULTILINESTRING(' 'POLYGON(' 'MULTIPOLYGON('
+set -l codes S(seq 6) L(seq 11) Q(seq 12) W(seq 4) V(seq 8)
+
+# A parenthesis in the words of -a would be taken for a command.
+function __sfq_geometries
+    printf '%s\n' 'POINT(' 'MULTIPOINT(' 'LINESTRING(' 'MULTILINESTRING(' 'POLYGON(' 'MULTIPOLYGON('
+end
 
 complete -c sfq -f
 complete -c sfq -s h -l help -d 'Print help'
@@ -14,5 +19,6 @@ complete -c sfq -n __fish_use_subcommand -a fault -d 'Explain a fault'
 complete -c sfq -n __fish_use_subcommand -a help -d 'Print help'
 complete -c sfq -n '__fish_seen_subcommand_from check' -l why -d 'Say what is wrong where a table has a fault'
 complete -c sfq -n '__fish_seen_subcommand_from run check pairs' -F
-complete -c sfq -n '__fish_seen_subcommand_from relate why' -a "$geometries"
+complete -c sfq -n '__fish_seen_subcommand_from relate why' -a '(__sfq_geometries)'
+complete -c sfq -n '__fish_seen_subcommand_from fault' -a "$codes"
 complete -c sfq -n '__fish_seen_subcommand_from help' -a "$commands"

@@ -1,7 +1,6 @@
 """What takes the most stack, and how much that is."""
 import functools
 import resource
-import subprocess
 
 from faults import sweeps
 
@@ -89,16 +88,7 @@ def large_cases():
 def run(words, stack):
     """Runs the program with so many kilobytes of stack beside its words, and returns what it wrote and its status."""
     limit = stack * KB + sum(len(it) + 1 for it in words)
-    ran = subprocess.run(
-        [sweeps.program(), *words],
-        cwd=folder(),
-        env={},
-        stdin=subprocess.DEVNULL,
-        capture_output=True,
-        timeout=sweeps.PATIENCE,
-        preexec_fn=lambda: resource.setrlimit(resource.RLIMIT_STACK, (limit, limit)),
-    )
-    return ran.stdout, ran.stderr, ran.returncode
+    return sweeps.run_within(words, folder(), resource.RLIMIT_STACK, limit)
 
 
 def least_stack(words):

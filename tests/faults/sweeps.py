@@ -4,6 +4,7 @@ import functools
 import math
 import os
 import random
+import resource
 import shutil
 import struct
 import subprocess
@@ -101,6 +102,20 @@ def run(words, fault=None, folder=None):
             out.seek(0)
             err.seek(0)
             return Ran(out.read(), err.read(), ran.returncode, *read_page(f"{place}/page"))
+
+
+def run_within(words, folder, limit, most):
+    """Runs the program in a folder within a limit of the system, such as resource.RLIMIT_AS; returns what it wrote, and its status."""
+    ran = subprocess.run(
+        [program(), *words],
+        cwd=folder,
+        env={},
+        stdin=subprocess.DEVNULL,
+        capture_output=True,
+        timeout=PATIENCE,
+        preexec_fn=lambda: resource.setrlimit(limit, (most, most)),
+    )
+    return ran.stdout, ran.stderr, ran.returncode
 
 
 def read_page(path):

@@ -4,9 +4,10 @@
     >>> sfq.Geometry("LINESTRING(0 0,4 0)").touches("POLYGON((0 0,4 0,4 4,0 4,0 0))")
     True
 
-Coordinates are whole numbers from -10,000,000 to 10,000,000. What the library returns is proved; what this package does around
-its calls isn't: the head of `_library.py` has the border. The library is the installed libsfq.so.0, or the file that the variable
-SFQ_LIBRARY names; it is loaded when it is first asked.
+Coordinates are whole numbers from -10,000,000 to 10,000,000. The proof ends at the calls of the crate sfq_c, over which the
+library is made; the library's own C and what this package does around its calls aren't proved: the head of `_library.py` has the
+border. The library is the installed libsfq.so.0, or the file that the variable SFQ_LIBRARY names; it is loaded when it is first
+asked.
 """
 from __future__ import annotations
 

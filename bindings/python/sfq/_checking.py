@@ -71,6 +71,15 @@ class ByProgram:
 Checker = Union[ByLibrary, ByProgram]
 
 
+def by_program(path: str) -> ByProgram:
+    """Returns what checks by the program. LibraryError where it is the script of a checkout that would make a build for each call."""
+    folder = os.path.dirname(os.path.realpath(path))
+    if os.path.isfile(f"{folder}/tools/current.sh"):
+        if subprocess.run(["sh", "tools/current.sh", "is"], cwd=folder, stdin=subprocess.DEVNULL).returncode:
+            raise LibraryError(f"sfq: {path} has no proved program, and would make an unproved build for each record: run {folder}/build first")
+    return ByProgram(path)
+
+
 def checker(program: str = "") -> Checker:
     """Returns what checks: the program if one is named, else the library, else the program beside this command or on the path.
 
@@ -80,11 +89,11 @@ def checker(program: str = "") -> Checker:
         found = shutil.which(program)
         if not found:
             raise LibraryError(f"sfq: no program {program}")
-        return ByProgram(os.path.abspath(found))
+        return by_program(os.path.abspath(found))
     try:
         return ByLibrary()
     except LibraryError as error:
         found = shutil.which(f"{os.path.dirname(os.path.realpath(sys.argv[0]))}/sfq") or shutil.which("sfq")
         if not found:
             raise LibraryError(f"{error}; and no program sfq is beside this command or on the path, which would do too") from None
-        return ByProgram(found)
+        return by_program(found)

@@ -7,6 +7,7 @@ of a double: what a quick quotient of doubles leaves open is computed by fractio
 from __future__ import annotations
 
 import math
+import re
 from decimal import Decimal, InvalidOperation
 from fractions import Fraction
 from typing import Any, Iterable, Sequence
@@ -15,6 +16,8 @@ from typing import Any, Iterable, Sequence
 MOST = 10_000_000
 # Quotients up to here are taken by doubles.
 QUICK = 11_000_000
+# A decimal number, as a double is written.
+NUMBER = re.compile(r"[+-]?(\d+\.?\d*|\.\d+)([eE][+-]?\d{1,3})?")
 
 
 class NotANumber(ValueError):
@@ -77,6 +80,32 @@ class Shift:
     def mean(self) -> float:
         """The mean of the distances."""
         return self.total / self.positions if self.positions else 0.0
+
+
+class Scale:
+    """Whole numbers for the decimal numbers of a column: each is the number of steps that is nearest to it, and of two the greater."""
+
+    def __init__(self, step: str) -> None:
+        found = decimal(step)
+        if found <= 0:
+            raise ValueError(f"the step {step} isn't greater than 0")
+        self.spelled, self.axis = step, Axis(found, Decimal(0))
+        self.moved, self.greatest = 0, Fraction(0)
+
+    def field(self, text: str) -> str:
+        """Returns the whole number for a decimal number, and nothing for an empty text. NotANumber for another text, or past 64 bits."""
+        if not text:
+            return ""
+        if not NUMBER.fullmatch(text):
+            raise NotANumber(f"{text[:60]!r} isn't a decimal number")
+        exact = Fraction(text)
+        found = math.floor(exact / self.axis.step + Fraction(1, 2))
+        if not -(2**63) <= found < 2**63:
+            raise NotANumber(f"{text[:60]!r} is past 64 bits in steps of {self.spelled}")
+        past = abs(exact - found * self.axis.step)
+        self.moved += past > 0
+        self.greatest = max(self.greatest, past)
+        return str(found)
 
 
 class Grid:

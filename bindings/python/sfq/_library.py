@@ -1,7 +1,7 @@
 """The border to the C library libsfq, by ctypes: what the library's calls change to changes this file alone.
 
-What the proved calls promise is in sfq.h: the matrix is that of the sets of points of the two texts, the fault is the first one.
-Not proved is what is here: a text is handed over as its bytes and their number, which ctypes keeps until the call returns, and
+The proof ends at the calls of the crate sfq_c: the matrix is that of the sets of points of the two texts, the fault is the first
+one. sfq.h says what the library's calls return, which sfq.c makes of them, without a proof. Not proved either is what is here: a text is handed over as its bytes and their number, which ctypes keeps until the call returns, and
 each thing that a call writes is a variable of the call's own. A geometry that the library keeps serves one call at a time, by a
 lock of its own, and is freed when Python has no use for it any more.
 """

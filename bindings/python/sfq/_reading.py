@@ -121,6 +121,10 @@ class Layer:
         ogr = self.modules.ogr
         return any(it.GetName() == name and it.GetType() in (ogr.OFTInteger, ogr.OFTInteger64) for it in self.fields)
 
+    def is_real(self, name: str) -> bool:
+        """Whether a column of this name has numbers with a point."""
+        return any(it.GetName() == name and it.GetType() == self.modules.ogr.OFTReal for it in self.fields)
+
     def without_geometries(self) -> Iterator[Any]:
         """Reads the records without their geometries, where the driver can."""
         can = self.layer.TestCapability(self.modules.ogr.OLCIgnoreFields)

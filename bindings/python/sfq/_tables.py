@@ -17,11 +17,20 @@ QUOTED = re.compile(r'[",\r\n]')
 
 
 class Column(NamedTuple):
-    """A column: its name, the name that the source has for it, and its type. `source` is empty where the source has none."""
+    """A column: its name, the name that the source has for it, and its type. `source` is empty where the source has none.
+
+    Of numbers with a point a TEXT column `is_real`, and an INTEGER column counts steps of the size `step`.
+    """
 
     name: str
     source: str
     type: str
+    is_real: bool = False
+    step: str = ""
+
+    def described(self) -> dict[str, Any]:
+        """Returns what grid.json says of it."""
+        return {name: value for name, value in self._asdict().items() if value or name in ("name", "source", "type")}
 
 
 class Names:

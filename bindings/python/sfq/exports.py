@@ -43,6 +43,11 @@ class Known(NamedTuple):
     systems: dict[str, Any]
 
 
+def kind_of(column: Any) -> str:
+    """Returns the type of a column that grid.json describes; REAL of a TEXT column of numbers, and of one that counts steps their size."""
+    return str(column.get("step") or ("REAL" if column.get("is_real") else column["type"]))
+
+
 def known(folder: str) -> Known:
     """Reads the grid.json of a folder."""
     path = os.path.join(folder, "grid.json")
@@ -53,7 +58,7 @@ def known(folder: str) -> Known:
             systems: dict[str, Any] = {}
             for layer in found["layers"]:
                 for it in layer["columns"]:
-                    name, kind = it["name"].lower(), it["type"]
+                    name, kind = it["name"].lower(), kind_of(it)
                     types[name] = kind if types.get(name, kind) == kind else "GEOMETRY" if kind in GEOMETRIC else "TEXT"
                     if kind in GEOMETRIC:
                         systems.setdefault(name, []).append(layer["coordinate_system"])
@@ -132,11 +137,20 @@ def geometry_text(shape: Optional[tuple[str, Any]], position: Callable[[Any], st
     return f'{{"type":"{name}","coordinates":{spelled}}}'
 
 
-def value(text: str, is_number: bool) -> Any:
-    """Returns what JSON has for a field: a number of a column of numbers, null of an empty field, else the text."""
+def value(text: str, kind: str) -> str:
+    """Returns what JSON has for a field: a number of a column of numbers, null of an empty field, else the text.
+
+    A whole number of a column that counts steps is multiplied by their size, exactly.
+    """
     if not text:
-        return None
-    return int(text) if is_number and re.fullmatch(r"[+-]?\d+", text) else text
+        return "null"
+    if kind == "INTEGER" and re.fullmatch(r"[+-]?\d+", text):
+        return str(int(text))
+    if kind == "REAL" and re.fullmatch(r"-?(0|[1-9]\d*)(\.\d+)?([eE][+-]?\d+)?", text):
+        return text
+    if kind[0] in ".0123456789" and re.fullmatch(r"[+-]?\d+", text):
+        return _grid.Scale(kind).axis.text(int(text))
+    return json.dumps(text, ensure_ascii=False)
 
 
 def as_it_is(grid: _grid.Grid) -> Callable[[Any], str]:
@@ -176,7 +190,7 @@ class GeoJson:
 
     def __init__(self, file: TextIO, headers: list[str], place: int, types: dict[str, str]) -> None:
         self.file, self.place, self.count = file, place, 0
-        self.numbers = [it.upper().startswith(COUNTS) or types.get(column_of(it)) == "INTEGER" for it in headers]
+        self.kinds = ["INTEGER" if it.upper().startswith(COUNTS) else types.get(column_of(it), "TEXT") for it in headers]
         self.names = [json.dumps(it, ensure_ascii=False) for it in headers]
 
     def begin(self, system: str) -> None:
@@ -184,8 +198,8 @@ class GeoJson:
 
     def add(self, row: Row, position: Callable[[Any], str]) -> None:
         pairs = [
-            f"{name}:{json.dumps(value(field, is_number), ensure_ascii=False)}"
-            for at, (name, field, is_number) in enumerate(zip(self.names, row.fields, self.numbers)) if at != self.place
+            f"{name}:{value(field, kind)}"
+            for at, (name, field, kind) in enumerate(zip(self.names, row.fields, self.kinds)) if at != self.place
         ]
         self.file.write(",\n" if self.count else "\n")
         self.file.write(f'{{"type":"Feature","properties":{{{",".join(pairs)}}},"geometry":{geometry_text(row.shape, position)}}}')

@@ -1,6 +1,7 @@
 """The command sfq-import: makes the tables of sfq from any vector source that GDAL reads.
 
-    sfq-import SOURCE --grid STEP [--origin X,Y] --out DIR [--layer NAME ..] [--key COLUMN] [--invalid leave-out|mend|stop] [--flat]
+    sfq-import SOURCE --grid STEP [--origin X,Y] --out DIR [--layer NAME ..] [--key COLUMN] [--scale COLUMN=STEP ..]
+               [--invalid leave-out|mend|stop] [--flat] [--allow-empty]
 
 DIR then has schema.sql, a CSV file for each layer, grid.json, which remembers step and origin for sfq-export, and left-out.csv, which
 lists each record that was left out or mended, with sfq's own reason. None of it is proved; what sfq accepts of it is.
@@ -70,6 +71,8 @@ class Means(NamedTuple):
     grid: _grid.Grid
     invalid: str
     is_flat: bool
+    # The size of a step of each column whose numbers are to be whole.
+    steps: dict[str, str]
 
 
 class Key(NamedTuple):
@@ -89,17 +92,33 @@ class Pass:
         self.counts: Counter[Any] = Counter()
         self.empty: Counter[str] = Counter()
         self.words: list[set[str]] = [set() for _ in layer.shapes]
-        self.columns = columns(layer, key)
+        self.columns = columns(layer, key, means.steps)
+        self.scales = {it.source: _grid.Scale(it.step) for it in self.columns if it.step}
         self.readers, self.key_of, self.places = self.in_order(), self.key_reader(), range(len(layer.shapes))
         self.forms: dict[str, str] = {}
         self.last_key = -1
 
     def in_order(self) -> list[Callable[[Any], str]]:
         """Returns the readers of the columns after the key: a FID that has a name of its own first."""
-        found = [self.layer.reader(at, self.empty) for at, it in enumerate(self.layer.fields) if it.GetName() != self.key.source]
+        found = [self.reader(at, it.GetName()) for at, it in enumerate(self.layer.fields) if it.GetName() != self.key.source]
         if self.key.source and self.layer.layer.GetFIDColumn():
             found.insert(0, lambda it: str(it.GetFID()))
         return found
+
+    def reader(self, at: int, name: str) -> Callable[[Any], str]:
+        """Returns the reader of a column. It raises Refused where a number isn't one, or is too large for its steps."""
+        read, scale = self.layer.reader(at, self.empty), self.scales.get(name)
+        if scale is None:
+            return read
+        whole = scale.field
+
+        def scaled(it: Any) -> str:
+            try:
+                return whole(read(it))
+            except _grid.NotANumber as error:
+                raise Refused(f"L5: {name}: {error}") from None
+
+        return scaled
 
     def key_reader(self) -> Optional[Callable[[Any], Optional[int]]]:
         """Returns what reads the key, None where it is the FID."""
@@ -136,9 +155,13 @@ class Pass:
                 raise NotAscending()
             self.last_key = fid
         fields = [str(key)]
-        for read in self.readers:
-            fields.append(read(feature))
         record = Record(self.records, fid, fields, [])
+        try:
+            for read in self.readers:
+                fields.append(read(feature))
+        except Refused as it:
+            record.reasons, record.fields = (("", str(it)),), []
+            return record
         for at in self.places:
             geometry = feature.GetGeomFieldRef(at)
             try:
@@ -264,7 +287,7 @@ def kind(reason: str) -> str:
     return f"{code}: {MEANINGS[code] if code[0] == 'V' or code in ('W3', 'W4') else text}"
 
 
-def columns(layer: _reading.Layer, key: Key) -> list[_tables.Column]:
+def columns(layer: _reading.Layer, key: Key, steps: dict[str, str]) -> list[_tables.Column]:
     """Returns the columns of a table: the key, those of the layer in their order, and the geometries."""
     names, fid = _tables.Names(), layer.layer.GetFIDColumn()
     if key.source == "#":
@@ -278,7 +301,9 @@ def columns(layer: _reading.Layer, key: Key) -> list[_tables.Column]:
     for it in layer.fields:
         name = it.GetName()
         if name != key.source:
-            found.append(_tables.Column(names.of(name, "field"), name, "INTEGER" if layer.is_whole(name) else "TEXT"))
+            step = steps.get(name, "")
+            kind = "INTEGER" if step or layer.is_whole(name) else "TEXT"
+            found.append(_tables.Column(names.of(name, "field"), name, kind, not step and layer.is_real(name), step))
     for it in layer.shapes:
         found.append(_tables.Column(names.of(it.GetName() or "geom", "geom"), it.GetName(), "GEOMETRY"))
     return found
@@ -387,7 +412,7 @@ def described(layer: _reading.Layer, name: str, found: Pass) -> dict[str, Any]:
     shift = found.shift
     return {
         "layer": layer.name, "table": name, "key": found.columns[0].name, "records": found.records, "rows": found.rows,
-        "columns": [it._asdict() for it in found.columns], "coordinate_system": layer.system(),
+        "columns": [it.described() for it in found.columns], "coordinate_system": layer.system(),
         "shift": {"greatest": float(f"{shift.greatest:.3g}"), "mean": float(f"{shift.mean:.3g}"), "positions": shift.positions},
         "merged": shift.merged, "flattened": found.flattened, "left_out": found.records - found.rows,
         "empty_texts": dict(found.empty),
@@ -401,6 +426,11 @@ def report(layer: _reading.Layer, name: str, found: Pass, means: Means) -> None:
         f"{shift.greatest:.3g}, {shift.mean:.3g} in the mean, {shift.merged:,} merged")
     for (done, what), count in sorted(found.counts.items()):
         say(f"{label}: {count:,} {done}: {what}{beyond(layer, means.grid) if what.startswith('W3') else ''}")
+    for column, scale in found.scales.items():
+        say(f"{label}: {column} counts steps of {scale.spelled}: {scale.moved:,} numbers moved by at most {float(scale.greatest):.3g}")
+    reals = [it.source for it in found.columns if it.is_real]
+    if reals:
+        say(f"{label}: numbers with a point are TEXT, which sfq compares as texts: {', '.join(reals)}; --scale {reals[0]}=STEP makes whole ones")
     for column, count in found.empty.items():
         say(f"{label}: {count:,} empty texts in {column}: sfq reads an empty field as NULL")
     renamed = [f"{it.source} is {it.name}" for it in found.columns if it.source and it.source != it.name]
@@ -433,7 +463,7 @@ def beyond(layer: _reading.Layer, grid: _grid.Grid) -> str:
 def parser() -> argparse.ArgumentParser:
     found = argparse.ArgumentParser(prog=NAME, description="Makes the tables of sfq from any vector source that GDAL reads.",
                                     epilog="Statuses: 0 done, 1 GDAL or sfq isn't there, 2 the command line, 4 a record under "
-                                    "--invalid stop, 6 files, 7 memory. The manual: man sfq-import.")
+                                    "--invalid stop, or no record was kept, 6 files, 7 memory. The manual: man sfq-import.")
     add = found.add_argument
     add("source", metavar="SOURCE", help="a file, folder or database that GDAL reads, as ogrinfo takes it")
     add("--grid", metavar="STEP", required=True, help="the size of a step of the grid, in units of the source: 0.01")
@@ -441,10 +471,26 @@ def parser() -> argparse.ArgumentParser:
     add("--out", metavar="DIR", required=True, help="a folder that isn't there yet or is empty")
     add("--layer", metavar="NAME", nargs="+", action="extend", default=[], help="the layers to take (all)")
     add("--key", metavar="COLUMN", default="", help="the column of whole numbers that is the key (the FID)")
+    add("--scale", metavar="COLUMN=STEP", nargs="+", action="extend", default=[],
+        help="make whole numbers of a column, which count steps of this size: width=0.01")
     add("--invalid", choices=("leave-out", "mend", "stop"), default="leave-out", help="what becomes of records that sfq refuses (leave-out)")
     add("--flat", action="store_true", help="take geometries with Z or M without them")
+    add("--allow-empty", action="store_true", help="end with status 0 where no record is kept, too")
     add("--sfq", metavar="PROGRAM", default="", help="check by this program in place of the library libsfq")
     add("--version", action="version", version=f"{NAME} {__version__}")
+    return found
+
+
+def steps_of(words: list[str], key: str) -> dict[str, str]:
+    """Returns the step of each column that the words name. ValueError where one is wrong."""
+    found: dict[str, str] = {}
+    for it in words:
+        column, _, step = it.rpartition("=")
+        if not column or column in found:
+            raise ValueError(f"{it!r} isn't COLUMN=STEP" if not column else f"{column} has two steps")
+        if column == key:
+            raise ValueError(f"{column} is the key")
+        found[column] = _grid.Scale(step).spelled
     return found
 
 
@@ -462,6 +508,10 @@ def parsed(words: list[str]) -> tuple[argparse.Namespace, _grid.Grid]:
     if len(parts) != 2:
         found.error(f"argument --origin: {options.origin!r} isn't X,Y")
     try:
+        options.steps = steps_of(options.scale, options.key)
+    except ValueError as error:
+        found.error(f"argument --scale: {error}")
+    try:
         return options, _grid.Grid(options.grid, parts)
     except ValueError as error:
         found.error(f"argument --grid or --origin: {error}")
@@ -477,12 +527,15 @@ def run(options: argparse.Namespace, grid: _grid.Grid) -> None:
     if not is_free(options.out):
         raise Stopped(f"{options.out} isn't an empty folder", USAGE)
     source = _reading.Source(options.source, say)
-    means = Means(source, _checking.checker(options.sfq), grid, options.invalid, options.flat)
+    means = Means(source, _checking.checker(options.sfq), grid, options.invalid, options.flat, options.steps)
     layers = source.layers(options.layer)
     if not 0 < len(layers) <= _tables.MOST_TABLES:
         raise Stopped(f"{len(layers)} layers, and sfq takes 1 to {_tables.MOST_TABLES}: choose by --layer", USAGE)
     if options.key and not any(it.has(options.key) for it in layers):
         raise Stopped(f"no layer has a column {options.key}", USAGE)
+    for column in options.steps:
+        if not any(it.has(column) for it in layers):
+            raise Stopped(f"--scale: no layer has a column {column}", USAGE)
     out = os.path.abspath(options.out)
     os.makedirs(os.path.dirname(out), exist_ok=True)
     room = tempfile.mkdtemp(prefix=f".{os.path.basename(out)}-", dir=os.path.dirname(out))
@@ -491,7 +544,7 @@ def run(options: argparse.Namespace, grid: _grid.Grid) -> None:
         for it in layers:
             work.take(it)
         work.close(_reading.without_secrets(options.source))
-        systems = {json.dumps(it["coordinate_system"]) for it in work.layers}
+        systems = {json.dumps(it["coordinate_system"]) for it, layer in zip(work.layers, layers) if layer.shapes}
         if len(systems) > 1:
             say("the layers have different coordinate systems: don't compare their geometries")
         mask = os.umask(0)
@@ -501,6 +554,9 @@ def run(options: argparse.Namespace, grid: _grid.Grid) -> None:
     except BaseException:
         shutil.rmtree(room, ignore_errors=True)
         raise
+    if not options.allow_empty and not any(it["rows"] for it in work.layers):
+        why = f"{options.out}/left-out.csv says why" if any(it["records"] for it in work.layers) else "the source has none"
+        raise Stopped(f"no record was kept: {why}; --allow-empty takes that", DATA)
 
 
 def main(words: Optional[list[str]] = None) -> int:

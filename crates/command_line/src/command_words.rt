@@ -186,7 +186,7 @@ const RELATING: &str = "\
 Example:
   sfq relate 'LINESTRING(-2 2,2 -2)' 'POLYGON((0 0,4 0,4 4,0 4,0 0))'
 
-Statuses: 0 done, 5 a geometry, 6 the output, 7 out of memory.
+Statuses: 0 done, 5 a geometry, 6 a file or the output, 7 out of memory.
 docs/FAULTS.md and man sfq explain each fault.";
 
 /// `relate WKT WKT`

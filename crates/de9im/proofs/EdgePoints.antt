@@ -16,8 +16,8 @@ use Rattle.matrix_laws.proofs.Growing.{still_shown, shows_at}
 use Rattle.matrix_laws.proofs.CellTheorems.{growing_keeps}
 use Rattle.matrix_laws.specs.Covering.{ShowsEnds}
 use Rattle.de9im.specs.Raising.{IsOnBoth, IsReady}
-use Rattle.de9im.specs.declared.matrix_edges.Pass.{Pass}
-use Rattle.de9im.specs.declared.matrix_edges.Pass.TheVariants.{First, Second}
+use Rattle.de9im.specs.declared.gap_cells.Pass.{Pass}
+use Rattle.de9im.specs.declared.gap_cells.Pass.TheVariants.{First, Second}
 use Rattle.de9im.proofs.Growth.{covered_kept}
 
 -- what is shown of ends stays shown

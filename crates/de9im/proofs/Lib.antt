@@ -1,6 +1,5 @@
 pub mod PatternFacts
 pub mod Growth
-pub mod EndsShown
 pub mod OddEnds
 pub mod GapCells
 pub mod EdgePoints

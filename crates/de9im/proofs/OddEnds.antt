@@ -1,56 +1,58 @@
 -- Where an odd end lies is shown by the ends of lines.
-use Rattle.std.proofs.Common.{◌≡◌, ◌⊎◌, inl, inr, Bool, true, false, if◌then◌else◌, refl, sym, ap, ◌∙◌, List, [], ◌∷◌, flat_map}
-use Rattle.std.specs.List.{All, list_any}
-use Rattle.std.proofs.lemmas.List.Elements.{All-contains, All-head, All-tail}
-use Rattle.geometry_model.specs.Points.{Position, Point, IsPoint, point_at}
+use Rattle.std.proofs.Common.{◌≡◌, Bool, true, false, if◌then◌else◌, sym, ap, ◌∙◌, List, [], ◌∷◌}
+use Rattle.std.specs.List.{All, Contains}
+use Rattle.std.proofs.lemmas.List.Elements.{All-contains, All-weaker, All-contains_itself}
+use Rattle.geometry_model.specs.Points.{Position, Point, point_at}
 use Rattle.geometry_model.specs.Geometries.{Geometry, kind, lines}
-use Rattle.geometry_model.specs.Locations.{is_at, is_odd_end, on_some, ends, locate}
+use Rattle.geometry_model.specs.Locations.{is_at, is_odd_end, on_some, locate}
 use Rattle.geometry_model.specs.Dimensions.{Matrix}
 use Rattle.geometry_model.specs.declared.shapes.Kind.TheVariants as kinds
 use Rattle.geometry_model.specs.declared.point_sets.Location.TheVariants.{Interior, Boundary, Exterior}
 use Rattle.geometry_model.specs.declared.point_sets.Dimension.TheVariants.{Zero}
-use Rattle.geometry_laws.proofs.Each.{Among, Passing, among_either, some_passed, none_passed, odd_count, parity_none}
+use Rattle.geometry_laws.proofs.Each.{Passing, some_passed, one_passes}
 use Rattle.geometry_laws.proofs.Respect.{locate_respects}
 use Rattle.geometry_laws.proofs.RingParity.{position_is_point}
-use Rattle.geometry_laws.proofs.Cuts.{contains_of_among}
-use Rattle.matrix_laws.specs.Cells.{Shows}
-use Rattle.matrix_laws.proofs.Growing.{shows_at}
-use Rattle.de9im.specs.Raising.{CoversEnd, CoversEndsOf}
+use Rattle.geometry_laws.proofs.Cuts.{among_from_contains, contains_of_among, same_end}
+use Rattle.validity.specs.OddEnds.{AreOddEnds, ended_lines}
+use Rattle.side_labels.proofs.LineKinds.{lines_end}
+use Rattle.matrix_laws.specs.Cells.{Shows, IsPartOf, CoversPosition}
+use Rattle.matrix_laws.proofs.Growing.{shows_at, still_shown}
+use Rattle.de9im.specs.Raising.{LiesIn, ShowsOddEnds}
 
 boundary_if : (s t : Bool) → s ≡ true → (if s then Boundary else if t then Interior else Exterior) ≡ Boundary
 boundary_if s t e = ap (λ (u : Bool). if u then Boundary else if t then Interior else Exterior) e
 
+-- geometries that are no lines have no ends
+none_odd : {X : Type 0} (x : Point) → is_odd_end [] x ≡ true → X
+none_odd x h = absurd (let z : false ≡ true = h in cc)
+
+ended_is_boundary : (g : Geometry) (x : Point) → is_odd_end (ended_lines g) x ≡ true → locate g x ≡ Boundary
+ended_is_boundary (Geometry.Point o) x h = none_odd x h
+ended_is_boundary (Geometry.MultiPoint ps) x h = none_odd x h
+ended_is_boundary (Geometry.LineString l) x h = boundary_if (is_odd_end (l ∷ []) x) (on_some (l ∷ []) x) h
+ended_is_boundary (Geometry.MultiLineString ls) x h = boundary_if (is_odd_end ls x) (on_some ls x) h
+ended_is_boundary (Geometry.Polygon rs) x h = none_odd x h
+ended_is_boundary (Geometry.MultiPolygon es) x h = none_odd x h
+
 pub odd_end_is_boundary : (g : Geometry) (x : Point) → kind g ≡ kinds.Line → is_odd_end (lines g) x ≡ true → locate g x ≡ Boundary
-odd_end_is_boundary (Geometry.Point o) x k h = absurd (let z : kinds.Point ≡ kinds.Line = k in cc)
-odd_end_is_boundary (Geometry.MultiPoint ps) x k h = absurd (let z : kinds.Point ≡ kinds.Line = k in cc)
-odd_end_is_boundary (Geometry.LineString l) x k h = boundary_if (is_odd_end (l ∷ []) x) (on_some (l ∷ []) x) h
-odd_end_is_boundary (Geometry.MultiLineString ls) x k h = boundary_if (is_odd_end ls x) (on_some ls x) h
-odd_end_is_boundary (Geometry.Polygon rs) x k h = absurd (let z : kinds.Area ≡ kinds.Line = k in cc)
-odd_end_is_boundary (Geometry.MultiPolygon es) x k h = absurd (let z : kinds.Area ≡ kinds.Line = k in cc)
+odd_end_is_boundary g x k h = ended_is_boundary g x (ap (λ ls. is_odd_end ls x) (lines_end g k) ∙ h)
 
-end_there : (ls : List (List Position)) (x : Point) → is_odd_end ls x ≡ true → Passing (is_at x) (flat_map ends ls)
-end_there ls x h = go (list_any (is_at x) (flat_map ends ls)) refl
+-- ---- the list of odd ends
+-- a position of the list is at itself, so an odd number of ends is there
+listed_is_odd : (ps : List Position) (ls : List (List Position)) (p : Position) → AreOddEnds ps ls → Contains ps p → is_odd_end ls (point_at p) ≡ true
+listed_is_odd ps ls p are c = sym (are.exact (point_at p) (position_is_point p)) ∙ one_passes (is_at (point_at p)) ps p (among_from_contains ps p c) (same_end p)
+
+pub odd_ends_lie : (a : Geometry) (ps : List Position) → AreOddEnds ps (ended_lines a) → All (LiesIn Boundary a) ps
+odd_ends_lie a ps are = All-weaker (Contains ps) (LiesIn Boundary a) (λ p c. ended_is_boundary a (point_at p) (listed_is_odd ps (ended_lines a) p are c)) ps (All-contains_itself ps)
+
+-- so where the list is covered each odd end is shown
+pub shows_odd_ends : (a b : Geometry) (m : Matrix) (ps : List Position) → AreOddEnds ps (ended_lines a) → All (CoversPosition a b m) ps → ShowsOddEnds a b m
+shows_odd_ends a b m ps are all k x hx h = go (some_passed (is_at x) ps (are.exact x hx ∙ ap (λ ls. is_odd_end ls x) (lines_end a k) ∙ h))
   where
-    go : (t : Bool) → list_any (is_at x) (flat_map ends ls) ≡ t → Passing (is_at x) (flat_map ends ls)
-    go true e = some_passed (is_at x) (flat_map ends ls) e
-    go false e = absurd (let z : false ≡ true = sym (odd_count (is_at x) (flat_map ends ls) ∙ parity_none (is_at x) (flat_map ends ls) (none_passed (is_at x) (flat_map ends ls) e)) ∙ h in cc)
+    go : Passing (is_at x) ps → Shows m (locate a x) (locate b x) Zero
+    go s = shows_at m Zero _ _ _ _ (locate_respects a (point_at s.found) x (position_is_point s.found) hx s.passes)
+        (locate_respects b (point_at s.found) x (position_is_point s.found) hx s.passes)
+        (All-contains (CoversPosition a b m) ps s.found all (contains_of_among s.found ps s.among))
 
-end_covered : (a b : Geometry) (m : Matrix) (ls : List (List Position)) (p : Position) → All (CoversEndsOf a b m) ls → Among p (flat_map ends ls) → CoversEnd a b m p
-end_covered a b m [] p all among = absurd among
-end_covered a b m (l ∷ ls) p all among = go (among_either p (ends l) (flat_map ends ls) among) (λ h. end_covered a b m ls p (All-tail (CoversEndsOf a b m) l ls all) h)
-  where
-    go : Among p (ends l) ⊎ Among p (flat_map ends ls) → (Among p (flat_map ends ls) → CoversEnd a b m p) → CoversEnd a b m p
-    go (inl h) rest = All-contains (CoversEnd a b m) (ends l) p (All-head (CoversEndsOf a b m) l ls all) (contains_of_among p (ends l) h)
-    go (inr h) rest = rest h
-
-pub shows_odd_end : (a b : Geometry) (m : Matrix) (x : Point) → kind a ≡ kinds.Line → IsPoint x → is_odd_end (lines a) x ≡ true → All (CoversEndsOf a b m) (lines a) → Shows m (locate a x) (locate b x) Zero
-shows_odd_end a b m x k hx h all = go (end_there (lines a) x h)
-  where
-    go : Passing (is_at x) (flat_map ends (lines a)) → Shows m (locate a x) (locate b x) Zero
-    go s = shows_at m Zero _ _ _ _ here there (end_covered a b m (lines a) s.found all s.among (here ∙ odd_end_is_boundary a x k h))
-      where
-        here : locate a (point_at s.found) ≡ locate a x
-        here = locate_respects a (point_at s.found) x (position_is_point s.found) hx s.passes
-
-        there : locate b (point_at s.found) ≡ locate b x
-        there = locate_respects b (point_at s.found) x (position_is_point s.found) hx s.passes
+pub odd_ends_kept : (a b : Geometry) (m n : Matrix) → IsPartOf m n → ShowsOddEnds a b m → ShowsOddEnds a b n
+odd_ends_kept a b m n part s k x hx h = still_shown m n part _ _ Zero (s k x hx h)

@@ -115,7 +115,7 @@ part_covered a b vb around is m t full first end none = all_from_each (Covers a 
     part : List Edge
     part = slice_range (edges a) first end
 
--- upright edges that are outside, once the matrix shows a gap of an edge there: they have no sides
+-- vertical edges that are outside, once the matrix shows a gap of an edge there: they have no sides
 pub upright_covered : (a b : Geometry) → IsValid b → (around : Envelope) → envelope b ≡ Some around → (m : Matrix) → ShowsEnds a b m → Shows m (of_own_edges (kind a)) Exterior One → (first end : ℕ)
     → All (IsUprightOutside around) (slice_range (edges a) first end) → All (Covers a b m) (slice_range (edges a) first end)
 upright_covered a b vb around is m t s first end all = all_from_each (Covers a b m) part (each_of (Covers a b m) part

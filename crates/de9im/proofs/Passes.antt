@@ -2,7 +2,7 @@
 use Rattle.std.proofs.Common.{◌≡◌, refl, sym, ap, ◌∙◌, subst}
 use Rattle.std.specs.List.{All}
 use Rattle.std.proofs.lemmas.List.Elements.{All-weaker}
-use Rattle.geometry_model.specs.Geometries.{Geometry, edges, lines, listed}
+use Rattle.geometry_model.specs.Geometries.{Geometry, edges, listed}
 use Rattle.geometry_model.specs.Dimensions.{Matrix, IsMatrix, cell, transposed}
 use Rattle.geometry_model.specs.Labels.{labelled_matrix}
 use Rattle.geometry_model.specs.Validity.{IsValid}
@@ -19,8 +19,7 @@ use Rattle.matrix_laws.specs.Covering.{ShowsEnds}
 use Rattle.de9im.specs.Cells.{of_exteriors}
 use Rattle.de9im.specs.Raising.{Grows, ShowsOwnEnds}
 use Rattle.de9im.proofs.Growth.{covered_kept, part_through}
-use Rattle.de9im.proofs.EndsShown.{covered_ends_kept}
-use Rattle.de9im.proofs.OddEnds.{shows_odd_end}
+use Rattle.de9im.proofs.OddEnds.{odd_ends_kept}
 use Rattle.de9im.proofs.EdgePoints.{covers_kept}
 
 -- ---- the other way round
@@ -37,13 +36,13 @@ part_turned m n part l k = ap (λ (d : Dimension). at_most d (cell (transposed n
 own_kept : (a b : Geometry) (m n : Matrix) → IsPartOf m n → ShowsOwnEnds a b m → ShowsOwnEnds a b n
 own_kept a b m n part s = record {
   positions = covered_kept a b (listed a) m n part s.positions;
-  odd_ends = λ k. covered_ends_kept a b (lines a) m n part (s.odd_ends k);
+  odd_ends = odd_ends_kept a b m n part s.odd_ends;
 }
 
 both_ends : (a b : Geometry) (m : Matrix) → ShowsOwnEnds a b m → ShowsOwnEnds b a (transposed m) → ShowsEnds a b m
 both_ends a b m own other = record {
-  of_first = λ k x hx h. shows_odd_end a b m x k hx h (own.odd_ends k);
-  of_second = λ k x hx h. turned_shows (transposed m) _ _ Zero (shows_odd_end b a (transposed m) x k hx h (other.odd_ends k));
+  of_first = own.odd_ends;
+  of_second = λ k x hx h. turned_shows (transposed m) _ _ Zero (other.odd_ends k x hx h);
   positions = All-weaker (CoversPosition b a (transposed m)) (CoversPosition a b m) (λ p s. turned_shows (transposed m) _ _ Zero s) (listed b) other.positions;
 }
 

@@ -41,7 +41,7 @@ none_listed (Geometry.MultiLineString ls) k = refl
 none_listed (Geometry.Polygon rs) k = refl
 none_listed (Geometry.MultiPolygon es) k = refl
 
--- what the area shows beside the points is there, by an edge that isn't upright
+-- what the area shows beside the points is there, by an edge that isn't vertical
 area_is_there : (a b : Geometry) → kind a ≡ kinds.Point → HasSides b → IsValid a → IsValid b → IsSound a b of_area
 area_is_there a b points sides va vb = go
   where

@@ -18,17 +18,18 @@ use Rattle.matrix_laws.specs.CoveringLaws.{IsFullOff}
 use Rattle.matrix_laws.proofs.Located.{on_or_off, off_is_shown}
 use Rattle.matrix_laws.proofs.FullCovering.{full_off_at}
 use Rattle.matrix_laws.proofs.HeldCovering.{shown_by_covered}
-use Rattle.de9im.specs.Raising.{ShowsGapOff}
+use Rattle.de9im.specs.Raising.{ShowsGapIn}
+use Rattle.de9im.specs.declared.gap_cells.Pass.TheVariants.{Second}
 
 -- ---- a point off the second geometry's edges lies as the sample of the gap that holds it
 record Held (a b : Geometry) (m : Matrix) (e : Edge) (x : Point) : Type 0 where
   pub p : Point
   pub q : Point
   pub gap : IsGap e (edges b) p q
-  pub shows : ShowsGapOff a b m e p q
+  pub shows : ShowsGapIn Second a b m e p q
   pub within : IsWithin (record { lesser = p; greater = q }) x
 
-held : (a b : Geometry) (e : Edge) (g : EdgeGaps) → AreGaps e (edges b) g → (m : Matrix) → All (λ c. ShowsGapOff a b m e c.lesser c.greater) (stretches g.stops) → (x : Point) → IsPoint x → on e x ≡ true → Held a b m e x
+held : (a b : Geometry) (e : Edge) (g : EdgeGaps) → AreGaps e (edges b) g → (m : Matrix) → All (λ c. ShowsGapIn Second a b m e c.lesser c.greater) (stretches g.stops) → (x : Point) → IsPoint x → on e x ≡ true → Held a b m e x
 held a b e g h m s x hx k = go (some_from_any (λ c. IsWithin c x) (stretches g.stops) (h.whole x hx k))
   where
     go : Some_of (λ c. IsWithin c x) (stretches g.stops) → Held a b m e x
@@ -36,7 +37,7 @@ held a b e g h m s x hx k = go (some_from_any (λ c. IsWithin c x) (stretches g.
       p = r.found.lesser;
       q = r.found.greater;
       gap = each_at (λ c. IsGap e (edges b) c.lesser c.greater) (stretches g.stops) r.found (each_from_all (λ c. IsGap e (edges b) c.lesser c.greater) (stretches g.stops) h.gaps) r.among;
-      shows = each_at (λ c. ShowsGapOff a b m e c.lesser c.greater) (stretches g.stops) r.found (each_from_all (λ c. ShowsGapOff a b m e c.lesser c.greater) (stretches g.stops) s) r.among;
+      shows = each_at (λ c. ShowsGapIn Second a b m e c.lesser c.greater) (stretches g.stops) r.found (each_from_all (λ c. ShowsGapIn Second a b m e c.lesser c.greater) (stretches g.stops) s) r.among;
       within = record { not_before = (r.has).not_before; not_after = (r.has).not_after };
     }
 
@@ -48,17 +49,18 @@ off_shown a b vb m t e c x hx k h o = go (gap_end_is_alike b (valid_rings_are_cl
 
 -- a matrix that covers the second geometry's edges covers an edge of the first where it shows the gaps off them
 pub gaps_off_cover : (a b : Geometry) → IsValid b → (e : Edge) → Contains (edges a) e → e.start ≢ e.end → (g : EdgeGaps) → AreGaps e (edges b) g → (m : Matrix) → ShowsEnds a b m → All (Covers a b m) (edges b)
-    → All (λ c. ShowsGapOff a b m e c.lesser c.greater) (stretches g.stops) → Covers a b m e
+    → All (λ c. ShowsGapIn Second a b m e c.lesser c.greater) (stretches g.stops) → Covers a b m e
 gaps_off_cover a b vb e c w g r m t covered s x hx k = go (on_or_off b x)
   where
     go : Passing (λ f. on f x) (edges b) ⊎ IsOffEdges b x → ShowsPoint a b m e x
     go (inl p) = shown_by_covered a b m covered e c w x hx k p
     go (inr o) = off_shown a b vb m t e c x hx k (held a b e g r m s x hx k) o
 
--- and where it shows all that gaps off them can show
-pub full_off_is_enough : (a b : Geometry) → (e : Edge) → Contains (edges a) e → e.start ≢ e.end → (m : Matrix) → ShowsEnds a b m → All (Covers a b m) (edges b) → IsFullOff a b m → Covers a b m e
+-- and where it shows all that gaps of the edge off them can show
+pub full_off_is_enough : (a b : Geometry) → (e : Edge) → Contains (edges a) e → e.start ≢ e.end → (m : Matrix)
+    → ShowsEnds a b m → All (Covers a b m) (edges b) → IsFullOff a b m e → Covers a b m e
 full_off_is_enough a b e c w m t covered h x hx k = go (on_or_off b x)
   where
     go : Passing (λ f. on f x) (edges b) ⊎ IsOffEdges b x → ShowsPoint a b m e x
     go (inl p) = shown_by_covered a b m covered e c w x hx k p
-    go (inr o) = off_is_shown a b m t e c x hx k o (full_off_at a b m h e x o)
+    go (inr o) = off_is_shown a b m t e c x hx k o (full_off_at a b m e h x o)

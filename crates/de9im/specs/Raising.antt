@@ -1,24 +1,24 @@
 -- How a matrix of two geometries grows while it is found.
-use Rattle.std.specs.Prelude.{◌≡◌, ◌≢◌, true, false, Bool, if◌then◌else◌, List, All, Any}
+use Rattle.std.specs.Prelude.{◌≡◌, ◌≢◌, true, false, Bool, if◌then◌else◌, All, Any}
 use Rattle.geometry_model.specs.Points.{Position, Point, IsPoint, point_at}
 use Rattle.geometry_model.specs.Geometries.{Edge, Geometry, kind, edges, lines, listed}
 use Rattle.geometry_model.specs.Sides.{on}
-use Rattle.geometry_model.specs.Locations.{locate, ends}
+use Rattle.geometry_model.specs.Locations.{is_odd_end, locate}
 use Rattle.geometry_model.specs.Dimensions.{Matrix}
 use Rattle.geometry_model.specs.Envelopes.{Envelope}
 use Rattle.geometry_model.specs.Validity.{IsValid}
 use Rattle.geometry_model.specs.declared.shapes.Kind.{Kind}
 use Rattle.geometry_model.specs.declared.shapes.Kind.TheVariants as kinds
 use Rattle.geometry_model.specs.declared.point_sets.Location.{Location}
-use Rattle.geometry_model.specs.declared.point_sets.Location.TheVariants.{Interior, Boundary, Exterior}
+use Rattle.geometry_model.specs.declared.point_sets.Location.TheVariants.{Interior, Exterior}
 use Rattle.geometry_model.specs.declared.point_sets.Dimension.TheVariants.{Zero, One, Two}
 use Rattle.edge_boxes.specs.NearEdges.{is_near}
 use Rattle.side_labels.specs.declared.piece_sides.Sides.{Sides}
 use Rattle.matrix_laws.specs.Gaps.{IsBetween, mostly}
 use Rattle.matrix_laws.specs.Cells.{Shows, raised, IsPartOf, IsSound, Covers, CoversPosition}
 use Rattle.de9im.specs.Cells.{of_exteriors}
-use Rattle.de9im.specs.declared.matrix_edges.Pass.{Pass}
-use Rattle.de9im.specs.declared.matrix_edges.Pass.TheVariants.{First, Second}
+use Rattle.de9im.specs.declared.gap_cells.Pass.{Pass}
+use Rattle.de9im.specs.declared.gap_cells.Pass.TheVariants.{First, Second}
 use Rattle.matrix_laws.specs.Covering.{IsOffEdges, ShowsOff, ShowsAt}
 
 -- the matrix has grown just far enough to show this: every matrix that it was part of and that shows this, it is still part of
@@ -32,18 +32,18 @@ pub record Grows (a b : Geometry) (m n : Matrix) : Type 0 where
   pub grown : IsPartOf m n
   pub sound : IsValid a → IsValid b → IsSound a b m → IsSound a b n
 
--- the matrix shows where the position lies, if it is on the boundary of a (06-103r4, 6.1.15.2)
-abbrev pub CoversEnd : Geometry → Geometry → Matrix → Position → Type 0
-CoversEnd a b m p = locate a (point_at p) ≡ Boundary → CoversPosition a b m p
+-- the position lies in this part of the geometry
+abbrev pub LiesIn : Location → Geometry → Position → Type 0
+LiesIn l a p = locate a (point_at p) ≡ l
 
--- the matrix shows this of both ends of a line
-abbrev pub CoversEndsOf : Geometry → Geometry → Matrix → List Position → Type 0
-CoversEndsOf a b m line = All (CoversEnd a b m) (ends line)
+-- the matrix shows where all odd ends of a's lines lie (06-103r4, 6.1.8.1: the mod 2 rule)
+abbrev pub ShowsOddEnds : Geometry → Geometry → Matrix → Type 0
+ShowsOddEnds a b m = kind a ≡ kinds.Line → (x : Point) → IsPoint x → is_odd_end (lines a) x ≡ true → Shows m (locate a x) (locate b x) Zero
 
--- the matrix shows where all listed positions of a lie in b, and all ends of its lines that are on its boundary (06-103r4, 6.1.8.1: the mod 2 rule)
+-- the matrix shows where all listed positions of a lie in b, and all odd ends of its lines
 pub record ShowsOwnEnds (a b : Geometry) (m : Matrix) : Type 0 where
   pub positions : All (CoversPosition a b m) (listed a)
-  pub odd_ends : kind a ≡ kinds.Line → All (CoversEndsOf a b m) (lines a)
+  pub odd_ends : ShowsOddEnds a b m
 
 -- the matrix shows of one part that it shares at least a point with each part that a geometry of this kind has
 abbrev pub ShowsRow : Location → Kind → Matrix → Type 0
@@ -53,11 +53,11 @@ ShowsRow l k m = (b : Geometry) → kind b ≡ k → (p : Point) → Shows m l (
 abbrev pub ShowsAllOff : Kind → Location → Matrix → Type 0
 ShowsAllOff k l m = (a : Geometry) → kind a ≡ k → (e : Edge) → ShowsOff a m e l
 
--- the edge is upright, and its rectangle doesn't overlap the envelope: it has no sides to show
+-- the edge is vertical, and its rectangle doesn't overlap the envelope: it has no sides to show
 abbrev pub IsUprightOutside : Envelope → Edge → Type 0
 IsUprightOutside around e = (e.start.x ≡ e.end.x) × (is_near around e ≡ false)
 
--- an area with an edge that isn't upright (06-103r4, 6.1.11.1)
+-- an area with an edge that isn't vertical (06-103r4, 6.1.11.1)
 pub record HasSides (g : Geometry) : Type 0 where
   pub is_area : kind g ≡ kinds.Area
   pub edge : Any (λ e. e.start.x ≢ e.end.x) (edges g)
@@ -65,10 +65,6 @@ pub record HasSides (g : Geometry) : Type 0 where
 -- what an area shows beside points, wherever these lie (06-103r4, 6.1.15.2)
 abbrev pub of_area : Matrix
 of_area = record of_exteriors { exterior_interior = Two; exterior_boundary = One }
-
--- the matrix shows each gap of the edge, whichever point of the edge is within it
-abbrev pub ShowsAllAlong : Geometry → Geometry → Matrix → Edge → Type 0
-ShowsAllAlong a b m e = (y : Point) → IsPoint y → on e y ≡ true → ShowsAt a b m e y
 
 -- the point is on edges of both geometries
 pub record IsOnBoth (a b : Geometry) (p : Point) : Type 0 where
@@ -86,15 +82,20 @@ off_edges kinds.Area odd = if odd then Interior else Exterior
 abbrev pub with_sides : Sides → Sides → Matrix → Matrix
 with_sides s t m = raised (raised m s.lower t.lower Two) s.upper t.upper Two
 
--- the matrix shows what there is of a gap off the second geometry's edges, by a point within the gap
-abbrev pub ShowsOffAt : Geometry → Geometry → Matrix → Edge → Point → Type 0
-ShowsOffAt a b m e y = IsOffEdges b y → ShowsOff a m e (mostly b y)
+-- the matrix shows what a pass looks at of a gap, by a point within the gap: in the second pass what there is off the second geometry's edges
+abbrev pub ShowsIn : Pass → Geometry → Geometry → Matrix → Edge → Point → Type 0
+ShowsIn First a b m e y = ShowsAt a b m e y
+ShowsIn Second a b m e y = IsOffEdges b y → ShowsOff a m e (mostly b y)
 
--- the same, by some point within the gap
-pub record ShowsGapOff (a b : Geometry) (m : Matrix) (e : Edge) (p q : Point) : Type 0 where
+-- the same, by some point within it
+pub record ShowsGapIn (pass : Pass) (a b : Geometry) (m : Matrix) (e : Edge) (p q : Point) : Type 0 where
   pub sample : Point
   pub between : IsBetween e p q sample
-  pub shows : ShowsOffAt a b m e sample
+  pub shows : ShowsIn pass a b m e sample
+
+-- the same of each gap of the edge, whichever point of the edge is within it
+abbrev pub ShowsAllAlong : Pass → Geometry → Geometry → Matrix → Edge → Type 0
+ShowsAllAlong pass a b m e = (y : Point) → IsPoint y → on e y ≡ true → ShowsIn pass a b m e y
 
 -- what the matrix has to show before a pass: before the second one it covers the edges of b
 abbrev pub IsReady : Pass → Geometry → Geometry → Matrix → Type 0

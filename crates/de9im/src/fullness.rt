@@ -1,6 +1,10 @@
 //! Tests whether a matrix shows all that the edges of its first geometry can show, so that the search can stop.
 
 ghost use Rattle.std.specs.Prelude.{◌≡◌, ◌↔◌, true, IsTrue};
+ghost use Rattle.geometry_model.specs.Geometries.{Edge};
+ghost use Rattle.geometry_model.specs.Dimensions.{cell};
+ghost use Rattle.geometry_model.specs.declared.point_sets.Dimension.TheVariants.{One};
+ghost use Rattle.matrix_laws.specs.Cells.{at_most};
 ghost use Rattle.matrix_laws.specs.CoveringLaws.{IsFullOff, IsFullOn, IsFullAlong};
 ghost use Rattle.matrix_laws.specs.Gaps.{of_own_edges};
 ghost use Rattle.geometry_model.specs.declared.point_sets.Location.TheVariants.{Exterior};
@@ -30,12 +34,19 @@ pub(crate) fn is_upright(edge: &Segment) -> bool
     edge.start().x() == edge.end().x()
 }
 
-/// Whether the matrix shows all that edges of a geometry of the first kind can show in this part of the other, off the other's
-/// edges: themselves and, on their sides, the exterior and the interior.
+/// Whether the matrix shows that edges of a geometry of this kind lie in this part of the other, off the other's edges.
+fn shows_edges_in(matrix: &MatrixCells, kind: Kind, part: Location) -> bool
+    ensures { result ≡ at_most One (cell matrix.now (of_own_edges kind) part) }
+{
+    matrix.shows(of_own_edges(kind), part, Dimension::One)
+}
+
+/// Whether the matrix shows all that edges of a geometry of this kind can show in this part of the other, off the other's edges:
+/// themselves and, on their sides, the exterior and the interior.
 fn is_full_in(matrix: &MatrixCells, kind: Kind, part: Location) -> bool
     ensures { result ≡ true → ShowsAllOff kind part matrix.now }
 {
-    matrix.shows(of_own_edges(kind), part, Dimension::One)
+    shows_edges_in(matrix, kind, part)
         && matrix.shows(Location::Exterior, part, Dimension::Two)
         && (kind != Kind::Area || matrix.shows(Location::Interior, part, Dimension::Two))
 }
@@ -49,10 +60,26 @@ pub(crate) fn is_full_outside(kind: Kind, matrix: &MatrixCells) -> bool
 
 /// Whether the matrix shows all that gaps of the first geometry's edges can show off the edges of the second.
 pub(crate) fn is_full_off(first: &Valid, second: &Valid, matrix: &MatrixCells) -> bool
-    ensures { result ≡ true → IsFullOff first.now second.now matrix.now }
+    ensures { result ≡ true → (e : Edge) → IsFullOff first.now second.now matrix.now e }
 {
     is_full_outside(first.kind(), matrix)
         && (second.kind() != Kind::Area || is_full_in(matrix, first.kind(), Location::Interior))
+}
+
+/// The same of the gaps of one edge: an upright one has no sides to show.
+pub(crate) fn is_full_off_by(
+    first: &Valid,
+    second: &Valid,
+    edge: &Segment,
+    matrix: &MatrixCells,
+) -> bool
+    ensures { result ≡ true → IsFullOff first.now second.now matrix.now edge.now }
+{
+    if !is_upright(edge) {
+        return is_full_off(first, second, matrix);
+    }
+    shows_edges_in(matrix, first.kind(), Location::Exterior)
+        && (second.kind() != Kind::Area || shows_edges_in(matrix, first.kind(), Location::Interior))
 }
 
 /// Whether the matrix shows all that gaps of the first geometry's edges can show on the edges of the second: themselves and, on
@@ -74,7 +101,8 @@ pub(crate) fn is_full_on(first: &Valid, second: &Valid, matrix: &MatrixCells) ->
             || matrix.shows(Location::Interior, Location::Interior, Dimension::Two))
 }
 
-/// The same of the gaps of one edge: a vertical one has no sides to show.
+/// Whether the matrix shows all that gaps of an edge of the first geometry can show on the edges of the second: an upright one has
+/// no sides to show.
 pub(crate) fn is_full_along(
     first: &Valid,
     second: &Valid,

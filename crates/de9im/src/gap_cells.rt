@@ -4,18 +4,30 @@ ghost use Rattle.std.specs.Prelude.{◌≡◌, true, All, Contains, pos, ◌≤�
 ghost use Rattle.geometry_model.specs.Geometries.{edges};
 ghost use Rattle.geometry_model.specs.Pieces.{stretches};
 ghost use Rattle.matrix_laws.specs.Gaps.{IsGap};
-ghost use Rattle.matrix_laws.specs.Covering.{IsHeld, ShowsOff, ShowsAt, ShowsGap};
+ghost use Rattle.matrix_laws.specs.Covering.{IsHeld, ShowsOff, ShowsOn};
 ghost use Rattle.validity.specs.ValidGeometries.{HasLength};
 ghost use Rattle.fraction.specs.Ranges.{meeting_limit};
-ghost use Rattle.de9im.specs.Raising.{Grows, IsRaisedTo, ShowsAllAlong, ShowsOffAt, ShowsGapOff, with_sides, off_edges};
+ghost use Rattle.edge_boxes.specs.EdgeCrossings.{AreCrossings};
+ghost use Rattle.de9im.specs.Raising.{Grows, IsRaisedTo, ShowsIn, ShowsAllAlong, ShowsGapIn, with_sides, off_edges};
+ghost use Rattle.de9im.specs.declared.gap_cells.Pass.TheVariants.{Second};
 
 use crate::MatrixCells;
-use crate::fullness::{is_full_along, is_full_off, is_upright, of_own_edges};
+use crate::fullness::{is_full_along, is_full_off_by, is_upright, of_own_edges};
+use edge_boxes::Crossings;
 use fraction::RatPoint;
 use geometry_model::{Dimension, Kind, Location};
 use orient::Segment;
 use side_labels::{Sides, crossings, sides_at, sides_by};
 use validity::Valid;
+
+/// A pass over the edges of a geometry.
+#[derive(Clone, Copy, Debug)]
+pub(crate) enum Pass {
+    /// It looks at all gaps.
+    First,
+    /// It looks at gaps off the other geometry's edges. The matrix covers these by then, so it shows what both share.
+    Second,
+}
 
 /// Where a point off the edges of a geometry of this kind lies in it, by the parity of the edges above the point.
 fn off_edges(kind: Kind, is_odd_above: bool) -> Location
@@ -57,56 +69,55 @@ fn raise_sides(first: &Sides, second: &Sides, matrix: &mut MatrixCells)
     matrix.raise(first.upper, second.upper, Dimension::Two);
 }
 
-/// Raises cells by a gap, of which a point is given. Off the second geometry's edges this is `raise_off`. If one of these edges
-/// shares the gap, cells are raised by the gap itself and, if it isn't vertical, by its sides as they lie at the point in both
-/// geometries (06-103r4, 6.1.15.2).
-fn raise_at(first: &Valid, second: &Valid, edge: &Segment, p: &RatPoint, matrix: &mut MatrixCells)
-    ensures { IsRaisedTo (λ m. ShowsAt first.now second.now m edge.now p.now) matrix.old matrix.new }
+/// Raises cells by a gap that an edge of the second geometry shares: by the gap itself and, if it isn't vertical, by its sides as
+/// they lie in both geometries at a point of it, of which the crossings in the second are given (06-103r4, 6.1.15.2).
+fn raise_on(
+    first: &Valid,
+    second: &Valid,
+    edge: &Segment,
+    p: &RatPoint,
+    found: &Crossings,
+    matrix: &mut MatrixCells,
+)
+    requires { AreCrossings found.now (edges second.now) p.now }
+    ensures { IsRaisedTo (λ m. ShowsOn first.now second.now m edge.now p.now) matrix.old matrix.new }
 {
-    let found = crossings(second, p);
-    if !found.on {
-        raise_off(
-            first,
-            edge,
-            off_edges(second.kind(), found.odd_above),
-            matrix,
-        );
-        return;
-    }
     matrix.raise(
         of_own_edges(first.kind()),
         of_own_edges(second.kind()),
         Dimension::One,
     );
     if !is_upright(edge) {
-        raise_sides(&sides_at(first, p), &sides_by(second, &found), matrix);
+        raise_sides(&sides_at(first, p), &sides_by(second, found), matrix);
     }
 }
 
-/// Raises cells by a gap, of which a point is given, unless an edge of the second geometry shares it.
-fn raise_off_at(
+/// Raises cells by what a pass looks at of a gap, of which a point is given.
+fn raise_at(
+    pass: Pass,
     first: &Valid,
     second: &Valid,
     edge: &Segment,
     p: &RatPoint,
     matrix: &mut MatrixCells,
 )
-    ensures { IsRaisedTo (λ m. ShowsOffAt first.now second.now m edge.now p.now) matrix.old matrix.new }
+    ensures { IsRaisedTo (λ m. ShowsIn pass first.now second.now m edge.now p.now) matrix.old matrix.new }
 {
     let found = crossings(second, p);
-    if found.on {
+    if !found.on {
+        let part = off_edges(second.kind(), found.odd_above);
+        raise_off(first, edge, part, matrix);
         return;
     }
-    raise_off(
-        first,
-        edge,
-        off_edges(second.kind(), found.odd_above),
-        matrix,
-    );
+    match pass {
+        Pass::First => raise_on(first, second, edge, p, &found, matrix),
+        Pass::Second => {}
+    }
 }
 
-/// Whether no gap of an edge of the first geometry can raise a cell any more.
-fn is_done(
+/// Whether no gap of an edge of the first geometry that lies off the second's edges can raise a cell any more. An edge that is
+/// held has none.
+fn is_done_off(
     first: &Valid,
     second: &Valid,
     edge: &Segment,
@@ -114,14 +125,36 @@ fn is_done(
     matrix: &MatrixCells,
 ) -> bool
     requires { is_held ≡ true → IsHeld (edges second.now) edge.now }
-    ensures { result ≡ true → ShowsAllAlong first.now second.now matrix.now edge.now }
+    ensures { result ≡ true → ShowsAllAlong Second first.now second.now matrix.now edge.now }
 {
-    is_full_along(first, second, edge, matrix) && (is_held || is_full_off(first, second, matrix))
+    is_held || is_full_off_by(first, second, edge, matrix)
 }
 
-/// Raises cells by the gaps between neighbouring stops of an edge of the first geometry, until no further one can raise a cell.
-/// An edge that is held has all its points on edges of the second geometry.
+/// Whether no gap of an edge of the first geometry at which a pass looks can raise a cell any more.
+fn is_done(
+    pass: Pass,
+    first: &Valid,
+    second: &Valid,
+    edge: &Segment,
+    is_held: bool,
+    matrix: &MatrixCells,
+) -> bool
+    requires { is_held ≡ true → IsHeld (edges second.now) edge.now }
+    ensures { result ≡ true → ShowsAllAlong pass first.now second.now matrix.now edge.now }
+{
+    if !is_done_off(first, second, edge, is_held, matrix) {
+        return false;
+    }
+    match pass {
+        Pass::First => is_full_along(first, second, edge, matrix),
+        Pass::Second => true,
+    }
+}
+
+/// Raises cells by those gaps between neighbouring stops of an edge of the first geometry at which a pass looks, until no further
+/// one can raise a cell. An edge that is held has all its points on edges of the second geometry.
 pub(crate) fn raise_gaps(
+    pass: Pass,
     first: &Valid,
     second: &Valid,
     edge: &Segment,
@@ -135,36 +168,14 @@ pub(crate) fn raise_gaps(
     requires limits { All (λ p. p.W ≤ℤ pos meeting_limit) stops.now }
     requires held { is_held ≡ true → IsHeld (edges second.now) edge.now }
     ensures grows { Grows first.now second.now matrix.old matrix.new }
-    ensures shows { All (λ c. ShowsGap first.now second.now matrix.new edge.now c.lesser c.greater)
+    ensures shows { All (λ c. ShowsGapIn pass first.now second.now matrix.new edge.now c.lesser c.greater)
         (stretches stops.now) }
 {
     for place in 1..stops.len() {
-        if is_done(first, second, edge, is_held, matrix) {
+        if is_done(pass, first, second, edge, is_held, matrix) {
             return;
         }
         let sample = RatPoint::mediant(&stops[place - 1], &stops[place]);
-        raise_at(first, second, edge, &sample, matrix);
-    }
-}
-
-/// Raises cells by those gaps between neighbouring stops of an edge of the first geometry that lie off the second's edges.
-pub(crate) fn raise_gaps_off(
-    first: &Valid,
-    second: &Valid,
-    edge: &Segment,
-    stops: &[RatPoint],
-    matrix: &mut MatrixCells,
-)
-    requires own { Contains (edges first.now) edge.now }
-    requires length { HasLength edge.now }
-    requires gaps { All (λ c. IsGap edge.now (edges second.now) c.lesser c.greater) (stretches stops.now) }
-    requires limits { All (λ p. p.W ≤ℤ pos meeting_limit) stops.now }
-    ensures grows { Grows first.now second.now matrix.old matrix.new }
-    ensures shows { All (λ c. ShowsGapOff first.now second.now matrix.new edge.now c.lesser c.greater)
-        (stretches stops.now) }
-{
-    for place in 1..stops.len() {
-        let middle = RatPoint::mediant(&stops[place - 1], &stops[place]);
-        raise_off_at(first, second, edge, &middle, matrix);
+        raise_at(pass, first, second, edge, &sample, matrix);
     }
 }

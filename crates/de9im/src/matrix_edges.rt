@@ -1,6 +1,6 @@
 //! Raises the cells of a matrix by the edges of a geometry.
 
-ghost use Rattle.std.specs.Prelude.{◌≡◌, [], true, Some, All, Contains, OnOk};
+ghost use Rattle.std.specs.Prelude.{◌≡◌, [], true, Some, All, Contains, OnOk, pos, ◌≤ℤ◌};
 ghost use Rattle.geometry_model.specs.Geometries.{kind, edges};
 ghost use Rattle.geometry_model.specs.Locations.{locate};
 ghost use Rattle.geometry_model.specs.Dimensions.{cell};
@@ -9,14 +9,16 @@ ghost use Rattle.geometry_model.specs.Validity.{IsValid};
 ghost use Rattle.geometry_model.specs.declared.point_sets.Dimension.TheVariants.{Zero};
 ghost use Rattle.validity.specs.ValidGeometries.{HasLength};
 ghost use Rattle.matrix_laws.specs.Cells.{at_most, Shows, Covers};
-ghost use Rattle.matrix_laws.specs.Gaps.{of_own_edges};
-ghost use Rattle.matrix_laws.specs.Covering.{ShowsEnds};
+ghost use Rattle.geometry_model.specs.Pieces.{stretches};
+ghost use Rattle.fraction.specs.Ranges.{meeting_limit};
+ghost use Rattle.matrix_laws.specs.Gaps.{IsGap, SharesNoStretch, of_own_edges};
+ghost use Rattle.matrix_laws.specs.Covering.{IsHeld, ShowsEnds, ShowsGap};
 ghost use Rattle.noding.specs.Merging.{AreMerged};
 ghost use Rattle.de9im.specs.Raising.{Grows, IsOnBoth, IsReady};
 
 use crate::MatrixCells;
-use crate::fullness::{is_full_along, is_full_off, is_full_on, of_own_edges};
-use crate::gap_cells::{raise_gaps, raise_gaps_off, raise_off};
+use crate::fullness::{is_full_along, is_full_off, is_full_off_by, is_full_on, of_own_edges};
+use crate::gap_cells::{Pass, raise_gaps, raise_off};
 use crate::matrix_positions::raise_point;
 use crate::outside_edges::left_to_raise;
 use crate::outside_positions::envelope_beside;
@@ -34,14 +36,8 @@ const MANY_MEETINGS: usize = 64;
 /// It pays once all edges so far have met others as often as there are edges in this part of them: a sixteenth.
 const FAIR_PART: usize = 16;
 
-/// A pass over the edges of a geometry.
-#[derive(Clone, Copy, Debug)]
-pub(crate) enum Pass {
-    /// It looks at all gaps.
-    First,
-    /// It looks at gaps off the other geometry's edges. The matrix covers these by then, so it shows what both share.
-    Second,
-}
+/// Of an edge with more stops than this it pays to ask whether another shares a stretch with it.
+const MANY_STOPS: usize = 8;
 
 /// Whether the matrix shows a common point of the two parts in which almost all points of each geometry's own edges lie.
 fn shows_meeting(first: &Valid, second: &Valid, matrix: &MatrixCells) -> bool
@@ -71,6 +67,13 @@ fn raise_shared(first: &Valid, second: &Valid, shared: &[RatPoint], matrix: &mut
     }
 }
 
+/// Whether no edge of the second geometry shares a stretch with an edge. If it returns false, that may be so as well.
+fn shares_no_stretch(second: &Valid, edge: &Segment) -> bool
+    ensures { result ≡ true → SharesNoStretch edge.now (edges second.now) }
+{
+    !Gaps::may_share_stretch(edge, second.segments(), second.boxes())
+}
+
 /// Whether an edge has met so many edges of the second geometry that it pays to merge these.
 fn has_met_many(second: &Valid, gaps: &Gaps) -> bool {
     gaps.named() > MANY_MEETINGS && gaps.all_named() >= second.segments().len() / FAIR_PART
@@ -94,6 +97,38 @@ fn merge_if_many(
     merged.merge(second.segments())
 }
 
+/// Whether an edge has many stops, and no edge of the second geometry shares a stretch with it.
+fn is_apart(second: &Valid, edge: &Segment, stops: &[RatPoint]) -> bool
+    ensures { result ≡ true → SharesNoStretch edge.now (edges second.now) }
+{
+    stops.len() > MANY_STOPS && shares_no_stretch(second, edge)
+}
+
+/// Raises cells by the gaps between neighbouring stops of an edge of the first geometry, until no further one can raise a cell. If
+/// no edge of the second geometry shares a stretch with the edge, all its gaps lie off that geometry's edges.
+fn raise_all_gaps(
+    first: &Valid,
+    second: &Valid,
+    edge: &Segment,
+    stops: &[RatPoint],
+    is_held: bool,
+    matrix: &mut MatrixCells,
+)
+    requires own { Contains (edges first.now) edge.now }
+    requires length { HasLength edge.now }
+    requires gaps { All (λ c. IsGap edge.now (edges second.now) c.lesser c.greater) (stretches stops.now) }
+    requires limits { All (λ p. p.W ≤ℤ pos meeting_limit) stops.now }
+    requires held { is_held ≡ true → IsHeld (edges second.now) edge.now }
+    ensures grows { Grows first.now second.now matrix.old matrix.new }
+    ensures shows { All (λ c. ShowsGap first.now second.now matrix.new edge.now c.lesser c.greater) (stretches stops.now) }
+{
+    if is_apart(second, edge, stops) {
+        raise_gaps(Pass::Second, first, second, edge, stops, is_held, matrix);
+        return;
+    }
+    raise_gaps(Pass::First, first, second, edge, stops, is_held, matrix);
+}
+
 /// Raises cells by an edge of the first geometry. It fails only when memory runs out.
 fn raise_all(
     first: &Valid,
@@ -113,9 +148,9 @@ fn raise_all(
     ensures covers { OnOk result (Covers first.now second.now matrix.new edge.now) }
     ensures merged { OnOk result (AreMerged (edges second.now) merged.new) }
 {
-    if is_full_off(first, second, matrix)
+    if is_full_off_by(first, second, edge, matrix)
         && shows_meeting(first, second, matrix)
-        && !Gaps::may_share_stretch(edge, second.segments(), second.boxes())
+        && shares_no_stretch(second, edge)
     {
         return Ok(());
     }
@@ -126,7 +161,7 @@ fn raise_all(
     merge_if_many(first, second, gaps, merged)?;
     raise_shared(first, second, gaps.shared(), matrix);
     let is_held = merged.holds(edge);
-    raise_gaps(first, second, edge, gaps.stops(), is_held, matrix);
+    raise_all_gaps(first, second, edge, gaps.stops(), is_held, matrix);
     Ok(())
 }
 
@@ -167,15 +202,24 @@ fn raise_edge_off(
     ensures covers { OnOk result (Covers first.now second.now matrix.new edge.now) }
     ensures merged { OnOk result (AreMerged (edges second.now) merged.new) }
 {
+    if is_full_off_by(first, second, edge, matrix) {
+        return Ok(());
+    }
     if merged.holds(edge) {
         return Ok(());
     }
     gaps.find(edge, second.segments(), second.boxes())?;
     merge_if_many(first, second, gaps, merged)?;
-    if merged.holds(edge) {
-        return Ok(());
-    }
-    raise_gaps_off(first, second, edge, gaps.stops(), matrix);
+    let is_held = merged.holds(edge);
+    raise_gaps(
+        Pass::Second,
+        first,
+        second,
+        edge,
+        gaps.stops(),
+        is_held,
+        matrix,
+    );
     Ok(())
 }
 

@@ -5,7 +5,8 @@ ghost use Rattle.geometry_model.specs.Dimensions.{IsMatrix};
 ghost use Rattle.geometry_model.specs.Labels.{labelled_matrix};
 
 use crate::MatrixCells;
-use crate::matrix_edges::{Pass, raise_edges};
+use crate::gap_cells::Pass;
+use crate::matrix_edges::raise_edges;
 use crate::matrix_positions::raise_own_ends;
 use crate::points_and_area::{find_beside_area, has_sides};
 use geometry_model::Kind;

@@ -16,7 +16,7 @@ use orient::Segment;
 use rtree::Envelope;
 use validity::Valid;
 
-/// Whether an edge is upright and left or right of the envelope.
+/// Whether an edge is vertical and left or right of the envelope.
 fn is_upright_outside(around: &Envelope, edge: &Segment) -> bool
     ensures { result ≡ true → IsUprightOutside around.now edge.now }
 {
@@ -24,7 +24,7 @@ fn is_upright_outside(around: &Envelope, edge: &Segment) -> bool
     is_upright(edge) && !is_between(x, around.least_x(), around.greatest_x())
 }
 
-/// The place from which on all edges before the place given are upright and outside the envelope.
+/// The place from which on all edges before the place given are vertical and outside the envelope.
 fn left_upright(segments: &[Segment], around: &Envelope, end: usize) -> usize
     requires { end ≤ length segments.now }
     ensures before { result ≤ end }
@@ -38,7 +38,7 @@ fn left_upright(segments: &[Segment], around: &Envelope, end: usize) -> usize
 }
 
 /// The place from which on no edge of the first geometry before the place given can raise a cell. Once the matrix shows all that
-/// edges outside the second one's envelope can show, it passes over these; once it shows what upright ones can, over those.
+/// edges outside the second one's envelope can show, it passes over these; once it shows what vertical ones can, over those.
 pub(crate) fn left_to_raise(
     first: &Valid,
     second: &Valid,

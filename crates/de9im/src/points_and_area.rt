@@ -14,7 +14,7 @@ use crate::matrix_positions::raise_listed;
 use geometry_model::{Dimension, Kind};
 use validity::Valid;
 
-/// Whether the geometry is an area, and not all of its edges are upright: then one of them has its interior on one side.
+/// Whether the geometry is an area, and not all of its edges are vertical: then one of them has its interior on one side.
 pub(crate) fn has_sides(valid: &Valid) -> bool
     ensures { result ≡ true → HasSides valid.now }
 {

@@ -1,13 +1,13 @@
 -- What files give, and how commands over them end.
-use Rattle.std.proofs.Common.{Bool, true, false, ◌≡◌, ◌≢◌, ◌+◌, ◌<◌, ◌≤◌, ◌⊎◌, inl, inr, ℕ, zero, suc, List, [], ◌∷◌, ◌++◌, length, map, take, get_or, Option, None, Some, Result, Ok, Err, refl, sym, ◌∙◌, ap, subst, add-one, arith}
-use Rattle.std.specs.Prelude.{IfSome, IsErrAnd, slice_get}
-use Rattle.std.specs.Fn.{CalledAt, Mut}
+use Rattle.std.proofs.Common.{Bool, true, false, ◌≡◌, ◌≢◌, ◌+◌, ◌<◌, ◌≤◌, ◌⊎◌, inl, inr, ℕ, zero, suc, List, [], ◌∷◌, ◌++◌, length, take, Option, None, Some, Result, Ok, Err, refl, sym, ◌∙◌, ap, subst, add-one, arith}
+use Rattle.std.specs.Prelude.{IfSome, slice_get}
 use Rattle.std.proofs.lemmas.Bool.{cases_lt, lt-ltb}
 use Rattle.std.proofs.lemmas.List.{length-take, take_all}
-use denote.Ref.{Bor}
-use Rattle.engine.specs.Commands.{IsFaultOf, IsUnread, Opens, ReadsSchema, check_outcome, check_text, schema_failure}
+use Rattle.engine.specs.Commands.{IsFaultOf, Opens, ReadsSchema, check_outcome, check_text, schema_failure}
 use Rattle.text_commands.specs.Ends.{failed_writes}
+use Rattle.text_commands.specs.Files.{Opening}
 use Rattle.text_commands.specs.GivenTexts.{IsTextOf}
+use Rattle.text_commands.specs.declared.files.File.TheVariants as role
 use Rattle.failures.specs.declared.failure.Failure.{Failure}
 use Rattle.failures.specs.declared.failure.Failure.TheVariants as f
 use Rattle.failures.specs.declared.run_fault.Fault.{Fault}
@@ -52,18 +52,6 @@ text-gives None limit text answer is read gives = (text, tt, gives)
 text-gives (Some bytes) limit text answer is read gives =
     (bytes, refl, sym (schema-cut limit bytes is) ∙ ap (schema_of shape_named) (sym read) ∙ gives)
 
--- a schema that isn't read
-pub unread-schema : {R : Type 0} (remaining : R → Option (List ℕ)) (file : Option R) (reader : R) (failure : Failure) → file ≡ Some reader → IsUnread failure
-    → ReadsSchema remaining file (Err failure)
-unread-schema remaining file reader failure is (inl unread) =
-    subst (λ x. ReadsSchema remaining file (Err x)) (sym unread) (subst (λ o. ReadsSchema remaining o (Err f.SchemaUnreadable)) (sym is) tt)
-unread-schema remaining file reader failure is (inr memory) =
-    subst (λ x. ReadsSchema remaining file (Err x)) (sym memory) (subst (λ o. ReadsSchema remaining o (Err f.OutOfMemory)) (sym is) tt)
-
--- a file that can't be opened
-pub unopened-schema : {R : Type 0} (remaining : R → Option (List ℕ)) (file : Option R) → file ≡ None → ReadsSchema remaining file (Err f.SchemaUnreadable)
-unopened-schema remaining file is = subst (λ o. ReadsSchema remaining o (Err f.SchemaUnreadable)) (sym is) refl
-
 -- a file's text that is a schema
 pub read-schema : {R : Type 0} (remaining : R → Option (List ℕ)) (file : Option R) (reader : R) (limit : ℕ) (text : List ℕ) (definitions : SpatialSchema) → file ≡ Some reader
     → limit ≡ most_bytes + 1 → IfSome (remaining reader) (λ bytes. text ≡ take limit bytes) → schema_of shape_named text ≡ Ok definitions → ReadsSchema remaining file (Ok definitions)
@@ -88,28 +76,7 @@ refused-schema remaining file reader limit text fault.TooLong is limited read gi
 refused-schema remaining file reader limit text fault.OutOfMemory is limited read gives =
     subst (λ o. ReadsSchema remaining o (Err f.OutOfMemory)) (sym is) tt
 
--- the failure of a step that is handed on
-pub handed-on : {A : Type 0} (r : Result A Failure) (failure : Failure) → IsErrAnd r (λ x. x ≡ failure) → (P : Result A Failure → Type 0) → P (Err failure) → P r
-handed-on (Ok a) failure is P fact = absurd is
-handed-on (Err e) failure is P fact = subst (λ x. P (Err x)) (sym is) fact
-
 -- ---- lists
-
--- the element at a place
-pub there : {X : Type 0} (xs : List X) (i : ℕ) (x : X) → i < length xs → x ≡ get_or xs i x → slice_get xs i ≡ Some x
-there [] i x within is = absurd (omega arith)
-there (y ∷ xs) zero x within is = ap Some (sym is)
-there (y ∷ xs) (suc i) x within is =
-    let more : i < length xs = omega arith in
-    there xs i x more is
-
--- what a list is mapped to at a place
-pub map-there : {X Y : Type 0} (of : X → Y) (xs : List X) (i : ℕ) (x : X) → slice_get xs i ≡ Some x → slice_get (map of xs) i ≡ Some (of x)
-map-there of [] i x is = cc is
-map-there of (y ∷ xs) zero x is =
-    let same : y ≡ x = cc is in
-    ap (λ z. Some (of z)) same
-map-there of (y ∷ xs) (suc i) x is = map-there of xs i x is
 
 -- one element more of a beginning
 pub take-more : {X : Type 0} (xs : List X) (i : ℕ) (x : X) → slice_get xs i ≡ Some x → take (suc i) xs ≡ take i xs ++ x ∷ []
@@ -121,12 +88,13 @@ take-more (y ∷ xs) (suc i) x is = ap (λ l. y ∷ l) (take-more xs i x is)
 
 -- ---- opened files
 
-module _ {F R : Type 0} (g : Mut F (Bor (List ℕ) × Unit {0}) (Option R)) where
+module _ {F R : Type 0} (files : Opening F R) where
   -- one file more is opened
   pub Opens-next : (opener : F) (paths : List (List ℕ)) (readers : List R) (next : F) (path : List ℕ) (reader : R) (after : F)
-      → Opens g opener paths readers next → CalledAt g next path (Some reader) after → Opens g opener (paths ++ path ∷ []) (readers ++ reader ∷ []) after
+      → Opens files opener paths readers next → files role.Table next path (Some reader) after
+      → Opens files opener (paths ++ path ∷ []) (readers ++ reader ∷ []) after
   Opens-next opener [] [] next path reader after opens called =
-      (after, subst (λ s. CalledAt g s path (Some reader) after) opens called, refl)
+      (after, subst (λ s. files role.Table s path (Some reader) after) opens called, refl)
   Opens-next opener [] (r ∷ readers) next path reader after opens called = absurd opens
   Opens-next opener (p ∷ paths) [] next path reader after opens called = absurd opens
   Opens-next opener (p ∷ paths) (r ∷ readers) next path reader after opens called =
@@ -134,11 +102,13 @@ module _ {F R : Type 0} (g : Mut F (Bor (List ℕ) × Unit {0}) (Option R)) wher
 
   -- a table's file more is opened
   pub table-next : (opener : F) (paths : List (List ℕ)) (i : ℕ) (path : List ℕ) (readers : List R) (now : F) (reader : R) (more : List R) (after : F)
-      → slice_get paths i ≡ Some path → Opens g opener (take i paths) readers now → CalledAt g now path (Some reader) after → more ≡ readers ++ reader ∷ []
-      → Opens g opener (take (i + 1) paths) more after
+      → slice_get paths i ≡ Some path → Opens files opener (take i paths) readers now
+      → files role.Table now path (Some reader) after → more ≡ readers ++ reader ∷ []
+      → Opens files opener (take (i + 1) paths) more after
   table-next opener paths i path readers now reader more after is opens called grown =
-      rw add-one (subst (λ ps. Opens g opener ps more after) (sym (take-more paths i path is))
-      (subst (λ rs. Opens g opener (take i paths ++ path ∷ []) rs after) (sym grown) (Opens-next opener (take i paths) readers now path reader after opens called)))
+      rw add-one (subst (λ ps. Opens files opener ps more after) (sym (take-more paths i path is))
+      (subst (λ rs. Opens files opener (take i paths ++ path ∷ []) rs after) (sym grown)
+      (Opens-next opener (take i paths) readers now path reader after opens called)))
 
 -- ---- ends
 

@@ -1,4 +1,4 @@
 pub mod CountLemmas
 pub mod FileLemmas
 mod NoteLemmas
-mod ReasonLemmas
+mod PathLemmas

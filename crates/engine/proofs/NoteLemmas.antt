@@ -1,34 +1,57 @@
 -- What is written of tables that have loaded, one after another.
-use Rattle.std.proofs.Common.{◌≡◌, ◌+◌, ◌≤◌, ℕ, List, [], ◌∷◌, ◌++◌, length, take, add-one, refl, subst, sym, Option, Some, Result, Ok, Err, IfOk}
+use Rattle.std.proofs.Common.{◌≡◌, ◌+◌, ◌≤◌, ◌⊎◌, inr, ℕ, List, [], ◌∷◌, ◌++◌, length, take, add-one, refl, subst, sym, IfErr, IfOk, Option, Some, Result, Ok, Err}
 use Rattle.std.specs.Prelude.{slice_get}
-use Rattle.std.specs.Fn.{Mut}
 use Rattle.std.proofs.lemmas.List.{take_all}
-use denote.Ref.{Bor}
 use Rattle.engine.proofs.FileLemmas.{take-more}
-use Rattle.engine.specs.Commands.{NotesTable, NotesTables}
+use Rattle.engine.specs.Commands.{LooksAgain, NotesTable, NotesTables, table_path}
+use Rattle.feature_table.specs.Outcomes.{IsFailure}
+use Rattle.record_reasons.specs.LineEnds.{FindsLineEnd}
+use Rattle.record_reasons.specs.declared.line_ends.LineEnd.{LineEnd}
+use Rattle.table_model.specs.declared.faults.LoadFault.{LoadFault}
+use Rattle.text_commands.specs.Files.{Opening}
+use Rattle.text_commands.specs.declared.files.File.TheVariants as role
 
--- what holds of the value of a result
-pub ok-more : {X Y : Type 0} (r : Result X Y) (P Q : X → Type 0) → ((x : X) → P x → Q x) → IfOk r P → IfOk r Q
-ok-more (Ok x) P Q more fact = more x fact
-ok-more (Err y) P Q more fact = tt
+-- what a file that is opened shows
+pub looked-again : {F R : Type 0} (files : Opening F R) (remaining : R → Option (List ℕ)) (directory name : List ℕ)
+    (before after : F) (reader : R)
+    (looked : Result (Option LineEnd) LoadFault) → files role.Table before (table_path directory name) (Some reader) after
+    → IfOk looked (FindsLineEnd (remaining reader)) → IfErr looked IsFailure
+    → LooksAgain files remaining directory name before after looked
+looked-again files remaining directory name before after reader (Ok found) opened finds fails = (reader, opened, finds)
+looked-again files remaining directory name before after reader (Err fault) opened finds fails =
+    (fails, inr (Some reader, opened))
 
-module _ {F R E : Type 0} (g : Mut F (Bor (List ℕ) × Unit {0}) (Option R)) (remaining : R → Option (List ℕ)) (taken : E → Option (List ℕ)) (failures : E → ℕ) (directory : List ℕ) where
+module _ {F R E : Type 0} (files : Opening F R) (remaining : R → Option (List ℕ)) (taken : E → Option (List ℕ))
+    (failures : E → ℕ) (directory : List ℕ) where
   -- one table more
-  one-more : (names : List (List ℕ)) (name : List ℕ) (old next new : E) → NotesTables g remaining taken failures directory names old next
-      → NotesTable g remaining taken failures directory name next new → NotesTables g remaining taken failures directory (names ++ name ∷ []) old new
-  one-more [] name old next new before note =
-      (new, subst (λ e. NotesTable g remaining taken failures directory name e new) before note, refl)
-  one-more (n ∷ names) name old next new before note = (before.0, before.1, one-more names name before.0 next new before.2 note)
+  one-more : (names : List (List ℕ)) (name : List ℕ) (before middle after : F) (old next new : E)
+      → NotesTables files remaining taken failures directory names before middle old next
+      → NotesTable files remaining taken failures directory name middle after next new
+      → NotesTables files remaining taken failures directory (names ++ name ∷ []) before after old new
+  one-more [] name before middle after old next new had note =
+      let of_sink = subst (λ e. NotesTable files remaining taken failures directory name middle after e new) had.1 note in (
+        after,
+        new,
+        subst (λ s. NotesTable files remaining taken failures directory name s after old new) had.0 of_sink,
+        (refl, refl),
+      )
+  one-more (n ∷ names) name before middle after old next new had note =
+      (had.0, had.1, had.2, one-more names name had.0 middle after had.1 next new had.3 note)
 
   -- that at a place
-  pub note-next : (names : List (List ℕ)) (i : ℕ) (name : List ℕ) (old next new : E) → slice_get names i ≡ Some name
-      → NotesTables g remaining taken failures directory (take i names) old next → NotesTable g remaining taken failures directory name next new
-      → NotesTables g remaining taken failures directory (take (i + 1) names) old new
-  note-next names i name old next new there before note =
-      rw add-one (subst (λ ns. NotesTables g remaining taken failures directory ns old new) (sym (take-more names i name there))
-      (one-more (take i names) name old next new before note))
+  pub note-next : (names : List (List ℕ)) (i : ℕ) (name : List ℕ) (before middle after : F) (old next new : E) → slice_get
+      names i ≡ Some name
+      → NotesTables files remaining taken failures directory (take i names) before middle old next
+      → NotesTable files remaining taken failures directory name middle after next new
+      → NotesTables files remaining taken failures directory (take (i + 1) names) before after old new
+  note-next names i name before middle after old next new there had note =
+      rw add-one (subst (λ ns. NotesTables files remaining taken failures directory ns before after old new)
+      (sym (take-more names i name there))
+      (one-more (take i names) name before middle after old next new had note))
 
   -- all of them
-  pub all-noted : (names : List (List ℕ)) (i : ℕ) (old new : E) → length names ≤ i → NotesTables g remaining taken failures directory (take i names) old new
-      → NotesTables g remaining taken failures directory names old new
-  all-noted names i old new past notes = subst (λ ns. NotesTables g remaining taken failures directory ns old new) (take_all i names past) notes
+  pub all-noted : (names : List (List ℕ)) (i : ℕ) (before after : F) (old new : E) → length names ≤ i
+      → NotesTables files remaining taken failures directory (take i names) before after old new
+      → NotesTables files remaining taken failures directory names before after old new
+  all-noted names i before after old new past notes =
+      subst (λ ns. NotesTables files remaining taken failures directory ns before after old new) (take_all i names past) notes

@@ -1,6 +1,5 @@
 -- What each command means: the texts of the outcomes, the files that are opened, and the ends that there may be.
-use Rattle.std.specs.Prelude.{◌≡◌, ◌++◌, ◌<◌, ◌⊎◌, ⊤, ℕ, Bool, true, false, List, [], ◌∷◌, codes, decimal, length, map, take, slice_get, IfErr, IfOk, Option, Some, None, Result, Ok, Err}
-use Rattle.std.specs.Fn.{CalledAt, Mut}
+use Rattle.std.specs.Prelude.{◌≡◌, ◌++◌, ◌<◌, ◌⊎◌, ⊤, ℕ, Bool, true, false, List, [], ◌∷◌, codes, decimal, length, map, take, slice_get, Option, Some, None, Result, Ok, Err}
 use denote.Ref.{Bor}
 use Rattle.command_line.specs.declared.known_commands.Order.{Order}
 use Rattle.command_line.specs.declared.known_commands.Order.TheVariants as orders
@@ -29,7 +28,10 @@ use Rattle.table_model.specs.declared.definitions.TableDef.{TableDef}
 use Rattle.table_model.specs.declared.faults.LoadFault.{LoadFault}
 use Rattle.table_model.specs.declared.faults.SchemaFault.{SchemaFault}
 use Rattle.table_model.specs.declared.faults.SchemaFault.TheVariants as s
-use Rattle.text_commands.specs.Ends.{End, Serves, Then, Writes, failed_writes}
+use Rattle.text_commands.specs.Files.{Opening}
+use Rattle.text_commands.specs.declared.files.File.TheVariants as role
+use Rattle.failures.specs.Ends.{End, Writes}
+use Rattle.text_commands.specs.Ends.{Serves, Then, failed_writes}
 use Rattle.text_commands.specs.Reasons.{ExplainsCells, ExplainsValidity}
 use Rattle.text_commands.specs.TextCommands.{ExplainsFault, OverWord, RelatesFile, RelatesWords}
 use Rattle.text_commands.specs.GivenTexts.{IsTextOf, ReadsQuery}
@@ -106,22 +108,22 @@ abbrev pub table_paths : List ℕ → SpatialSchema → List (List ℕ)
 table_paths directory definitions = map (table_path directory) (table_names definitions)
 
 -- the function that opens files was called with these paths, in order, and returned these readers
-abbrev pub Opens : {F R : Type 0} → Mut F (Bor (List ℕ) × Unit {0}) (Option R) → F → List (List ℕ) → List R → F → Type 0
-Opens g opener [] [] after = after ≡ opener
-Opens g opener [] (reader ∷ readers) after = ⊥
-Opens g opener (path ∷ paths) [] after = ⊥
-Opens {F} g opener (path ∷ paths) (reader ∷ readers) after = (next : F) × CalledAt g opener path (Some reader) next × Opens g next paths readers after
+abbrev pub Opens : {F R : Type 0} → Opening F R → F → List (List ℕ) → List R → F → Type 0
+Opens opens opener [] [] after = after ≡ opener
+Opens opens opener [] (reader ∷ readers) after = ⊥
+Opens opens opener (path ∷ paths) [] after = ⊥
+Opens {F} opens opener (path ∷ paths) (reader ∷ readers) after = (next : F) × opens role.Table opener path (Some reader) next × Opens opens next paths readers after
 
--- the readers of the tables' files, or the first that can't be opened; or memory ran out
-abbrev pub OpensTables : {F R : Type 0} → Mut F (Bor (List ℕ) × Unit {0}) (Option R) → F → List ℕ → SpatialSchema → Result (List R) Failure → Type 0
-OpensTables {F} g opener directory definitions (Ok readers) = (after : F) × Opens g opener (table_paths directory definitions) readers after
-OpensTables {F} {R} g opener directory definitions (Err (f.Unreadable name)) =
-    (place : ℕ) × (readers : List R) × (next after : F)
-    × Opens g opener (take place (table_paths directory definitions)) readers next
-    × CalledAt g next (table_path directory name.now) None after
+-- the readers of the tables' files, or the first that can't be opened, and the state that this leaves; or memory ran out
+abbrev pub OpensTables : {F R : Type 0} → Opening F R → F → List ℕ → SpatialSchema → Result (List R) Failure → F → Type 0
+OpensTables opens opener directory definitions (Ok readers) after = Opens opens opener (table_paths directory definitions) readers after
+OpensTables {F} {R} opens opener directory definitions (Err (f.Unreadable name)) after =
+    (place : ℕ) × (readers : List R) × (next : F)
+    × Opens opens opener (take place (table_paths directory definitions)) readers next
+    × opens role.Table next (table_path directory name.now) None after
     × (slice_get (table_names definitions) place ≡ Some name.now)
-OpensTables g opener directory definitions (Err f.OutOfMemory) = ⊤
-OpensTables g opener directory definitions (Err failure) = ⊥
+OpensTables opens opener directory definitions (Err f.OutOfMemory) after = ⊤
+OpensTables opens opener directory definitions (Err failure) after = ⊥
 
 -- ---- commands over files
 
@@ -130,19 +132,19 @@ abbrev pub OverReaders : {R : Type 0} → (R → Option (List ℕ)) → (List (L
 OverReaders remaining Over end readers = (records : List (List Record)) × EachRecordsOf (map remaining readers) records × Over records end
 
 -- how a command over the tables of a schema ends: all their files are opened, in schema order, and it ends over their records; else it ends
--- in the failure of opening them
-pub record OverTables {F R : Type 0} (g : Mut F (Bor (List ℕ) × Unit {0}) (Option R)) (remaining : R → Option (List ℕ)) (opener : F) (directory : List ℕ)
+-- in the failure of opening them; either leaves the opener in the state `after`
+pub record OverTables {F R : Type 0} (opens : Opening F R) (remaining : R → Option (List ℕ)) (opener after : F) (directory : List ℕ)
     (definitions : SpatialSchema) (Over : List (List Record) → End → Type 0) (end : End) (Nothing : Type 0) : Type 0 where
   pub readers : Result (List R) Failure
-  pub opened : OpensTables g opener directory definitions readers
+  pub opened : OpensTables opens opener directory definitions readers after
   pub rest : Then readers (OverReaders remaining Over end) end Nothing
 
 -- how a command over files ends: the schema's file is opened first, and the command ends over its schema; else it ends in the failure of reading it
-pub record OverFiles {F R : Type 0} (g : Mut F (Bor (List ℕ) × Unit {0}) (Option R)) (remaining : R → Option (List ℕ)) (opener : F) (path : List ℕ)
+pub record OverFiles {F R : Type 0} (opens : Opening F R) (remaining : R → Option (List ℕ)) (opener : F) (path : List ℕ)
     (Over : F → SpatialSchema → End → Type 0) (end : End) (Nothing : Type 0) : Type 0 where
   pub file : Option R
   pub next : F
-  pub opened : CalledAt g opener path file next
+  pub opened : opens role.Schema opener path file next
   pub schema : Result SpatialSchema Failure
   pub read : ReadsSchema remaining file schema
   pub rest : Then schema (λ definitions. Over next definitions end) end Nothing
@@ -158,30 +160,31 @@ pub record CheckEnds (definitions : SpatialSchema) (old new : Option (List ℕ))
   pub failures : after ≡ failed_writes before end
 
 -- the sink of the answer, before and after a command
-module _ {F R S : Type 0} (g : Mut F (Bor (List ℕ) × Unit {0}) (Option R)) (remaining : R → Option (List ℕ)) (taken : S → Option (List ℕ)) (failures : S → ℕ) (old new : S) where
+module _ {F R S : Type 0} (opens : Opening F R) (remaining : R → Option (List ℕ)) (taken : S → Option (List ℕ)) (failures : S → ℕ) (old new : S) where
   -- a run over the files of the tables of a schema ends so
   abbrev pub RunsTables : F → List ℕ → List ℕ → SpatialSchema → End → Type 0
   RunsTables next directory query definitions end =
-      OverTables g remaining next directory definitions (RunEnds definitions query (taken old) (taken new) (failures old) (failures new)) end (new ≡ old)
+      (after : F) × OverTables opens remaining next after directory definitions (RunEnds definitions query (taken old) (taken new) (failures old) (failures new)) end (new ≡ old)
 
-  -- and counting their rows
-  abbrev pub ChecksTables : F → List ℕ → SpatialSchema → End → Type 0
-  ChecksTables next directory definitions end =
-      OverTables g remaining next directory definitions (CheckEnds definitions (taken old) (taken new) (failures old) (failures new)) end (new ≡ old)
+  -- and counting their rows, which leaves the opener in the state `after`
+  abbrev pub ChecksTables : F → F → List ℕ → SpatialSchema → End → Type 0
+  ChecksTables next after directory definitions end =
+      OverTables opens remaining next after directory definitions (CheckEnds definitions (taken old) (taken new) (failures old) (failures new)) end (new ≡ old)
 
   -- running a query over a schema's file and those of its tables ends so
   abbrev pub RunsFiles : F → List ℕ → List ℕ → List ℕ → End → Type 0
   RunsFiles opener schema directory query end =
-      OverFiles g remaining opener schema (λ next. RunsTables next directory query) end (new ≡ old)
+      OverFiles opens remaining opener schema (λ next. RunsTables next directory query) end (new ≡ old)
 
   -- and running the query that a word gives, whose text is got first
   abbrev pub RunsQuery : F → List ℕ → List ℕ → List ℕ → End → Type 0
   RunsQuery opener schema directory word end =
-      OverWord g (ReadsQuery remaining) opener word (λ next query. RunsFiles next schema directory query) end (new ≡ old)
+      OverWord (opens role.Query) (ReadsQuery remaining) opener word (λ next query. RunsFiles next schema directory query) end (new ≡ old)
 
   -- and counting the rows of its tables
   abbrev pub ChecksFiles : F → List ℕ → List ℕ → End → Type 0
-  ChecksFiles opener schema directory end = OverFiles g remaining opener schema (λ next. ChecksTables next directory) end (new ≡ old)
+  ChecksFiles opener schema directory end =
+      OverFiles opens remaining opener schema (λ next definitions ending. (after : F) × ChecksTables next after directory definitions ending) end (new ≡ old)
 
 -- ---- reasons
 
@@ -189,42 +192,40 @@ module _ {F R S : Type 0} (g : Mut F (Bor (List ℕ) × Unit {0}) (Option R)) (r
 abbrev pub IsNamed : SpatialSchema → List ℕ → ℕ → Type 0
 IsNamed definitions name place = (table : TableDef ColumnShape) × (slice_get definitions place ≡ Some table) × (same_name table.name name ≡ true)
 
--- the reason of the fault of the table of this name, in the records that its file has when it is opened again
-pub record FindsReason {F R : Type 0} (g : Mut F (Bor (List ℕ) × Unit {0}) (Option R)) (remaining : R → Option (List ℕ)) (directory : List ℕ)
+-- the reason of the fault of the table of this name, in the records that its file has when it is opened again, in the state `before`
+pub record FindsReason {F R : Type 0} (opens : Opening F R) (remaining : R → Option (List ℕ)) (before : F) (directory : List ℕ)
     (definitions : SpatialSchema) (name : List ℕ) (fault : LoadFault) (reason : Reason) : Type 0 where
   pub place : ℕ
   pub named : IsNamed definitions name place
   pub table : TableDef ColumnShape
   pub there : slice_get definitions place ≡ Some table
-  pub before : F
   pub after : F
   pub reader : R
-  pub opened : CalledAt g before (table_path directory name) (Some reader) after
+  pub opened : opens role.Table before (table_path directory name) (Some reader) after
   pub is : IsReasonOf (remaining reader) table fault reason
 
 -- the line of the reason of a table's fault was written, or a beginning of it
-pub record ExplainsLoad {F R E : Type 0} (g : Mut F (Bor (List ℕ) × Unit {0}) (Option R)) (remaining : R → Option (List ℕ)) (taken : E → Option (List ℕ))
-    (failures : E → ℕ) (old new : E) (directory : List ℕ) (definitions : SpatialSchema) (name : List ℕ) (fault : LoadFault) : Type 0 where
+pub record ExplainsLoad {F R E : Type 0} (opens : Opening F R) (remaining : R → Option (List ℕ)) (taken : E → Option (List ℕ))
+    (failures : E → ℕ) (old new : E) (before : F) (directory : List ℕ) (definitions : SpatialSchema) (name : List ℕ) (fault : LoadFault) : Type 0 where
   pub reason : Reason
-  pub finds : FindsReason g remaining directory definitions name fault reason
+  pub finds : FindsReason opens remaining before directory definitions name fault reason
   pub written : Writes (taken old) (taken new) (failures old) (failures new) (reason_line reason)
 
 -- what is written of a failure besides its own line: nothing, or the reason of a table's fault
-abbrev pub MayExplain : {F R E : Type 0} → Mut F (Bor (List ℕ) × Unit {0}) (Option R) → (R → Option (List ℕ)) → (E → Option (List ℕ)) → (E → ℕ) → E → E
-    → List ℕ → SpatialSchema → Failure → Type 0
-MayExplain g remaining taken failures old new directory definitions failure =
+abbrev pub MayExplain : {F R E : Type 0} → Opening F R → (R → Option (List ℕ)) → (E → Option (List ℕ)) → (E → ℕ) → E → E
+    → F → List ℕ → SpatialSchema → Failure → Type 0
+MayExplain opens remaining taken failures old new before directory definitions failure =
     (new ≡ old)
     ⊎ ((name : Bor (List ℕ)) × (fault : LoadFault) × (failure ≡ f.Load name fault)
-    × ExplainsLoad g remaining taken failures old new directory definitions name.now fault)
+    × ExplainsLoad opens remaining taken failures old new before directory definitions name.now fault)
 
--- what a table's file shows when it is opened again and read: its first field with a line end, or that it has none
-pub record LooksAgain {F R : Type 0} (g : Mut F (Bor (List ℕ) × Unit {0}) (Option R)) (remaining : R → Option (List ℕ)) (directory name : List ℕ)
-    (found : Option LineEnd) : Type 0 where
-  pub before : F
-  pub after : F
-  pub reader : R
-  pub opened : CalledAt g before (table_path directory name) (Some reader) after
-  pub finds : FindsLineEnd (remaining reader) found
+-- what a table's file shows when it is opened again, in the state `before`, and read: its first field with a line end, or that it has none; at Err
+-- it isn't opened or read, or memory ran out
+abbrev pub LooksAgain : {F R : Type 0} → Opening F R → (R → Option (List ℕ)) → List ℕ → List ℕ → F → F → Result (Option LineEnd) LoadFault → Type 0
+LooksAgain {R = R} opens remaining directory name before after (Ok found) =
+    (reader : R) × opens role.Table before (table_path directory name) (Some reader) after × FindsLineEnd (remaining reader) found
+LooksAgain {R = R} opens remaining directory name before after (Err fault) =
+    IsFailure fault × ((after ≡ before) ⊎ ((file : Option R) × opens role.Table before (table_path directory name) file after))
 
 -- the line of such a field was written, or a beginning of it; without one nothing was, nor where the file can't be opened or read again
 abbrev pub Notes : {E : Type 0} → (E → Option (List ℕ)) → (E → ℕ) → List ℕ → Result (Option LineEnd) LoadFault → E → E → Type 0
@@ -233,62 +234,63 @@ Notes taken failures name (Ok None) old new = new ≡ old
 Notes taken failures name (Err fault) old new = new ≡ old
 
 -- the sink of standard error, and the folder of the tables' files
-module _ {F R E : Type 0} (g : Mut F (Bor (List ℕ) × Unit {0}) (Option R)) (remaining : R → Option (List ℕ)) (taken : E → Option (List ℕ)) (failures : E → ℕ) (directory : List ℕ) where
-  -- what is written of the table of this name, which has loaded
-  pub record NotesTable (name : List ℕ) (old new : E) : Type 0 where
+module _ {F R E : Type 0} (opens : Opening F R) (remaining : R → Option (List ℕ)) (taken : E → Option (List ℕ)) (failures : E → ℕ) (directory : List ℕ) where
+  -- what is written of the table of this name, which has loaded, and the states of the opener
+  pub record NotesTable (name : List ℕ) (before after : F) (old new : E) : Type 0 where
     pub looked : Result (Option LineEnd) LoadFault
-    pub looks : IfOk looked (LooksAgain g remaining directory name)
-    pub fails : IfErr looked IsFailure
+    pub looks : LooksAgain opens remaining directory name before after looked
     pub notes : Notes taken failures name looked old new
 
   -- and of the tables of these names, one after another
-  abbrev pub NotesTables : List (List ℕ) → E → E → Type 0
-  NotesTables [] old new = new ≡ old
-  NotesTables (name ∷ names) old new = (next : E) × NotesTable name old next × NotesTables names next new
+  abbrev pub NotesTables : List (List ℕ) → F → F → E → E → Type 0
+  NotesTables [] before after old new = (after ≡ before) × (new ≡ old)
+  NotesTables (name ∷ names) before after old new =
+      (middle : F) × (next : E) × NotesTable name before middle old next × NotesTables names middle after next new
 
--- what is written after a check that ends so
-abbrev pub Explains : {F R E : Type 0} → Mut F (Bor (List ℕ) × Unit {0}) (Option R) → (R → Option (List ℕ)) → (E → Option (List ℕ)) → (E → ℕ) → E → E
-    → List ℕ → SpatialSchema → End → Type 0
-Explains g remaining taken failures old new directory definitions (Ok done) =
-    NotesTables g remaining taken failures directory (table_names definitions) old new
-Explains g remaining taken failures old new directory definitions (Err failure) = MayExplain g remaining taken failures old new directory definitions failure
+-- what is written after a check that ends so, and leaves the opener in this state
+abbrev pub Explains : {F R E : Type 0} → Opening F R → (R → Option (List ℕ)) → (E → Option (List ℕ)) → (E → ℕ) → E → E
+    → F → List ℕ → SpatialSchema → End → Type 0
+Explains {F} opens remaining taken failures old new loaded directory definitions (Ok done) =
+    (after : F) × NotesTables opens remaining taken failures directory (table_names definitions) loaded after old new
+Explains opens remaining taken failures old new loaded directory definitions (Err failure) =
+    MayExplain opens remaining taken failures old new loaded directory definitions failure
 
 -- a command writes what any command does to standard error, and then more
 abbrev pub ServesReasons : {E : Type 0} → (E → Option (List ℕ)) → (E → ℕ) → (E → End → Type 0) → ℕ → E → Type 0
 ServesReasons {E} taken failures Ends status old = (shown : E) × Serves taken failures (Ends shown) status old shown
 
 -- counting the rows of the tables of a schema's file ends so, after which standard error is this one, and with the reason or the notes that one
-module _ {F R E : Type 0} (g : Mut F (Bor (List ℕ) × Unit {0}) (Option R)) (remaining : R → Option (List ℕ)) (etaken : E → Option (List ℕ)) (efailures : E → ℕ) (shown explained : E) where
+module _ {F R E : Type 0} (opens : Opening F R) (remaining : R → Option (List ℕ)) (etaken : E → Option (List ℕ)) (efailures : E → ℕ) (shown explained : E) where
   abbrev pub ExplainsFiles : {S : Type 0} → (S → Option (List ℕ)) → (S → ℕ) → S → S → F → List ℕ → List ℕ → End → Type 0
   ExplainsFiles taken failures old new opener schema directory end =
-      OverFiles g remaining opener schema
-      (λ next definitions ending. ChecksTables g remaining taken failures old new next directory definitions ending
-      × Explains g remaining etaken efailures shown explained directory definitions ending)
+      OverFiles opens remaining opener schema
+      (λ next definitions ending. (loaded : F) × ChecksTables opens remaining taken failures old new next loaded directory definitions ending
+      × Explains opens remaining etaken efailures shown explained loaded directory definitions ending)
       end ((new ≡ old) × (explained ≡ shown))
 
 -- ---- orders
 
-module _ {F R E S : Type 0} (g : Mut F (Bor (List ℕ) × Unit {0}) (Option R)) (remaining : R → Option (List ℕ)) (etaken : E → Option (List ℕ)) (efailures : E → ℕ) (taken : S → Option (List ℕ)) (failures : S → ℕ) (old new : S) where
+module _ {F R E S : Type 0} (opens : Opening F R) (remaining : R → Option (List ℕ)) (etaken : E → Option (List ℕ)) (efailures : E → ℕ) (taken : S → Option (List ℕ)) (failures : S → ℕ) (old new : S) where
   -- counting the rows of the tables of a schema's file, with or without reasons
   abbrev pub ServesTables : F → List ℕ → List ℕ → Bool → ℕ → E → E → Type 0
   ServesTables opener schema directory false status before after =
-      Serves etaken efailures (ChecksFiles g remaining taken failures old new opener schema directory) status before after
+      Serves etaken efailures (ChecksFiles opens remaining taken failures old new opener schema directory) status before after
   ServesTables opener schema directory true status before after =
-      ServesReasons etaken efailures (λ shown. ExplainsFiles g remaining etaken efailures shown after taken failures old new opener schema directory) status before
+      ServesReasons etaken efailures (λ shown. ExplainsFiles opens remaining etaken efailures shown after taken failures old new opener schema directory) status before
 
   -- doing what an order says
   abbrev pub ServesOrder : F → Order → ℕ → E → E → Type 0
   ServesOrder opener (orders.Run schema directory query) status before after =
-      Serves etaken efailures (RunsQuery g remaining taken failures old new opener (string_bytes schema) (string_bytes directory) (string_bytes query)) status before after
+      Serves etaken efailures (RunsQuery opens remaining taken failures old new opener (string_bytes schema) (string_bytes directory) (string_bytes query)) status before after
   ServesOrder opener (orders.Check schema directory why) status before after =
       ServesTables opener (string_bytes schema) (string_bytes directory) why status before after
   ServesOrder opener (orders.Relate first second) status before after =
-      Serves etaken efailures (RelatesWords g remaining taken failures old new opener (string_bytes first) (string_bytes second)) status before after
+      Serves etaken efailures (RelatesWords opens remaining taken failures old new opener (string_bytes first) (string_bytes second)) status before after
   ServesOrder opener (orders.Why first (Some second)) status before after =
-      Serves etaken efailures (ExplainsCells g remaining taken failures old new opener (string_bytes first) (string_bytes second)) status before after
+      Serves etaken efailures (ExplainsCells opens remaining taken failures old new opener (string_bytes first) (string_bytes second)) status before after
   ServesOrder opener (orders.Why first None) status before after =
-      Serves etaken efailures (ExplainsValidity g remaining taken failures old new opener (string_bytes first)) status before after
+      Serves etaken efailures (ExplainsValidity opens remaining taken failures old new opener (string_bytes first)) status before after
   ServesOrder opener (orders.Pairs file) status before after =
-      Serves etaken efailures (RelatesFile g remaining taken failures old new opener (string_bytes file)) status before after
+      Serves etaken efailures (RelatesFile opens remaining taken failures old new opener (string_bytes file)) status before after
   ServesOrder opener (orders.Fault code) status before after =
       Serves etaken efailures (ExplainsFault taken failures old new (string_bytes code)) status before after

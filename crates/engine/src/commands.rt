@@ -1,6 +1,7 @@
 //! The commands of the program: `serve` does what the command line orders, over readers and sinks of any kind.
 
 ghost use Rattle.std.specs.Prelude.{◌≡◌, ◌<◌, length, take, Err, IfErr, IfOk, IfSome, OnErr, OnOk};
+ghost use Rattle.std.specs.Fn.{CalledAt, TakesAt};
 ghost use Rattle.std.specs.String.{string_bytes};
 ghost use Rattle.std.specs.Io.KnownBytes.{Appends};
 ghost use Rattle.engine.specs.Commands.{ChecksFiles, ChecksTables, ExplainsFiles, FindsReason, IsFaultOf, IsNamed, IsUnread, LooksAgain, MayExplain, NotesTable, NotesTables, Opens, OpensTables, ReadsSchema, RunsFiles, RunsQuery, RunsTables, ServesOrder, ServesReasons, ServesTables, check_text, table_names, table_paths};
@@ -9,10 +10,11 @@ ghost use Rattle.feature_table.specs.Outcomes.{IsFailure};
 ghost use Rattle.query_runs.specs.Runs.{IsOfTables};
 ghost use Rattle.streams.specs.Sinks.{AppendsFront, CountsFailure};
 ghost use Rattle.text_commands.specs.Ends.{Serves};
+ghost use Rattle.text_commands.specs.Files.{OpensFile, OpensPath, path_of};
 
 use command_line::Order;
-use failures::{Failure, Fault};
-use feature_table::{Database, Schema};
+use failures::{Failure, Fault, ended, failed};
+use feature_table::{Database, Records, Schema};
 use itoa::Buffer;
 use query_runs::run_by_references;
 use record_reasons::{LineEnd, Reason, first_line_end, put_line_end, put_record_reason, reason_of};
@@ -25,7 +27,7 @@ use table_model::faults::{LoadFault, SchemaFault};
 use table_model::texts::same_name;
 use table_model::tokens::TEXT_LIMIT;
 use text_commands::{
-    failed, query_text, serve_fault, serve_pairs, serve_relate, serve_verdict, serve_witnesses,
+    File, query_text, serve_fault, serve_pairs, serve_relate, serve_verdict, serve_witnesses,
 };
 
 /// The type of the index of each geometry column under a query with two references, which may search it for each row.
@@ -43,27 +45,31 @@ const SCHEMA_BYTES: u64 = TEXT_LIMIT as u64 + 1;
 pub fn serve<R: Read + Drop, F: FnMut(&str) -> Option<R>, S: Sink, E: Sink>(
     alloc: Global,
     order: &Order,
-    opener: F,
+    mut opener: F,
     out: &mut S,
     err: &mut E,
 ) -> u8
     requires { F.IsAlwaysCallable opener }
-    ensures serves { ServesOrder F.FnMut R.remaining E.taken E.failures S.taken S.failures
+    ensures serves { ServesOrder (OpensPath F.FnMut) R.remaining E.taken E.failures S.taken S.failures
         out.old out.new opener order.now result err.old err.new }
 {
-    serve_observed(alloc, order, opener, out, err, &mut Unobserved)
+    let by_path = |file: File<'_>|
+        requires { TakesAt F.FnMut opener (path_of file) }
+        ensures { CalledAt F.FnMut opener.entry (path_of file.entry) result opener.exit }
+    { opener(file.path()) };
+    serve_observed(alloc, order, by_path, out, err, &mut Unobserved)
 }
 
-/// The same as `serve`. It reports each candidate that a query looks at, and each row that it finds, to an observer.
+/// The same as `serve`, with an opener that learns what each file is. It reports each candidate that a query looks at, and each row that it finds, to an observer.
 pub fn serve_observed<
     R: Read + Drop,
-    F: FnMut(&str) -> Option<R>,
+    F: FnMut(File<'_>) -> Option<R>,
     S: Sink,
     E: Sink,
     O: RowObserver,
 >(alloc: Global, order: &Order, opener: F, out: &mut S, err: &mut E, observer: &mut O) -> u8
     requires { F.IsAlwaysCallable opener }
-    ensures serves { ServesOrder F.FnMut R.remaining E.taken E.failures S.taken S.failures
+    ensures serves { ServesOrder (OpensFile F.FnMut) R.remaining E.taken E.failures S.taken S.failures
         out.old out.new opener order.now result err.old err.new }
 {
     match order {
@@ -112,7 +118,7 @@ struct Paths<'a> {
 
 /// Runs the query that a word gives: its file is read first, if the word names one.
 #[inline(never)]
-fn serve_query<R: Read + Drop, F: FnMut(&str) -> Option<R>, S: Sink, E: Sink, O: RowObserver>(
+fn serve_query<R: Read + Drop, F: FnMut(File<'_>) -> Option<R>, S: Sink, E: Sink, O: RowObserver>(
     alloc: Global,
     paths: &Paths<'_>,
     word: &str,
@@ -123,7 +129,7 @@ fn serve_query<R: Read + Drop, F: FnMut(&str) -> Option<R>, S: Sink, E: Sink, O:
 ) -> u8
     requires { F.IsAlwaysCallable opener }
     ensures { Serves E.taken E.failures
-        (RunsQuery F.FnMut R.remaining S.taken S.failures out.old out.new opener
+        (RunsQuery (OpensFile F.FnMut) R.remaining S.taken S.failures out.old out.new opener
         paths.now.schema.now paths.now.directory.now word.now)
         result err.old err.new }
 {
@@ -136,7 +142,7 @@ fn serve_query<R: Read + Drop, F: FnMut(&str) -> Option<R>, S: Sink, E: Sink, O:
 
 /// Runs a query: the schema's file is read first, then the schema, then all files of tables are opened in the
 /// schema's order, and then the query is run.
-fn serve_run<R: Read + Drop, F: FnMut(&str) -> Option<R>, S: Sink, E: Sink, O: RowObserver>(
+fn serve_run<R: Read + Drop, F: FnMut(File<'_>) -> Option<R>, S: Sink, E: Sink, O: RowObserver>(
     alloc: Global,
     paths: &Paths<'_>,
     query: &str,
@@ -147,15 +153,15 @@ fn serve_run<R: Read + Drop, F: FnMut(&str) -> Option<R>, S: Sink, E: Sink, O: R
 ) -> u8
     requires { F.IsAlwaysCallable opener }
     ensures { Serves E.taken E.failures
-        (RunsFiles F.FnMut R.remaining S.taken S.failures out.old out.new opener
+        (RunsFiles (OpensFile F.FnMut) R.remaining S.taken S.failures out.old out.new opener
         paths.now.schema.now paths.now.directory.now query.now)
         result err.old err.new }
 {
-    let schema = match schema_in(alloc, opener(paths.schema)) {
+    let schema = match schema_in(alloc, opener(File::Schema(paths.schema))) {
         Ok(schema) => schema,
         Err(failure) => return failed(&failure, err),
     };
-    match run_over(
+    let end = run_over(
         alloc,
         &schema,
         paths.directory,
@@ -163,14 +169,12 @@ fn serve_run<R: Read + Drop, F: FnMut(&str) -> Option<R>, S: Sink, E: Sink, O: R
         opener,
         out,
         observer,
-    ) {
-        Ok(()) => 0,
-        Err(failure) => failed(&failure, err),
-    }
+    );
+    ended(end, err)
 }
 
 /// Opens the files of all tables, and runs a query over them.
-fn run_over<'s, R: Read + Drop, F: FnMut(&str) -> Option<R>, S: Sink, O: RowObserver>(
+fn run_over<'s, R: Read + Drop, F: FnMut(File<'_>) -> Option<R>, S: Sink, O: RowObserver>(
     alloc: Global,
     schema: &'s Schema,
     directory: &str,
@@ -180,7 +184,7 @@ fn run_over<'s, R: Read + Drop, F: FnMut(&str) -> Option<R>, S: Sink, O: RowObse
     observer: &mut O,
 ) -> Result<(), Failure<'s>>
     requires { F.IsAlwaysCallable opener }
-    ensures { RunsTables F.FnMut R.remaining S.taken S.failures out.old out.new opener
+    ensures { RunsTables (OpensFile F.FnMut) R.remaining S.taken S.failures out.old out.new opener
         directory.now query.now schema.entry.now result }
 {
     let readers = open_tables(alloc, schema, directory, &mut opener)?;
@@ -195,7 +199,7 @@ fn run_over<'s, R: Read + Drop, F: FnMut(&str) -> Option<R>, S: Sink, O: RowObse
 
 /// Loads every table and lists how many rows each has. If that is asked for, it says what is wrong where one has a fault, and else which
 /// fields hold a line end.
-fn serve_tables<R: Read + Drop, F: FnMut(&str) -> Option<R>, S: Sink, E: Sink>(
+fn serve_tables<R: Read + Drop, F: FnMut(File<'_>) -> Option<R>, S: Sink, E: Sink>(
     alloc: Global,
     paths: &Paths<'_>,
     why: bool,
@@ -204,7 +208,7 @@ fn serve_tables<R: Read + Drop, F: FnMut(&str) -> Option<R>, S: Sink, E: Sink>(
     err: &mut E,
 ) -> u8
     requires { F.IsAlwaysCallable opener }
-    ensures { ServesTables F.FnMut R.remaining E.taken E.failures S.taken S.failures out.old out.new
+    ensures { ServesTables (OpensFile F.FnMut) R.remaining E.taken E.failures S.taken S.failures out.old out.new
         opener paths.now.schema.now paths.now.directory.now why result err.old err.new }
 {
     if why {
@@ -217,7 +221,7 @@ fn serve_tables<R: Read + Drop, F: FnMut(&str) -> Option<R>, S: Sink, E: Sink>(
 /// Loads every table, and writes a line for each, in the schema's order: its name and how many rows it has. The files are
 /// opened as for a run. If one of the tables doesn't load, nothing is written.
 #[inline(never)]
-fn serve_check<R: Read + Drop, F: FnMut(&str) -> Option<R>, S: Sink, E: Sink>(
+fn serve_check<R: Read + Drop, F: FnMut(File<'_>) -> Option<R>, S: Sink, E: Sink>(
     alloc: Global,
     paths: &Paths<'_>,
     mut opener: F,
@@ -226,25 +230,23 @@ fn serve_check<R: Read + Drop, F: FnMut(&str) -> Option<R>, S: Sink, E: Sink>(
 ) -> u8
     requires { F.IsAlwaysCallable opener }
     ensures { Serves E.taken E.failures
-        (ChecksFiles F.FnMut R.remaining S.taken S.failures out.old out.new opener
+        (ChecksFiles (OpensFile F.FnMut) R.remaining S.taken S.failures out.old out.new opener
         paths.now.schema.now paths.now.directory.now)
         result err.old err.new }
 {
-    let schema = match schema_in(alloc, opener(paths.schema)) {
+    let schema = match schema_in(alloc, opener(File::Schema(paths.schema))) {
         Ok(schema) => schema,
         Err(failure) => return failed(&failure, err),
     };
-    match check_over(alloc, &schema, paths.directory, &mut opener, out) {
-        Ok(()) => 0,
-        Err(failure) => failed(&failure, err),
-    }
+    let end = check_over(alloc, &schema, paths.directory, &mut opener, out);
+    ended(end, err)
 }
 
 /// The same, and after the line of a table's fault it writes the line of its reason, if it finds one: the table's file is opened
 /// and read again for it. A file that has changed, or that can't be read again, has none. Where all tables load, it writes a line for
 /// each that has a field with a line end.
 #[inline(never)]
-fn serve_reasons<R: Read + Drop, F: FnMut(&str) -> Option<R>, S: Sink, E: Sink>(
+fn serve_reasons<R: Read + Drop, F: FnMut(File<'_>) -> Option<R>, S: Sink, E: Sink>(
     alloc: Global,
     paths: &Paths<'_>,
     mut opener: F,
@@ -253,11 +255,11 @@ fn serve_reasons<R: Read + Drop, F: FnMut(&str) -> Option<R>, S: Sink, E: Sink>(
 ) -> u8
     requires { F.IsAlwaysCallable opener }
     ensures { ServesReasons E.taken E.failures
-        (λ shown. ExplainsFiles F.FnMut R.remaining E.taken E.failures shown err.new
+        (λ shown. ExplainsFiles (OpensFile F.FnMut) R.remaining E.taken E.failures shown err.new
         S.taken S.failures out.old out.new opener paths.now.schema.now paths.now.directory.now)
         result err.old }
 {
-    let schema = match schema_in(alloc, opener(paths.schema)) {
+    let schema = match schema_in(alloc, opener(File::Schema(paths.schema))) {
         Ok(schema) => schema,
         Err(failure) => return failed(&failure, err),
     };
@@ -275,7 +277,7 @@ fn serve_reasons<R: Read + Drop, F: FnMut(&str) -> Option<R>, S: Sink, E: Sink>(
 }
 
 /// Writes the line of the reason of a failure, if it is a table's fault and its reason is found.
-fn explain<R: Read + Drop, F: FnMut(&str) -> Option<R>, E: Sink>(
+fn explain<R: Read + Drop, F: FnMut(File<'_>) -> Option<R>, E: Sink>(
     alloc: Global,
     schema: &Schema,
     directory: &str,
@@ -284,7 +286,7 @@ fn explain<R: Read + Drop, F: FnMut(&str) -> Option<R>, E: Sink>(
     err: &mut E,
 )
     requires { F.IsAlwaysCallable opener }
-    ensures { MayExplain F.FnMut R.remaining E.taken E.failures err.old err.new directory.now
+    ensures { MayExplain (OpensFile F.FnMut) R.remaining E.taken E.failures err.old err.new opener directory.now
         schema.now failure.now }
 {
     let Failure::Load(name, fault) = *failure else {
@@ -297,7 +299,7 @@ fn explain<R: Read + Drop, F: FnMut(&str) -> Option<R>, E: Sink>(
 }
 
 /// The reason of the fault of the table of this name, whose file is opened again; None if it can't be found.
-fn found_reason<'s, R: Read + Drop, F: FnMut(&str) -> Option<R>>(
+fn found_reason<'s, R: Read + Drop, F: FnMut(File<'_>) -> Option<R>>(
     alloc: Global,
     schema: &'s Schema,
     directory: &str,
@@ -306,16 +308,18 @@ fn found_reason<'s, R: Read + Drop, F: FnMut(&str) -> Option<R>>(
     mut opener: F,
 ) -> Option<Reason<'s>>
     requires { F.IsAlwaysCallable opener }
-    ensures { IfSome result (FindsReason F.FnMut R.remaining directory.now schema.entry.now name.now fault) }
+    ensures { IfSome result (FindsReason (OpensFile F.FnMut) R.remaining opener directory.now schema.entry.now
+        name.now fault) }
 {
     let place = table_named(schema, name)?;
     let Ok(path) = table_path(alloc, directory, name) else {
         return None;
     };
-    let Some(reader) = opener(path.as_str()) else {
+    let Some(reader) = opener(File::Table(path.as_str())) else {
         return None;
     };
-    let Ok(reason) = reason_of(alloc, schema.table(place), reader, fault) else {
+    let mut records = Records::new(alloc, reader);
+    let Ok(reason) = reason_of(alloc, schema.table(place), &mut records, fault) else {
         return None;
     };
     reason
@@ -336,7 +340,7 @@ fn table_named(schema: &Schema, name: &str) -> Option<usize>
 
 /// Writes a line for each table that has a field with a line end, in the schema's order: the first such field of its first such
 /// record. Each file is opened and read again; of one that can't be, nothing is said.
-fn put_notes<R: Read + Drop, F: FnMut(&str) -> Option<R>, E: Sink>(
+fn put_notes<R: Read + Drop, F: FnMut(File<'_>) -> Option<R>, E: Sink>(
     alloc: Global,
     schema: &Schema,
     directory: &str,
@@ -344,8 +348,8 @@ fn put_notes<R: Read + Drop, F: FnMut(&str) -> Option<R>, E: Sink>(
     err: &mut E,
 )
     requires { F.IsAlwaysCallable opener }
-    ensures { NotesTables F.FnMut R.remaining E.taken E.failures directory.now
-        (table_names schema.now) err.old err.new }
+    ensures { (after : F) × NotesTables (OpensFile F.FnMut) R.remaining E.taken E.failures directory.now
+        (table_names schema.now) opener after err.old err.new }
 {
     for table in schema.tables() {
         put_note(alloc, directory, table.name.as_str(), &mut opener, err);
@@ -353,7 +357,7 @@ fn put_notes<R: Read + Drop, F: FnMut(&str) -> Option<R>, E: Sink>(
 }
 
 /// Writes the line of the first field with a line end in the file of the table of this name, if there is one.
-fn put_note<R: Read + Drop, F: FnMut(&str) -> Option<R>, E: Sink>(
+fn put_note<R: Read + Drop, F: FnMut(File<'_>) -> Option<R>, E: Sink>(
     alloc: Global,
     directory: &str,
     name: &str,
@@ -362,8 +366,8 @@ fn put_note<R: Read + Drop, F: FnMut(&str) -> Option<R>, E: Sink>(
 )
     requires { F.IsAlwaysCallable opener.old }
     ensures callable { F.IsAlwaysCallable opener.new }
-    ensures notes { NotesTable F.FnMut R.remaining E.taken E.failures directory.now name.now err.old
-        err.new }
+    ensures notes { NotesTable (OpensFile F.FnMut) R.remaining E.taken E.failures directory.now name.now
+        opener.old opener.new err.old err.new }
 {
     let Ok(found) = found_line_end(alloc, directory, name, opener) else {
         return;
@@ -376,7 +380,7 @@ fn put_note<R: Read + Drop, F: FnMut(&str) -> Option<R>, E: Sink>(
 
 /// The first field with a line end in the file of the table of this name, which is opened again. At Err it can't be opened or read, or
 /// memory ran out.
-fn found_line_end<R: Read + Drop, F: FnMut(&str) -> Option<R>>(
+fn found_line_end<R: Read + Drop, F: FnMut(File<'_>) -> Option<R>>(
     alloc: Global,
     directory: &str,
     name: &str,
@@ -384,20 +388,21 @@ fn found_line_end<R: Read + Drop, F: FnMut(&str) -> Option<R>>(
 ) -> Result<Option<LineEnd>, LoadFault>
     requires { F.IsAlwaysCallable opener.old }
     ensures callable { F.IsAlwaysCallable opener.new }
-    ensures looks { IfOk result (LooksAgain F.FnMut R.remaining directory.now name.now) }
-    ensures fails { IfErr result IsFailure }
+    ensures looks { LooksAgain (OpensFile F.FnMut) R.remaining directory.now name.now opener.old opener.new
+        result }
 {
     let Ok(path) = table_path(alloc, directory, name) else {
         return Err(LoadFault::OutOfMemory);
     };
-    let Some(reader) = opener(path.as_str()) else {
+    let Some(reader) = opener(File::Table(path.as_str())) else {
         return Err(LoadFault::ReadFailed);
     };
-    first_line_end(alloc, reader)
+    let mut records = Records::new(alloc, reader);
+    first_line_end(alloc, &mut records)
 }
 
 /// Opens the files of all tables, loads the tables, and writes their lines.
-fn check_over<'s, R: Read + Drop, F: FnMut(&str) -> Option<R>, S: Sink>(
+fn check_over<'s, R: Read + Drop, F: FnMut(File<'_>) -> Option<R>, S: Sink>(
     alloc: Global,
     schema: &'s Schema,
     directory: &str,
@@ -406,8 +411,8 @@ fn check_over<'s, R: Read + Drop, F: FnMut(&str) -> Option<R>, S: Sink>(
 ) -> Result<(), Failure<'s>>
     requires { F.IsAlwaysCallable opener.old }
     ensures callable { F.IsAlwaysCallable opener.new }
-    ensures checks { ChecksTables F.FnMut R.remaining S.taken S.failures out.old out.new opener.old
-        directory.now schema.entry.now result }
+    ensures checks { ChecksTables (OpensFile F.FnMut) R.remaining S.taken S.failures out.old out.new opener.old
+        opener.new directory.now schema.entry.now result }
 {
     let readers = open_tables(alloc, schema, directory, opener)?;
     let database: Database<'_, RowIndex> = match Database::load(alloc, schema, readers) {
@@ -482,7 +487,7 @@ fn schema_failure(fault: SchemaFault) -> Failure<'static>
 }
 
 /// Opens the files of all tables, in the schema's order.
-fn open_tables<'s, R: Read + Drop, F: FnMut(&str) -> Option<R>>(
+fn open_tables<'s, R: Read + Drop, F: FnMut(File<'_>) -> Option<R>>(
     alloc: Global,
     schema: &'s Schema,
     directory: &str,
@@ -491,10 +496,10 @@ fn open_tables<'s, R: Read + Drop, F: FnMut(&str) -> Option<R>>(
     requires { F.IsAlwaysCallable opener.old }
     ensures callable { F.IsAlwaysCallable opener.new }
     ensures count { IfOk result (λ readers. length readers.items ≡ length schema.entry.now) }
-    ensures opened { IfOk result (λ readers. (after : F)
-        × Opens F.FnMut opener.old (table_paths directory.now schema.entry.now) readers.items after) }
+    ensures opened { IfOk result (λ readers. Opens (OpensFile F.FnMut) opener.old
+        (table_paths directory.now schema.entry.now) readers.items opener.new) }
     ensures failure { IfErr result (λ failure.
-        OpensTables {R = R} F.FnMut opener.old directory.now schema.entry.now (Err failure)) }
+        OpensTables {R = R} (OpensFile F.FnMut) opener.old directory.now schema.entry.now (Err failure) opener.new) }
 {
     let mut readers = Vec::new(alloc);
     for table in schema.tables() {
@@ -502,7 +507,7 @@ fn open_tables<'s, R: Read + Drop, F: FnMut(&str) -> Option<R>>(
         let Ok(path) = table_path(alloc, directory, name) else {
             return Err(Failure::OutOfMemory);
         };
-        let Some(reader) = opener(path.as_str()) else {
+        let Some(reader) = opener(File::Table(path.as_str())) else {
             return Err(Failure::Unreadable(name));
         };
         let Ok(()) = readers.push(reader) else {

@@ -7,7 +7,9 @@ mod commands;
 pub mod first_run;
 
 pub use commands::{serve, serve_observed};
-pub use failures::{Failure, Fault, GeometryWord, fault_line, status};
+pub use failures::{
+    Failure, Fault, GeometryWord, failed, failed_words, fault_line, flushed, status,
+};
 pub use query_runs::{run, run_observed};
 pub use streams::{RowObserver, Unobserved};
-pub use text_commands::{failed, relate_texts};
+pub use text_commands::{File, relate_texts};

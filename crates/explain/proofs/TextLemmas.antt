@@ -1,10 +1,12 @@
 -- The parts of the text of a plan.
-use Rattle.std.proofs.Common.{◌≡◌, ◌≢◌, ℕ, List, [], ◌∷◌, ◌++◌, length, map, codes, slice_index_or, Option, Result, Ok, Err, OnOk, OnErr, refl, ap, append_assoc, append-nil}
+use Rattle.std.proofs.Common.{◌≡◌, ◌≢◌, ℕ, List, [], ◌∷◌, ◌++◌, length, map, codes, decimal, slice_index_or, Option, Result, Err, refl, ap, append_assoc, append-nil}
 use Rattle.std.specs.List.{concat, join_with_byte}
-use Rattle.std.specs.Io.KnownBytes.{Appends}
-use Rattle.streams.specs.Sinks.{AppendsFront}
-use Rattle.streams.proofs.SinkLemmas.{Appends-then, AppendsFront-then, AppendsFront-more}
-use Rattle.table_model.specs.ExplainTexts.{line, access_line, access_lines, conjunct_number, filters_text}
+use Rattle.std.specs.Prelude.{IsErrAnd}
+use Rattle.explain.proofs.PutLemmas.{puts-begun}
+use Rattle.explain.specs.Puts.{Puts}
+use Rattle.table_model.specs.ExplainTexts.{line, access_line, access_lines, conjunct_number, count_line, filters_text, limit_line}
+use Rattle.table_model.specs.declared.conditions.Bound.{Bound}
+use Rattle.table_model.specs.declared.plans.Plan.{Plan}
 use Rattle.table_model.specs.declared.conditions.Reference.{Reference}
 use Rattle.table_model.specs.declared.plans.AccessMethod.TheVariants as methods
 use Rattle.table_model.specs.declared.plans.Access.{Access}
@@ -40,29 +42,28 @@ pub filter_line : (places : List ℕ) → length places ≢ 0
 filter_line [] some = absurd (some refl)
 filter_line (k ∷ more) some = ap (λ l. codes "filter " ++ (l ++ codes "\n")) (join_spaced (conjunct_number k) more)
 
--- a text after what was put
-pub then-ok : {A E : Type 0} (r : Result A E) (a b c : Option (List ℕ)) (x y : List ℕ) → Appends a b x → OnOk r (Appends b c y) → OnOk r (Appends a c (x ++ y))
-then-ok (Ok v) a b c x y first then = Appends-then a b c x y first then
-then-ok (Err v) a b c x y first then = tt
+-- the parts of the text of EXPLAIN
+abbrev pub parts : {A C : Type 0} → Bound A C → Plan → List (List ℕ)
+parts query plan =
+    line (codes "cost") (decimal plan.cost) ∷ access_lines query.references plan.accesses ∷ line (codes "filter") (filters_text plan.filters)
+    ∷ count_line query.counts ∷ limit_line query.limit ∷ []
 
--- a beginning of a text after what was put
-pub then-front : {A E : Type 0} (r : Result A E) (a b c : Option (List ℕ)) (x y : List ℕ) → Appends a b x → OnErr r (AppendsFront b c y) → OnErr r (AppendsFront a c (x ++ y))
-then-front (Ok v) a b c x y first then = tt
-then-front (Err v) a b c x y first then = AppendsFront-then a b c x y first then
+-- where the first access's line failed, the lines are begun
+pub outer_begun : {S A B E : Type 0} {taken : S → Option (List ℕ)} {count : S → ℕ} {a b : S} {e : E} (r : Result B E)
+    (references : List Reference) (accesses : List Access) (d : Access) → length accesses ≢ 0
+    → Puts {A = A} taken count a b (Err e) (access_line references (codes "outer") (slice_index_or accesses 0 d)) → IsErrAnd r (λ f. f ≡ e)
+    → Puts taken count a b r (access_lines references accesses)
+outer_begun r references [] d some put is = absurd (some refl)
+outer_begun r references (outer ∷ []) d some put is = puts-begun r (access_line references (codes "outer") outer) [] put is
+outer_begun r references (outer ∷ inner ∷ more) d some put is =
+    puts-begun r (access_line references (codes "outer") outer) (access_line references (codes "inner") inner ∷ []) put is
 
--- a beginning of the first access's line is one of the lines
-pub outer_front : (references : List Reference) (accesses : List Access) (d : Access) (a b : Option (List ℕ)) → length accesses ≢ 0
-    → AppendsFront a b (access_line references (codes "outer") (slice_index_or accesses 0 d)) → AppendsFront a b (access_lines references accesses)
-outer_front references [] d a b some front = absurd (some refl)
-outer_front references (outer ∷ []) d a b some front = front
-outer_front references (outer ∷ inner ∷ more) d a b some front =
-    AppendsFront-more a b (access_line references (codes "outer") outer) (access_line references (codes "inner") inner) front
-
--- after the first access's line, a beginning of the second's is one of the lines
-pub inner_front : {A E : Type 0} (r : Result A E) (references : List Reference) (accesses : List Access) (d e : Access) (a b c : Option (List ℕ)) → length accesses ≢ 0 → length accesses ≢ 1
-    → Appends a b (access_line references (codes "outer") (slice_index_or accesses 0 d)) → OnErr r (AppendsFront b c (access_line references (codes "inner") (slice_index_or accesses 1 e)))
-    → OnErr r (AppendsFront a c (access_lines references accesses))
-inner_front r references [] d e a b c some more first then = absurd (some refl)
-inner_front r references (outer ∷ []) d e a b c some more first then = absurd (more refl)
-inner_front r references (outer ∷ inner ∷ others) d e a b c some more first then =
-    then-front r a b c (access_line references (codes "outer") outer) (access_line references (codes "inner") inner) first then
+-- the lines of two accesses are the lines
+pub both_put : {S A E : Type 0} {taken : S → Option (List ℕ)} {count : S → ℕ} {a b : S} {r : Result A E} (references : List Reference)
+    (accesses : List Access) (d e : Access) → length accesses ≢ 0 → length accesses ≢ 1
+    → Puts taken count a b r
+    (access_line references (codes "outer") (slice_index_or accesses 0 d) ++ access_line references (codes "inner") (slice_index_or accesses 1 e))
+    → Puts taken count a b r (access_lines references accesses)
+both_put references [] d e some more put = absurd (some refl)
+both_put references (outer ∷ []) d e some more put = absurd (more refl)
+both_put references (outer ∷ inner ∷ others) d e some more put = put

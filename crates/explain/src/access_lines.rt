@@ -1,8 +1,7 @@
 //! The lines of the accesses of a plan.
 
-ghost use Rattle.std.specs.Prelude.{◌≡◌, ◌++◌, [], map, slice_index_or, codes, OnOk, OnErr};
-ghost use Rattle.std.specs.Io.KnownBytes.{Appends};
-ghost use Rattle.streams.specs.Sinks.{AppendsFront, CountsFailure};
+ghost use Rattle.explain.specs.Puts.{Puts};
+ghost use Rattle.std.specs.Prelude.{◌≡◌, ◌++◌, [], map, slice_index_or, codes};
 ghost use Rattle.table_model.specs.ExplainTexts.{access_line, access_lines, conjunct_number, method_text};
 
 use itoa::Buffer;
@@ -35,11 +34,9 @@ fn put_line<'l, S: Sink>(
     method: &'l [u8],
     number: &'l str,
 ) -> Result<(), SinkFault>
-    ensures ok { OnOk result (Appends (S.taken sink.old) (S.taken sink.new)
-        (role.now ++ codes " " ++ name.now ++ codes " " ++ (method.now ++ number.now) ++ codes "\n")) }
-    ensures front { OnErr result (AppendsFront (S.taken sink.old) (S.taken sink.new)
-        (role.now ++ codes " " ++ name.now ++ codes " " ++ (method.now ++ number.now) ++ codes "\n")) }
-    ensures failures { CountsFailure (S.failures sink.old) (S.failures sink.new) result }
+    ensures { Puts S.taken S.failures sink.old sink.new result
+        (role.now ++ codes " " ++ name.now ++ codes " " ++ (method.now ++ number.now)
+        ++ codes "\n") }
 {
     let parts = [role, b" ", name, b" ", method, number.as_bytes(), b"\n"];
     put_parts(sink, &parts)
@@ -52,11 +49,8 @@ fn put_access<S: Sink>(
     role: &[u8],
     access: Access,
 ) -> Result<(), SinkFault>
-    ensures ok { OnOk result
-        (Appends (S.taken sink.old) (S.taken sink.new) (access_line references.now role.now access)) }
-    ensures front { OnErr result
-        (AppendsFront (S.taken sink.old) (S.taken sink.new) (access_line references.now role.now access)) }
-    ensures failures { CountsFailure (S.failures sink.old) (S.failures sink.new) result }
+    ensures { Puts S.taken S.failures sink.old sink.new result
+        (access_line references.now role.now access) }
 {
     let name = name_at(references, access.reference);
     match access.method {
@@ -74,11 +68,8 @@ pub(crate) fn put_accesses<S: Sink>(
     references: &[Reference],
     accesses: &[Access],
 ) -> Result<(), SinkFault>
-    ensures ok { OnOk result
-        (Appends (S.taken sink.old) (S.taken sink.new) (access_lines references.now accesses.now)) }
-    ensures front { OnErr result
-        (AppendsFront (S.taken sink.old) (S.taken sink.new) (access_lines references.now accesses.now)) }
-    ensures failures { CountsFailure (S.failures sink.old) (S.failures sink.new) result }
+    ensures { Puts S.taken S.failures sink.old sink.new result
+        (access_lines references.now accesses.now) }
 {
     if accesses.is_empty() {
         return Ok(());

@@ -1,8 +1,7 @@
 //! Writes the texts of EXPLAIN and of EXPLAIN ANALYZE to a sink.
 
-ghost use Rattle.std.specs.Prelude.{◌≡◌, ◌++◌, decimal, codes, OnOk, OnErr};
-ghost use Rattle.std.specs.Io.KnownBytes.{Appends};
-ghost use Rattle.streams.specs.Sinks.{AppendsFront, CountsFailure};
+ghost use Rattle.explain.specs.Puts.{Puts};
+ghost use Rattle.std.specs.Prelude.{◌++◌, decimal, codes};
 ghost use Rattle.table_model.specs.ExplainTexts.{line, access_lines, filters_text, explain_text, analyze_text};
 
 use crate::access_lines::put_accesses;
@@ -21,11 +20,7 @@ pub fn explain<S: Sink, A, C>(
     plan: &Plan,
     sink: &mut S,
 ) -> Result<(), SinkFault>
-    ensures ok { OnOk result
-        (Appends (S.taken sink.old) (S.taken sink.new) (explain_text query.now plan.now)) }
-    ensures front { OnErr result
-        (AppendsFront (S.taken sink.old) (S.taken sink.new) (explain_text query.now plan.now)) }
-    ensures failures { CountsFailure (S.failures sink.old) (S.failures sink.new) result }
+    ensures { Puts S.taken S.failures sink.old sink.new result (explain_text query.now plan.now) }
 {
     put_number(sink, b"cost", plan.cost)?;
     put_plan_accesses(sink, query, plan)?;
@@ -42,11 +37,8 @@ pub fn analyze<S: Sink, A, C>(
     work: &Work,
     sink: &mut S,
 ) -> Result<(), SinkFault>
-    ensures ok { OnOk result
-        (Appends (S.taken sink.old) (S.taken sink.new) (analyze_text query.now plan.now work.now)) }
-    ensures front { OnErr result
-        (AppendsFront (S.taken sink.old) (S.taken sink.new) (analyze_text query.now plan.now work.now)) }
-    ensures failures { CountsFailure (S.failures sink.old) (S.failures sink.new) result }
+    ensures { Puts S.taken S.failures sink.old sink.new result
+        (analyze_text query.now plan.now work.now) }
 {
     explain(query, plan, sink)?;
     put_work(sink, work)
@@ -54,11 +46,8 @@ pub fn analyze<S: Sink, A, C>(
 
 /// Writes the line of the work.
 fn put_work<S: Sink>(sink: &mut S, work: &Work) -> Result<(), SinkFault>
-    ensures ok { OnOk result
-        (Appends (S.taken sink.old) (S.taken sink.new) (line (codes "work") (decimal work.now))) }
-    ensures front { OnErr result
-        (AppendsFront (S.taken sink.old) (S.taken sink.new) (line (codes "work") (decimal work.now))) }
-    ensures failures { CountsFailure (S.failures sink.old) (S.failures sink.new) result }
+    ensures { Puts S.taken S.failures sink.old sink.new result
+        (line (codes "work") (decimal work.now)) }
 {
     put_number(sink, b"work", work.count())
 }
@@ -69,22 +58,16 @@ fn put_plan_accesses<S: Sink, A, C>(
     query: &Bound<A, C>,
     plan: &Plan,
 ) -> Result<(), SinkFault>
-    ensures ok { OnOk result (Appends (S.taken sink.old) (S.taken sink.new)
-        (access_lines query.now.references plan.now.accesses)) }
-    ensures front { OnErr result (AppendsFront (S.taken sink.old) (S.taken sink.new)
-        (access_lines query.now.references plan.now.accesses)) }
-    ensures failures { CountsFailure (S.failures sink.old) (S.failures sink.new) result }
+    ensures { Puts S.taken S.failures sink.old sink.new result
+        (access_lines query.now.references plan.now.accesses) }
 {
     put_accesses(sink, query.references.as_slice(), plan.accesses.as_slice())
 }
 
 /// Writes the line of a plan's filters.
 fn put_plan_filters<S: Sink>(sink: &mut S, plan: &Plan) -> Result<(), SinkFault>
-    ensures ok { OnOk result (Appends (S.taken sink.old) (S.taken sink.new)
-        (line (codes "filter") (filters_text plan.now.filters))) }
-    ensures front { OnErr result (AppendsFront (S.taken sink.old) (S.taken sink.new)
-        (line (codes "filter") (filters_text plan.now.filters))) }
-    ensures failures { CountsFailure (S.failures sink.old) (S.failures sink.new) result }
+    ensures { Puts S.taken S.failures sink.old sink.new result
+        (line (codes "filter") (filters_text plan.now.filters)) }
 {
     put_filters(sink, plan.filters.as_slice())
 }

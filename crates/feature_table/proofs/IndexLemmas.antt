@@ -63,7 +63,7 @@ past_lists_none table rows place are past =
     (λ row is. ap (λ o. field_envelope (unwrap_or o values.Null)) (slice_get_past row place (omega (arith, is.width, past)))) rows are.each)
 
 -- what is kept of the column at a place: its index lists its envelopes, and where there is none it holds none
-pub record IsKept {I : Type 0} (indexed : I → List (Option Envelope)) (table : TableDef ColumnShape) (rows : Table Geometry) (place : ℕ) (own : Option I) : Type 0 where
+pub record IsOwnIndex {I : Type 0} (indexed : I → List (Option Envelope)) (table : TableDef ColumnShape) (rows : Table Geometry) (place : ℕ) (own : Option I) : Type 0 where
   pub listed : (index : I) → own ≡ Some index → indexed index ≡ column_envelopes place rows
   pub bare : own ≡ None → (c : ColumnDef ColumnShape) → slice_get table.columns place ≡ Some c → HoldsNone c.column_type
 
@@ -80,7 +80,7 @@ one_more_kept P (z ∷ xs) y h p (suc i) x e = one_more_kept (λ j. P (suc j)) x
 
 -- the indexes of all columns
 pub all_kept : {I : Type 0} (indexed : I → List (Option Envelope)) (table : TableDef ColumnShape) (rows : Table Geometry) (own : List (Option I)) (bare : I) → AreRows takes table rows
-    → length own ≡ length table.columns → EachKept (IsKept indexed table rows) own → indexed bare ≡ map absent rows → AreIndexes indexed rows own bare
+    → length own ≡ length table.columns → EachKept (IsOwnIndex indexed table rows) own → indexed bare ≡ map absent rows → AreIndexes indexed rows own bare
 all_kept {I = I} indexed table rows own bare are same kept lists = record {
   of_own = λ place index e. (kept place (Some index) e).listed index refl;
   of_others = λ place none. lists ∙ go place (slice_get own place) refl none;
@@ -98,7 +98,7 @@ all_kept {I = I} indexed table rows own bare are same kept lists = record {
 -- what is made for the column at a place is kept of it
 pub kept_at : {I : Type 0} (indexed : I → List (Option Envelope)) (table : TableDef ColumnShape) (rows : Table Geometry) (columns : List (ColumnDef ColumnShape)) (place : ℕ)
     (c : ColumnDef ColumnShape) (own : Option I) → columns ≡ table.columns → c ≡ get_or columns place c
-    → ((index : I) → own ≡ Some index → indexed index ≡ column_envelopes place rows) → (own ≡ None → HoldsNone c.column_type) → IsKept indexed table rows place own
+    → ((index : I) → own ≡ Some index → indexed index ≡ column_envelopes place rows) → (own ≡ None → HoldsNone c.column_type) → IsOwnIndex indexed table rows place own
 kept_at indexed table rows columns place c own same is lists none = record {
   listed = lists;
   bare = λ e other at. subst (λ (d : ColumnDef ColumnShape). HoldsNone d.column_type)

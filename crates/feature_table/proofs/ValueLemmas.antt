@@ -6,7 +6,7 @@ use Rattle.std.specs.List.{All}
 use Rattle.basics.proofs.Lists.{in_front}
 use Rattle.feature_table.specs.FlatRows.{row_at}
 use Rattle.feature_table.specs.GeometryFields.{GeometryValue}
-use Rattle.feature_table.specs.Values.{IsBehind, IsKept, value_in, values_in}
+use Rattle.feature_table.specs.Values.{IsBehind, IsBacked, value_in, values_in}
 use Rattle.feature_table.specs.declared.values.Cell.{Cell}
 use Rattle.feature_table.specs.declared.values.Cell.TheVariants as cell
 use Rattle.table_model.specs.declared.values.Value.{Value}
@@ -16,14 +16,14 @@ below_behind old new k b h = let size = ap length b.1 ∙ length-append old b.0 
 
 -- a kept cell is kept, and names the value that it named
 kept_more : (texts texts-2 : List (List ℕ)) (geometries geometries-2 : List GeometryValue) (c : Cell) → IsBehind texts texts-2 → IsBehind geometries geometries-2
-    → IsKept texts geometries c → IsKept texts-2 geometries-2 c
+    → IsBacked texts geometries c → IsBacked texts-2 geometries-2 c
 kept_more texts texts-2 geometries geometries-2 cell.Null t g h = tt
 kept_more texts texts-2 geometries geometries-2 (cell.Int n) t g h = tt
 kept_more texts texts-2 geometries geometries-2 (cell.Text k) t g h = below_behind texts texts-2 k t h
 kept_more texts texts-2 geometries geometries-2 (cell.Geom k) t g h = below_behind geometries geometries-2 k g h
 
 value_more : (texts texts-2 : List (List ℕ)) (geometries geometries-2 : List GeometryValue) (c : Cell) → IsBehind texts texts-2 → IsBehind geometries geometries-2
-    → IsKept texts geometries c → value_in texts-2 geometries-2 c ≡ value_in texts geometries c
+    → IsBacked texts geometries c → value_in texts-2 geometries-2 c ≡ value_in texts geometries c
 value_more texts texts-2 geometries geometries-2 cell.Null t g h = refl
 value_more texts texts-2 geometries geometries-2 (cell.Int n) t g h = refl
 value_more texts texts-2 geometries geometries-2 (cell.Text k) t g h = rw (t.1, in_front texts t.0 k h) refl
@@ -31,21 +31,21 @@ value_more texts texts-2 geometries geometries-2 (cell.Geom k) t g h = rw (g.1, 
 
 -- so it is for each of several
 pub all_kept : (texts texts-2 : List (List ℕ)) (geometries geometries-2 : List GeometryValue) (cells : List Cell) → IsBehind texts texts-2 → IsBehind geometries geometries-2
-    → All (IsKept texts geometries) cells → All (IsKept texts-2 geometries-2) cells
+    → All (IsBacked texts geometries) cells → All (IsBacked texts-2 geometries-2) cells
 all_kept texts texts-2 geometries geometries-2 cells t g h =
-    All-weaker (IsKept texts geometries) (IsKept texts-2 geometries-2) (λ c kept. kept_more texts texts-2 geometries geometries-2 c t g kept) cells h
+    All-weaker (IsBacked texts geometries) (IsBacked texts-2 geometries-2) (λ c kept. kept_more texts texts-2 geometries geometries-2 c t g kept) cells h
 
 pub values_more : (texts texts-2 : List (List ℕ)) (geometries geometries-2 : List GeometryValue) (cells : List Cell) → IsBehind texts texts-2
-    → IsBehind geometries geometries-2 → All (IsKept texts geometries) cells → values_in texts-2 geometries-2 cells ≡ values_in texts geometries cells
+    → IsBehind geometries geometries-2 → All (IsBacked texts geometries) cells → values_in texts-2 geometries-2 cells ≡ values_in texts geometries cells
 values_more texts texts-2 geometries geometries-2 [] t g h = refl
 values_more texts texts-2 geometries geometries-2 (c ∷ cells) t g h =
     ap₂ (λ (v : Value GeometryValue) (vs : List (Value GeometryValue)). v ∷ vs)
-    (value_more texts texts-2 geometries geometries-2 c t g (All-head (IsKept texts geometries) c cells h))
-    (values_more texts texts-2 geometries geometries-2 cells t g (All-tail (IsKept texts geometries) c cells h))
+    (value_more texts texts-2 geometries geometries-2 c t g (All-head (IsBacked texts geometries) c cells h))
+    (values_more texts texts-2 geometries geometries-2 cells t g (All-tail (IsBacked texts geometries) c cells h))
 
 -- a cell that names a value, behind the others, is this value behind theirs
 pub values_pushed : (texts texts-2 : List (List ℕ)) (geometries geometries-2 : List GeometryValue) (cells : List Cell) (c : Cell) (v : Value GeometryValue)
-    → IsBehind texts texts-2 → IsBehind geometries geometries-2 → All (IsKept texts geometries) cells → value_in texts-2 geometries-2 c ≡ v
+    → IsBehind texts texts-2 → IsBehind geometries geometries-2 → All (IsBacked texts geometries) cells → value_in texts-2 geometries-2 c ≡ v
     → values_in texts-2 geometries-2 (cells ++ c ∷ []) ≡ values_in texts geometries cells ++ v ∷ []
 values_pushed texts texts-2 geometries geometries-2 cells c v t g h is =
     map-append (value_in texts-2 geometries-2) cells (c ∷ [])

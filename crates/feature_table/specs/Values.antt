@@ -24,11 +24,11 @@ abbrev pub values_in : List (List ℕ) → List GeometryValue → List Cell → 
 values_in texts geometries cells = map (value_in texts geometries) cells
 
 -- the text or geometry that a cell names is there
-abbrev pub IsKept : List (List ℕ) → List GeometryValue → Cell → Type 0
-IsKept texts geometries cell.Null = ⊤
-IsKept texts geometries (cell.Int n) = ⊤
-IsKept texts geometries (cell.Text place) = place < length texts
-IsKept texts geometries (cell.Geom place) = place < length geometries
+abbrev pub IsBacked : List (List ℕ) → List GeometryValue → Cell → Type 0
+IsBacked texts geometries cell.Null = ⊤
+IsBacked texts geometries (cell.Int n) = ⊤
+IsBacked texts geometries (cell.Text place) = place < length texts
+IsBacked texts geometries (cell.Geom place) = place < length geometries
 
 -- nothing but more was put behind the old
 abbrev pub IsBehind : {X : Type 0} → List X → List X → Type 0

@@ -3,7 +3,7 @@
 ghost use Rattle.std.specs.Prelude.{◌≡◌, ◌++◌, ◌∷◌, ◌<◌, [], IfOk, OnOk, Some, length, option_map, slice_get};
 ghost use Rattle.feature_table.specs.Cells.{shown};
 ghost use Rattle.feature_table.specs.FlatRows.{IsWithin, row_at};
-ghost use Rattle.feature_table.specs.Values.{IsBehind, IsKept, value_in};
+ghost use Rattle.feature_table.specs.Values.{IsBehind, IsBacked, value_in};
 
 use crate::cells::Field;
 use crate::geometry_fields::Geometry;
@@ -51,7 +51,7 @@ fn cell_of(
 ) -> Result<Cell, AllocError>
     ensures texts { IsBehind texts.old.items texts.new.items }
     ensures geometries { IsBehind geometries.old.items geometries.new.items }
-    ensures kept { IfOk result (IsKept texts.new.items geometries.new.items) }
+    ensures kept { IfOk result (IsBacked texts.new.items geometries.new.items) }
     ensures value { IfOk result (λ cell. value_in texts.new.items geometries.new.items cell ≡ value) }
 {
     match value {
@@ -91,13 +91,13 @@ impl Model for Values {
     ghost use Rattle.std.specs.List.{All};
     ghost use Rattle.table_model.specs.Meanings as plain;
     ghost use Rattle.feature_table.specs.GeometryFields.{GeometryValue};
-    ghost use Rattle.feature_table.specs.Values.{IsKept, values_in};
+    ghost use Rattle.feature_table.specs.Values.{IsBacked, values_in};
 
     ghost Value = { plain.Row GeometryValue };
 
     ghost view = { λ v. values_in v.texts.items v.geometries.items v.cells.items };
 
-    ghost invariant = { λ v. All (IsKept v.texts.items v.geometries.items) v.cells.items };
+    ghost invariant = { λ v. All (IsBacked v.texts.items v.geometries.items) v.cells.items };
 }
 
 impl Values {

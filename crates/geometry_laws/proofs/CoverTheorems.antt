@@ -12,11 +12,11 @@ use Rattle.basics.proofs.Ring.{solve, var, lit, ◌⊖◌, ◌⊗◌}
 use Rattle.basics.proofs.Signs.{cancel_zero}
 use Rattle.geometry_laws.specs.RingLaws.{IsClosed}
 use Rattle.geometry_laws.specs.PieceLaws.{HasClosedRings}
-use Rattle.geometry_laws.specs.CoverLaws.{Line, value, IsLine, FirstAbove, IsSlantAt, NearSides, AreAllNear}
+use Rattle.geometry_laws.specs.CoverLaws.{Line, value, IsLine, FirstAbove, MissesUprights, NearSides, AreAllNear, IsNotUprightAt}
 use Rattle.geometry_laws.proofs.Each.{Each, each_of, each_append}
 use Rattle.geometry_laws.proofs.RingParity.{each_from_all}
 use Rattle.geometry_laws.proofs.Triangles.{dots, dot_is_at, marks}
-use Rattle.geometry_laws.proofs.Nudge.{IsSlant, breadth}
+use Rattle.geometry_laws.proofs.Nudge.{breadth}
 use Rattle.geometry_laws.proofs.SideTriangles.{lower_triangle, upper_triangle, near_sides}
 use Rattle.geometry_laws.proofs.NearPoints.{are_all_near}
 use Rattle.geometry_laws.proofs.First.{First, first, over_point, over_is_point, over_on, over_higher, not_lower, label_of_first}
@@ -85,28 +85,33 @@ first_is_above es x hx = go (first es x hx)
     })
 
 -- a dot counts as vertical, but no dot of these positions goes through the point
-pub slant_dots : (ps : List Position) (p : Point) → IsPoint p → Each (λ a. is_at p a ≡ false) ps → Each (IsSlant p) (dots ps)
-slant_dots [] p hp h = tt
-slant_dots (a ∷ ps) p hp h = (λ k e. let z : true ≡ false = sym (dot_is_at a p hp k) ∙ h.0 in absurd (cc), slant_dots ps p hp h.1)
+pub not_upright_dots : (ps : List Position) (p : Point) → IsPoint p → Each (λ a. is_at p a ≡ false) ps
+    → Each (IsNotUprightAt p) (dots ps)
+not_upright_dots [] p hp h = tt
+not_upright_dots (a ∷ ps) p hp h =
+    (λ k e. let z : true ≡ false = sym (dot_is_at a p hp k) ∙ h.0 in absurd (cc), not_upright_dots ps p hp h.1)
 
 -- so nothing vertical among the marks of both geometries goes through the point
-slant_marks : (a b : Geometry) (s : Point) → IsPoint s → IsSlantAt a s → IsSlantAt b s → Each (IsSlant s) (marks a b)
-slant_marks a b s hs h k = each_append (IsSlant s) (edges_of_both a b) (dots (listed a ++ listed b))
-    (each_append (IsSlant s) (edges a) (edges b) (each_from_all (IsSlant s) (edges a) h.edges) (each_from_all (IsSlant s) (edges b) k.edges))
-    (slant_dots (listed a ++ listed b) s hs (each_append (λ q. is_at s q ≡ false) (listed a) (listed b) (each_from_all (λ q. is_at s q ≡ false) (listed a) h.positions) (each_from_all (λ q. is_at s q ≡ false) (listed b) k.positions)))
+not_upright_marks : (a b : Geometry) (s : Point) → IsPoint s → MissesUprights a s → MissesUprights b s
+    → Each (IsNotUprightAt s) (marks a b)
+not_upright_marks a b s hs h k = each_append (IsNotUprightAt s) (edges_of_both a b) (dots (listed a ++ listed b))
+    (each_append (IsNotUprightAt s) (edges a) (edges b) (each_from_all (IsNotUprightAt s) (edges a) h.edges) (each_from_all (IsNotUprightAt s) (edges b) k.edges))
+    (not_upright_dots (listed a ++ listed b) s hs (each_append (λ q. is_at s q ≡ false) (listed a) (listed b) (each_from_all (λ q. is_at s q ≡ false) (listed a) h.positions) (each_from_all (λ q. is_at s q ≡ false) (listed b) k.positions)))
 
 -- just below and just above a point that no vertical edge goes through, all points of some triangle lie alike
-pub sides_have_triangles : (a b : Geometry) → HasClosedRings a → HasClosedRings b → (s : Point) → IsPoint s → IsSlantAt a s → IsSlantAt b s
+pub sides_have_triangles : (a b : Geometry) → HasClosedRings a → HasClosedRings b → (s : Point) → IsPoint s → MissesUprights a s → MissesUprights b s
     → HasTriangle (common a (below a s) b (below b s)) × HasTriangle (common a (above a s) b (above b s))
 sides_have_triangles a b ca cb s hs h k = (
-  lower_triangle a b (each_from_all IsClosed (rings a) ca) (each_from_all IsClosed (rings b) cb) s hs (slant_marks a b s hs h k),
-  upper_triangle a b (each_from_all IsClosed (rings a) ca) (each_from_all IsClosed (rings b) cb) s hs (slant_marks a b s hs h k),
+  lower_triangle a b (each_from_all IsClosed (rings a) ca) (each_from_all IsClosed (rings b) cb) s hs
+      (not_upright_marks a b s hs h k),
+  upper_triangle a b (each_from_all IsClosed (rings a) ca) (each_from_all IsClosed (rings b) cb) s hs
+      (not_upright_marks a b s hs h k),
 )
 
 -- straight below and above the point, as near as asked for, points lie as its sides say
-pub sides_are_near : (g : Geometry) (s : Point) → IsPoint s → IsSlantAt g s → (k : ℕ) → NearSides g s k
-sides_are_near g s hs h k = near_sides g s hs (slant_marks g g s hs h h) k
+pub sides_are_near : (g : Geometry) (s : Point) → IsPoint s → MissesUprights g s → (k : ℕ) → NearSides g s k
+sides_are_near g s hs h k = near_sides g s hs (not_upright_marks g g s hs h h) k
 
 -- near enough a point, what lies straight below and above it lies as its sides do
-pub near_points_are_so : (g : Geometry) (s : Point) → IsPoint s → IsSlantAt g s → AreAllNear g s
-near_points_are_so g s hs h = are_all_near g s hs (slant_marks g g s hs h h)
+pub near_points_are_so : (g : Geometry) (s : Point) → IsPoint s → MissesUprights g s → AreAllNear g s
+near_points_are_so g s hs h = are_all_near g s hs (not_upright_marks g g s hs h h)

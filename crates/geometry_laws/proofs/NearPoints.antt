@@ -10,7 +10,7 @@ use Rattle.geometry_model.specs.Labels.{above, below}
 use Rattle.basics.proofs.Ring.{solve, var, lit, ◌⊕◌, ◌⊖◌, ◌⊗◌}
 use Rattle.basics.proofs.Signs.{strict_plus_plus, plus_plus, plus_minus, cancel_positive, zero_product, at_most_or_less, less_yes, less_no, at_most_yes, at_most_no}
 use Rattle.basics.proofs.Orders.{one_not_zero, weak_positive, natural_weak, gap_positive, gap_weak, negative_flipped}
-use Rattle.geometry_laws.specs.CoverLaws.{value, IsJustBelow, AreAllNear}
+use Rattle.geometry_laws.specs.CoverLaws.{value, IsJustBelow, AreAllNear, IsNotUprightAt}
 use Rattle.geometry_laws.proofs.Each.{Each, each_map, each_of}
 use Rattle.geometry_laws.proofs.Scaling.{same_from}
 use Rattle.geometry_laws.proofs.Respect.{locate_respects}
@@ -18,7 +18,7 @@ use Rattle.geometry_laws.proofs.RingParity.{Natural, natural}
 use Rattle.geometry_laws.proofs.Lines.{value_weighted, Parted, parted, off_beyond}
 use Rattle.geometry_laws.proofs.Locating.{locate_off}
 use Rattle.geometry_laws.proofs.Triangles.{marks, off_first}
-use Rattle.geometry_laws.proofs.Nudge.{lifted, lifted_is_point, IsSlant, off_by_breadth, down, spans_lifted, breadth, breadth_positive, rightward_lifted}
+use Rattle.geometry_laws.proofs.Nudge.{lifted, lifted_is_point, off_by_breadth, down, spans_lifted, breadth, breadth_positive, rightward_lifted}
 use Rattle.geometry_laws.proofs.SideTriangles.{below_from, above_from}
 
 -- what holds of the point moved by m/n in the direction e, wherever m/n is small enough
@@ -68,8 +68,9 @@ outweighs b u w m k n hu hw hm hk h = cancel_positive w (pos n *ℤ u -ℤ b *�
     sum t x y z e h k l = omega (arith, ints)
 
 -- ---- off the edges
--- near enough, the moved point is beyond a line that parts the edge from it, or off the slanted edge that it left
-off_near : (e : ℤ) (s : Point) → (e ≡ pos 0 → ⊥) → IsPoint s → (g : Edge) → IsSlant s g → Nearly e s.W (λ d n. on g (lifted d n s) ≡ false)
+-- near enough, the moved point is beyond a line that parts the edge from it, or off the not_upright edge that it left
+off_near : (e : ℤ) (s : Point) → (e ≡ pos 0 → ⊥) → IsPoint s → (g : Edge) → IsNotUprightAt s g
+    → Nearly e s.W (λ d n. on g (lifted d n s) ≡ false)
 off_near e s he hs g f = go (on g s) refl
   where
     apart : (m : ℤ) → pos 0 <ℤ m → e *ℤ m ≡ pos 0 → ⊥
@@ -165,9 +166,9 @@ record Kept (f h : Edge → Point → Bool) (g : Geometry) (s : Point) (d : ℤ)
   alike : Each (λ e. f e (lifted d n s) ≡ h e s) (edges g)
 
 -- near enough all of it holds at once, the edges being finitely many
-kept_near : (e : ℤ) (f h : Edge → Point → Bool) (g : Geometry) (s : Point) → (e ≡ pos 0 → ⊥) → IsPoint s → Each (IsSlant s) (marks g g) → ((k : Edge) → Nearly e s.W (λ d n. f k (lifted d n s) ≡ h k s)) → Nearly e s.W (Kept f h g s)
-kept_near e f h g s he hs slant near = go (both_near e s.W (λ d n. Each (λ k. on k (lifted d n s) ≡ false) (marks g g)) (λ d n. Each (λ k. f k (lifted d n s) ≡ h k s) (edges g))
-    (each_near e s.W (λ k d n. on k (lifted d n s) ≡ false) (marks g g) (each_map (IsSlant s) (λ k. Nearly e s.W (λ d n. on k (lifted d n s) ≡ false)) (marks g g) (off_near e s he hs) slant))
+kept_near : (e : ℤ) (f h : Edge → Point → Bool) (g : Geometry) (s : Point) → (e ≡ pos 0 → ⊥) → IsPoint s → Each (IsNotUprightAt s) (marks g g) → ((k : Edge) → Nearly e s.W (λ d n. f k (lifted d n s) ≡ h k s)) → Nearly e s.W (Kept f h g s)
+kept_near e f h g s he hs not_upright near = go (both_near e s.W (λ d n. Each (λ k. on k (lifted d n s) ≡ false) (marks g g)) (λ d n. Each (λ k. f k (lifted d n s) ≡ h k s) (edges g))
+    (each_near e s.W (λ k d n. on k (lifted d n s) ≡ false) (marks g g) (each_map (IsNotUprightAt s) (λ k. Nearly e s.W (λ d n. on k (lifted d n s) ≡ false)) (marks g g) (off_near e s he hs) not_upright))
     (each_near e s.W (λ k d n. f k (lifted d n s) ≡ h k s) (edges g) (each_of (λ k. Nearly e s.W (λ d n. f k (lifted d n s) ≡ h k s)) (edges g) (λ k a. near k))))
   where
     go : Nearly e s.W (λ d n. Each (λ k. on k (lifted d n s) ≡ false) (marks g g) × Each (λ k. f k (lifted d n s) ≡ h k s) (edges g)) → Nearly e s.W (Kept f h g s)
@@ -181,7 +182,7 @@ some_natural z n e h = omega (arith, ints)
 
 -- near enough, a point straight below or above is off all edges, so it lies by the parity above it,
 -- and that is the parity of the point's own lower or upper side
-pub are_all_near : (g : Geometry) (s : Point) → IsPoint s → Each (IsSlant s) (marks g g) → AreAllNear g s
+pub are_all_near : (g : Geometry) (s : Point) → IsPoint s → Each (IsNotUprightAt s) (marks g g) → AreAllNear g s
 are_all_near g s hs h = go (kept_near down strictly_above at_or_above g s not_down hs h (λ k. sinks_at k s hs)) (kept_near (pos 1) strictly_above strictly_above g s one_not_zero hs h (λ k. rises_at k s hs))
   where
     applies : (t : Point) → IsPoint t → (d : ℤ) (n : ℕ) → t.W ≡ pos n → t.X *ℤ s.W ≡ s.X *ℤ t.W → t.Y *ℤ s.W -ℤ s.Y *ℤ t.W ≡ d → Each (λ e. on e (lifted d n s) ≡ false) (marks g g) → locate g t ≡ above g (lifted d n s)

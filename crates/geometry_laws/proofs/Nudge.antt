@@ -14,7 +14,7 @@ use Rattle.basics.proofs.Bools.{by_contraries}
 use Rattle.geometry_laws.proofs.LineSides.{side'}
 use Rattle.geometry_laws.proofs.Hulls.{on_parts}
 use Rattle.geometry_laws.proofs.Eventually.{Eventually, both, weaker, grows, from_one, always}
-use Rattle.geometry_laws.specs.CoverLaws.{value}
+use Rattle.geometry_laws.specs.CoverLaws.{value, IsNotUprightAt}
 use Rattle.geometry_laws.proofs.Lines.{value_weighted, Parted, parted, off_beyond}
 
 -- the point moved up by d/(n W)
@@ -34,10 +34,6 @@ pub side_lifted : (a b : Position) (d : ℤ) (n : ℕ) (p : Point) → side a b 
 side_lifted a b d n p = solve (a.x ∷ a.y ∷ b.x ∷ b.y ∷ p.X ∷ p.Y ∷ p.W ∷ pos n ∷ d ∷ [])
     ((var 2 ⊖ var 0) ⊗ ((var 7 ⊗ var 5 ⊕ lit (pos 1) ⊗ var 8) ⊖ var 1 ⊗ (var 7 ⊗ var 6 ⊕ lit (pos 1) ⊗ lit (pos 0))) ⊖ (var 3 ⊖ var 1) ⊗ ((var 7 ⊗ var 4 ⊕ lit (pos 1) ⊗ lit (pos 0)) ⊖ var 0 ⊗ (var 7 ⊗ var 6 ⊕ lit (pos 1) ⊗ lit (pos 0))))
     (var 7 ⊗ side' ⊕ var 8 ⊗ (var 2 ⊖ var 0)) tt
-
--- an edge through the point, if any, isn't vertical
-abbrev pub IsSlant : Point → Edge → Type 0
-IsSlant p e = on e p ≡ true → e.start.x ≡ e.end.x → ⊥
 
 -- a point on an edge with breadth, moved up or down, leaves it
 pub off_by_breadth : (d : ℤ) (e : Edge) (n : ℕ) (p : Point) → (d ≡ pos 0 → ⊥) → on e p ≡ true → (e.start.x ≡ e.end.x → ⊥) → on e (lifted d n p) ≡ false
@@ -69,7 +65,7 @@ off_by_line d e p hp f = go (parted e p f)
         (both (λ n. 0 < n) (λ n. pos 0 <ℤ (pos n *ℤ value c.line p +ℤ value c.line (record { X = pos 0; Y = d; W = pos 0 }))) (from_one (λ n. 0 < n) (λ n k. k)) (grows (value c.line p) (value c.line (record { X = pos 0; Y = d; W = pos 0 })) c.above_at))
 
 -- a point off an edge stays off when it is moved little enough, and one on it leaves it at once
-pub off_soon : (d : ℤ) (e : Edge) (p : Point) → (d ≡ pos 0 → ⊥) → IsPoint p → IsSlant p e → Eventually (λ n. on e (lifted d n p) ≡ false)
+pub off_soon : (d : ℤ) (e : Edge) (p : Point) → (d ≡ pos 0 → ⊥) → IsPoint p → IsNotUprightAt p e → Eventually (λ n. on e (lifted d n p) ≡ false)
 off_soon d e p hd hp s = go (on e p) refl
   where
     go : (t : Bool) → on e p ≡ t → Eventually (λ n. on e (lifted d n p) ≡ false)

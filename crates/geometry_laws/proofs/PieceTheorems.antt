@@ -15,7 +15,7 @@ use Rattle.geometry_laws.proofs.Each.{Each, among_left, among_right, each_append
 use Rattle.geometry_laws.proofs.RingParity.{each_from_all}
 use Rattle.geometry_laws.proofs.Locating.{Off, locate_off}
 use Rattle.geometry_laws.proofs.Triangles.{dot, dots, dot_is_at, marks, triangle_of_off}
-use Rattle.geometry_laws.proofs.WithinPiece.{Belongs, locate_within, above_within, below_within, slant_edge}
+use Rattle.geometry_laws.proofs.WithinPiece.{Belongs, locate_within, above_within, below_within, not_upright_edge}
 
 -- the edges and positions of each geometry are among those of both: of the first
 pub first_belongs : (a b : Geometry) → Belongs (edges_of_both a b) (listed a ++ listed b) a
@@ -41,8 +41,8 @@ sides_constant a b ca cb c h f x y i j = let d : Ends c = piece_ends (edges_of_b
     above_within (edges_of_both a b) (listed a ++ listed b) c h d x y i j b (each_from_all IsClosed (rings b) cb) (second_belongs a b),
   ),
   (
-    below_within (edges_of_both a b) (listed a ++ listed b) c h d (slant_edge (edges_of_both a b) (listed a ++ listed b) c h d f) x y i j a (each_from_all IsClosed (rings a) ca) (first_belongs a b),
-    below_within (edges_of_both a b) (listed a ++ listed b) c h d (slant_edge (edges_of_both a b) (listed a ++ listed b) c h d f) x y i j b (each_from_all IsClosed (rings b) cb) (second_belongs a b),
+    below_within (edges_of_both a b) (listed a ++ listed b) c h d (not_upright_edge (edges_of_both a b) (listed a ++ listed b) c h d f) x y i j a (each_from_all IsClosed (rings a) ca) (first_belongs a b),
+    below_within (edges_of_both a b) (listed a ++ listed b) c h d (not_upright_edge (edges_of_both a b) (listed a ++ listed b) c h d f) x y i j b (each_from_all IsClosed (rings b) cb) (second_belongs a b),
   ),
 )
 

@@ -14,11 +14,11 @@ use Rattle.geometry_laws.proofs.Eventually.{Eventually, both, each_eventually}
 use Rattle.geometry_laws.proofs.RingParity.{parity_of_rings}
 use Rattle.geometry_laws.proofs.Triangles.{marks, off_first, triangle_of_off}
 use Rattle.geometry_laws.proofs.Locating.{locate_off}
-use Rattle.geometry_laws.specs.CoverLaws.{IsJustBelow, NearSides}
+use Rattle.geometry_laws.specs.CoverLaws.{IsJustBelow, NearSides, IsNotUprightAt}
 use Rattle.basics.proofs.Ring.{solve, var, lit, ◌⊕◌, ◌⊖◌, ◌⊗◌}
 use Rattle.basics.proofs.Signs.{strict_plus_plus, plus_plus}
 use Rattle.basics.proofs.Orders.{one_not_zero, natural_weak, sum_first_positive}
-use Rattle.geometry_laws.proofs.Nudge.{lifted, lifted_is_point, IsSlant, off_soon, down, sinks, rises}
+use Rattle.geometry_laws.proofs.Nudge.{lifted, lifted_is_point, off_soon, down, sinks, rises}
 
 -- where just the edges at or above s are strictly above t, what is above t is what is below s
 pub below_from : (g : Geometry) (s t : Point) → Each (λ e. strictly_above e t ≡ at_or_above e s) (edges g) → above g t ≡ below g s
@@ -48,10 +48,10 @@ pub record Moved (least : ℕ) (d : ℤ) (f g : Edge → Point → Bool) (ms es 
   pub alike : Each (λ e. f e (lifted d n s) ≡ g e s) es
 
 -- for some n, as great as asked for, the moved point is off all marks, and f answers there as g does at s
-moved_soon : (least : ℕ) (d : ℤ) (f g : Edge → Point → Bool) (ms es : List Edge) (s : Point) → (d ≡ pos 0 → ⊥) → IsPoint s → Each (IsSlant s) ms → ((e : Edge) → Eventually (λ n. f e (lifted d n s) ≡ g e s)) → (n : ℕ) × Moved least d f g ms es s n
+moved_soon : (least : ℕ) (d : ℤ) (f g : Edge → Point → Bool) (ms es : List Edge) (s : Point) → (d ≡ pos 0 → ⊥) → IsPoint s → Each (IsNotUprightAt s) ms → ((e : Edge) → Eventually (λ n. f e (lifted d n s) ≡ g e s)) → (n : ℕ) × Moved least d f g ms es s n
 moved_soon least d f g ms es s hd hs h k = go
     (both (λ n. Each (λ e. on e (lifted d n s) ≡ false) ms) (λ n. Each (λ e. f e (lifted d n s) ≡ g e s) es)
-    (each_eventually (λ e n. on e (lifted d n s) ≡ false) ms (each_map (IsSlant s) (λ e. Eventually (λ n. on e (lifted d n s) ≡ false)) ms (λ e l. off_soon d e s hd hs l) h))
+    (each_eventually (λ e n. on e (lifted d n s) ≡ false) ms (each_map (IsNotUprightAt s) (λ e. Eventually (λ n. on e (lifted d n s) ≡ false)) ms (λ e l. off_soon d e s hd hs l) h))
     (each_eventually (λ e n. f e (lifted d n s) ≡ g e s) es (each_of (λ e. Eventually (λ n. f e (lifted d n s) ≡ g e s)) es (λ e m. k e))))
   where
     beyond : (m n : ℕ) → m < n + (m + 1)
@@ -68,7 +68,7 @@ some : (m n : ℕ) → m < n → 0 < n
 some m n h = omega arith
 
 -- a little below the point is a point off all edges that lies as below says, and a triangle about that
-pub lower_triangle : (a b : Geometry) → Each IsClosed (rings a) → Each IsClosed (rings b) → (s : Point) → IsPoint s → Each (IsSlant s) (marks a b) → HasTriangle (common a (below a s) b (below b s))
+pub lower_triangle : (a b : Geometry) → Each IsClosed (rings a) → Each IsClosed (rings b) → (s : Point) → IsPoint s → Each (IsNotUprightAt s) (marks a b) → HasTriangle (common a (below a s) b (below b s))
 lower_triangle a b ca cb s hs h = go (moved_soon 0 down strictly_above at_or_above (marks a b) (edges_of_both a b) s not_zero_down hs h (λ e. sinks e s hs))
   where
     go : (n : ℕ) × Moved 0 down strictly_above at_or_above (marks a b) (edges_of_both a b) s n → HasTriangle (common a (below a s) b (below b s))
@@ -77,7 +77,7 @@ lower_triangle a b ca cb s hs h = go (moved_soon 0 down strictly_above at_or_abo
         (below_from b s (lifted down r.0 s) (each_right (λ e. strictly_above e (lifted down r.0 s) ≡ at_or_above e s) (edges a) (edges b) ((r.1).alike)))
 
 -- the same a little above it
-pub upper_triangle : (a b : Geometry) → Each IsClosed (rings a) → Each IsClosed (rings b) → (s : Point) → IsPoint s → Each (IsSlant s) (marks a b) → HasTriangle (common a (above a s) b (above b s))
+pub upper_triangle : (a b : Geometry) → Each IsClosed (rings a) → Each IsClosed (rings b) → (s : Point) → IsPoint s → Each (IsNotUprightAt s) (marks a b) → HasTriangle (common a (above a s) b (above b s))
 upper_triangle a b ca cb s hs h = go (moved_soon 0 (pos 1) strictly_above strictly_above (marks a b) (edges_of_both a b) s one_not_zero hs h (λ e. rises e s hs))
   where
     go : (n : ℕ) × Moved 0 (pos 1) strictly_above strictly_above (marks a b) (edges_of_both a b) s n → HasTriangle (common a (above a s) b (above b s))
@@ -148,7 +148,7 @@ just_above k n s hs h = record {
     close a b c d e f h = omega (arith, ints)
 
 -- so on either side some moved point is near enough, off all edges, and lies as the side says
-pub near_sides : (g : Geometry) (s : Point) → IsPoint s → Each (IsSlant s) (marks g g) → (k : ℕ) → NearSides g s k
+pub near_sides : (g : Geometry) (s : Point) → IsPoint s → Each (IsNotUprightAt s) (marks g g) → (k : ℕ) → NearSides g s k
 near_sides g s hs h k = go (moved_soon k down strictly_above at_or_above (marks g g) (edges g) s not_zero_down hs h (λ e. sinks e s hs)) (moved_soon k (pos 1) strictly_above strictly_above (marks g g) (edges g) s one_not_zero hs h (λ e. rises e s hs))
   where
     go : (n : ℕ) × Moved k down strictly_above at_or_above (marks g g) (edges g) s n → (n : ℕ) × Moved k (pos 1) strictly_above strictly_above (marks g g) (edges g) s n → NearSides g s k

@@ -191,8 +191,8 @@ strictly_right a b p q f s t l = go (lex_of_less p q l)
     go (inr h) = absurd (zero_not_positive (up p q) (pick (zero_product (b.x -ℤ a.x) (up p q) (level h.0))) h.1)
 
 -- the edge of a piece that isn't vertical isn't vertical
-pub slant_edge : (es : List Edge) (ps : List Position) (c : Piece) (h : IsPiece es ps c) → Ends c → is_upright c ≡ false → h.edge.start.x ≡ h.edge.end.x → ⊥
-slant_edge es ps c h d f e = not_equal_from (c.lesser.X *ℤ c.greater.W) (c.greater.X *ℤ c.lesser.W) f (cross (one c.lesser d.lesser h.lesser_on) (one c.greater d.greater h.greater_on))
+pub not_upright_edge : (es : List Edge) (ps : List Position) (c : Piece) (h : IsPiece es ps c) → Ends c → is_upright c ≡ false → h.edge.start.x ≡ h.edge.end.x → ⊥
+not_upright_edge es ps c h d f e = not_equal_from (c.lesser.X *ℤ c.greater.W) (c.greater.X *ℤ c.lesser.W) f (cross (one c.lesser d.lesser h.lesser_on) (one c.greater d.greater h.greater_on))
   where
     coordinate : (p : Point) → OnHull h.edge p → h.edge.start.x *ℤ p.W ≡ p.X *ℤ pos 1
     coordinate p o = dot_coordinate o.k o.m o.n h.edge.start.x p.X p.W o.from_k (o.x_is ∙ ap (λ (z : ℤ). o.m *ℤ h.edge.start.x +ℤ o.n *ℤ z) (sym e)) o.w_is

@@ -58,14 +58,18 @@ pub record FirstAbove (es : List Edge) (x : Point) : Type 0 where
 abbrev pub FirstIsAbove : Type 0
 FirstIsAbove = (es : List Edge) (x : Point) → IsPoint x → All (λ e. strictly_above e x ≡ false) es ⊎ FirstAbove es x
 
+-- the edge, if it goes through the point, isn't vertical
+abbrev pub IsNotUprightAt : Point → Edge → Type 0
+IsNotUprightAt p e = on e p ≡ true → e.start.x ≡ e.end.x → ⊥
+
 -- no vertical edge goes through the point, and no listed position is there
-pub record IsSlantAt (g : Geometry) (p : Point) : Type 0 where
-  pub edges : All (λ e. on e p ≡ true → e.start.x ≡ e.end.x → ⊥) (edges g)
+pub record MissesUprights (g : Geometry) (p : Point) : Type 0 where
+  pub edges : All (IsNotUprightAt p) (edges g)
   pub positions : All (λ a. is_at p a ≡ false) (listed g)
 
 -- just below and just above such a point there are triangles of points that lie where `below` and `above` say
 abbrev pub SidesHaveTriangles : Type 0
-SidesHaveTriangles = (a b : Geometry) → HasClosedRings a → HasClosedRings b → (s : Point) → IsPoint s → IsSlantAt a s → IsSlantAt b s
+SidesHaveTriangles = (a b : Geometry) → HasClosedRings a → HasClosedRings b → (s : Point) → IsPoint s → MissesUprights a s → MissesUprights b s
     → HasTriangle (common a (below a s) b (below b s)) × HasTriangle (common a (above a s) b (above b s))
 
 -- the first is straight below the second, nearer than 1/k
@@ -87,7 +91,7 @@ pub record NearSides (g : Geometry) (s : Point) (k : ℕ) : Type 0 where
 
 -- straight below and straight above a point through which no vertical edge goes there are, arbitrarily near, points that lie where `below` and `above` say
 abbrev pub SidesAreNear : Type 0
-SidesAreNear = (g : Geometry) (s : Point) → IsPoint s → IsSlantAt g s → (k : ℕ) → NearSides g s k
+SidesAreNear = (g : Geometry) (s : Point) → IsPoint s → MissesUprights g s → (k : ℕ) → NearSides g s k
 
 -- nearer than some 1/k, all points straight below s lie in g where `below` says, and all straight above it where `above` says
 pub record AreAllNear (g : Geometry) (s : Point) : Type 0 where
@@ -97,4 +101,4 @@ pub record AreAllNear (g : Geometry) (s : Point) : Type 0 where
 
 -- straight below and straight above a point through which no vertical edge goes, all points near enough lie where `below` and `above` say
 abbrev pub NearPointsAreSo : Type 0
-NearPointsAreSo = (g : Geometry) (s : Point) → IsPoint s → IsSlantAt g s → AreAllNear g s
+NearPointsAreSo = (g : Geometry) (s : Point) → IsPoint s → MissesUprights g s → AreAllNear g s

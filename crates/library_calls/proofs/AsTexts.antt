@@ -3,7 +3,7 @@ use Rattle.std.proofs.Common.{◌≡◌, refl, sym, ap, ◌∙◌, subst, ℕ, z
 use Rattle.std.specs.List.{flat_map}
 use Rattle.std.specs.Option.{option_to_list}
 use Rattle.std.specs.Str.Parse.{digits_value}
-use Rattle.std.proofs.lemmas.Bool.{and_parts}
+use Rattle.std.proofs.lemmas.Bool.{and_parts, and_from}
 use Rattle.std.proofs.lemmas.Grind.{flat_map-append}
 use Rattle.geometry_model.specs.CheckedTexts.{geometry_in_text, tested}
 use Rattle.geometry_model.specs.Geometries.{Geometry, Point, MultiPoint, LineString, MultiLineString, Polygon, MultiPolygon, joined_rings}
@@ -13,7 +13,8 @@ use Rattle.geometry_model.specs.WellKnownText.{Rule, Separated, Number, Position
 use Rattle.geometry_model.specs.declared.text_faults.TextFault.TheVariants.{TooLong}
 use Rattle.text_laws.proofs.FullTexts.{too_many_is_too_long}
 use Rattle.text_laws.proofs.TextComplete.{spelled_is_read}
-use Rattle.library_calls.specs.ArrayLaws.{ArraysAreAsTexts}
+use Rattle.fraction.specs.Ranges.{IsOnGrid}
+use Rattle.library_calls.specs.ArrayLaws.{ArraysAreAsTexts, TestsAreLimits}
 use Rattle.library_calls.specs.Written.{first_past_limit, geometry_in_arrays, is_on_grid, is_within_counts, taken, within_or}
 
 -- ---- all numbers of a text are within the limit
@@ -102,6 +103,28 @@ are_within w few =
     let positions : nat_le (length (written_positions w)) position_limit ≡ true = both.0 in
     let parts : nat_le (length (written_parts w)) part_limit ≡ true = both.1 in
     (grind (arith, positions), grind (arith, parts))
+
+few_enough : (w : Geometry) → IsWithinCounts w → is_within_counts w ≡ true
+few_enough w within =
+    let one = within.0 in let other = within.1 in
+    and_from (nat_le (length (written_positions w)) position_limit) (nat_le (length (written_parts w)) part_limit)
+    (grind (arith, one)) (grind (arith, other))
+
+on_grid : (p : Position) → is_on_grid p ≡ true → IsOnGrid p
+on_grid p test =
+    let both = and_parts (nat_le (unsigned_abs p.x) coordinate_limit) (nat_le (unsigned_abs p.y) coordinate_limit) test in
+    let x : nat_le (unsigned_abs p.x) coordinate_limit ≡ true = both.0 in
+    let y : nat_le (unsigned_abs p.y) coordinate_limit ≡ true = both.1 in
+    record { x = grind (arith, x); y = grind (arith, y) }
+
+near_enough : (p : Position) → IsOnGrid p → is_on_grid p ≡ true
+near_enough p on =
+    let x = on.x in let y = on.y in
+    and_from (nat_le (unsigned_abs p.x) coordinate_limit) (nat_le (unsigned_abs p.y) coordinate_limit)
+    (grind (arith, x)) (grind (arith, y))
+
+pub tests_are_limits : TestsAreLimits
+tests_are_limits = ((λ w. (are_within w, few_enough w)), (λ p. (on_grid p, near_enough p)))
 
 are_beyond : (w : Geometry) → is_within_counts w ≡ false → ¬ (IsWithinCounts w)
 are_beyond w many within = let one = within.0 in let other = within.1 in grind (arith, many, one, other)

@@ -17,8 +17,8 @@ use Rattle.geometry_model.specs.declared.relations.PatternCharacter.TheVariants 
 use Rattle.geometry_model.specs.declared.relations.Predicate.TheVariants as predicate
 use Rattle.matrix_laws.specs.MatrixLaws.{LabelsArePointSets}
 use Rattle.matrix_laws.specs.MeetingLaws.{LabelsForceMeeting}
-use Rattle.library_calls.specs.Meeting.{DoIntersect, SharePoint}
-use Rattle.library_calls.specs.Relations.{holds}
+use Rattle.library_calls.specs.Meeting.{DoIntersect, GeometriesShare}
+use Rattle.library_calls.specs.Relations.{relation_holds}
 use Rattle.library_calls.specs.declared.relations.Relation.TheVariants as relations
 
 -- a cell whose parts share a point isn't empty
@@ -65,7 +65,7 @@ no_disjoint m l k one other is = four (takes characters.False m.interior_interio
     go Boundary Exterior one other is = absurd (other refl)
 
 -- two geometries that share a point intersect
-pub share_point : LabelsArePointSets → (a b : Geometry) → IsValid a → IsValid b → SharePoint a b → DoIntersect a b true
+pub share_point : LabelsArePointSets → (a b : Geometry) → IsValid a → IsValid b → GeometriesShare a b → DoIntersect a b true
 share_point law a b one other shared =
     let m = labelled_matrix a b in
     let is = law a b one other in
@@ -78,14 +78,14 @@ share_point law a b one other shared =
     }
 
 -- the other way round
-pub share_turned : LabelsArePointSets → (a b : Geometry) → IsValid a → IsValid b → SharePoint b a → DoIntersect a b true
+pub share_turned : LabelsArePointSets → (a b : Geometry) → IsValid a → IsValid b → GeometriesShare b a → DoIntersect a b true
 share_turned law a b one other shared = share_point law a b one other (record { point = shared.point; is_point = shared.is_point; in_one = shared.in_other; in_other = shared.in_one })
 
 -- two whose envelopes don't meet don't
 pub far_apart : LabelsArePointSets → LabelsForceMeeting → (a b : Geometry) → IsValid a → IsValid b → meets (envelope a) (envelope b) ≡ false → DoIntersect a b false
 far_apart labels forces a b one other far =
-    record { matrix = labelled_matrix a b; is_matrix = labels a b one other; exact = go (holds relations.Intersects (kind a) (kind b) (labelled_matrix a b)) refl }
+    record { matrix = labelled_matrix a b; is_matrix = labels a b one other; exact = go (relation_holds relations.Intersects (kind a) (kind b) (labelled_matrix a b)) refl }
   where
-    go : (found : Bool) → holds relations.Intersects (kind a) (kind b) (labelled_matrix a b) ≡ found → false ≡ found
+    go : (found : Bool) → relation_holds relations.Intersects (kind a) (kind b) (labelled_matrix a b) ≡ found → false ≡ found
     go false is = refl
     go true is = let met : meets (envelope a) (envelope b) ≡ true = forces predicate.Intersects a b refl one other is in absurd (let no : false ≡ true = sym far ∙ met in cc)

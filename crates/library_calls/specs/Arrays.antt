@@ -26,8 +26,8 @@ pub record IsMade (number : ℕ) (positions : List Position) (lines polygons : L
   pub fits : fitting_type number (length positions) lines polygons ≡ Some geometry_type
   pub made : IsTaken (written_as geometry_type positions lines polygons) g
 
--- what is written isn't a valid geometry: this is its first fault in numbers, and that of each text with the same numbers
--- (06-103r4, 6.1 and 7.2; the order and the numbers: this project's choice)
+-- what is written isn't a valid geometry: this is its first fault in numbers, and that of each text that writes the same numbers,
+-- which are within the limit there (06-103r4, 6.1 and 7.2; the order and the numbers: this project's choice)
 pub record IsRefusedArray (written : Geometry) (numbers : Fault) : Type 0 where
   pub fault : GeometryFault
   pub refused : geometry_in_arrays written ≡ Err fault

@@ -11,7 +11,7 @@ use Rattle.geometry_model.specs.Points.{Position, point_at}
 use Rattle.geometry_model.specs.declared.relations.Pattern.{Pattern}
 use Rattle.library_calls.specs.Numbers.{location_number}
 use Rattle.library_calls.specs.Refusals.{ok, too_small, unknown}
-use Rattle.library_calls.specs.Relations.{holds, relation_of}
+use Rattle.library_calls.specs.Relations.{relation_holds, relation_of}
 use Rattle.library_calls.specs.declared.relations.Relation.{Relation}
 
 -- the nine characters are those of the matrix of two geometries (06-103r4, 6.1.15.2)
@@ -26,7 +26,7 @@ pub record HasRelation (number : ℕ) (one other : Geometry) (answer : Bool) : T
   pub matrix : Matrix
   pub is_relation : relation_of number ≡ Some relation
   pub is_matrix : IsMatrix one other matrix
-  pub exact : answer ≡ holds relation (kind one) (kind other) matrix
+  pub exact : answer ≡ relation_holds relation (kind one) (kind other) matrix
 
 -- the text is a pattern, and this is whether the matrix of two geometries matches it (06-103r4, 6.1.15.2)
 pub record Matches (text : List ℕ) (one other : Geometry) (answer : Bool) : Type 0 where

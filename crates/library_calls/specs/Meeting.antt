@@ -5,11 +5,11 @@ use Rattle.geometry_model.specs.Geometries.{Geometry, kind}
 use Rattle.geometry_model.specs.Locations.{locate}
 use Rattle.geometry_model.specs.Points.{Point, IsPoint}
 use Rattle.geometry_model.specs.declared.point_sets.Location.TheVariants.{Exterior}
-use Rattle.library_calls.specs.Relations.{holds}
+use Rattle.library_calls.specs.Relations.{relation_holds}
 use Rattle.library_calls.specs.declared.relations.Relation.TheVariants as relations
 
 -- a point is in the exterior of neither (06-103r4, 6.1.15.2)
-pub record SharePoint (one other : Geometry) : Type 0 where
+pub record GeometriesShare (one other : Geometry) : Type 0 where
   pub point : Point
   pub is_point : IsPoint point
   pub in_one : locate one point ≢ Exterior
@@ -19,4 +19,4 @@ pub record SharePoint (one other : Geometry) : Type 0 where
 pub record DoIntersect (one other : Geometry) (answer : Bool) : Type 0 where
   pub matrix : Matrix
   pub is_matrix : IsMatrix one other matrix
-  pub exact : answer ≡ holds relations.Intersects (kind one) (kind other) matrix
+  pub exact : answer ≡ relation_holds relations.Intersects (kind one) (kind other) matrix

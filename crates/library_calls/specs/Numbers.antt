@@ -6,10 +6,10 @@ use Rattle.geometry_model.specs.declared.shapes.Kind.{Kind}
 use Rattle.geometry_model.specs.declared.shapes.Kind.TheVariants as kinds
 
 -- the dimension of geometries of a kind (06-103r4, 6.1.2.2: Dimension)
-abbrev pub dimension : Kind → ℕ
-dimension kinds.Point = 0
-dimension kinds.Line = 1
-dimension kinds.Area = 2
+abbrev pub dimension_of_kind : Kind → ℕ
+dimension_of_kind kinds.Point = 0
+dimension_of_kind kinds.Line = 1
+dimension_of_kind kinds.Area = 2
 
 -- the number of a location, in the order of the matrix (06-103r4, 6.1.15.2)
 abbrev pub location_number : Location → ℕ

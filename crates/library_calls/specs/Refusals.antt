@@ -38,25 +38,31 @@ abbrev pub fault_in_numbers : GeometryFault → Fault
 fault_in_numbers (either.Text fault) = text_fault_in_numbers fault
 fault_in_numbers (either.Invalid fault) = validity_fault_in_numbers fault
 
--- the statuses that a call returns
+-- the status of a call that did what it promises
 abbrev pub ok : ℕ
 ok = 0
 
+-- the status where the only text, or the first of two, isn't a valid geometry's
 abbrev pub first_refused : ℕ
 first_refused = 1
 
+-- the status where the second text isn't a valid geometry's
 abbrev pub second_refused : ℕ
 second_refused = 2
 
+-- the status where memory ran out
 abbrev pub out_of_memory : ℕ
 out_of_memory = 3
 
+-- the status where a number or a text names nothing, sizes fit no type, or a position is off the grid
 abbrev pub unknown : ℕ
 unknown = 4
 
+-- the status where the caller's room is too small
 abbrev pub too_small : ℕ
 too_small = 5
 
+-- the status where there is nothing to write: an empty geometry has no bounds
 abbrev pub none_there : ℕ
 none_there = 6
 

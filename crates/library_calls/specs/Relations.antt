@@ -37,31 +37,31 @@ relation_of n =
     else None
 
 -- the relation holds of two geometries of these kinds with this matrix (06-103r4, 6.1.15.3)
-abbrev pub holds : Relation → Kind → Kind → Matrix → Bool
-holds relations.Equals k l m = predicates.holds predicate.Equals k l m
-holds relations.Disjoint k l m = predicates.holds predicate.Disjoint k l m
-holds relations.Intersects k l m = predicates.holds predicate.Intersects k l m
-holds relations.Touches k l m = predicates.holds predicate.Touches k l m
-holds relations.Crosses k l m = predicates.holds predicate.Crosses k l m
-holds relations.Within k l m = predicates.holds predicate.Within k l m
-holds relations.Contains k l m = predicates.holds predicate.Contains k l m
-holds relations.Overlaps k l m = predicates.holds predicate.Overlaps k l m
-holds relations.Covers k l m = covers m
-holds relations.CoveredBy k l m = covered_by m
-holds relations.ContainsProperly k l m = contains_properly m
+abbrev pub relation_holds : Relation → Kind → Kind → Matrix → Bool
+relation_holds relations.Equals k l m = predicates.holds predicate.Equals k l m
+relation_holds relations.Disjoint k l m = predicates.holds predicate.Disjoint k l m
+relation_holds relations.Intersects k l m = predicates.holds predicate.Intersects k l m
+relation_holds relations.Touches k l m = predicates.holds predicate.Touches k l m
+relation_holds relations.Crosses k l m = predicates.holds predicate.Crosses k l m
+relation_holds relations.Within k l m = predicates.holds predicate.Within k l m
+relation_holds relations.Contains k l m = predicates.holds predicate.Contains k l m
+relation_holds relations.Overlaps k l m = predicates.holds predicate.Overlaps k l m
+relation_holds relations.Covers k l m = covers m
+relation_holds relations.CoveredBy k l m = covered_by m
+relation_holds relations.ContainsProperly k l m = contains_properly m
 
 -- which of the relations hold, by their numbers
 abbrev pub all_hold : Kind → Kind → Matrix → List Bool
 all_hold k l m =
-    holds relations.Equals k l m
-    ∷ holds relations.Disjoint k l m
-    ∷ holds relations.Intersects k l m
-    ∷ holds relations.Touches k l m
-    ∷ holds relations.Crosses k l m
-    ∷ holds relations.Within k l m
-    ∷ holds relations.Contains k l m
-    ∷ holds relations.Overlaps k l m
-    ∷ holds relations.Covers k l m
-    ∷ holds relations.CoveredBy k l m
-    ∷ holds relations.ContainsProperly k l m
+    relation_holds relations.Equals k l m
+    ∷ relation_holds relations.Disjoint k l m
+    ∷ relation_holds relations.Intersects k l m
+    ∷ relation_holds relations.Touches k l m
+    ∷ relation_holds relations.Crosses k l m
+    ∷ relation_holds relations.Within k l m
+    ∷ relation_holds relations.Contains k l m
+    ∷ relation_holds relations.Overlaps k l m
+    ∷ relation_holds relations.Covers k l m
+    ∷ relation_holds relations.CoveredBy k l m
+    ∷ relation_holds relations.ContainsProperly k l m
     ∷ []

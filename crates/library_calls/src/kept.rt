@@ -6,7 +6,7 @@ ghost use Rattle.geometry_model.specs.CanonicalText.{canonical_text};
 ghost use Rattle.geometry_model.specs.Envelopes.{envelope};
 ghost use Rattle.geometry_model.specs.Geometries.{kind};
 ghost use Rattle.library_calls.specs.Kept.{HasMatrix, HasRelation, IsStatusOfPosition, LiesAt, Matches, bounds_of, status_of_pattern, status_of_relation, status_of_room};
-ghost use Rattle.library_calls.specs.Numbers.{dimension, location_number};
+ghost use Rattle.library_calls.specs.Numbers.{dimension_of_kind, location_number};
 ghost use Rattle.library_calls.specs.Refusals.{none_there, ok, out_of_memory};
 ghost use Rattle.library_calls.specs.Relations.{relation_of};
 ghost use Rattle.streams.specs.MemorySinks.{memory_bytes};
@@ -154,7 +154,7 @@ pub(crate) fn write_front(text: &[u8], room: &mut [u8]) -> u32
 /// The dimension of a geometry's type: 0 of points, 1 of lines, 2 of areas, also where it is empty (06-103r4, 6.1.2.2:
 /// Dimension).
 pub fn dimension_of(geometry: &Valid) -> u32
-    ensures { result ≡ dimension (kind geometry.now) }
+    ensures { result ≡ dimension_of_kind (kind geometry.now) }
 {
     match geometry.kind() {
         Kind::Point => 0,

@@ -1,7 +1,7 @@
 //! Whether two geometries share a point, without their matrix where a few positions or the envelopes say so.
 
 ghost use Rattle.std.specs.Prelude.{◌≡◌, IfOk, IfSome, true};
-ghost use Rattle.library_calls.specs.Meeting.{DoIntersect, SharePoint};
+ghost use Rattle.library_calls.specs.Meeting.{DoIntersect, GeometriesShare};
 
 use crate::relations::{Relation, holds};
 use crate::texts::matrix_of;
@@ -20,7 +20,7 @@ const TRIED: usize = 8;
 
 /// Whether the point at a position is in neither exterior.
 fn is_shared(first: &Valid, second: &Valid, position: GridPoint) -> bool
-    ensures { result ≡ true → SharePoint first.now second.now }
+    ensures { result ≡ true → GeometriesShare first.now second.now }
 {
     let point = RatPoint::of_grid(position);
     locate(second, &point) != Location::Exterior && locate(first, &point) != Location::Exterior
@@ -28,7 +28,7 @@ fn is_shared(first: &Valid, second: &Valid, position: GridPoint) -> bool
 
 /// Whether one of a few positions of the first geometry is in neither exterior; false says nothing.
 fn shares_position(first: &Valid, second: &Valid) -> bool
-    ensures { result ≡ true → SharePoint first.now second.now }
+    ensures { result ≡ true → GeometriesShare first.now second.now }
 {
     let edges = first.segments();
     let step = edges.len() / TRIED + 1;

@@ -2,7 +2,7 @@
 
 ghost use Rattle.std.specs.Prelude.{◌≡◌};
 ghost use Rattle.geometry_model.specs.Predicates as predicates;
-ghost use Rattle.library_calls.specs.Relations.{all_hold, contains_properly, covered_by, covers, holds, relation_of};
+ghost use Rattle.library_calls.specs.Relations.{all_hold, contains_properly, covered_by, covers, relation_holds, relation_of};
 
 use de9im::{Matrix, MatrixPattern, PatternText, holds as predicate_holds};
 use geometry_model::{Kind, Pattern, Predicate};
@@ -49,7 +49,7 @@ pub fn relation_of(number: u32) -> Option<Relation>
 
 /// Whether the relation holds of two geometries of these kinds whose matrix this is (06-103r4, 6.1.15.3). It takes no memory.
 pub fn holds(relation: Relation, first: Kind, second: Kind, matrix: &Matrix) -> bool
-    ensures { result ≡ holds relation first second matrix.now }
+    ensures { result ≡ relation_holds relation first second matrix.now }
 {
     match relation {
         Relation::Equals => predicate_holds(Predicate::Equals, first, second, matrix),

@@ -94,7 +94,7 @@ fn label_text(alloc: Global, labels: &[Label]) -> Result<String, AllocError> {
     Ok(text)
 }
 
-/// The text of the labels just below and just above edges, with a stroke for one that is upright.
+/// The text of the labels just below and just above edges, with a stroke for one that is vertical.
 fn side_text(alloc: Global, sides: &[Option<SideLabels>]) -> Result<String, AllocError> {
     let mut text = String::new(alloc);
     for both in sides {
@@ -109,7 +109,7 @@ fn side_text(alloc: Global, sides: &[Option<SideLabels>]) -> Result<String, Allo
     Ok(text)
 }
 
-/// Two squares with a common edge: six corners, seven edges, and the sides of those that aren't upright.
+/// Two squares with a common edge: six corners, seven edges, and the sides of those that aren't vertical.
 #[test]
 fn labels_of_two_squares(rt: HostRuntime) -> Result<(), Fail> {
     let labels = labelled(

@@ -31,7 +31,7 @@ const HELD: [Row; 8] = [
         ((0, 0), (12, 6)),
         true,
     ),
-    // Upright ones, with one on the line beside them.
+    // Vertical ones, with one on the line beside them.
     (
         &[((0, 9), (0, 3)), ((1, 0), (1, 9)), ((0, 0), (0, 5))],
         ((0, 8), (0, 1)),

@@ -23,12 +23,12 @@ use Rattle.matrix_laws.proofs.Located.{Side, lower_side, upper_side, on_or_off, 
 
 -- ---- off b's edges
 -- off b's edges a point is in b's exterior, or in the interior of an area, and the matrix shows what either wants
-pub full_off_at : (a b : Geometry) (m : Matrix) → IsFullOff a b m → (e : Edge) (x : Point) → IsOffEdges b x → ShowsOff a m e (mostly b x)
-full_off_at a b m h e x o = go (off_edges_is_no_boundary b x o)
+pub full_off_at : (a b : Geometry) (m : Matrix) (e : Edge) → IsFullOff a b m e → (x : Point) → IsOffEdges b x → ShowsOff a m e (mostly b x)
+full_off_at a b m e h x o = go (off_edges_is_no_boundary b x o)
   where
     go : (mostly b x ≡ Exterior) ⊎ ((kind b ≡ kinds.Area) × (mostly b x ≡ Interior)) → ShowsOff a m e (mostly b x)
-    go (inl q) = subst (ShowsOff a m e) (sym q) (h.in_exterior e)
-    go (inr q) = subst (ShowsOff a m e) (sym q.1) (h.in_interior q.0 e)
+    go (inl q) = subst (ShowsOff a m e) (sym q) h.in_exterior
+    go (inr q) = subst (ShowsOff a m e) (sym q.1) (h.in_interior q.0)
 
 -- ---- on an edge of b: each two parts that sides can be in
 pub full_on_sides : (a b : Geometry) (m : Matrix) → IsFullOn a b m → (l k : Location) → Side a l → Side b k → Shows m l k Two
@@ -46,16 +46,14 @@ full_along_at a b m e h x = record {
   upper = λ u n. full_on_sides a b m (h.sides n) (above a x) (above b x) (upper_side a x) (upper_side b x);
 }
 
-full_on_at : (a b : Geometry) (m : Matrix) → IsFullOn a b m → (e : Edge) (x : Point) → ShowsShared a b m e x
-full_on_at a b m h e x = full_along_at a b m e (record { piece = h.piece; sides = λ _. h }) x
-
 -- each point of the edge is on an edge of b or off all of them
-pub full_covers : (a b : Geometry) → IsValid a → IsValid b → (e : Edge) → Contains (edges a) e → e.start ≢ e.end → (m : Matrix) → ShowsEnds a b m → IsFullOff a b m → IsFullOn a b m → Covers a b m e
+pub full_covers : (a b : Geometry) → IsValid a → IsValid b → (e : Edge) → Contains (edges a) e → e.start ≢ e.end → (m : Matrix)
+    → ShowsEnds a b m → IsFullOff a b m e → IsFullAlong a b m e → Covers a b m e
 full_covers a b va vb e c w m t h k x hx l = go (on_or_off b x)
   where
     go : Passing (λ f. on f x) (edges b) ⊎ IsOffEdges b x → ShowsPoint a b m e x
-    go (inl p) = shared_is_shown a b m t e c p.found (contains_of_among p.found (edges b) p.among) x hx l p.passes (full_on_at a b m k e x)
-    go (inr o) = off_is_shown a b m t e c x hx l o (full_off_at a b m h e x o)
+    go (inl p) = shared_is_shown a b m t e c p.found (contains_of_among p.found (edges b) p.among) x hx l p.passes (full_along_at a b m e k x)
+    go (inr o) = off_is_shown a b m t e c x hx l o (full_off_at a b m e h x o)
 
 -- ---- where no edge of b shares a stretch, each point that one holds is a cut
 -- a point of both that is no cut would be within both edges, on one line, so they would share a stretch
@@ -69,8 +67,8 @@ shared_is_cut a b e c w n f d x hx k l u = go (overlaps a b e f c d x hx k l u)
     go o = further o (shares_further e f w (one_line e f o.one_line) x hx (spread e x hx k o.no_end) (spread f x hx l o.no_other_end))
 
 -- so a point on an edge of b is a cut, of which only a point is to be shown, and all others lie off b's edges
-pub full_off_covers : (a b : Geometry) → IsValid a → IsValid b → (e : Edge) → Contains (edges a) e → e.start ≢ e.end → (m : Matrix) → ShowsEnds a b m → IsFullOff a b m → Shows m (of_own_edges (kind a)) (of_own_edges (kind b)) Zero
-    → SharesNoStretch e (edges b) → Covers a b m e
+pub full_off_covers : (a b : Geometry) → IsValid a → IsValid b → (e : Edge) → Contains (edges a) e → e.start ≢ e.end → (m : Matrix)
+    → ShowsEnds a b m → IsFullOff a b m e → Shows m (of_own_edges (kind a)) (of_own_edges (kind b)) Zero → SharesNoStretch e (edges b) → Covers a b m e
 full_off_covers a b va vb e c w m t h z n x hx l = go (on_or_off b x)
   where
     cut : (f : Edge) → Contains (edges b) f → on f x ≡ true → ShowsShared a b m e x
@@ -83,4 +81,4 @@ full_off_covers a b va vb e c w m t h z n x hx l = go (on_or_off b x)
 
     go : Passing (λ f. on f x) (edges b) ⊎ IsOffEdges b x → ShowsPoint a b m e x
     go (inl p) = shared_is_shown a b m t e c p.found (contains_of_among p.found (edges b) p.among) x hx l p.passes (cut p.found (contains_of_among p.found (edges b) p.among) p.passes)
-    go (inr o) = off_is_shown a b m t e c x hx l o (full_off_at a b m h e x o)
+    go (inr o) = off_is_shown a b m t e c x hx l o (full_off_at a b m e h x o)

@@ -1,8 +1,8 @@
 -- Edges of a whose points are all on edges of b, and when a matrix covers them.
-use Rattle.std.proofs.Common.{◌≡◌, ◌≢◌, true, List, All, Any, Contains}
+use Rattle.std.proofs.Common.{◌≡◌, ◌≢◌, true, List, All, Contains}
 use Rattle.std.proofs.lemmas.List.Elements.{All-contains}
 use Rattle.geometry_model.specs.Points.{Point, IsPoint}
-use Rattle.geometry_model.specs.Geometries.{Edge, Geometry, kind, edges}
+use Rattle.geometry_model.specs.Geometries.{Edge, Geometry, edges}
 use Rattle.geometry_model.specs.Sides.{on}
 use Rattle.geometry_model.specs.Dimensions.{Matrix}
 use Rattle.geometry_model.specs.Labels.{below, above}
@@ -10,11 +10,11 @@ use Rattle.geometry_laws.proofs.Each.{Passing}
 use Rattle.geometry_laws.proofs.Cuts.{contains_of_among, one_line}
 use Rattle.matrix_laws.proofs.MatrixLists.{Some_of, some_from_any}
 use Rattle.matrix_laws.specs.Cells.{ShowsPoint, IsNoCut, Covers}
-use Rattle.matrix_laws.specs.Covering.{IsOffEdges, IsHeld, ShowsOn, ShowsAt, ShowsEnds}
-use Rattle.matrix_laws.specs.CoveringLaws.{IsFullOff, IsFullOn, IsFullAlong}
+use Rattle.matrix_laws.specs.Covering.{IsHeld, ShowsOn, ShowsEnds}
+use Rattle.matrix_laws.specs.CoveringLaws.{IsFullAlong}
 use Rattle.matrix_laws.proofs.Stretching.{SharesFurther, shares_further, spread, not_upright_either}
-use Rattle.matrix_laws.proofs.Located.{lower_side, upper_side, not_off, shared_is_shown, Overlaps, overlaps}
-use Rattle.matrix_laws.proofs.FullCovering.{full_off_at, full_on_sides, full_along_at}
+use Rattle.matrix_laws.proofs.Located.{lower_side, upper_side, shared_is_shown, Overlaps, overlaps}
+use Rattle.matrix_laws.proofs.FullCovering.{full_on_sides, full_along_at}
 
 -- an edge of b holds each point of a held edge
 pub holder : (es : List Edge) (e : Edge) → IsHeld es e → (x : Point) → IsPoint x → on e x ≡ true → Passing (λ f. on f x) es
@@ -31,27 +31,17 @@ held_covers a b e c m t h k x hx l = go (holder (edges b) e h x hx l)
     go p = shared_is_shown a b m t e c p.found (contains_of_among p.found (edges b) p.among) x hx l p.passes (full_along_at a b m e k x)
 
 -- so it shows each gap of the edge, by any point within it
-full_shows_on : (a b : Geometry) (m : Matrix) (e : Edge) → IsFullAlong a b m e → (y : Point) → ShowsOn a b m e y
+pub full_shows_on : (a b : Geometry) (m : Matrix) (e : Edge) → IsFullAlong a b m e → (y : Point) → ShowsOn a b m e y
 full_shows_on a b m e h y = record {
   piece = h.piece;
   lower = λ n. full_on_sides a b m (h.sides n) (below a y) (below b y) (lower_side a y) (lower_side b y);
   upper = λ n. full_on_sides a b m (h.sides n) (above a y) (above b y) (upper_side a y) (upper_side b y);
 }
 
-pub held_shows : (a b : Geometry) (m : Matrix) (e : Edge) → IsHeld (edges b) e → IsFullAlong a b m e → (y : Point) → IsPoint y → on e y ≡ true → ShowsAt a b m e y
-held_shows a b m e h k y hy l = record { off = λ o. absurd (clash (holder (edges b) e h y hy l) o); shared = λ _. full_shows_on a b m e k y }
-  where
-    clash : Passing (λ f. on f y) (edges b) → IsOffEdges b y → ⊥
-    clash p o = not_off b p.found (contains_of_among p.found (edges b) p.among) y p.passes o
-
--- and so it does where it shows all that gaps off b's edges can show, whether they hold the edge or not
-pub full_shows : (a b : Geometry) (m : Matrix) (e : Edge) → IsFullOff a b m → IsFullAlong a b m e → (y : Point) → ShowsAt a b m e y
-full_shows a b m e h k y = record { off = λ o. full_off_at a b m h e y o; shared = λ _. full_shows_on a b m e k y }
-
 -- ---- where the matrix covers the edges of b
 -- edges of both that hold a point that is no cut are on one line: neither is vertical, or both are
-slanted_too : (a b : Geometry) (e f : Edge) → Contains (edges a) e → Contains (edges b) f → e.start ≢ e.end → (x : Point) → IsPoint x → on e x ≡ true → on f x ≡ true → IsNoCut a b x → e.start.x ≢ e.end.x → f.start.x ≢ f.end.x
-slanted_too a b e f c d w x hx k l u n = go (overlaps a b e f c d x hx k l u)
+not_upright_too : (a b : Geometry) (e f : Edge) → Contains (edges a) e → Contains (edges b) f → e.start ≢ e.end → (x : Point) → IsPoint x → on e x ≡ true → on f x ≡ true → IsNoCut a b x → e.start.x ≢ e.end.x → f.start.x ≢ f.end.x
+not_upright_too a b e f c d w x hx k l u n = go (overlaps a b e f c d x hx k l u)
   where
     further : SharesFurther e f x → f.start.x ≢ f.end.x
     further s = not_upright_either e f x s.point n (record { lesser = hx; greater = s.is_point; lesser_on = k; greater_on = s.on_first; in_order = s.further }) l s.on_second
@@ -63,8 +53,8 @@ shown_by_other : (a b : Geometry) (m : Matrix) (e f : Edge) → Contains (edges 
 shown_by_other a b m e f c d w x hx k l s = record {
   point = s.point;
   piece = s.piece;
-  lower = λ u n. s.lower u (slanted_too a b e f c d w x hx k l u n);
-  upper = λ u n. s.upper u (slanted_too a b e f c d w x hx k l u n);
+  lower = λ u n. s.lower u (not_upright_too a b e f c d w x hx k l u n);
+  upper = λ u n. s.upper u (not_upright_too a b e f c d w x hx k l u n);
 }
 
 -- a point that an edge of b holds is shown with that edge

@@ -38,7 +38,7 @@ use Rattle.geometry_laws.proofs.Locating.{Off, locate_off}
 use Rattle.geometry_laws.proofs.Triangles.{dots, marks, triangle_of_off, dot_coordinate}
 use Rattle.geometry_laws.proofs.LineOrder.{lex_of_less, lex_weak, up}
 use Rattle.geometry_laws.proofs.Cuts.{Ends, contains_of_among}
-use Rattle.geometry_laws.proofs.WithinPiece.{locate_within, below_within, slant_edge}
+use Rattle.geometry_laws.proofs.WithinPiece.{locate_within, below_within, not_upright_edge}
 use Rattle.geometry_laws.proofs.PieceTheorems.{first_belongs, second_belongs, off_marks}
 use Rattle.geometry_laws.proofs.SideTriangles.{below_from}
 use Rattle.geometry_laws.proofs.First.{First, first, over_point, over_is_point, over_on, label_of_first}
@@ -293,11 +293,11 @@ free_side a b ca cb l k n z f e g = go (first (edges' a b) z f.is_point) (off_bo
         alike = each_of (λ h. strictly_above h z ≡ at_or_above h (over_point r.edge z)) (edges_of_both a b) (λ h m. sym (label_of_first (edges_of_both a b) z f.is_point r h m))
 
         first_is : below a (sample w.piece) ≡ l
-        first_is = below_within (edges' a b) (listed' a b) w.piece w.is_piece w.ends (slant_edge (edges' a b) (listed' a b) w.piece w.is_piece w.ends u) (sample w.piece) (over_point r.edge z) (sample_inside (edges' a b) (listed' a b) w.piece w.is_piece w.ends) w.inside a ca (first_belongs a b)
+        first_is = below_within (edges' a b) (listed' a b) w.piece w.is_piece w.ends (not_upright_edge (edges' a b) (listed' a b) w.piece w.is_piece w.ends u) (sample w.piece) (over_point r.edge z) (sample_inside (edges' a b) (listed' a b) w.piece w.is_piece w.ends) w.inside a ca (first_belongs a b)
             ∙ sym (below_from a (over_point r.edge z) z (each_left (λ h. strictly_above h z ≡ at_or_above h (over_point r.edge z)) (edges a) (edges b) alike)) ∙ sym (locate_off a z f.is_point o.0) ∙ e
 
         second_is : below b (sample w.piece) ≡ k
-        second_is = below_within (edges' a b) (listed' a b) w.piece w.is_piece w.ends (slant_edge (edges' a b) (listed' a b) w.piece w.is_piece w.ends u) (sample w.piece) (over_point r.edge z) (sample_inside (edges' a b) (listed' a b) w.piece w.is_piece w.ends) w.inside b cb (second_belongs a b)
+        second_is = below_within (edges' a b) (listed' a b) w.piece w.is_piece w.ends (not_upright_edge (edges' a b) (listed' a b) w.piece w.is_piece w.ends u) (sample w.piece) (over_point r.edge z) (sample_inside (edges' a b) (listed' a b) w.piece w.is_piece w.ends) w.inside b cb (second_belongs a b)
             ∙ sym (below_from b (over_point r.edge z) z (each_right (λ h. strictly_above h z ≡ at_or_above h (over_point r.edge z)) (edges a) (edges b) alike)) ∙ sym (locate_off b z f.is_point o.1) ∙ g
 
     over_no_cut : (r : First (edges' a b) z) → IsCut (edges' a b) (listed' a b) (over_point r.edge z) → ⊥

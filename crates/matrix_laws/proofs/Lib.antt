@@ -41,4 +41,4 @@ pub mod FullCovering
 pub mod HeldCovering
 pub mod CoveringTheorems
 pub mod Showing
-pub mod SlantSamples
+pub mod SampleUprights

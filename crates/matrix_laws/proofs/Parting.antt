@@ -30,9 +30,8 @@ use Rattle.geometry_laws.proofs.RingParity.{reaches_is, position_is_point}
 use Rattle.geometry_laws.proofs.Locating.{start_is_on, end_is_on}
 use Rattle.geometry_laws.proofs.Cuts.{turn_less, not_after_both, not_before_both, same_end}
 use Rattle.geometry_laws.proofs.WithinPiece.{touches, on_from_touch, strictly_right, parity_at_or_above}
-use Rattle.geometry_laws.proofs.Nudge.{IsSlant}
 use Rattle.geometry_laws.proofs.CoverTheorems.{all_from_each, sides_are_near, near_points_are_so}
-use Rattle.geometry_laws.specs.CoverLaws.{IsSlantAt, NearSides, AreAllNear}
+use Rattle.geometry_laws.specs.CoverLaws.{MissesUprights, NearSides, AreAllNear, IsNotUprightAt}
 use Rattle.geometry_model.specs.Labels.{below, above}
 use Rattle.geometry_model.specs.declared.point_sets.Location.TheVariants.{Interior, Exterior}
 use Rattle.matrix_laws.specs.PolygonLaws.{ArePartedAs}
@@ -221,29 +220,30 @@ each_ring P [] f = tt
 each_ring P (r ∷ rs) f = each_append P (edges_of_line r) (edges_of_lines rs) (each_by P (edges_of_line r) (λ m d q. f 0 r refl m d q)) (each_ring P rs (λ k q h m d z. f (suc k) q h m d z))
 
 -- every edge through the point is that one, so none of them is vertical
-slant_at : (g : Geometry) → IsValid g → (i : ℕ) (ring : List Position) → slice_get (rings g) i ≡ Some ring → (j : ℕ) (e : Edge) → slice_get (edges_of_line ring) j ≡ Some e
-    → (p : Point) → IsPoint p → on e p ≡ true → is_at p e.start ≡ false → is_at p e.end ≡ false → (e.start.x ≡ e.end.x → ⊥) → Each (IsSlant p) (edges_of_lines (rings g))
-slant_at g v i ring ri j e ej p hp h s t f = each_ring (IsSlant p) (rings g) (λ k r rk m d dm. at_ring k r rk m d dm (cases_eq k i))
+not_upright_at : (g : Geometry) → IsValid g → (i : ℕ) (ring : List Position) → slice_get (rings g) i ≡ Some ring → (j : ℕ) (e : Edge) → slice_get (edges_of_line ring) j ≡ Some e
+    → (p : Point) → IsPoint p → on e p ≡ true → is_at p e.start ≡ false → is_at p e.end ≡ false → (e.start.x ≡ e.end.x → ⊥) → Each (IsNotUprightAt p) (edges_of_lines (rings g))
+not_upright_at g v i ring ri j e ej p hp h s t f =
+    each_ring (IsNotUprightAt p) (rings g) (λ k r rk m d dm. at_ring k r rk m d dm (cases_eq k i))
   where
-    none : (d : Edge) → on d p ≡ false → IsSlant p d
+    none : (d : Edge) → on d p ≡ false → IsNotUprightAt p d
     none d n = λ y q. absurd (let z : true ≡ false = sym y ∙ n in cc)
 
-    at_edge : (k : ℕ) (r : List Position) → k ≡ i → slice_get (rings g) k ≡ Some r → (m : ℕ) (d : Edge) → slice_get (edges_of_line r) m ≡ Some d → (m ≡ j) ⊎ (m ≡ j → ⊥) → IsSlant p d
+    at_edge : (k : ℕ) (r : List Position) → k ≡ i → slice_get (rings g) k ≡ Some r → (m : ℕ) (d : Edge) → slice_get (edges_of_line r) m ≡ Some d → (m ≡ j) ⊎ (m ≡ j → ⊥) → IsNotUprightAt p d
     at_edge k r w rk m d dm (inl n) = λ y q. f (subst (λ (c : Edge). c.start.x ≡ c.end.x) (same_Some d e (sym dm ∙ ap₂ (λ (o : List Position) (l : ℕ). slice_get (edges_of_line o) l) (same_Some r ring (sym rk ∙ ap (slice_get (rings g)) w ∙ ri)) n ∙ ej)) q)
     at_edge k r w rk m d dm (inr n) = none d (no_edge_of_ring g v i ring ri j e ej p hp h s t m d n (ap (λ (o : List Position). slice_get (edges_of_line o) m) (sym (same_Some r ring (sym rk ∙ ap (slice_get (rings g)) w ∙ ri))) ∙ dm))
 
-    at_ring : (k : ℕ) (r : List Position) → slice_get (rings g) k ≡ Some r → (m : ℕ) (d : Edge) → slice_get (edges_of_line r) m ≡ Some d → (k ≡ i) ⊎ (k ≡ i → ⊥) → IsSlant p d
+    at_ring : (k : ℕ) (r : List Position) → slice_get (rings g) k ≡ Some r → (m : ℕ) (d : Edge) → slice_get (edges_of_line r) m ≡ Some d → (k ≡ i) ⊎ (k ≡ i → ⊥) → IsNotUprightAt p d
     at_ring k r rk m d dm (inl w) = at_edge k r w rk m d dm (cases_eq m j)
     at_ring k r rk m d dm (inr n) = none d (no_edge_of_others g v i ring ri j e ej p hp h k r n rk m d dm)
 
 -- an area has no edges but those of its rings, and no listed positions
-slant_area : (g : Geometry) (p : Point) (i : ℕ) (ring : List Position) → slice_get (rings g) i ≡ Some ring → Each (IsSlant p) (edges_of_lines (rings g)) → IsSlantAt g p
-slant_area (Geometry.Point o) p i ring e h = absurd (let z : None ≡ Some ring = e in cc)
-slant_area (Geometry.MultiPoint qs) p i ring e h = absurd (let z : None ≡ Some ring = e in cc)
-slant_area (Geometry.LineString l) p i ring e h = absurd (let z : None ≡ Some ring = e in cc)
-slant_area (Geometry.MultiLineString ls) p i ring e h = absurd (let z : None ≡ Some ring = e in cc)
-slant_area (Geometry.Polygon rs) p i ring e h = record { edges = all_from_each (IsSlant p) (edges_of_lines rs) h; positions = all_from_each (λ a. is_at p a ≡ false) [] tt }
-slant_area (Geometry.MultiPolygon es) p i ring e h = record { edges = all_from_each (IsSlant p) (edges_of_lines (joined_rings es)) h; positions = all_from_each (λ a. is_at p a ≡ false) [] tt }
+not_upright_area : (g : Geometry) (p : Point) (i : ℕ) (ring : List Position) → slice_get (rings g) i ≡ Some ring → Each (IsNotUprightAt p) (edges_of_lines (rings g)) → MissesUprights g p
+not_upright_area (Geometry.Point o) p i ring e h = absurd (let z : None ≡ Some ring = e in cc)
+not_upright_area (Geometry.MultiPoint qs) p i ring e h = absurd (let z : None ≡ Some ring = e in cc)
+not_upright_area (Geometry.LineString l) p i ring e h = absurd (let z : None ≡ Some ring = e in cc)
+not_upright_area (Geometry.MultiLineString ls) p i ring e h = absurd (let z : None ≡ Some ring = e in cc)
+not_upright_area (Geometry.Polygon rs) p i ring e h = record { edges = all_from_each (IsNotUprightAt p) (edges_of_lines rs) h; positions = all_from_each (λ a. is_at p a ≡ false) [] tt }
+not_upright_area (Geometry.MultiPolygon es) p i ring e h = record { edges = all_from_each (IsNotUprightAt p) (edges_of_lines (joined_rings es)) h; positions = all_from_each (λ a. is_at p a ≡ false) [] tt }
 
 -- below counts the edges at or above, above those strictly above, and just one of these numbers is odd;
 -- no edge through the point is vertical, so the points near it lie as these say
@@ -251,6 +251,6 @@ pub sides_of_a_ring : (g : Geometry) → IsValid g → (i : ℕ) (ring : List Po
     → (p : Point) → IsPoint p → on e p ≡ true → is_at p e.start ≡ false → is_at p e.end ≡ false → (e.start.x ≡ e.end.x → ⊥) → ArePartedAs (below g p) (above g p) × ((k : ℕ) → NearSides g p k) × AreAllNear g p
 sides_of_a_ring g v i ring ri j e ej p hp h s t f = (
   parted_as (odd_above (rings g) p) (odd_at_or_above (rings g) p) (rings_part g v i ring ri j e ej p hp h s t f),
-  sides_are_near g p hp (slant_area g p i ring ri (slant_at g v i ring ri j e ej p hp h s t f)),
-  near_points_are_so g p hp (slant_area g p i ring ri (slant_at g v i ring ri j e ej p hp h s t f)),
+  sides_are_near g p hp (not_upright_area g p i ring ri (not_upright_at g v i ring ri j e ej p hp h s t f)),
+  near_points_are_so g p hp (not_upright_area g p i ring ri (not_upright_at g v i ring ri j e ej p hp h s t f)),
 )

@@ -11,6 +11,7 @@ use Rattle.geometry_model.specs.Dimensions.{weighted, HasSegment, HasTriangle, c
 use Rattle.geometry_model.specs.Locations.{is_at, locate}
 use Rattle.geometry_model.specs.Labels.{above, below, is_upright, edges_of_both}
 use Rattle.geometry_model.specs.Pieces.{Piece, IsPiece, sample}
+use Rattle.geometry_laws.specs.CoverLaws.{IsNotUprightAt}
 use Rattle.geometry_laws.specs.RingLaws.{IsClosed}
 use Rattle.geometry_laws.specs.PieceLaws.{Inside, IsPieceOf}
 use Rattle.geometry_laws.proofs.Plane.{right}
@@ -20,13 +21,12 @@ use Rattle.geometry_laws.proofs.PointOrder.{equal_is_same, less_transitive, medi
 use Rattle.geometry_laws.proofs.Hulls.{on_from_hull, hull_from_on}
 use Rattle.geometry_laws.proofs.RingParity.{position_is_point}
 use Rattle.geometry_laws.proofs.Triangles.{dots, marks}
-use Rattle.geometry_laws.proofs.Nudge.{IsSlant}
 use Rattle.geometry_laws.proofs.SideTriangles.{lower_triangle, upper_triangle}
 use Rattle.geometry_laws.proofs.LineOrder.{IsSum, on_sum}
 use Rattle.geometry_laws.proofs.Cuts.{Ends, inside_sum, off_within, OneLine, one_line, Apart, apart, start_is_cut, end_is_cut, not_after_both, not_before_both, inside_on_line}
-use Rattle.geometry_laws.proofs.WithinPiece.{locate_within, slant_edge, strictly_right, no_position_within}
+use Rattle.geometry_laws.proofs.WithinPiece.{locate_within, not_upright_edge, strictly_right, no_position_within}
 use Rattle.geometry_laws.proofs.PieceTheorems.{first_belongs, second_belongs}
-use Rattle.geometry_laws.proofs.CoverTheorems.{slant_dots}
+use Rattle.geometry_laws.proofs.CoverTheorems.{not_upright_dots}
 
 -- ---- the sample is strictly within
 -- the mediant weighs both points by 1
@@ -106,13 +106,14 @@ level s e q h = clash s.x e.x q h
     clash x y e h = omega (arith, ints)
 
 -- a vertical edge through a point within the piece isn't on its line, so it would cross it there, and that would be a cut
-slant_within : (es : List Edge) (ps : List Position) (c : Piece) (h : IsPiece es ps c) → Ends c → is_upright c ≡ false → (s : Point) → Inside es ps c h s → (g : Edge) → Among g es → IsSlant s g
-slant_within es ps c h d f s i g m k e = decide (on_one_line h.edge g) refl
+not_upright_within : (es : List Edge) (ps : List Position) (c : Piece) (h : IsPiece es ps c) → Ends c → is_upright c ≡ false → (s : Point) → Inside es ps c h s → (g : Edge) → Among g es → IsNotUprightAt s g
+not_upright_within es ps c h d f s i g m k e = decide (on_one_line h.edge g) refl
   where
     through : (u v : Position) → side h.edge.start h.edge.end (point_at u) ≡ pos 0 → side h.edge.start h.edge.end (point_at v) ≡ pos 0 → compare (point_at u) s ≡ Less → compare s (point_at v) ≡ Less → pos 0 <ℤ right (point_at u) (point_at v)
     through u v p q x y = right_trans_first (point_at u) s (point_at v) (position_is_point u) i.is_point (position_is_point v)
-        (strictly_right h.edge.start h.edge.end (point_at u) s (slant_edge es ps c h d f) p (inside_on_line es ps c h s i) x)
-        (weak_positive (right s (point_at v)) (strictly_right h.edge.start h.edge.end s (point_at v) (slant_edge es ps c h d f) (inside_on_line es ps c h s i) q y))
+        (strictly_right h.edge.start h.edge.end (point_at u) s (not_upright_edge es ps c h d f) p
+        (inside_on_line es ps c h s i) x)
+        (weak_positive (right s (point_at v)) (strictly_right h.edge.start h.edge.end s (point_at v) (not_upright_edge es ps c h d f) (inside_on_line es ps c h s i) q y))
 
     go : OneLine h.edge g → Apart (point_at g.start) s s → Apart (point_at g.end) s s → ⊥
     go o (inl p) (inl q) = let z : true ≡ false = sym k ∙ not_after_both g s i.is_point p.0 q.0 in absurd (cc)
@@ -129,20 +130,20 @@ slant_within es ps c h d f s i g m k e = decide (on_one_line h.edge g) refl
     decide true q = collinear (one_line h.edge g q)
     decide false q = let z : true ≡ false = sym k ∙ off_within es ps c h g s m q i in absurd (cc)
 
--- so at the sample of a piece that isn't vertical only slanted edges go through it, and no listed position is there
-slant_all : (a b : Geometry) (c : Piece) (h : IsPieceOf a b c) → Ends c → is_upright c ≡ false → Each (IsSlant (sample c)) (marks a b)
-slant_all a b c h d f = go (sample_inside (edges_of_both a b) (listed a ++ listed b) c h d)
+-- so at the sample of a piece that isn't vertical only not_upright edges go through it, and no listed position is there
+not_upright_all : (a b : Geometry) (c : Piece) (h : IsPieceOf a b c) → Ends c → is_upright c ≡ false → Each (IsNotUprightAt (sample c)) (marks a b)
+not_upright_all a b c h d f = go (sample_inside (edges_of_both a b) (listed a ++ listed b) c h d)
   where
-    go : Inside (edges_of_both a b) (listed a ++ listed b) c h (sample c) → Each (IsSlant (sample c)) (marks a b)
-    go i = each_append (IsSlant (sample c)) (edges_of_both a b) (dots (listed a ++ listed b))
-        (each_of (IsSlant (sample c)) (edges_of_both a b) (λ g m. slant_within (edges_of_both a b) (listed a ++ listed b) c h d f (sample c) i g m))
-        (slant_dots (listed a ++ listed b) (sample c) i.is_point (each_of (λ p. is_at (sample c) p ≡ false) (listed a ++ listed b) (λ p m. no_position_within (edges_of_both a b) (listed a ++ listed b) c h (sample c) i p m)))
+    go : Inside (edges_of_both a b) (listed a ++ listed b) c h (sample c) → Each (IsNotUprightAt (sample c)) (marks a b)
+    go i = each_append (IsNotUprightAt (sample c)) (edges_of_both a b) (dots (listed a ++ listed b))
+        (each_of (IsNotUprightAt (sample c)) (edges_of_both a b) (λ g m. not_upright_within (edges_of_both a b) (listed a ++ listed b) c h d f (sample c) i g m))
+        (not_upright_dots (listed a ++ listed b) (sample c) i.is_point (each_of (λ p. is_at (sample c) p ≡ false) (listed a ++ listed b) (λ p m. no_position_within (edges_of_both a b) (listed a ++ listed b) c h (sample c) i p m)))
 
 -- ---- its sides' labels are those of triangles
 -- just below the sample all points lie alike, so there is a triangle with the label of the lower side
 pub lower_side : (a b : Geometry) → Each IsClosed (rings a) → Each IsClosed (rings b) → (c : Piece) (h : IsPieceOf a b c) → Ends c → is_upright c ≡ false → HasTriangle (common a (below a (sample c)) b (below b (sample c)))
-lower_side a b ca cb c h d f = lower_triangle a b ca cb (sample c) ((sample_inside (edges_of_both a b) (listed a ++ listed b) c h d).is_point) (slant_all a b c h d f)
+lower_side a b ca cb c h d f = lower_triangle a b ca cb (sample c) ((sample_inside (edges_of_both a b) (listed a ++ listed b) c h d).is_point) (not_upright_all a b c h d f)
 
 -- the same above it
 pub upper_side : (a b : Geometry) → Each IsClosed (rings a) → Each IsClosed (rings b) → (c : Piece) (h : IsPieceOf a b c) → Ends c → is_upright c ≡ false → HasTriangle (common a (above a (sample c)) b (above b (sample c)))
-upper_side a b ca cb c h d f = upper_triangle a b ca cb (sample c) ((sample_inside (edges_of_both a b) (listed a ++ listed b) c h d).is_point) (slant_all a b c h d f)
+upper_side a b ca cb c h d f = upper_triangle a b ca cb (sample c) ((sample_inside (edges_of_both a b) (listed a ++ listed b) c h d).is_point) (not_upright_all a b c h d f)

@@ -24,7 +24,7 @@ use Rattle.geometry_laws.proofs.Hulls.{on_parts}
 use Rattle.geometry_laws.proofs.RingParity.{each_from_all, side_is_area}
 use Rattle.geometry_laws.proofs.LineOrder.{area_on_line}
 use Rattle.geometry_laws.proofs.Cuts.{among_from_contains, OneLine, one_line, edge_is_wide}
-use Rattle.geometry_laws.proofs.WithinPiece.{locate_within, above_within, below_within, slant_edge, strictly_right}
+use Rattle.geometry_laws.proofs.WithinPiece.{locate_within, above_within, below_within, not_upright_edge, strictly_right}
 use Rattle.geometry_laws.proofs.PieceTheorems.{first_belongs, second_belongs}
 use Rattle.matrix_laws.proofs.Around.{Within, within_piece}
 use Rattle.matrix_laws.proofs.Pieces.{sample_inside}
@@ -157,8 +157,8 @@ lower_at a b ca cb x w u = any_by (side_labels a b) (is_side_pair (below a x) (b
     (ap (λ (t : Bool). side_labels_of a b w.piece t (below a x) (below b x)) u
     ∙ or_left (is_pair (below a x) (below b x) (record { first = below a (sample w.piece); second = below b (sample w.piece) })) (is_pair (below a x) (below b x) (record { first = above a (sample w.piece); second = above b (sample w.piece) }))
     (pair_of (below a x) (below b x) (below a (sample w.piece)) (below b (sample w.piece))
-    (below_within (edges' a b) (listed' a b) w.piece w.is_piece w.ends (slant_edge (edges' a b) (listed' a b) w.piece w.is_piece w.ends u) (sample w.piece) x (inside_sample a b x w) w.inside a (each_from_all IsClosed (rings a) ca) (first_belongs a b))
-    (below_within (edges' a b) (listed' a b) w.piece w.is_piece w.ends (slant_edge (edges' a b) (listed' a b) w.piece w.is_piece w.ends u) (sample w.piece) x (inside_sample a b x w) w.inside b (each_from_all IsClosed (rings b) cb) (second_belongs a b))))
+    (below_within (edges' a b) (listed' a b) w.piece w.is_piece w.ends (not_upright_edge (edges' a b) (listed' a b) w.piece w.is_piece w.ends u) (sample w.piece) x (inside_sample a b x w) w.inside a (each_from_all IsClosed (rings a) ca) (first_belongs a b))
+    (below_within (edges' a b) (listed' a b) w.piece w.is_piece w.ends (not_upright_edge (edges' a b) (listed' a b) w.piece w.is_piece w.ends u) (sample w.piece) x (inside_sample a b x w) w.inside b (each_from_all IsClosed (rings b) cb) (second_belongs a b))))
 
 -- the same above
 upper_at : (a b : Geometry) → HasClosedRings a → HasClosedRings b → (x : Point) (w : Within (edges' a b) (listed' a b) x) → is_upright w.piece ≡ false → some_side a b (above a x) (above b x) ≡ true

@@ -20,7 +20,7 @@ use Rattle.geometry_laws.proofs.RingParity.{each_from_all, position_is_point}
 use Rattle.geometry_laws.proofs.Respect.{locate_respects}
 use Rattle.geometry_laws.proofs.Locating.{start_is_on, end_is_on}
 use Rattle.geometry_laws.proofs.Cuts.{among_from_contains, contains_of_among}
-use Rattle.geometry_laws.proofs.WithinPiece.{slant_edge}
+use Rattle.geometry_laws.proofs.WithinPiece.{not_upright_edge}
 use Rattle.matrix_laws.proofs.CutOrder.{listed_is_cut}
 use Rattle.matrix_laws.proofs.Turned.{labelled_is_transposed}
 use Rattle.matrix_laws.proofs.Pieces.{sample_inside}
@@ -69,9 +69,9 @@ side_shown a b m h l k e = go (passing_of (side_labels a b) (is_side_pair l k) (
       where
         sides : (same_location l (below a (sample c)) && same_location k (below b (sample c)) ≡ true) ⊎ (same_location l (above a (sample c)) && same_location k (above b (sample c)) ≡ true) → Shows m l k Two
         sides (inl u) = let q : (l ≡ below a (sample c)) × (k ≡ below b (sample c)) = pair_is l k (below a (sample c)) (below b (sample c)) u in
-            shows_at m Two (below a (sample c)) l (below b (sample c)) k (sym q.0) (sym q.1) ((s.0).lower s.1 (slant_edge (edges' a b) (listed' a b) c p.is_piece p.ends f))
+            shows_at m Two (below a (sample c)) l (below b (sample c)) k (sym q.0) (sym q.1) ((s.0).lower s.1 (not_upright_edge (edges' a b) (listed' a b) c p.is_piece p.ends f))
         sides (inr u) = let q : (l ≡ above a (sample c)) × (k ≡ above b (sample c)) = pair_is l k (above a (sample c)) (above b (sample c)) u in
-            shows_at m Two (above a (sample c)) l (above b (sample c)) k (sym q.0) (sym q.1) ((s.0).upper s.1 (slant_edge (edges' a b) (listed' a b) c p.is_piece p.ends f))
+            shows_at m Two (above a (sample c)) l (above b (sample c)) k (sym q.0) (sym q.1) ((s.0).upper s.1 (not_upright_edge (edges' a b) (listed' a b) c p.is_piece p.ends f))
 
     go : Passing (λ c. is_side_pair l k (side_labels a b c)) (pieces' a b) → Shows m l k Two
     go p = let q : IsListedPiece a b p.found = listed_piece a b p.found p.among in pick p.found q (sample_shown a b m h p.found q) (is_upright p.found) refl p.passes

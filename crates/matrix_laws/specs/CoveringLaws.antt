@@ -23,10 +23,10 @@ abbrev pub GapsCover : Type 0
 GapsCover = (a b : Geometry) → IsValid a → IsValid b → (e : Edge) → Contains (edges a) e → e.start ≢ e.end → (g : EdgeGaps) → AreGaps e (edges b) g → (m : Matrix) → ShowsEnds a b m
     → All (λ c. ShowsGap a b m e c.lesser c.greater) (stretches g.stops) → All (λ p. Shows m (locate a p) (locate b p) Zero) g.shared → Covers a b m e
 
--- the matrix shows all that gaps of edges of a can show that lie off b's edges
-pub record IsFullOff (a b : Geometry) (m : Matrix) : Type 0 where
-  pub in_exterior : (e : Edge) → ShowsOff a m e Exterior
-  pub in_interior : kind b ≡ kinds.Area → (e : Edge) → ShowsOff a m e Interior
+-- the matrix shows all that gaps of this edge of a can show that lie off b's edges: a vertical edge has no sides to show
+pub record IsFullOff (a b : Geometry) (m : Matrix) (e : Edge) : Type 0 where
+  pub in_exterior : ShowsOff a m e Exterior
+  pub in_interior : kind b ≡ kinds.Area → ShowsOff a m e Interior
 
 -- the matrix shows all that gaps can show that an edge of b shares: that both geometries' edges share a stretch, and an area of each two parts in which sides can be
 pub record IsFullOn (a b : Geometry) (m : Matrix) : Type 0 where
@@ -36,19 +36,20 @@ pub record IsFullOn (a b : Geometry) (m : Matrix) : Type 0 where
   pub first : kind a ≡ kinds.Area → Shows m Interior Exterior Two
   pub second : kind b ≡ kinds.Area → Shows m Exterior Interior Two
 
--- a matrix that shows all that gaps can show covers each edge of a, whatever meets it
-abbrev pub FullCovers : Type 0
-FullCovers = (a b : Geometry) → IsValid a → IsValid b → (e : Edge) → Contains (edges a) e → e.start ≢ e.end → (m : Matrix) → ShowsEnds a b m → IsFullOff a b m → IsFullOn a b m → Covers a b m e
-
--- where no edge of b shares a stretch with an edge of a, it is enough that the matrix shows all that lies off b's edges, and that both geometries' edges share a point
-abbrev pub FullOffCovers : Type 0
-FullOffCovers = (a b : Geometry) → IsValid a → IsValid b → (e : Edge) → Contains (edges a) e → e.start ≢ e.end → (m : Matrix) → ShowsEnds a b m → IsFullOff a b m → Shows m (of_own_edges (kind a)) (of_own_edges (kind b)) Zero
-    → SharesNoStretch e (edges b) → Covers a b m e
-
--- the matrix shows all that gaps of this edge can show that an edge of b shares: an upright edge has no sides to show
+-- the matrix shows all that gaps of this edge can show that an edge of b shares: a vertical edge has no sides to show
 pub record IsFullAlong (a b : Geometry) (m : Matrix) (e : Edge) : Type 0 where
   pub piece : Shows m (of_own_edges (kind a)) (of_own_edges (kind b)) One
   pub sides : e.start.x ≢ e.end.x → IsFullOn a b m
+
+-- a matrix that shows all that gaps of an edge of a can show covers the edge, whatever meets it
+abbrev pub FullCovers : Type 0
+FullCovers = (a b : Geometry) → IsValid a → IsValid b → (e : Edge) → Contains (edges a) e → e.start ≢ e.end → (m : Matrix)
+    → ShowsEnds a b m → IsFullOff a b m e → IsFullAlong a b m e → Covers a b m e
+
+-- where no edge of b shares a stretch with an edge of a, it is enough that the matrix shows all that gaps of the edge can show off b's edges, and that both geometries' edges share a point
+abbrev pub FullOffCovers : Type 0
+FullOffCovers = (a b : Geometry) → IsValid a → IsValid b → (e : Edge) → Contains (edges a) e → e.start ≢ e.end → (m : Matrix)
+    → ShowsEnds a b m → IsFullOff a b m e → Shows m (of_own_edges (kind a)) (of_own_edges (kind b)) Zero → SharesNoStretch e (edges b) → Covers a b m e
 
 -- where edges of b hold all of an edge of a, it is enough that the matrix shows all that its gaps can show there
 abbrev pub HeldCovers : Type 0

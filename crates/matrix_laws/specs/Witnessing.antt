@@ -9,7 +9,7 @@ use Rattle.geometry_model.specs.Labels.{above, below, is_upright}
 use Rattle.geometry_model.specs.Pieces.{Piece, sample}
 use Rattle.geometry_model.specs.declared.point_sets.Location.{Location}
 use Rattle.geometry_laws.specs.PieceLaws.{HasClosedRings, IsPieceOf, IsOff}
-use Rattle.geometry_laws.specs.CoverLaws.{IsSlantAt}
+use Rattle.geometry_laws.specs.CoverLaws.{MissesUprights}
 use Rattle.geometry_laws.specs.FaceLaws.{SeesUp, SeesDown}
 
 -- x is strictly between p and q: a point on their straight line, after p and before q (06-103r4, 6.1.7: Line)
@@ -55,5 +55,5 @@ abbrev pub SeenBelowIsFacePoint : Type 0
 SeenBelowIsFacePoint = (a b : Geometry) (s m : Point) → IsPoint s → SeesDown a s m → SeesDown b s m → IsFacePoint a (below a s) b (below b s) m
 
 -- no vertical edge goes through the sample of a piece that isn't vertical, and no listed position is there
-abbrev pub SampleIsSlant : Type 0
-SampleIsSlant = (a b : Geometry) (c : Piece) → IsPieceOf a b c → is_upright c ≡ false → IsSlantAt a (sample c) × IsSlantAt b (sample c)
+abbrev pub SampleMissesUprights : Type 0
+SampleMissesUprights = (a b : Geometry) (c : Piece) → IsPieceOf a b c → is_upright c ≡ false → MissesUprights a (sample c) × MissesUprights b (sample c)

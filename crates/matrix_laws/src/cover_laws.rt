@@ -16,13 +16,13 @@ pub fn gaps_cover()
     ensures { GapsCover }
 {}
 
-/// A matrix that shows all that gaps can show covers each edge, whatever meets it (06-103r4, 6.1.15.2).
+/// A matrix that shows all that gaps of an edge can show covers the edge, whatever meets it (06-103r4, 6.1.15.2).
 pub fn full_covers()
     ensures { FullCovers }
 {}
 
-/// If no edge of the other geometry shares a stretch with an edge, it is enough that the matrix shows all that gaps can show off
-/// the other geometry's edges, and that both geometries' edges share a point (06-103r4, 6.1.15.2).
+/// If no edge of the other geometry shares a stretch with an edge, it is enough that the matrix shows all that the edge's gaps can
+/// show off the other geometry's edges, and that both geometries' edges share a point (06-103r4, 6.1.15.2).
 pub fn full_off_covers()
     ensures { FullOffCovers }
 {}

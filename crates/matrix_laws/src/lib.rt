@@ -23,7 +23,7 @@ pub use cover_laws::{
     full_covers, full_off_covers, gap_is_there, gaps_cover, held_by_covered, held_covers,
 };
 pub use witness_laws::{
-    face_point_has_triangle, piece_is_stretch, sample_is_slant, seen_above_is_face_point,
+    face_point_has_triangle, piece_is_stretch, sample_misses_uprights, seen_above_is_face_point,
     seen_below_is_face_point, stretch_has_segment,
 };
 

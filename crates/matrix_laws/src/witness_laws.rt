@@ -7,7 +7,7 @@ ghost use Rattle.matrix_laws.specs.Witnessing.{
   PieceIsStretch,
   SeenAboveIsFacePoint,
   SeenBelowIsFacePoint,
-  SampleIsSlant,
+  SampleMissesUprights,
 };
 
 /// Two parts that hold an open stretch hold a segment, so their dimension is at least 1 (06-103r4, 6.1.15.2).
@@ -36,6 +36,6 @@ pub fn seen_below_is_face_point()
 {}
 
 /// No vertical edge goes through the sample of a piece that isn't vertical, and no listed position is there.
-pub fn sample_is_slant()
-    ensures { SampleIsSlant }
+pub fn sample_misses_uprights()
+    ensures { SampleMissesUprights }
 {}

@@ -1,6 +1,6 @@
 -- The first element of least number, when one element more is looked at.
 use Rattle.std.specs.Prelude.{◌≡◌, refl, ℕ, ◌<◌, ◌≤◌, Bool, true, false, cond, nat_le, List, [], ◌∷◌, ◌++◌, ◌+◌, length, take, get_or, All, Option, Some, None, IsSome}
-use Rattle.std.proofs.Common.{arith, ap, ◌∙◌, sym}
+use Rattle.std.proofs.Common.{arith, ap, ◌∙◌, sym, leb-true, leb-false}
 use Rattle.std.proofs.lemmas.List.{append_assoc, take_more}
 use Rattle.std.proofs.lemmas.List.Elements.{All-nil, All-cons, All-append, All-weaker}
 use Rattle.table_model.specs.Plans.{first_of_least}
@@ -29,20 +29,14 @@ takes_over number xs y l = record {
       (All-cons (λ z. number y ≤ number z) y [] (omega arith) (All-nil _));
 }
 
-is_less : (a b : ℕ) → nat_le a b ≡ false → b < a
-is_less a b e = grind arith
-
-is_at_most : (a b : ℕ) → nat_le a b ≡ true → a ≤ b
-is_at_most a b e = grind arith
-
 -- of one element more the first of least number is the cheaper one
 pub one_more : {X : Type 0} (number : X → ℕ) (xs : List X) (y : X) → first_of_least number (xs ++ y ∷ []) ≡ Some (cheaper number (first_of_least number xs) y)
 one_more {X = X} number xs y = go (first_of_least number xs) refl
   where
     pick : (x : X) → first_of_least number xs ≡ Some x → (b : Bool) → nat_le (number x) (number y) ≡ b → first_of_least number (xs ++ y ∷ []) ≡ Some (cond b x y)
-    pick x is true l = first_is_found number (xs ++ y ∷ []) x (stays number xs x y (first_is_first number xs x is) (is_at_most (number x) (number y) l))
+    pick x is true l = first_is_found number (xs ++ y ∷ []) x (stays number xs x y (first_is_first number xs x is) (leb-true (number x) (number y) l))
     pick x is false l =
-        let less : number y < number x = is_less (number x) (number y) l in
+        let less : number y < number x = leb-false (number x) (number y) l in
         first_is_found number (xs ++ y ∷ []) y
         (takes_over number xs y (All-weaker (λ z. number x ≤ number z) (λ z. number y < number z) (λ z m. omega (arith, m, less)) xs (first_is_first number xs x is).none_is_less))
 

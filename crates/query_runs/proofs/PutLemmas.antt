@@ -2,8 +2,8 @@
 use Rattle.std.proofs.Common.{◌≡◌, ℕ, List, ◌++◌, Option, Result, Ok, Err, refl, sym, ◌∙◌, subst}
 use Rattle.std.specs.Prelude.{IsErrAnd}
 use Rattle.std.specs.Io.KnownBytes.{Appends}
+use Rattle.std.proofs.KnownBytes.{Keeps-refl}
 use Rattle.query_runs.specs.Puts.{PutsText}
-use Rattle.query_runs.proofs.RunLemmas.{keeps-same}
 use Rattle.streams.specs.RecordWriters.{CountsPut}
 use Rattle.streams.specs.declared.put_fault.PutFault.{PutFault}
 use Rattle.streams.specs.declared.put_fault.PutFault.TheVariants as put
@@ -15,7 +15,7 @@ pub put-none : {A : Type 0} (r : Result A PutFault) (text : List ℕ) (old : Opt
 put-none (Ok a) text old before is = absurd is
 put-none {A = A} (Err e) text old before is = record {
   whole = tt;
-  front = AppendsFront-kept old old text (keeps-same old);
+  front = AppendsFront-kept old old text (Keeps-refl old);
   failures = subst (λ f. CountsPut {A = A} before before (Err f)) (sym is) refl;
 }
 

@@ -3,9 +3,9 @@ use Rattle.std.proofs.Common.{◌≡◌, ◌≢◌, ◌<◌, inl, inr, ℕ, Bool
 use Rattle.std.specs.Prelude.{IsErrAnd, IsOk, zero, suc, decimal}
 use Rattle.std.specs.List.{concat}
 use Rattle.std.specs.Option.{option_map_or}
-use Rattle.std.specs.Io.KnownBytes.{Keeps}
 use Rattle.std.proofs.lemmas.List.{length-map}
 use Rattle.std.proofs.lemmas.Simd.{map-map}
+use Rattle.std.proofs.KnownBytes.{Keeps-refl}
 use Rattle.grammar_laws.proofs.Filtering.{bound_of_statement, meaning_by_conjuncts}
 use Rattle.geometry_model.specs.Geometries.{Geometry}
 use Rattle.streams.specs.Sinks.{AppendsFront}
@@ -49,14 +49,9 @@ use Rattle.streams.specs.declared.put_fault.PutFault.TheVariants as put
 
 -- ---- faults
 
--- what was put before stays as it is
-pub keeps-same : (a : Option (List ℕ)) → Keeps a a
-keeps-same None = tt
-keeps-same (Some bytes) = refl
-
 -- memory that ran out before anything was put
 pub memory-none : (A : Type 0) (outcome : Result (List ℕ) Refusal) (reached : ℕ → Type 0) (old : Option (List ℕ)) → Runs {A = A} (Err faults.Memory) outcome reached old old
-memory-none A outcome reached old = inl (keeps-same old)
+memory-none A outcome reached old = inl (Keeps-refl old)
 
 -- a fault that isn't running out of memory is another one
 no-memory : (e : QueryFault) → wants_memory e ≡ false → e ≢ query.OutOfMemory
@@ -67,7 +62,7 @@ refused-by : (A : Type 0) {X : Type 0} (memory : Bool) (e : QueryFault) (answer 
     → wants_memory e ≡ memory → (e ≢ query.OutOfMemory → answer ≡ Err e) → Runs {A = A} (Err (memory_or memory (faults.Query e))) (after OfQuery answer next) reached old old
 refused-by A true e answer next reached old is given = memory-none A (after OfQuery answer next) reached old
 refused-by A false e answer next reached old is given =
-    (ap (λ r. after OfQuery r next) (given (no-memory e is)), keeps-same old)
+    (ap (λ r. after OfQuery r next) (given (no-memory e is)), Keeps-refl old)
 
 -- the same, with the fault telling whether it is running out of memory
 pub query-refused : (A : Type 0) {X : Type 0} (e : QueryFault) (answer : Result X QueryFault) (next : X → Result (List ℕ) Refusal) (reached : ℕ → Type 0) (old : Option (List ℕ))
@@ -220,11 +215,15 @@ table-refused-by : (A : Type 0) {X : Type 0} (memory unread : Bool) (table : ℕ
     (old : Option (List ℕ)) → load_wants_memory f ≡ memory → is_of_reading f ≡ unread → (¬ (IsFailure f) → answer ≡ Err (record { table = table; fault = f })) → reached table
     → Runs {A = A} (Err (memory_or memory (faults.Load table f))) (after OfTable answer next) reached old old
 table-refused-by A true unread table f answer next reached old is of given there = memory-none A (after OfTable answer next) reached old
-table-refused-by A false true table f answer next reached old is of given there =
-    (subst (λ b. RefusesTable b (reached table) (after OfTable answer next) (record { table = table; fault = f })) (sym of) there, keeps-same old)
+table-refused-by A false true table f answer next reached old is of given there = (
+  subst (λ b. RefusesTable b (reached table) (after OfTable answer next) (record { table = table; fault = f })) (sym of) there,
+  Keeps-refl old,
+)
 table-refused-by A false false table f answer next reached old is of given there =
-    let same : after OfTable answer next ≡ Err (OfTable (record { table = table; fault = f })) = ap (λ r. after OfTable r next) (given (no-failure f is of)) in
-    (subst (λ b. RefusesTable b (reached table) (after OfTable answer next) (record { table = table; fault = f })) (sym of) same, keeps-same old)
+    let same : after OfTable answer next ≡ Err (OfTable (record { table = table; fault = f })) = ap (λ r. after OfTable r next) (given (no-failure f is of)) in (
+      subst (λ b. RefusesTable b (reached table) (after OfTable answer next) (record { table = table; fault = f })) (sym of) same,
+      Keeps-refl old,
+    )
 
 -- the same of a result, with the fault telling which of the three it is
 pub table-refused : {A X : Type 0} (r : Result A Fault) (f : TableFault) (answer : Result X TableFault) (next : X → Result (List ℕ) Refusal) (reached : ℕ → Type 0) (old : Option (List ℕ))

@@ -1,5 +1,5 @@
 -- What `run` returns and writes: the outcome of a query's text over the records of its tables, or why there is none.
-use Rattle.std.specs.Prelude.{◌≡◌, ◌<◌, ◌⊎◌, ⊤, ℕ, Bool, true, false, IfOk, IsOk, List, ◌∷◌, [], codes, length, map, Option, Result, Ok, Err}
+use Rattle.std.specs.Prelude.{◌≡◌, ◌<◌, ◌⊎◌, ⊤, ℕ, Bool, true, false, IfOk, IsOk, List, ◌∷◌, [], codes, length, map, Option, Some, Result, Ok, Err, IfErr}
 use Rattle.std.specs.Option.{option_map_or}
 use Rattle.std.specs.Io.KnownBytes.{Appends, Keeps}
 use Rattle.geometry_model.specs.Geometries.{Geometry}
@@ -27,7 +27,7 @@ use Rattle.table_model.specs.declared.plans.Plan.{Plan}
 use Rattle.table_model.specs.declared.queries.Explain.{Explain}
 use Rattle.table_model.specs.declared.queries.Explain.TheVariants as explains
 use Rattle.feature_table.specs.Outcomes.{is_of_reading}
-use Rattle.feature_table.specs.Tables.{EarlierLoad}
+use Rattle.feature_table.specs.Tables.{EachRecordsOf, EarlierLoad, records_in}
 use Rattle.query_runs.specs.RecordTexts.{record_text}
 use Rattle.failures.specs.declared.run_fault.Fault.{Fault}
 use Rattle.failures.specs.declared.run_fault.Fault.TheVariants as faults
@@ -155,3 +155,11 @@ IsOfTables count faults.Memory = ⊤
 abbrev pub count_after : {A : Type 0} → ℕ → Result A Fault → ℕ
 count_after old (Err faults.Sink) = one_more old
 count_after old _ = old
+
+-- what a run over readers promises: of the records that `csv` reads where bytes are known, else of records that exist
+pub record RunsReaders (result : Result ℕ Fault) (definitions : SpatialSchema) (readers : List (Option (List ℕ))) (text : List ℕ) (old new : Option (List ℕ)) (before after : ℕ) : Type 0 where
+  pub texts : (texts : List (List ℕ)) → readers ≡ map Some texts → RunsOver result definitions (map records_in texts) text old new
+  pub work : (texts : List (List ℕ)) → readers ≡ map Some texts → CountsOver result definitions (map records_in texts) text
+  pub records : (records : List (List Record)) × EachRecordsOf readers records × RunsOver result definitions records text old new × CountsOver result definitions records text
+  pub failures : after ≡ count_after before result
+  pub table : IfErr result (IsOfTables (length definitions))

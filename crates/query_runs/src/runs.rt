@@ -4,19 +4,17 @@ ghost use Rattle.std.specs.Prelude.{◌≡◌, ◌∷◌, [], ℕ, IfErr, IfOk, 
 ghost use Rattle.csv.specs.Records.{fields_of};
 ghost use Rattle.std.specs.List.{concat};
 ghost use Rattle.query_runs.specs.Puts.{PutsText};
-ghost use Rattle.query_runs.specs.Runs.{ReturnsQuery, CountsOver, CountsQuery, IsOfTables, RunsOver, bound_text, choice_text, count_after, count_text, planned_text, planned_work, rows_of_choices, rows_text};
+ghost use Rattle.query_runs.specs.Runs.{ReturnsQuery, CountsQuery, IsOfTables, RunsReaders, bound_text, choice_text, count_after, count_text, planned_text, planned_work, rows_of_choices, rows_text};
 ghost use Rattle.query_runs.specs.RecordTexts.{record_text};
 ghost use Rattle.executor.specs.FoundPairs.{HasReferences};
 ghost use Rattle.executor.specs.Pairs.{IsPlace, pair_rows};
 ghost use Rattle.executor.specs.Streams.{to_come, work_at_end};
-ghost use Rattle.feature_table.specs.Tables.{EachRecordsOf, records_in};
 ghost use Rattle.streams.specs.RecordWriters.{CountsPut, IsReady};
 ghost use Rattle.table_model.specs.AnswerTexts.{record_of};
 ghost use Rattle.table_model.specs.Arguments.{denoted};
 ghost use Rattle.table_model.specs.BoundQueries.{IsBound, geometry_fits};
 ghost use Rattle.table_model.specs.ExplainTexts.{analyze_text, explain_text};
 ghost use Rattle.table_model.specs.GeometryColumns.{geometry_writing};
-ghost use Rattle.table_model.specs.Loading.{Record};
 ghost use Rattle.table_model.specs.Meanings.{referenced};
 ghost use Rattle.table_model.specs.Plans.{IsLawful};
 ghost use Rattle.table_model.specs.QueryReading.{query_of};
@@ -57,16 +55,8 @@ pub fn run<I: EnvelopeIndex + Drop, R: Read + Drop, S: Sink>(
     sink: &mut S,
 ) -> Result<Work, Fault>
     requires { length readers.items ≡ length schema.now }
-    ensures texts { (texts : List (List ℕ)) → map R.remaining readers.items ≡ map Some texts
-        → RunsOver result schema.now (map records_in texts) query.now
-        (S.taken sink.old) (S.taken sink.new) }
-    ensures work { (texts : List (List ℕ)) → map R.remaining readers.items ≡ map Some texts
-        → CountsOver result schema.now (map records_in texts) query.now }
-    ensures records { (records : List (List Record)) × EachRecordsOf (map R.remaining readers.items) records
-        × RunsOver result schema.now records query.now (S.taken sink.old) (S.taken sink.new)
-        × CountsOver result schema.now records query.now }
-    ensures failures { S.failures sink.new ≡ count_after (S.failures sink.old) result }
-    ensures table { IfErr result (IsOfTables (length schema.now)) }
+    ensures { RunsReaders result schema.now (map R.remaining readers.items) query.now
+        (S.taken sink.old) (S.taken sink.new) (S.failures sink.old) (S.failures sink.new) }
 {
     run_observed::<I, R, S, Unobserved>(alloc, schema, readers, query, sink, &mut Unobserved)
 }
@@ -81,16 +71,8 @@ pub fn run_observed<I: EnvelopeIndex + Drop, R: Read + Drop, S: Sink, O: RowObse
     observer: &mut O,
 ) -> Result<Work, Fault>
     requires { length readers.items ≡ length schema.now }
-    ensures texts { (texts : List (List ℕ)) → map R.remaining readers.items ≡ map Some texts
-        → RunsOver result schema.now (map records_in texts) query.now
-        (S.taken sink.old) (S.taken sink.new) }
-    ensures work { (texts : List (List ℕ)) → map R.remaining readers.items ≡ map Some texts
-        → CountsOver result schema.now (map records_in texts) query.now }
-    ensures records { (records : List (List Record)) × EachRecordsOf (map R.remaining readers.items) records
-        × RunsOver result schema.now records query.now (S.taken sink.old) (S.taken sink.new)
-        × CountsOver result schema.now records query.now }
-    ensures failures { S.failures sink.new ≡ count_after (S.failures sink.old) result }
-    ensures table { IfErr result (IsOfTables (length schema.now)) }
+    ensures { RunsReaders result schema.now (map R.remaining readers.items) query.now
+        (S.taken sink.old) (S.taken sink.new) (S.failures sink.old) (S.failures sink.new) }
 {
     run_by_references::<I, I, R, S, O>(alloc, schema, readers, query, sink, observer)
 }
@@ -112,16 +94,8 @@ pub fn run_by_references<
     observer: &mut O,
 ) -> Result<Work, Fault>
     requires { length readers.items ≡ length schema.now }
-    ensures texts { (texts : List (List ℕ)) → map R.remaining readers.items ≡ map Some texts
-        → RunsOver result schema.now (map records_in texts) query.now
-        (S.taken sink.old) (S.taken sink.new) }
-    ensures work { (texts : List (List ℕ)) → map R.remaining readers.items ≡ map Some texts
-        → CountsOver result schema.now (map records_in texts) query.now }
-    ensures records { (records : List (List Record)) × EachRecordsOf (map R.remaining readers.items) records
-        × RunsOver result schema.now records query.now (S.taken sink.old) (S.taken sink.new)
-        × CountsOver result schema.now records query.now }
-    ensures failures { S.failures sink.new ≡ count_after (S.failures sink.old) result }
-    ensures table { IfErr result (IsOfTables (length schema.now)) }
+    ensures { RunsReaders result schema.now (map R.remaining readers.items) query.now
+        (S.taken sink.old) (S.taken sink.new) (S.failures sink.old) (S.failures sink.new) }
 {
     let query = read_query(alloc, query)?;
     if query.references.as_slice().len() == 1 {
@@ -130,7 +104,7 @@ pub fn run_by_references<
     load_and_answer::<I, R, S, O>(alloc, schema, readers, &query, sink, observer)
 }
 
-/// Loads all tables and runs a query over them. The clauses hold for each text that is read as this query.
+/// Loads all tables and runs a query over them. What it promises holds for each text that is read as this query.
 #[inline(never)]
 fn load_and_answer<I: EnvelopeIndex + Drop, R: Read + Drop, S: Sink, O: RowObserver>(
     alloc: Global,
@@ -141,19 +115,9 @@ fn load_and_answer<I: EnvelopeIndex + Drop, R: Read + Drop, S: Sink, O: RowObser
     observer: &mut O,
 ) -> Result<Work, Fault>
     requires { length readers.items ≡ length schema.now }
-    ensures texts { (text : List ℕ) (texts : List (List ℕ)) → query_of text ≡ Ok query.now
-        → map R.remaining readers.items ≡ map Some texts
-        → RunsOver result schema.now (map records_in texts) text (S.taken sink.old)
-        (S.taken sink.new) }
-    ensures work { (text : List ℕ) (texts : List (List ℕ)) → query_of text ≡ Ok query.now
-        → map R.remaining readers.items ≡ map Some texts
-        → CountsOver result schema.now (map records_in texts) text }
-    ensures records { (text : List ℕ) → query_of text ≡ Ok query.now
-        → (records : List (List Record)) × EachRecordsOf (map R.remaining readers.items) records
-        × RunsOver result schema.now records text (S.taken sink.old) (S.taken sink.new)
-        × CountsOver result schema.now records text }
-    ensures failures { S.failures sink.new ≡ count_after (S.failures sink.old) result }
-    ensures table { IfErr result (IsOfTables (length schema.now)) }
+    ensures { (text : List ℕ) → query_of text ≡ Ok query.now
+        → RunsReaders result schema.now (map R.remaining readers.items) text
+        (S.taken sink.old) (S.taken sink.new) (S.failures sink.old) (S.failures sink.new) }
 {
     let database: Database<'_, I> = Database::load(alloc, schema, readers)?;
     answer_query(alloc, query, &database, sink, observer)

@@ -4,7 +4,7 @@ use failures::Failure;
 use std::test::Fail;
 use streams::MemorySink;
 use table_model::faults::{LoadFault, QueryFault};
-use text_commands::{Pairs, geometry_text, page_of, query_text, relate_pairs};
+use text_commands::{File, Pairs, geometry_text, page_of, query_text, relate_pairs};
 
 const SQUARE: &str = "POLYGON((0 0,4 0,4 4,0 4,0 0))";
 
@@ -43,8 +43,8 @@ fn each_code_has_its_page(rt: HostRuntime) -> Result<(), Fail> {
 
 #[test]
 fn words_give_texts(rt: HostRuntime) -> Result<(), Fail> {
-    let mut opener = |path: &str| -> Option<&[u8]> {
-        if path == "square.wkt" {
+    let mut opener = |file: File<'_>| -> Option<&[u8]> {
+        if file == File::Geometry("square.wkt") {
             Some(SQUARE.as_bytes())
         } else {
             None
@@ -57,15 +57,18 @@ fn words_give_texts(rt: HostRuntime) -> Result<(), Fail> {
     Ok(())
 }
 
-/// The text of each file.
-fn text_of<'t>(_path: &str, text: &'t [u8]) -> Option<&'t [u8]> {
-    Some(text)
+/// The text of each query's file.
+fn text_of<'t>(file: File<'_>, text: &'t [u8]) -> Option<&'t [u8]> {
+    match file {
+        File::Query(_) => Some(text),
+        _ => None,
+    }
 }
 
 #[test]
 fn a_word_gives_a_query_of_the_greatest_length(rt: HostRuntime) -> Result<(), Fail> {
     let text = vec![in rt.alloc(); b' '; 65_536]?;
-    let mut opener = |path: &str| text_of(path, text.as_slice());
+    let mut opener = |file: File<'_>| text_of(file, text.as_slice());
     assert!(rt; query_text(rt.alloc(), "@at.sql", &mut opener).is_ok());
     Ok(())
 }
@@ -73,7 +76,7 @@ fn a_word_gives_a_query_of_the_greatest_length(rt: HostRuntime) -> Result<(), Fa
 #[test]
 fn a_longer_query_is_refused(rt: HostRuntime) -> Result<(), Fail> {
     let text = vec![in rt.alloc(); b' '; 65_537]?;
-    let mut opener = |path: &str| text_of(path, text.as_slice());
+    let mut opener = |file: File<'_>| text_of(file, text.as_slice());
     let refused = query_text(rt.alloc(), "@past.sql", &mut opener);
     assert!(rt; matches!(refused, Err(Failure::Query(QueryFault::TooLong))));
     Ok(())

@@ -1,6 +1,6 @@
 //! Tests of what is above the tables, which need code: loaded tables, rows of plans and conditions at rows, whole commands with
-//! observers and refused searches, runs over pairs, pages of faults and texts of words, witnesses and places of faults, and
-//! tiles.
+//! observers and refused searches, runs over pairs, pages of faults and texts of words, explanations, witnesses and places of
+//! faults, and tiles.
 #![tactic(auto)]
 
 #[cfg(test)]
@@ -9,6 +9,10 @@ mod batch_line_tests;
 mod cell_tests;
 #[cfg(test)]
 mod condition_tests;
+#[cfg(test)]
+mod explanation_tests;
+#[cfg(test)]
+mod file_tests;
 #[cfg(test)]
 mod front_tests;
 #[cfg(test)]

@@ -1,7 +1,7 @@
 //! Observers: what is reported to them, and that it changes nothing.
 
 use command_line::Order;
-use engine::{serve, serve_observed};
+use engine::{File, serve, serve_observed};
 use std::alloc::{AllocError, Global};
 use std::cell::Cell;
 use std::io::{ErrorKind, Read};
@@ -87,7 +87,7 @@ fn observed(rt: &HostRuntime, query: &str) -> Result<RowCount, Fail> {
     let mut out = MemorySink::new(rt.alloc());
     let mut same = MemorySink::new(rt.alloc());
     let mut err = MemorySink::new(rt.alloc());
-    let opener = |path: &str| file_at(path);
+    let opener = |file: File<'_>| file_at(file.path());
     let status = serve_observed(rt.alloc(), &order, opener, &mut out, &mut err, &mut count);
     let opener = |path: &str| file_at(path);
     let other = serve(rt.alloc(), &order, opener, &mut same, &mut err);

@@ -4,7 +4,7 @@ use Rattle.std.specs.Prelude.{slice_get}
 use Rattle.std.proofs.lemmas.Option.{same_Some}
 use Rattle.basics.proofs.Lists.{found_in_front}
 use Rattle.feature_table.specs.Records.{records_in}
-use Rattle.record_reasons.specs.Reasons.{Finds, HasNoRecordReason, HasReason, IsFilledReason, IsGeometryReason, IsOfColumn, record_number}
+use Rattle.record_reasons.specs.Reasons.{Finds, HasNoRecordReason, HasReason, IsFilledReason, IsGeometryReason, IsOfColumn, IsRecordReason, record_number}
 use Rattle.record_reasons.specs.SeenRecords.{AreSeen, IsAbsent}
 use Rattle.record_reasons.specs.declared.reason.Reason.{Reason}
 use Rattle.table_model.specs.GeometryColumns.{ColumnShape}
@@ -42,6 +42,15 @@ no-record known table f absent text is within reason has =
     let there = (seen-there (Some text) text has.header (record_number f) has.fields refl has.seen).1 in
     let gone : None ≡ Some has.fields = sym (absent text is) ∙ there in
     cc gone
+
+-- the reason of the record that was seen is that of the fault
+pub seen-some : {E : Type 0} (r : Result (Option Reason) E) (known : Option (List ℕ)) (table : TableDef ColumnShape) (f : LoadFault)
+    (header fields : Record) → AreSeen known header (record_number f) fields → IfOk r (Finds (HasReason table header fields f))
+    → IfOk r (λ found. IfSome found (IsRecordReason known table f))
+seen-some (Err e) known table f header fields seen finds = tt
+seen-some (Ok None) known table f header fields seen finds = tt
+seen-some (Ok (Some reason)) known table f header fields seen finds =
+    record { header = header; fields = fields; seen = seen; has = finds }
 
 -- where the record that was seen has no reason, the fault has none
 pub seen-none : {E : Type 0} (r : Result (Option Reason) E) (known : Option (List ℕ)) (table : TableDef ColumnShape) (f : LoadFault) (header fields : Record)

@@ -1,11 +1,11 @@
 -- Records that are read one after another.
-use Rattle.std.proofs.Common.{◌≡◌, ◌∙◌, ◌++◌, ◌≤◌, Bool, true, false, ℕ, zero, suc, List, [], ◌∷◌, Option, Some, Result, Ok, Err, IfOk, true≢false, ap, append-nil, arith, length, append_assoc, refl, sym}
+use Rattle.std.proofs.Common.{◌≡◌, ◌∙◌, ◌++◌, ◌≤◌, Bool, true, false, ℕ, zero, suc, List, [], ◌∷◌, Option, None, Some, Result, Ok, Err, IfOk, true≢false, ap, append-nil, arith, length, append_assoc, refl, sym}
 use Rattle.std.specs.Prelude.{slice_get}
 use Rattle.std.proofs.lemmas.Option.{slice_get_past}
 use Rattle.feature_table.specs.Records.{Gives, GivesFirst, records_in}
 use Rattle.feature_table.specs.declared.records.Records.{Records}
 use Rattle.table_model.specs.Loading.{Record}
-use Rattle.record_reasons.specs.SeenRecords.{BeginWith, GivesNext, GivesNone, HasRead, IsAbsent, Takes}
+use Rattle.record_reasons.specs.SeenRecords.{AreAllOf, BeginWith, GivesNext, GivesNone, HasRead, IsAbsent, Takes}
 
 -- the last of the elements
 pub last : {X : Type 0} (xs : List X) (x : X) (n : ℕ) → length xs ≡ n → slice_get (xs ++ x ∷ []) n ≡ Some x
@@ -69,3 +69,7 @@ absent remaining known records read number has none low text is =
 pub first-read : {R : Type 0} (remaining : R → Option (List ℕ)) (known : Option (List ℕ)) (old new : Records R) (fields : Record)
     → HasRead remaining known old [] → GivesNext remaining old new fields → HasRead remaining known new (fields ∷ [])
 first-read remaining known old new fields has next = read-more remaining known old new [] fields has next
+
+-- any records are all of bytes that aren't known
+pub unknown : {R : Type 0} (remaining : R → Option (List ℕ)) (records : Records R) → AreAllOf remaining None records
+unknown remaining records text is = cc is

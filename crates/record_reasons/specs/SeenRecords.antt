@@ -19,6 +19,10 @@ pub record AreSeen (known : Option (List ℕ)) (header : Record) (number : ℕ) 
 abbrev pub IsAbsent : Option (List ℕ) → ℕ → Type 0
 IsAbsent known number = (text : List ℕ) → known ≡ Some text → slice_get (records_in text) number ≡ None
 
+-- these are all records of some bytes, if they are known: none was read yet
+abbrev pub AreAllOf : {R : Type 0} → (R → Option (List ℕ)) → Option (List ℕ) → Records R → Type 0
+AreAllOf remaining known records = (text : List ℕ) → known ≡ Some text → Gives remaining records (records_in text)
+
 -- ---- steps of reading
 
 -- this record was the first of those that were left

@@ -4,10 +4,10 @@ ghost use Rattle.std.specs.Prelude.{◌≡◌, IfErr, IfOk, Ok};
 ghost use Rattle.geometry_model.specs.Geometries as shapes;
 ghost use Rattle.geometry_model.specs.TextReading.{read_text};
 ghost use Rattle.geometry_model.specs.WellKnownText.{Spells};
-ghost use Rattle.feature_table.specs.Outcomes.{IsFailure};
 ghost use Rattle.table_model.specs.GeometryColumns.{takes_type};
 ghost use Rattle.record_reasons.specs.Reasons.{Finds, IsFilledReason, IsGeometryReason, IsInvalidIn, IsNoIntegerIn, IsNotUtf8In, IsOtherTypeIn, IsReasonIn, IsRefusedIn};
 ghost use Rattle.record_reasons.specs.Reasons as spec;
+ghost use Rattle.table_model.specs.declared.faults.LoadFault.TheVariants as failure;
 
 use crate::reason::Reason;
 use crate::shown_texts::shown_text;
@@ -28,7 +28,7 @@ pub(crate) fn reason_in_column<'s>(
     fault: LoadFault,
 ) -> Result<Option<Reason<'s>>, LoadFault>
     ensures finds { IfOk result (Finds (IsReasonIn column.entry.now field.now fault)) }
-    ensures fails { IfErr result IsFailure }
+    ensures fails { IfErr result (λ f. f ≡ failure.OutOfMemory) }
 {
     if field.is_empty() {
         return Ok(None);
@@ -44,7 +44,7 @@ fn filled_reason<'s>(
     fault: LoadFault,
 ) -> Result<Option<Reason<'s>>, LoadFault>
     ensures finds { IfOk result (Finds (IsFilledReason column.entry.now field.now fault)) }
-    ensures fails { IfErr result IsFailure }
+    ensures fails { IfErr result (λ f. f ≡ failure.OutOfMemory) }
 {
     match fault {
         LoadFault::BadInteger(_) => no_integer_in(alloc, column, field),
@@ -61,7 +61,7 @@ fn geometry_reason<'s>(
     fault: LoadFault,
 ) -> Result<Option<Reason<'s>>, LoadFault>
     ensures finds { IfOk result (Finds (IsGeometryReason column.entry.now field.now fault)) }
-    ensures fails { IfErr result IsFailure }
+    ensures fails { IfErr result (λ f. f ≡ failure.OutOfMemory) }
 {
     let Some(shape) = shape_of(column) else {
         return Ok(None);
@@ -86,7 +86,7 @@ fn no_integer_in<'s>(
     field: &[u8],
 ) -> Result<Option<Reason<'s>>, LoadFault>
     ensures finds { IfOk result (Finds (IsNoIntegerIn column.entry.now field.now)) }
-    ensures fails { IfErr result IsFailure }
+    ensures fails { IfErr result (λ f. f ≡ failure.OutOfMemory) }
 {
     let ColumnType::Integer = column.column_type else {
         return Ok(None);
@@ -130,7 +130,7 @@ fn geometry_in(alloc: Global, field: &[u8]) -> Result<Result<Geometry, TextFault
     ensures text { IfOk result (λ read. read_text field.now ≡ read) }
     ensures spelled { IfOk result (λ read. IfOk read (Spells field.now)) }
     ensures only { (g : shapes.Geometry) → Spells field.now g → IfOk result (λ read. read ≡ Ok g) }
-    ensures fails { IfErr result IsFailure }
+    ensures fails { IfErr result (λ f. f ≡ failure.OutOfMemory) }
 {
     match read(alloc, field) {
         Ok(geometry) => Ok(Ok(geometry)),
@@ -149,7 +149,7 @@ fn refused_in<'s>(
     fault: TextFault,
 ) -> Result<Option<Reason<'s>>, LoadFault>
     ensures finds { IfOk result (Finds (IsRefusedIn column.entry.now field.now fault)) }
-    ensures fails { IfErr result IsFailure }
+    ensures fails { IfErr result (λ f. f ≡ failure.OutOfMemory) }
 {
     let Err(found) = geometry_in(alloc, field)? else {
         return Ok(None);
@@ -171,7 +171,7 @@ fn invalid_in<'s>(
     fault: ValidityFault,
 ) -> Result<Option<Reason<'s>>, LoadFault>
     ensures finds { IfOk result (Finds (IsInvalidIn column.entry.now field.now fault)) }
-    ensures fails { IfErr result IsFailure }
+    ensures fails { IfErr result (λ f. f ≡ failure.OutOfMemory) }
 {
     let Ok(geometry) = geometry_in(alloc, field)? else {
         return Ok(None);
@@ -194,7 +194,7 @@ fn other_type_in<'s>(
     field: &[u8],
 ) -> Result<Option<Reason<'s>>, LoadFault>
     ensures finds { IfOk result (Finds (IsOtherTypeIn column.entry.now wanted field.now)) }
-    ensures fails { IfErr result IsFailure }
+    ensures fails { IfErr result (λ f. f ≡ failure.OutOfMemory) }
 {
     let Ok(geometry) = geometry_in(alloc, field)? else {
         return Ok(None);

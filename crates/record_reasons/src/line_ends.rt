@@ -1,10 +1,12 @@
 //! The first field of a CSV text that holds a line end.
 
-ghost use Rattle.std.specs.Prelude.{◌≡◌, IfErr, IfNone, IfOk, IfSome};
+ghost use Rattle.std.specs.Prelude.{◌≡◌, ℕ, IfErr, IfNone, IfOk, IfSome, List, Option, true};
 ghost use Rattle.csv.specs.Records.{fields_of};
-ghost use Rattle.feature_table.specs.Outcomes.{IsFailure};
+ghost use Rattle.feature_table.specs.Outcomes.{IsFailure, is_of_reading};
+ghost use Rattle.feature_table.specs.Records.{IsReady, asked, read_failed};
 ghost use Rattle.record_reasons.specs.LineEnds.{FindsLineEnd, IsFirstField, NoFieldHolds};
 ghost use Rattle.record_reasons.specs.LineEnds as spec;
+ghost use Rattle.record_reasons.specs.SeenRecords.{AreAllOf};
 
 use crate::seen_records::take_record;
 use csv::ByteRecord;
@@ -23,21 +25,24 @@ pub struct LineEnd {
     pub field: usize,
 }
 
-/// The first record that has a field with a line feed or a carriage return, and the first such field of it. At most 100,002 records
-/// are read, the header among them. None is for a text of which none of these has one. At Err reading failed or memory ran out: the
-/// fault is ReadFailed or OutOfMemory (RFC 4180, 2.6: a quoted field may hold a line end; that it is looked for: this project's
+/// The first record that has a field with a line feed or a carriage return, and the first such field of it, where no record was read
+/// yet. At most 100,002 records are read, the header among them. None is for a text of which none of these has one. The fault is
+/// ReadFailed only if `csv` returned an error of reading, or else OutOfMemory (RFC 4180, 2.6: a quoted field may hold a line end; that it is looked for: this project's
 /// choice).
 pub fn first_line_end<R: Read + Drop>(
     alloc: Global,
-    reader: R,
+    records: &mut Records<R>,
 ) -> Result<Option<LineEnd>, LoadFault>
-    ensures finds { IfOk result (FindsLineEnd (R.remaining reader)) }
+    requires ready { IsReady records.old }
+    requires none { asked records.old ≡ 0 }
+    ensures finds { (known : Option (List ℕ)) → AreAllOf R.remaining known records.old
+        → IfOk result (FindsLineEnd known) }
     ensures fails { IfErr result IsFailure }
+    ensures read_failed { IfErr result (λ f. is_of_reading f ≡ true → read_failed records.new ≡ true) }
 {
-    let mut records = Records::new(alloc, reader);
     let mut record = ByteRecord::new(alloc);
     for number in 0..ROW_LIMIT + 2 {
-        if !take_record(&mut records, &mut record)? {
+        if !take_record(records, &mut record)? {
             return Ok(None);
         }
         if let Some(field) = line_end_in(&record) {

@@ -1,10 +1,13 @@
 //! The reason of a fault of loading.
 
-ghost use Rattle.std.specs.Prelude.{◌≡◌, IfErr, IfNone, IfOk, IfSome};
+ghost use Rattle.std.specs.Prelude.{◌≡◌, ℕ, IfErr, IfNone, IfOk, IfSome, List, Option, true};
 ghost use Rattle.csv.specs.Records.{fields_of};
-ghost use Rattle.feature_table.specs.Outcomes.{IsFailure};
+ghost use Rattle.feature_table.specs.Outcomes.{IsFailure, is_of_reading};
+ghost use Rattle.feature_table.specs.Records.{IsReady, asked, read_failed};
 ghost use Rattle.record_reasons.specs.Reasons.{Finds, HasNoReason, HasNoRecordReason, HasReason, IsOfColumn, IsOfLengths, IsReasonOf, IsRecordReason};
 ghost use Rattle.record_reasons.specs.Reasons as spec;
+ghost use Rattle.record_reasons.specs.SeenRecords.{AreAllOf};
+ghost use Rattle.table_model.specs.declared.faults.LoadFault.TheVariants as failure;
 
 use crate::column_reasons::reason_in_column;
 use crate::header_reasons::{missing, repeated};
@@ -13,7 +16,7 @@ use crate::null_reasons::null_field;
 use crate::same_keys::same_key;
 use crate::seen_records::{seen_header, seen_record};
 use csv::ByteRecord;
-use feature_table::TableDef;
+use feature_table::{Records, TableDef};
 use geometry_model::{GeometryType, TextFault, ValidityFault};
 use std::alloc::Global;
 use std::io::Read;
@@ -92,23 +95,28 @@ pub enum Reason<'s> {
     },
 }
 
-/// The reason of a table's fault, whose header and records are read again for it; for any fault but TooManyRows, ReadFailed and
-/// OutOfMemory. Of several columns the first that has this fault is shown, and of several records with a key the first. None comes
-/// where what is read now hasn't the fault, and for a number past 100,001. At most 100,002 records are read. At Err reading failed or
-/// memory ran out: the fault is ReadFailed or OutOfMemory (06-104r4, feature tables; which reason: this project's choice).
+/// The reason of a table's fault, whose header and records are read again for it, from the first; for any fault but TooManyRows,
+/// ReadFailed and OutOfMemory. Of several columns the first that has this fault is shown, and of several records with a key the first. None comes
+/// where what is read now hasn't the fault, and for a number past 100,001. At most 100,002 records are read. The fault is ReadFailed
+/// only if `csv` returned an error of reading, or else OutOfMemory (06-104r4, feature tables; which reason: this project's choice).
 pub fn reason_of<'s, R: Read + Drop>(
     alloc: Global,
     table: &'s TableDef,
-    reader: R,
+    records: &mut Records<R>,
     fault: LoadFault,
 ) -> Result<Option<Reason<'s>>, LoadFault>
-    ensures reason { IfOk result (λ found. IfSome found (IsReasonOf (R.remaining reader) table.entry.now fault)) }
-    ensures none { IfOk result (λ found. IfNone found (HasNoReason (R.remaining reader) table.entry.now fault)) }
+    requires ready { IsReady records.old }
+    requires none { asked records.old ≡ 0 }
+    ensures reason { (known : Option (List ℕ)) → AreAllOf R.remaining known records.old
+        → IfOk result (λ found. IfSome found (IsReasonOf known table.entry.now fault)) }
+    ensures none { (known : Option (List ℕ)) → AreAllOf R.remaining known records.old
+        → IfOk result (λ found. IfNone found (HasNoReason known table.entry.now fault)) }
     ensures fails { IfErr result IsFailure }
+    ensures read_failed { IfErr result (λ f. is_of_reading f ≡ true → read_failed records.new ≡ true) }
 {
     match fault {
-        LoadFault::DoubleKey(number) => same_key(alloc, table, reader, number),
-        _ => record_reason(alloc, table, reader, fault),
+        LoadFault::DoubleKey(number) => same_key(alloc, table, records, number),
+        _ => record_reason(alloc, table, records, fault),
     }
 }
 
@@ -116,24 +124,29 @@ pub fn reason_of<'s, R: Read + Drop>(
 fn record_reason<'s, R: Read + Drop>(
     alloc: Global,
     table: &'s TableDef,
-    reader: R,
+    records: &mut Records<R>,
     fault: LoadFault,
 ) -> Result<Option<Reason<'s>>, LoadFault>
-    ensures reason { IfOk result (λ found. IfSome found (IsRecordReason (R.remaining reader) table.entry.now fault)) }
-    ensures none { IfOk result (λ found. IfNone found (HasNoRecordReason (R.remaining reader) table.entry.now fault)) }
+    requires ready { IsReady records.old }
+    requires none { asked records.old ≡ 0 }
+    ensures reason { (known : Option (List ℕ)) → AreAllOf R.remaining known records.old
+        → IfOk result (λ found. IfSome found (IsRecordReason known table.entry.now fault)) }
+    ensures none { (known : Option (List ℕ)) → AreAllOf R.remaining known records.old
+        → IfOk result (λ found. IfNone found (HasNoRecordReason known table.entry.now fault)) }
     ensures fails { IfErr result IsFailure }
+    ensures read_failed { IfErr result (λ f. is_of_reading f ≡ true → read_failed records.new ≡ true) }
 {
     let number = record_number(fault);
     if number > ROW_LIMIT + 1 {
         return Ok(None);
     }
     if number == 0 {
-        let Some(header) = seen_header(alloc, reader)? else {
+        let Some(header) = seen_header(alloc, records)? else {
             return Ok(None);
         };
         return reason_in(alloc, table, &header, &header, fault);
     }
-    let Some(seen) = seen_record(alloc, reader, number)? else {
+    let Some(seen) = seen_record(alloc, records, number)? else {
         return Ok(None);
     };
     reason_in(alloc, table, &seen.header, &seen.record, fault)
@@ -164,7 +177,7 @@ fn reason_in<'s>(
 ) -> Result<Option<Reason<'s>>, LoadFault>
     ensures finds { IfOk result (Finds (HasReason table.entry.now (fields_of header.now)
         (fields_of record.now) fault)) }
-    ensures fails { IfErr result IsFailure }
+    ensures fails { IfErr result (λ f. f ≡ failure.OutOfMemory) }
 {
     match fault {
         LoadFault::MissingColumn => Ok(missing(table, header)),
@@ -198,7 +211,7 @@ fn reason_in_columns<'s>(
 ) -> Result<Option<Reason<'s>>, LoadFault>
     ensures finds { IfOk result (Finds (IsOfColumn table.entry.now (fields_of header.now)
         (fields_of record.now) fault)) }
-    ensures fails { IfErr result IsFailure }
+    ensures fails { IfErr result (λ f. f ≡ failure.OutOfMemory) }
 {
     for column in table.columns.as_slice() {
         let field = field_named(header, record, column.name.bytes());

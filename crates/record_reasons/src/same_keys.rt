@@ -1,11 +1,12 @@
 //! The reason of a key that an earlier record has.
 
-ghost use Rattle.std.specs.Prelude.{◌≡◌, ◌+◌, ◌<◌, ◌≤◌, IfErr, IfNone, IfOk, IfSome, None, Some, ℕ, length, slice_get};
+ghost use Rattle.std.specs.Prelude.{◌≡◌, ◌+◌, ◌<◌, ◌≤◌, IfErr, IfNone, IfOk, IfSome, List, None, Option, Some, ℕ, length, slice_get, true};
 ghost use Rattle.csv.specs.Records.{fields_of};
-ghost use Rattle.feature_table.specs.Outcomes.{IsFailure};
+ghost use Rattle.feature_table.specs.Outcomes.{IsFailure, is_of_reading};
+ghost use Rattle.feature_table.specs.Records.{IsReady, asked, read_failed};
 ghost use Rattle.record_reasons.specs.Reasons.{HasNoKeyReason, IsKeyReason, key_under};
 ghost use Rattle.record_reasons.specs.SeenKeys.{AreKeys};
-ghost use Rattle.record_reasons.specs.SeenRecords.{IsAbsent};
+ghost use Rattle.record_reasons.specs.SeenRecords.{AreAllOf, IsAbsent};
 ghost use Rattle.table_model.specs.Loading.{row_limit};
 
 use crate::named_fields::field_named;
@@ -24,17 +25,22 @@ use table_model::faults::LoadFault;
 pub(crate) fn same_key<R: Read + Drop>(
     alloc: Global,
     table: &TableDef,
-    reader: R,
+    records: &mut Records<R>,
     number: usize,
 ) -> Result<Option<Reason<'static>>, LoadFault>
-    ensures reason { IfOk result (λ found. IfSome found (IsKeyReason (R.remaining reader) table.now number)) }
-    ensures none { IfOk result (λ found. IfNone found (HasNoKeyReason (R.remaining reader) table.now number)) }
+    requires ready { IsReady records.old }
+    requires none { asked records.old ≡ 0 }
+    ensures reason { (known : Option (List ℕ)) → AreAllOf R.remaining known records.old
+        → IfOk result (λ found. IfSome found (IsKeyReason known table.now number)) }
+    ensures none { (known : Option (List ℕ)) → AreAllOf R.remaining known records.old
+        → IfOk result (λ found. IfNone found (HasNoKeyReason known table.now number)) }
     ensures fails { IfErr result IsFailure }
+    ensures read_failed { IfErr result (λ f. is_of_reading f ≡ true → read_failed records.new ≡ true) }
 {
     if number == 0 || number > ROW_LIMIT + 1 {
         return Ok(None);
     }
-    let Some(keys) = seen_keys(alloc, reader, table, number)? else {
+    let Some(keys) = seen_keys(alloc, records, table, number)? else {
         return Ok(None);
     };
     let Some(key) = keys[number - 1] else {
@@ -75,29 +81,32 @@ fn key_of(table: &TableDef, header: &ByteRecord, record: &ByteRecord) -> Option<
     integer_of(field_named(header, record, column.name.bytes()))
 }
 
-/// Reads the header and the records up to the one of this number, and returns the keys of the records. None is for a text that hasn't so
+/// Reads the header and the records up to the one of this number, where none was read yet, and returns the keys of the records. None is for a text that hasn't so
 /// many records. The fault is ReadFailed or OutOfMemory.
 fn seen_keys<R: Read + Drop>(
     alloc: Global,
-    reader: R,
+    records: &mut Records<R>,
     table: &TableDef,
     number: usize,
 ) -> Result<Option<Vec<Option<i64>>>, LoadFault>
+    requires ready { IsReady records.old }
+    requires none { asked records.old ≡ 0 }
     requires limit { number ≤ row_limit + 1 }
-    ensures seen { IfOk result (λ found. IfSome found
-        (λ keys. AreKeys (R.remaining reader) table.now number keys.items)) }
-    ensures absent { IfOk result (λ found. IfNone found (IsAbsent (R.remaining reader) number)) }
+    ensures seen { (known : Option (List ℕ)) → AreAllOf R.remaining known records.old
+        → IfOk result (λ found. IfSome found (λ keys. AreKeys known table.now number keys.items)) }
+    ensures absent { (known : Option (List ℕ)) → AreAllOf R.remaining known records.old
+        → IfOk result (λ found. IfNone found (IsAbsent known number)) }
     ensures fails { IfErr result IsFailure }
+    ensures read_failed { IfErr result (λ f. is_of_reading f ≡ true → read_failed records.new ≡ true) }
 {
-    let mut records = Records::new(alloc, reader);
     let mut header = ByteRecord::new(alloc);
-    if !take_record(&mut records, &mut header)? {
+    if !take_record(records, &mut header)? {
         return Ok(None);
     }
     let mut record = ByteRecord::new(alloc);
     let mut keys = Vec::new(alloc);
     for _place in 0..number {
-        if !take_record(&mut records, &mut record)? {
+        if !take_record(records, &mut record)? {
             return Ok(None);
         }
         keys.push(key_of(table, &header, &record))?;

@@ -1,10 +1,10 @@
 //! The header of a CSV text and one record of it.
 
-ghost use Rattle.std.specs.Prelude.{◌≡◌, ◌+◌, ◌<◌, ◌≤◌, IfErr, IfNone, IfOk, IfSome, OnOk};
+ghost use Rattle.std.specs.Prelude.{◌≡◌, ◌+◌, ◌<◌, ◌≤◌, ℕ, IfErr, IfNone, IfOk, IfSome, List, OnOk, Option, true};
 ghost use Rattle.csv.specs.Records.{fields_of};
-ghost use Rattle.feature_table.specs.Outcomes.{IsFailure};
-ghost use Rattle.feature_table.specs.Records.{IsReady, asked, record_limit};
-ghost use Rattle.record_reasons.specs.SeenRecords.{AreSeen, IsAbsent, Takes};
+ghost use Rattle.feature_table.specs.Outcomes.{IsFailure, is_of_reading};
+ghost use Rattle.feature_table.specs.Records.{IsReady, asked, read_failed, record_limit};
+ghost use Rattle.record_reasons.specs.SeenRecords.{AreAllOf, AreSeen, IsAbsent, Takes};
 ghost use Rattle.table_model.specs.Loading.{row_limit};
 
 use csv::ByteRecord;
@@ -32,50 +32,58 @@ pub(crate) fn take_record<R: Read + Drop>(
     ensures takes { IfOk result (λ found.
         Takes R.remaining records.old records.new found (fields_of record.new)) }
     ensures fails { IfErr result IsFailure }
+    ensures read_failed { IfErr result (λ f. is_of_reading f ≡ true → read_failed records.new ≡ true) }
 {
     next_record(records, record)
 }
 
-/// Reads the header; None is for a text without records. The fault is ReadFailed or OutOfMemory.
+/// Reads the header, where no record was read yet; None is for a text without records. The fault is ReadFailed or OutOfMemory.
 pub(crate) fn seen_header<R: Read + Drop>(
     alloc: Global,
-    reader: R,
+    records: &mut Records<R>,
 ) -> Result<Option<ByteRecord>, LoadFault>
-    ensures seen { IfOk result (λ found. IfSome found (λ header.
-        AreSeen (R.remaining reader) (fields_of header) 0 (fields_of header))) }
-    ensures absent { IfOk result (λ found. IfNone found (IsAbsent (R.remaining reader) 0)) }
+    requires ready { IsReady records.old }
+    requires none { asked records.old ≡ 0 }
+    ensures seen { (known : Option (List ℕ)) → AreAllOf R.remaining known records.old
+        → IfOk result (λ found. IfSome found (λ header. AreSeen known (fields_of header) 0 (fields_of header))) }
+    ensures absent { (known : Option (List ℕ)) → AreAllOf R.remaining known records.old
+        → IfOk result (λ found. IfNone found (IsAbsent known 0)) }
     ensures fails { IfErr result IsFailure }
+    ensures read_failed { IfErr result (λ f. is_of_reading f ≡ true → read_failed records.new ≡ true) }
 {
-    let mut records = Records::new(alloc, reader);
     let mut header = ByteRecord::new(alloc);
-    if !take_record(&mut records, &mut header)? {
+    if !take_record(records, &mut header)? {
         return Ok(None);
     }
     Ok(Some(header))
 }
 
-/// Reads the header and the record of this number, from 1; None is for a text that has no such record. The fault is ReadFailed or
-/// OutOfMemory.
+/// Reads the header and the record of this number, from 1, where none was read yet; None is for a text that has no such record. The
+/// fault is ReadFailed or OutOfMemory.
 pub(crate) fn seen_record<R: Read + Drop>(
     alloc: Global,
-    reader: R,
+    records: &mut Records<R>,
     number: usize,
 ) -> Result<Option<Seen>, LoadFault>
+    requires ready { IsReady records.old }
+    requires none { asked records.old ≡ 0 }
     requires some { 0 < number }
     requires limit { number ≤ row_limit + 1 }
-    ensures seen { IfOk result (λ found. IfSome found (λ seen.
-        AreSeen (R.remaining reader) (fields_of seen.header) number (fields_of seen.record))) }
-    ensures absent { IfOk result (λ found. IfNone found (IsAbsent (R.remaining reader) number)) }
+    ensures seen { (known : Option (List ℕ)) → AreAllOf R.remaining known records.old
+        → IfOk result (λ found. IfSome found (λ seen.
+        AreSeen known (fields_of seen.header) number (fields_of seen.record))) }
+    ensures absent { (known : Option (List ℕ)) → AreAllOf R.remaining known records.old
+        → IfOk result (λ found. IfNone found (IsAbsent known number)) }
     ensures fails { IfErr result IsFailure }
+    ensures read_failed { IfErr result (λ f. is_of_reading f ≡ true → read_failed records.new ≡ true) }
 {
-    let mut records = Records::new(alloc, reader);
     let mut header = ByteRecord::new(alloc);
-    if !take_record(&mut records, &mut header)? {
+    if !take_record(records, &mut header)? {
         return Ok(None);
     }
     let mut record = ByteRecord::new(alloc);
     for _place in 0..number {
-        if !take_record(&mut records, &mut record)? {
+        if !take_record(records, &mut record)? {
             return Ok(None);
         }
     }

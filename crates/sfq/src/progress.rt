@@ -29,7 +29,7 @@ pub struct Progress<'r> {
     rt: &'r HostRuntime,
     // When the program began; None where nothing is printed.
     start: Option<Instant>,
-    // How many files were opened.
+    // How many files of CSV were opened.
     opened: Cell<u64>,
     // How long after the start a line may be written next.
     due: Cell<Duration>,
@@ -57,30 +57,27 @@ impl<'r> Progress<'r> {
         }
     }
 
-    /// The reader of an opened file, whose reading is made again where a signal interrupts it. Once so many files were opened
-    /// that aren't reported, those of the schema and of the query, it is reported by its name. Without memory the
-    /// name is left out.
-    pub fn follow(
-        &self,
-        path: &str,
-        input: Input,
-        unreported: u64,
-    ) -> Followed<PatientReader<Input>, FileReading<'_>> {
-        let place = self.opened.get();
-        self.opened.set(place.saturating_add(1));
+    /// The reader of a file, whose reading is made again where a signal interrupts it. Nothing is printed of it.
+    pub fn read(&self, input: Input) -> Reported<'_> {
+        self.follow(None, input)
+    }
+
+    /// The same of a file of CSV, which is reported by its name: that of its table, or of its pairs. Without memory the name is
+    /// left out, and then nothing is printed of it.
+    pub fn load(&self, path: &str, input: Input) -> Reported<'_> {
+        self.opened.set(self.opened.get().saturating_add(1));
+        self.follow(self.name_of(path), input)
+    }
+
+    /// The reader of the file that was opened last, which is reported if it has a name.
+    fn follow(&self, name: Option<String>, input: Input) -> Reported<'_> {
         let reading = FileReading {
-            name: self.name_of(path),
-            place,
-            unreported,
+            name,
+            place: self.opened.get(),
             bytes: 0,
             progress: self,
         };
         Followed::new(PatientReader::new(input), reading)
-    }
-
-    /// How many files were opened so far.
-    pub fn opened(&self) -> u64 {
-        self.opened.get()
     }
 
     /// The observer that reports the search for rows.
@@ -138,12 +135,14 @@ impl<'r> Progress<'r> {
     }
 }
 
+/// The reader of a file that a command opens.
+pub type Reported<'p> = Followed<PatientReader<Input>, FileReading<'p>>;
+
 /// How far a file is read. Once it is dropped, with its reader, no line is left on the terminal.
 pub struct FileReading<'p> {
     name: Option<String>,
-    // How many files were opened before it, and how many of the first ones aren't reported.
+    // Which file of CSV it is, from 1.
     place: u64,
-    unreported: u64,
     bytes: u64,
     progress: &'p Progress<'p>,
 }
@@ -153,11 +152,10 @@ impl ReadObserver for FileReading<'_> {
     fn came(&mut self, bytes: usize) {
         self.bytes = self.bytes.saturating_add(bytes as u64);
         if let Some(name) = &self.name
-            && self.place >= self.unreported
             && self.progress.takes_line()
         {
-            let place = self.place.saturating_sub(self.unreported).saturating_add(1);
-            let tables = self.progress.opened.get().saturating_sub(self.unreported);
+            let place = self.place;
+            let tables = self.progress.opened.get();
             let read = self.bytes / MEGABYTE;
             let mut err = self.progress.rt.stderr();
             let _ = write!(err, "sfq: loading {name} ({place} of {tables}), {read} MB");
@@ -170,7 +168,6 @@ impl Drop for FileReading<'_> {
         let Self {
             name: _,
             place: _,
-            unreported: _,
             bytes: _,
             progress,
         } = self;

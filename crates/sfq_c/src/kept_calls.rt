@@ -7,7 +7,7 @@ ghost use Rattle.geometry_model.specs.CheckedTexts.{geometry_in_text};
 ghost use Rattle.geometry_model.specs.Envelopes.{envelope};
 ghost use Rattle.geometry_model.specs.Geometries.{is_empty, kind};
 ghost use Rattle.library_calls.specs.Kept.{HasMatrix, HasRelation, IsStatusOfPosition, LiesAt, Matches, bounds_of, status_of_pattern, status_of_relation, status_of_room};
-ghost use Rattle.library_calls.specs.Numbers.{dimension};
+ghost use Rattle.library_calls.specs.Numbers.{dimension_of_kind};
 ghost use Rattle.library_calls.specs.Refusals.{IsRefusalOf, first_refused, none_there, ok, out_of_memory, status_of_text};
 ghost use Rattle.library_calls.specs.Texts.{IsRefusedFor, IsSpelled};
 
@@ -235,7 +235,7 @@ pub extern "C" fn sfq_proved_text(
 #[unsafe(no_mangle)]
 pub extern "C" fn sfq_proved_dimension(kept: KeptGeometry, back: &mut Slot) -> u32
     requires { back.old.geometry ≡ None }
-    ensures dimension { result ≡ dimension (kind kept.geometry) }
+    ensures dimension { result ≡ dimension_of_kind (kind kept.geometry) }
     ensures back { back.new.geometry ≡ Some kept.geometry }
 {
     let whole = kept.into_box();

@@ -1,5 +1,5 @@
 -- Lines by number, one after another.
-use Rattle.std.proofs.Common.{◌≡◌, ◌<◌, ◌-◌, ℕ, ℤ, zero, suc, List, [], ◌∷◌, ◌++◌, ◌+◌, Option, Some, Result, Ok, Err, OnErr, OnOk, sym, ◌∙◌, ap, append_assoc, append-nil, arith, codes, decimal, subst}
+use Rattle.std.proofs.Common.{◌≡◌, ◌<◌, ◌-◌, ℕ, ℤ, zero, suc, List, [], ◌∷◌, ◌++◌, ◌+◌, Option, Some, Result, Ok, Err, OnErr, sym, ◌∙◌, ap, append_assoc, append-nil, arith, codes, decimal, subst}
 use Rattle.std.specs.Fmt.{signed_decimal}
 use Rattle.std.specs.List.{concat, flat_map, range_with_len}
 use Rattle.std.specs.Io.KnownBytes.{Appends}
@@ -51,11 +51,6 @@ number_front f n m a b c less before front =
 pub last_front : {A E : Type 0} (r : Result A E) (a b c : Option (List ℕ)) (x y : List ℕ) → Appends a b x → OnErr r (AppendsFront b c y) → OnErr r (AppendsFront a c (x ++ y))
 last_front (Ok v) a b c x y first front = tt
 last_front (Err e) a b c x y first front = AppendsFront-then a b c x y first front
-
--- after a first text, the last one
-pub last_put : {A E : Type 0} (r : Result A E) (a b c : Option (List ℕ)) (x y text : List ℕ) → x ++ y ≡ text → Appends a b x → OnOk r (Appends b c y) → OnOk r (Appends a c text)
-last_put (Ok v) a b c x y text e first last = subst (λ l. Appends a c l) e (Appends-then a b c x y first last)
-last_put (Err v) a b c x y text e first last = tt
 
 -- the parts of a stretch's line, joined
 pub stretch_parts : (x y z name : List ℕ) (number rows : ℕ) → x ≡ name → y ≡ decimal number → z ≡ decimal rows

@@ -1,9 +1,6 @@
 -- What holds at each place.
-use Rattle.std.proofs.Common.{◌≡◌, ◌⊎◌, inl, inr, ◌+◌, ◌<◌, ℕ, arith, subst, sym}
-
--- a number below one more is below, or is the last
-earlier_or_last : (k n : ℕ) → k < n + 1 → (k < n) ⊎ (k ≡ n)
-earlier_or_last k n h = grind (arith, h)
+use Rattle.std.proofs.Common.{◌≡◌, ◌⊎◌, inl, inr, ◌+◌, ◌<◌, ℕ, subst, sym}
+use Rattle.basics.proofs.Numbers.{earlier_or_last}
 
 -- what holds at all earlier places and at the last
 either_holds : (P : ℕ → Type 0) (k n : ℕ) → ((j : ℕ) → j < n → P j) → P n → (k < n) ⊎ (k ≡ n) → P k

@@ -1,7 +1,7 @@
 //! What the program does: it reads the schema, checks every table, and writes the parts.
 
 ghost use Rattle.std.specs.Prelude.{IfOk};
-ghost use Rattle.table_laws.specs.Cells.{IsCut};
+ghost use Rattle.table_laws.specs.Cells.{CutsGrid};
 
 use crate::definitions::schema_text;
 use crate::endings::{Ending, ended};
@@ -63,7 +63,7 @@ fn split_tables<'w, 's, S: Sink>(
 
 /// The cells for the corners that samplers kept: each stands for at most so many rows, as far as the sample shows.
 fn cut(alloc: Global, samplers: Vec<Sampler>, rows: usize) -> Result<Cells, AllocError>
-    ensures { IfOk result (λ cells. IsCut cells) }
+    ensures { IfOk result (λ cells. CutsGrid cells) }
 {
     // The samplers of two parts keep one of the same number of rows.
     let mut stride = 1;

@@ -84,6 +84,8 @@ noded_of a b es ps nodes cs he hp hn hc are_cuts are_pieces triples = record {
   are_cuts = subst (λ (qs : List Position). All (IsCut (edges_of_both a b) qs) nodes) hp (subst (λ (fs : List Edge). All (IsCut fs ps) nodes) he are_cuts);
   are_pieces = subst (λ (qs : List Position). All (IsPiece (edges_of_both a b) qs) cs) hp (subst (λ (fs : List Edge). All (IsPiece fs ps) cs) he are_pieces);
   triples = triples;
+  exact_nodes = hn ∙ ap₂ cut_points he hp;
+  exact_pieces = hc ∙ ap₂ (λ (fs : List Edge) (qs : List Position). pieces (cut_points fs qs) fs) he hp;
   labels = ap₂ (λ (n : List Point) (d : List Piece). labels_of a b n d) hn hc ∙ ap₂ (λ (fs : List Edge) (qs : List Position). labels_of a b (cut_points fs qs) (pieces (cut_points fs qs) fs)) he hp;
 }
 

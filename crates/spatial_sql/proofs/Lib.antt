@@ -3,5 +3,6 @@ pub mod Outcomes
 pub mod PatternTexts
 pub mod Parts
 pub mod FilterLemmas
+mod FreeConditionLemmas
 mod IdleRowLemmas
 mod SoughtValueLemmas

@@ -1,5 +1,5 @@
 -- Lists that are returned one after another, and the faults that end a step.
-use Rattle.std.proofs.Common.{◌≡◌, ◌≢◌, List, ◌++◌, Result, Ok, Err, sym, ap, ◌∙◌}
+use Rattle.std.proofs.Common.{◌≡◌, ◌≢◌, List, ◌++◌, Ok, Err, sym, ap, ◌∙◌}
 use Rattle.std.specs.Prelude.{IsErrAnd}
 use Rattle.table_model.specs.Binding.{Checked, ◌>>=◌}
 use Rattle.table_model.specs.declared.faults.QueryFault.{QueryFault}

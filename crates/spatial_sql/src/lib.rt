@@ -11,6 +11,7 @@ mod condition_binding;
 mod condition_values;
 mod conjuncts;
 mod denotations;
+mod free_conditions;
 mod idle_rows;
 mod item_binding;
 mod logic;

@@ -17,7 +17,8 @@ use Rattle.geometry_model.specs.Points.{Position}
 use Rattle.geometry_model.specs.Envelopes.{Envelope, envelope, with_position, envelope_of_positions, overlap, meets}
 use Rattle.geometry_model.specs.Geometries.{positions}
 use Rattle.geometry_model.specs.WellKnownText.{coordinate_limit}
-use Rattle.table_laws.specs.Cells.{Cell, cells_of, IsCut, IsOnGrid, mark, owner, owns}
+use Rattle.fraction.specs.Ranges.{IsOnGrid}
+use Rattle.table_laws.specs.Cells.{Cell, cells_of, CutsGrid, mark, owner, owns}
 use Rattle.table_laws.specs.PairLaws.{is_found, OwnersFind, PairsAreOnce, GridIsCut}
 
 -- ---- what an envelope is
@@ -53,7 +54,10 @@ one_of false x y n h k = k
 
 corner_with : (a : Position) (o : Option Envelope) → IsOnGrid a → CornerIsOn o → IsOnGrid (record { x = (with_position a o).least_x; y = (with_position a o).least_y })
 corner_with a None h k = h
-corner_with a (Some e) h k = (one_of (int_lt e.least_x a.x) e.least_x a.x coordinate_limit k.0 h.0, one_of (int_lt e.least_y a.y) e.least_y a.y coordinate_limit k.1 h.1)
+corner_with a (Some e) h k = record {
+  x = one_of (int_lt e.least_x a.x) e.least_x a.x coordinate_limit k.x h.x;
+  y = one_of (int_lt e.least_y a.y) e.least_y a.y coordinate_limit k.y h.y;
+}
 
 corner_of : (ps : List Position) → All IsOnGrid ps → CornerIsOn (envelope_of_positions ps)
 corner_of [] h = tt
@@ -160,14 +164,17 @@ none_pass [] = refl
 none_pass (x ∷ xs) = sum_by-cons (λ y. cond false 1 0) x xs ∙ ap (λ n. 0 + n) (none_pass xs)
 
 -- one cell owns each position of the grid, and each pair without one
-one_owns : (boxes : List Envelope) → IsCut boxes → (e f : Option Envelope) → CornerIsOn e → CornerIsOn f → meets e f ≡ true → count_by (λ cell. owns cell (owner e f)) (cells_of boxes) ≡ 1
+one_owns : (boxes : List Envelope) → CutsGrid boxes → (e f : Option Envelope) → CornerIsOn e → CornerIsOn f → meets e f ≡ true → count_by (λ cell. owns cell (owner e f)) (cells_of boxes) ≡ 1
 one_owns boxes cut None None h k m =
     sum_by-cons (λ cell. cond (owns cell None) 1 0) None (map Some boxes) ∙ ap (λ n. 1 + n) (count_boxes (λ cell. owns cell None) boxes ∙ none_pass boxes)
 one_owns boxes cut None (Some f) h k m = cc
 one_owns boxes cut (Some e) None h k m = cc
 one_owns boxes cut (Some e) (Some f) h k m =
     let p : Position = record { x = int_max e.least_x f.least_x; y = int_max e.least_y f.least_y } in
-    sum_by-cons (λ cell. cond (owns cell (Some p)) 1 0) None (map Some boxes) ∙ ap (λ n. 0 + n) (count_boxes (λ cell. owns cell (Some p)) boxes ∙ cut p (one_of (int_lt f.least_x e.least_x) e.least_x f.least_x coordinate_limit h.0 k.0, one_of (int_lt f.least_y e.least_y) e.least_y f.least_y coordinate_limit h.1 k.1))
+    sum_by-cons (λ cell. cond (owns cell (Some p)) 1 0) None (map Some boxes) ∙ ap (λ n. 0 + n) (count_boxes (λ cell. owns cell (Some p)) boxes ∙ cut p (record {
+      x = one_of (int_lt f.least_x e.least_x) e.least_x f.least_x coordinate_limit h.x k.x;
+      y = one_of (int_lt f.least_y e.least_y) e.least_y f.least_y coordinate_limit h.y k.y;
+    }))
 
 pub pairs_are_once : PairsAreOnce
 pairs_are_once boxes a b cut h k m =
@@ -182,8 +189,8 @@ between (negsuc n) h = (at_most_yes (negsuc 9999999) (negsuc n) (omega (arith, i
 
 pub grid_is_cut : GridIsCut
 grid_is_cut p h =
-    let x = between p.x h.0 in
-    let y = between p.y h.1 in
+    let x = between p.x h.x in
+    let y = between p.y h.y in
     ap (λ b. 0 + cond b 1 0)
     (and_from (int_le (negsuc 9999999) p.x && int_le p.x (pos 10000000) && int_le (negsuc 9999999) p.y) (int_le p.y (pos 10000000))
     (and_from (int_le (negsuc 9999999) p.x && int_le p.x (pos 10000000)) (int_le (negsuc 9999999) p.y) (and_from (int_le (negsuc 9999999) p.x) (int_le p.x (pos 10000000)) x.0 x.1) y.0) y.1)

@@ -1,11 +1,11 @@
 -- Cells: the boxes that cut the grid, to which of them an envelope is copied, what marks it there, and which of them owns a pair of
 -- envelopes. So each pair of rows is found in exactly one tile.
-use Rattle.std.specs.Prelude.{◌≡◌, ◌≤◌, Bool, true, false, ◌&&◌, if◌then◌else◌, List, ◌∷◌, map, count_by, Option, Some, None, ℤ, pos, int_le, int_lt, unsigned_abs}
+use Rattle.std.specs.Prelude.{◌≡◌, Bool, true, false, ◌&&◌, if◌then◌else◌, List, ◌∷◌, map, count_by, Option, Some, None, ℤ, pos, int_le, int_lt}
 use Rattle.std.specs.Int.{int_max}
 use Rattle.geometry_model.specs.Points.{Position}
 use Rattle.geometry_model.specs.Envelopes.{Envelope, envelope, meets}
 use Rattle.geometry_model.specs.Geometries.{Geometry}
-use Rattle.geometry_model.specs.WellKnownText.{coordinate_limit}
+use Rattle.fraction.specs.Ranges.{IsOnGrid}
 
 -- ---- the cut
 
@@ -13,13 +13,9 @@ use Rattle.geometry_model.specs.WellKnownText.{coordinate_limit}
 abbrev pub is_within : Envelope → Position → Bool
 is_within box p = int_le box.least_x p.x && int_le p.x box.greatest_x && int_le box.least_y p.y && int_le p.y box.greatest_y
 
--- a position is one of the grid: each of its coordinates is at most the limit, either way (this project's choice)
-abbrev pub IsOnGrid : Position → Type 0
-IsOnGrid p = (unsigned_abs p.x ≤ coordinate_limit) × (unsigned_abs p.y ≤ coordinate_limit)
-
 -- boxes cut the grid: each of its positions is in exactly one of them (this project's choice)
-abbrev pub IsCut : List Envelope → Type 0
-IsCut boxes = (p : Position) → IsOnGrid p → count_by (λ box. is_within box p) boxes ≡ 1
+abbrev pub CutsGrid : List Envelope → Type 0
+CutsGrid boxes = (p : Position) → IsOnGrid p → count_by (λ box. is_within box p) boxes ≡ 1
 
 -- ---- cells
 

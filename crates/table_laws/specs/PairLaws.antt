@@ -3,7 +3,8 @@ use Rattle.std.specs.Prelude.{◌≡◌, Bool, true, ◌&&◌, ◌||◌, List, [
 use Rattle.std.specs.Ordering.{int_eq}
 use Rattle.geometry_model.specs.Envelopes.{Envelope, envelope, meets}
 use Rattle.geometry_model.specs.Geometries.{Geometry, positions}
-use Rattle.table_laws.specs.Cells.{Cell, cells_of, IsCut, IsOnGrid, west_mark, south_mark, owner, owns}
+use Rattle.fraction.specs.Ranges.{IsOnGrid}
+use Rattle.table_laws.specs.Cells.{Cell, cells_of, CutsGrid, west_mark, south_mark, owner, owns}
 
 -- the positions of a geometry are on the grid (this project's choice)
 abbrev pub LiesOnGrid : Geometry → Type 0
@@ -24,7 +25,7 @@ OwnersFind = (cell : Cell) (a b : Geometry) → meets (envelope a) (envelope b) 
 
 -- where boxes cut the grid, a pair whose envelopes meet is found in exactly one cell
 abbrev pub PairsAreOnce : Type 0
-PairsAreOnce = (boxes : List Envelope) (a b : Geometry) → IsCut boxes → LiesOnGrid a → LiesOnGrid b → meets (envelope a) (envelope b) ≡ true
+PairsAreOnce = (boxes : List Envelope) (a b : Geometry) → CutsGrid boxes → LiesOnGrid a → LiesOnGrid b → meets (envelope a) (envelope b) ≡ true
     → count_by (λ cell. is_found cell (envelope a) (envelope b)) (cells_of boxes) ≡ 1
 
 -- the grid in one box (this project's choice)
@@ -33,4 +34,4 @@ grid = record { least_x = negsuc 9999999; greatest_x = pos 10000000; least_y = n
 
 -- a cut: the grid in one box
 abbrev pub GridIsCut : Type 0
-GridIsCut = IsCut (grid ∷ [])
+GridIsCut = CutsGrid (grid ∷ [])

@@ -29,7 +29,7 @@ use Rattle.table_model.specs.declared.definitions.ColumnType.TheVariants as colu
 use Rattle.table_model.specs.declared.definitions.TableDef.{TableDef}
 use Rattle.table_model.specs.declared.values.Value.{Value}
 use Rattle.table_model.specs.declared.values.Value.TheVariants as values
-use Rattle.table_laws.specs.Cells.{Cell, cells_of, IsCut}
+use Rattle.table_laws.specs.Cells.{Cell, cells_of, CutsGrid}
 use Rattle.table_laws.specs.Orders.{keys_of, ComesBefore}
 use Rattle.table_laws.specs.PairLaws.{LiesOnGrid}
 use Rattle.table_laws.specs.Tiles.{tile_of, without_marks, owner_conjunct}
@@ -85,7 +85,7 @@ pub record IsOverTiles (query tile_query : GeometryStatement) (first_width secon
 pub record IsTiled (matrix : Geometry → Geometry → Matrix) (boxes : List Envelope) (whole : Database ColumnShape Geometry) (query tile_query : GeometryStatement)
     (first second : Reference) (predicate : Predicate) (first_column second_column : ℕ) : Type 0 where
   pub gives : GivesMatrix matrix
-  pub cut : IsCut boxes
+  pub cut : CutsGrid boxes
   pub rows : IsWhole whole
   pub bound : IsBound geometry_fits whole.definitions (by_conjuncts query)
   pub references : query.references ≡ first ∷ second ∷ []

@@ -3,7 +3,8 @@ use Rattle.std.proofs.Common.{◌≡◌, inl, inr, ℕ, List, Option, Result, Ok
 use Rattle.std.specs.Io.KnownBytes.{Appends}
 use Rattle.std.proofs.KnownBytes.{Keeps-refl}
 use Rattle.text_commands.specs.TextCommands.{RelateEnds, relate_outcome, relate_text}
-use Rattle.text_commands.specs.Ends.{Answers, Writes, failed_writes}
+use Rattle.failures.specs.Ends.{Writes}
+use Rattle.text_commands.specs.Ends.{Answers, failed_writes}
 use Rattle.failures.specs.declared.failure.Failure.{Failure}
 use Rattle.failures.specs.declared.failure.Failure.TheVariants as f
 use Rattle.failures.specs.declared.failure.GeometryWord.TheVariants.{First, Second}

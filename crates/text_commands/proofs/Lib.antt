@@ -4,4 +4,6 @@ pub mod TakenBytes
 mod PairLemmas
 pub mod VerdictLemmas
 pub mod WitnessLemmas
+pub mod WordLemmas
 mod CodeLemmas
+mod ExplanationLemmas

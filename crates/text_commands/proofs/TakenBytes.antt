@@ -1,5 +1,5 @@
 -- What is read of a reader up to a limit.
-use Rattle.std.proofs.Common.{◌≡◌, ◌+◌, ◌<◌, ◌≤◌, ◌⊎◌, inl, inr, ℕ, List, length, take, Option, None, Some, IfSome, sym, ◌∙◌, ap, subst, arith}
+use Rattle.std.proofs.Common.{◌≡◌, ◌+◌, ◌<◌, ◌≤◌, ◌⊎◌, inl, inr, ℕ, List, length, take, Option, None, Some, IfSome, ◌∙◌, ap, subst, arith}
 use Rattle.std.specs.Io.Take.{take_inner, take_limit, take_remaining}
 use Rattle.std.specs.Option.{option_map}
 use Rattle.std.specs.declared.io.traits.Take.{Take}

@@ -1,29 +1,11 @@
--- How a command ends, and what it returns and writes then.
-use Rattle.std.specs.Prelude.{◌≡◌, ◌⊎◌, ℕ, List, Option, Result, Ok, Err}
+-- How a command ends, by its steps.
+use Rattle.std.specs.Prelude.{◌≡◌, ℕ, List, Option, Result, Ok, Err}
 use Rattle.std.specs.Io.KnownBytes.{Appends, Keeps}
 use Rattle.basics.specs.Counts.{one_more}
 use Rattle.streams.specs.Sinks.{AppendsFront}
-use Rattle.failures.specs.Failures.{failure_line, failure_status}
+use Rattle.failures.specs.Ends.{End, Reports, end_status}
 use Rattle.failures.specs.declared.failure.Failure.{Failure}
 use Rattle.failures.specs.declared.failure.Failure.TheVariants as f
-
--- how a command ends: done, or in a failure
-abbrev pub End : Type 0
-End = Result (Unit {0}) Failure
-
--- the status of a command: 0 where it is done, else that of its failure
-abbrev pub end_status : End → ℕ
-end_status (Ok done) = 0
-end_status (Err failure) = failure_status failure
-
--- a text was written: all of it, unless the sink failed once; then a beginning of it
-abbrev pub Writes : Option (List ℕ) → Option (List ℕ) → ℕ → ℕ → List ℕ → Type 0
-Writes old new before after text = (Appends old new text × (after ≡ before)) ⊎ (AppendsFront old new text × (after ≡ one_more before))
-
--- what is written to standard error: nothing where the command is done, else the line of its failure
-abbrev pub Reports : {E : Type 0} → (E → Option (List ℕ)) → (E → ℕ) → End → E → E → Type 0
-Reports taken failures (Ok done) old new = new ≡ old
-Reports taken failures (Err failure) old new = Writes (taken old) (taken new) (failures old) (failures new) (failure_line failure)
 
 -- how often the sink of the answer failed: once more where the answer can't be written
 abbrev pub failed_writes : ℕ → End → ℕ

@@ -1,11 +1,12 @@
 -- What a word of a command line gives: its own text, or that of the file that it names.
 use Rattle.std.specs.Prelude.{◌≡◌, ◌⊎◌, ◌≤◌, ◌<◌, ◌==◌, ⊤, ℕ, List, [], ◌∷◌, codes, length, if◌then◌else◌, Option, Some, None, IfSome, Result, Ok, Err}
-use Rattle.std.specs.Fn.{CalledAt, Mut}
 use denote.Ref.{Bor}
 use Rattle.failures.specs.declared.failure.Failure.{Failure}
 use Rattle.failures.specs.declared.failure.Failure.TheVariants as f
 use Rattle.table_model.specs.Tokens.{most_bytes}
 use Rattle.table_model.specs.declared.faults.QueryFault.TheVariants as q
+use Rattle.text_commands.specs.Files.{Opening}
+use Rattle.text_commands.specs.declared.files.File.TheVariants as role
 
 -- the path of the file that a word names: what comes after its `@`, which is 64
 abbrev pub file_named : List ℕ → Option (List ℕ)
@@ -50,13 +51,32 @@ ReadsQuery remaining (Some reader) (Err failure) = IsTooLong (remaining reader) 
 
 -- what a word gives that names no file, or the file at this path: itself, unless memory ran out; or what the file gives, which is
 -- opened at the path
-abbrev pub GivesBy : {F R : Type 0} → Mut F (Bor (List ℕ) × Unit {0}) (Option R) → (Option R → Result (List ℕ) Failure → Type 0)
+abbrev pub GivesBy : {F R : Type 0} → (F → List ℕ → Option R → F → Type 0) → (Option R → Result (List ℕ) Failure → Type 0)
     → F → List ℕ → Option (List ℕ) → Result (List ℕ) Failure → F → Type 0
-GivesBy g Reads opener word None (Ok text) after = (text ≡ word) × (after ≡ opener)
-GivesBy g Reads opener word None (Err failure) after = (failure ≡ f.OutOfMemory) × (after ≡ opener)
-GivesBy {R = R} g Reads opener word (Some path) result after = (file : Option R) × CalledAt g opener path file after × Reads file result
+GivesBy opens Reads opener word None (Ok text) after = (text ≡ word) × (after ≡ opener)
+GivesBy opens Reads opener word None (Err failure) after = (failure ≡ f.OutOfMemory) × (after ≡ opener)
+GivesBy {R = R} opens Reads opener word (Some path) result after = (file : Option R) × opens opener path file after × Reads file result
 
 -- what a word gives, by a function that opens files and by what their text has to be
-abbrev pub Gives : {F R : Type 0} → Mut F (Bor (List ℕ) × Unit {0}) (Option R) → (Option R → Result (List ℕ) Failure → Type 0)
+abbrev pub Gives : {F R : Type 0} → (F → List ℕ → Option R → F → Type 0) → (Option R → Result (List ℕ) Failure → Type 0)
     → F → List ℕ → Result (List ℕ) Failure → F → Type 0
-Gives g Reads opener word = GivesBy g Reads opener word (file_named word)
+Gives opens Reads opener word = GivesBy opens Reads opener word (file_named word)
+
+module _ {F R : Type 0} (opens : Opening F R) (remaining : R → Option (List ℕ)) where
+  -- what the word of the geometry of this name gives
+  abbrev pub GivesGeometry : List ℕ → F → List ℕ → Result (List ℕ) Failure → F → Type 0
+  GivesGeometry name = Gives (opens role.Geometry) (ReadsGeometry remaining name)
+
+  -- two words give these texts, the first one's first
+  abbrev pub GivesBoth : F → List ℕ → List ℕ → List ℕ → List ℕ → Type 0
+  GivesBoth opener first second one other = (next after : F)
+      × GivesGeometry (codes "first") opener first (Ok one) next
+      × GivesGeometry (codes "second") next second (Ok other) after
+
+  -- the first of them that gives none has this failure
+  abbrev pub GivesNotBoth : F → List ℕ → List ℕ → Failure → Type 0
+  GivesNotBoth opener first second failure =
+      ((next : F) × GivesGeometry (codes "first") opener first (Err failure) next)
+      ⊎ ((next after : F) × (one : List ℕ)
+      × GivesGeometry (codes "first") opener first (Ok one) next
+      × GivesGeometry (codes "second") next second (Err failure) after)

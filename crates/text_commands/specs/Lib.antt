@@ -1,4 +1,5 @@
 pub mod Ends
+pub mod Explanations
 pub mod Reasons
 pub mod TextCommands
 pub mod Relations
@@ -7,3 +8,4 @@ pub mod Pairs
 pub mod TextWitnesses
 pub mod TextVerdicts
 pub mod FaultPages
+pub mod Files

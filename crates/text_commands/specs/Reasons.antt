@@ -1,11 +1,12 @@
 -- What the command `why` means, and the ends that it may have.
 use Rattle.std.specs.Prelude.{◌≡◌, ℕ, List, codes, Option, IfErr, IfOk, Result}
-use Rattle.std.specs.Fn.{Mut}
-use denote.Ref.{Bor}
 use Rattle.failures.specs.declared.failure.Failure.{Failure}
 use Rattle.witnesses.specs.WitnessTexts.{witnesses_text}
 use Rattle.table_model.specs.RunOutcomes.{MatrixOf}
-use Rattle.text_commands.specs.Ends.{End, PutsText, Then}
+use Rattle.failures.specs.Ends.{End}
+use Rattle.text_commands.specs.Ends.{PutsText, Then}
+use Rattle.text_commands.specs.Files.{Opening}
+use Rattle.text_commands.specs.declared.files.File.TheVariants as role
 use Rattle.text_commands.specs.TextCommands.{OverTexts, OverWord}
 use Rattle.text_commands.specs.TextVerdicts.{spelled_geometry}
 use Rattle.text_commands.specs.TextWitnesses.{ShowsTexts}
@@ -33,12 +34,12 @@ pub record ShowsVerdict {S : Type 0} (taken : S → Option (List ℕ)) (failures
   pub refused : IfErr found (IsFailureOf (spelled_geometry text))
   pub rest : Then found (λ v. PutsText taken failures old new (verdict_text v) end) end (new ≡ old)
 
-module _ {F R S : Type 0} (g : Mut F (Bor (List ℕ) × Unit {0}) (Option R)) (remaining : R → Option (List ℕ)) (taken : S → Option (List ℕ)) (failures : S → ℕ) (old new : S) where
+module _ {F R S : Type 0} (opens : Opening F R) (remaining : R → Option (List ℕ)) (taken : S → Option (List ℕ)) (failures : S → ℕ) (old new : S) where
   -- showing the cells of the matrix of the geometries that two words give ends so
   abbrev pub ExplainsCells : F → List ℕ → List ℕ → End → Type 0
-  ExplainsCells = OverTexts g remaining (ShowsCells taken failures old new) (new ≡ old)
+  ExplainsCells = OverTexts opens remaining (ShowsCells taken failures old new) (new ≡ old)
 
   -- showing whether the geometry that a word gives is valid ends so
   abbrev pub ExplainsValidity : F → List ℕ → End → Type 0
   ExplainsValidity opener word end =
-      OverWord g (ReadsGeometry remaining (codes "first")) opener word (λ next text ending. ShowsVerdict taken failures old new text ending) end (new ≡ old)
+      OverWord (opens role.Geometry) (ReadsGeometry remaining (codes "first")) opener word (λ next text ending. ShowsVerdict taken failures old new text ending) end (new ≡ old)

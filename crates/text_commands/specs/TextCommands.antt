@@ -1,12 +1,12 @@
 -- What each command means that needs no schema, and the ends that it may have.
 use Rattle.std.specs.Prelude.{◌≡◌, ◌++◌, ℕ, List, codes, Option, Some, None, Result, Ok, Err}
-use Rattle.std.specs.Fn.{CalledAt, Mut}
 use Rattle.std.specs.Io.KnownBytes.{Appends, Keeps}
-use denote.Ref.{Bor}
 use Rattle.failures.specs.declared.failure.Failure.{Failure}
 use Rattle.failures.specs.declared.failure.Failure.TheVariants as f
 use Rattle.text_commands.specs.FaultPages.{IsCode, IsPageOf}
+use Rattle.text_commands.specs.Files.{Opening}
 use Rattle.text_commands.specs.declared.fault_codes.FaultCode.{FaultCode}
+use Rattle.text_commands.specs.declared.files.File.TheVariants as role
 use Rattle.geometry_model.specs.Dimensions.{Matrix}
 use Rattle.geometry_model.specs.Patterns.{matrix_text}
 use Rattle.text_commands.specs.Pairs.{AreRead, CountsWrites, RelatesPairs}
@@ -15,26 +15,27 @@ use Rattle.text_commands.specs.declared.runs.Pairs.TheVariants as pairs
 use Rattle.streams.specs.Sinks.{AppendsFront}
 use Rattle.table_model.specs.Loading.{Record}
 use Rattle.table_model.specs.RunOutcomes.{ByEveryMatrix, MatrixOf}
-use Rattle.text_commands.specs.Ends.{Answers, End, Then, failed_writes}
+use Rattle.failures.specs.Ends.{End}
+use Rattle.text_commands.specs.Ends.{Answers, Then, failed_writes}
 use Rattle.text_commands.specs.Relations.{and_then, relation}
 use Rattle.text_commands.specs.GivenTexts.{Gives, IsUnreadable, ReadsGeometry}
 
 -- ---- words
 
 -- how a command ends over the text that a word gives: it goes on with that text, or ends in the failure of getting it and has written nothing
-pub record OverWord {F R : Type 0} (g : Mut F (Bor (List ℕ) × Unit {0}) (Option R)) (Reads : Option R → Result (List ℕ) Failure → Type 0) (opener : F) (word : List ℕ)
+pub record OverWord {F R : Type 0} (opens : F → List ℕ → Option R → F → Type 0) (Reads : Option R → Result (List ℕ) Failure → Type 0) (opener : F) (word : List ℕ)
     (Over : F → List ℕ → End → Type 0) (end : End) (Nothing : Type 0) : Type 0 where
   pub text : Result (List ℕ) Failure
   pub next : F
-  pub given : Gives g Reads opener word text next
+  pub given : Gives opens Reads opener word text next
   pub rest : Then text (λ t. Over next t end) end Nothing
 
-module _ {F R : Type 0} (g : Mut F (Bor (List ℕ) × Unit {0}) (Option R)) (remaining : R → Option (List ℕ)) where
+module _ {F R : Type 0} (opens : Opening F R) (remaining : R → Option (List ℕ)) where
   -- how a command ends over the texts of the geometries that two words give: the first word's text is got first, then the second's
   abbrev pub OverTexts : (List ℕ → List ℕ → End → Type 0) → Type 0 → F → List ℕ → List ℕ → End → Type 0
   OverTexts Over Nothing opener first second end =
-      OverWord g (ReadsGeometry remaining (codes "first")) opener first
-      (λ next one ending. OverWord g (ReadsGeometry remaining (codes "second")) next second
+      OverWord (opens role.Geometry) (ReadsGeometry remaining (codes "first")) opener first
+      (λ next one ending. OverWord (opens role.Geometry) (ReadsGeometry remaining (codes "second")) next second
       (λ after other last. Over one other last) ending Nothing) end Nothing
 
 -- ---- relate
@@ -96,13 +97,13 @@ module _ {R S : Type 0} (remaining : R → Option (List ℕ)) (taken : S → Opt
   RelatesReader None (Err failure) = IsUnreadable (codes "pairs") failure × (new ≡ old)
   RelatesReader (Some reader) end = PairsEnds (remaining reader) end (taken old) (taken new) (failures old) (failures new)
 
-module _ {F R S : Type 0} (g : Mut F (Bor (List ℕ) × Unit {0}) (Option R)) (remaining : R → Option (List ℕ)) (taken : S → Option (List ℕ)) (failures : S → ℕ) (old new : S) where
+module _ {F R S : Type 0} (opens : Opening F R) (remaining : R → Option (List ℕ)) (taken : S → Option (List ℕ)) (failures : S → ℕ) (old new : S) where
   -- relating the geometries that two words give ends so
   abbrev pub RelatesWords : F → List ℕ → List ℕ → End → Type 0
   RelatesWords =
-      OverTexts g remaining (λ first second end. RelateEnds first second end (taken old) (taken new) (failures old) (failures new)) (new ≡ old)
+      OverTexts opens remaining (λ first second end. RelateEnds first second end (taken old) (taken new) (failures old) (failures new)) (new ≡ old)
 
   -- relating the pairs of the file at a path ends so
   abbrev pub RelatesFile : F → List ℕ → End → Type 0
   RelatesFile opener path end =
-      (file : Option R) × (next : F) × CalledAt g opener path file next × RelatesReader remaining taken failures old new file end
+      (file : Option R) × (next : F) × opens role.Pairs opener path file next × RelatesReader remaining taken failures old new file end

@@ -1,14 +1,16 @@
 //! What the command `why` does: it shows where two geometries meet, or why one isn't valid.
 
+ghost use Rattle.text_commands.specs.Files.{OpensFile};
 ghost use Rattle.text_commands.specs.Ends.{PutsText, Serves};
 ghost use Rattle.text_commands.specs.Reasons.{ExplainsCells, ExplainsValidity, ShowsCells, ShowsVerdict};
 ghost use Rattle.witnesses.specs.VerdictTexts.{verdict_text};
 ghost use Rattle.witnesses.specs.WitnessTexts.{witnesses_text};
 ghost use Rattle.witnesses.specs.Shown.{witness_at};
 
-use crate::served::failed;
+use crate::files::File;
+use crate::given_texts::geometry_texts;
 use crate::{geometry_text, reason_of_text, witnesses_of_texts};
-use failures::Failure;
+use failures::{Failure, failed};
 use std::alloc::Global;
 use std::io::Read;
 use streams::Sink;
@@ -20,28 +22,31 @@ use witnesses::{Verdict, put_verdict, put_witnesses};
 /// It returns the status: 0, or that of the failure, whose line it writes to `err` (06-103r4, 6.1.15.2; which witness
 /// shows a cell, and the words: this project's choice).
 #[inline(never)]
-pub fn serve_witnesses<R: Read + Drop, F: FnMut(&str) -> Option<R>, S: Sink, E: Sink>(
+pub fn serve_witnesses<R: Read + Drop, F: FnMut(File<'_>) -> Option<R>, S: Sink, E: Sink>(
     alloc: Global,
     first: &str,
     second: &str,
-    mut opener: F,
+    opener: F,
     out: &mut S,
     err: &mut E,
 ) -> u8
     requires { F.IsAlwaysCallable opener }
     ensures serves { Serves E.taken E.failures
-        (ExplainsCells F.FnMut R.remaining S.taken S.failures out.old out.new opener first.now second.now)
+        (ExplainsCells (OpensFile F.FnMut) R.remaining S.taken S.failures out.old out.new
+        opener first.now second.now)
         result err.old err.new }
 {
-    let first = match geometry_text(alloc, first, "first", &mut opener) {
-        Ok(text) => text,
+    let texts = match geometry_texts(alloc, first, second, opener) {
+        Ok(texts) => texts,
         Err(failure) => return failed(&failure, err),
     };
-    let second = match geometry_text(alloc, second, "second", &mut opener) {
-        Ok(text) => text,
-        Err(failure) => return failed(&failure, err),
-    };
-    show_cells(alloc, first.as_slice(), second.as_slice(), out, err)
+    show_cells(
+        alloc,
+        texts.first.as_slice(),
+        texts.second.as_slice(),
+        out,
+        err,
+    )
 }
 
 /// Writes what shows each cell of the matrix of two geometries.
@@ -79,7 +84,7 @@ fn put_cells<S: Sink, E: Sink>(witnesses: &Witnesses, out: &mut S, err: &mut E) 
 /// line it writes to `err` (06-103r4, 6.1.7, 6.1.11.1 and 6.1.14; the order of faults, which place and the words: this
 /// project's choice).
 #[inline(never)]
-pub fn serve_verdict<R: Read + Drop, F: FnMut(&str) -> Option<R>, S: Sink, E: Sink>(
+pub fn serve_verdict<R: Read + Drop, F: FnMut(File<'_>) -> Option<R>, S: Sink, E: Sink>(
     alloc: Global,
     word: &str,
     mut opener: F,
@@ -88,7 +93,8 @@ pub fn serve_verdict<R: Read + Drop, F: FnMut(&str) -> Option<R>, S: Sink, E: Si
 ) -> u8
     requires { F.IsAlwaysCallable opener }
     ensures serves { Serves E.taken E.failures
-        (ExplainsValidity F.FnMut R.remaining S.taken S.failures out.old out.new opener word.now)
+        (ExplainsValidity (OpensFile F.FnMut) R.remaining S.taken S.failures out.old out.new
+        opener word.now)
         result err.old err.new }
 {
     let text = match geometry_text(alloc, word, "first", &mut opener) {

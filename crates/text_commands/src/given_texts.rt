@@ -2,8 +2,10 @@
 
 ghost use Rattle.std.specs.Prelude.{◌≡◌, ◌≤◌, ◌<◌, length, codes, Err, Ok, IfErr, IfOk, IfSome};
 ghost use Rattle.std.specs.String.{string_bytes};
-ghost use Rattle.text_commands.specs.GivenTexts.{Gives, IsTextOf, IsUnread, ReadsGeometry, ReadsQuery};
+ghost use Rattle.text_commands.specs.Files.{OpensFile};
+ghost use Rattle.text_commands.specs.GivenTexts.{Gives, GivesBoth, GivesNotBoth, IsTextOf, IsUnread, ReadsGeometry, ReadsQuery};
 
+use crate::files::File;
 use failures::Failure;
 use std::alloc::Global;
 use std::io::{ErrorKind, Read};
@@ -29,8 +31,8 @@ enum FileFault {
 
 /// The text of a geometry that a word gives: that of the file at a path, if the word is `@` and the path, else the word
 /// itself. The failure is `Unreadable` with this name, if the file can't be opened or read, or has more than 16 MiB; or memory
-/// ran out. The opener returns the reader of the file at a path, or None if it can't be opened.
-pub fn geometry_text<R: Read + Drop, F: FnMut(&str) -> Option<R>>(
+/// ran out. The opener returns the reader of a file, or None if it can't be opened.
+pub fn geometry_text<R: Read + Drop, F: FnMut(File<'_>) -> Option<R>>(
     alloc: Global,
     word: &str,
     name: &'static str,
@@ -38,30 +40,56 @@ pub fn geometry_text<R: Read + Drop, F: FnMut(&str) -> Option<R>>(
 ) -> Result<Vec<u8>, Failure<'static>>
     requires { F.IsAlwaysCallable opener.old }
     ensures callable { F.IsAlwaysCallable opener.new }
-    ensures text { IfOk result (λ text. Gives F.FnMut (ReadsGeometry R.remaining name.now)
-        opener.old word.now (Ok text.items) opener.new) }
-    ensures failure { IfErr result (λ failure. Gives F.FnMut (ReadsGeometry R.remaining name.now)
-        opener.old word.now (Err failure) opener.new) }
+    ensures text { IfOk result (λ text. Gives (OpensFile F.FnMut File.Geometry)
+        (ReadsGeometry R.remaining name.now) opener.old word.now (Ok text.items) opener.new) }
+    ensures failure { IfErr result (λ failure. Gives (OpensFile F.FnMut File.Geometry)
+        (ReadsGeometry R.remaining name.now) opener.old word.now (Err failure) opener.new) }
 {
     match word.strip_prefix("@") {
-        Some(path) => geometry_in(alloc, opener(path), name),
+        Some(path) => geometry_in(alloc, opener(File::Geometry(path)), name),
         None => own_text(alloc, word),
     }
 }
 
+/// The texts of two geometries.
+#[derive(Drop)]
+pub(crate) struct Texts {
+    pub(crate) first: Vec<u8>,
+    pub(crate) second: Vec<u8>,
+}
+
+/// The texts of the geometries that two words give, or the failure of the first word that gives none. The second word's file
+/// is opened once the first one's text is there.
+pub(crate) fn geometry_texts<R: Read + Drop, F: FnMut(File<'_>) -> Option<R>>(
+    alloc: Global,
+    first: &str,
+    second: &str,
+    mut opener: F,
+) -> Result<Texts, Failure<'static>>
+    requires { F.IsAlwaysCallable opener }
+    ensures texts { IfOk result (λ texts. GivesBoth (OpensFile F.FnMut) R.remaining opener
+        first.now second.now texts.first.items texts.second.items) }
+    ensures failure { IfErr result (GivesNotBoth (OpensFile F.FnMut) R.remaining opener
+        first.now second.now) }
+{
+    let first = geometry_text(alloc, first, "first", &mut opener)?;
+    let second = geometry_text(alloc, second, "second", &mut opener)?;
+    Ok(Texts { first, second })
+}
+
 /// The text of a query that a word gives, in the same way. The file may have as many bytes as a query, else the failure is
 /// that of too long a query; and it is `Unreadable` also if the file isn't UTF-8.
-pub fn query_text<R: Read + Drop, F: FnMut(&str) -> Option<R>>(
+pub fn query_text<R: Read + Drop, F: FnMut(File<'_>) -> Option<R>>(
     alloc: Global,
     word: &str,
     opener: &mut F,
 ) -> Result<String, Failure<'static>>
     requires { F.IsAlwaysCallable opener.old }
     ensures callable { F.IsAlwaysCallable opener.new }
-    ensures text { IfOk result (λ text. Gives F.FnMut (ReadsQuery R.remaining)
-        opener.old word.now (Ok (string_bytes text)) opener.new) }
-    ensures failure { IfErr result (λ failure. Gives F.FnMut (ReadsQuery R.remaining)
-        opener.old word.now (Err failure) opener.new) }
+    ensures text { IfOk result (λ text. Gives (OpensFile F.FnMut File.Query)
+        (ReadsQuery R.remaining) opener.old word.now (Ok (string_bytes text)) opener.new) }
+    ensures failure { IfErr result (λ failure. Gives (OpensFile F.FnMut File.Query)
+        (ReadsQuery R.remaining) opener.old word.now (Err failure) opener.new) }
 {
     let Some(path) = word.strip_prefix("@") else {
         return match String::from_str(alloc, word) {
@@ -69,7 +97,7 @@ pub fn query_text<R: Read + Drop, F: FnMut(&str) -> Option<R>>(
             Err(_) => Err(Failure::OutOfMemory),
         };
     };
-    query_in(alloc, opener(path))
+    query_in(alloc, opener(File::Query(path)))
 }
 
 /// The bytes of a word.

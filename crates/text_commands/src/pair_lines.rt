@@ -8,11 +8,11 @@ ghost use Rattle.text_commands.specs.Pairs.{CountsWrites, PutsLine, PutsRefusal,
 ghost use Rattle.streams.specs.Sinks.{AppendsFront, CountsFailure};
 ghost use Rattle.table_model.specs.RunOutcomes.{ByEveryMatrix};
 
-use crate::pair_records::field_at;
 use crate::relate_texts;
 use csv::ByteRecord;
 use de9im::Matrix;
 use failures::{Failure, answer_line};
+use feature_table::field_at;
 use std::alloc::Global;
 use streams::{Sink, SinkFault, put_parts};
 

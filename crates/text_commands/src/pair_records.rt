@@ -1,32 +1,18 @@
 //! The records of a CSV text without a header, each of two geometries.
 
-ghost use Rattle.std.specs.Prelude.{◌≡◌, IfErr, IfOk, List, OnOk, Some, ℕ};
+ghost use Rattle.std.specs.Prelude.{IfErr, IfOk, List, OnOk};
 ghost use Rattle.csv.specs.Records.{fields_of};
-ghost use Rattle.text_commands.specs.Pairs.{IsReadFailure, IsUnequal, field};
+ghost use Rattle.text_commands.specs.Pairs.{IsReadFailure, IsUnequal};
 ghost use Rattle.table_model.specs.Loading.{Record};
 ghost use Rattle.feature_table.specs.Reading.{IsSteady, StillGives, TakesFirst};
-ghost use Rattle.feature_table.specs.Records.{records_in};
 
-use csv::{ByteRecord, Error, Reader, ReaderBuilder};
+use csv::{ByteRecord, Error, Reader};
 use failures::Failure;
-use std::alloc::Global;
 use std::io::Read;
 use table_model::faults::LoadFault;
 
 /// What a failure calls the records, in place of a table's name.
 const NAME: &str = "pairs";
-
-/// A reader of records: none of them is a header, and they may differ in length.
-pub(crate) fn record_reader<R: Read + Drop>(alloc: Global, reader: R) -> Reader<R>
-    ensures steady { IsSteady result }
-    ensures gives { (text : List ℕ) → R.remaining reader ≡ Some text
-        → StillGives R.remaining result (records_in text) }
-{
-    ReaderBuilder::new()
-        .has_headers(false)
-        .flexible(true)
-        .from_reader(alloc, reader)
-}
 
 /// Reads the next record, and returns whether there is one.
 pub(crate) fn next_record<R: Read + Drop>(
@@ -68,11 +54,4 @@ pub(crate) fn unequal(number: usize) -> Failure<'static>
     ensures { IsUnequal number result }
 {
     Failure::Load(NAME, LoadFault::UnequalRecord(number))
-}
-
-/// The field of a record at a place; empty if there is none.
-pub(crate) fn field_at(pair: &ByteRecord, place: usize) -> &[u8]
-    ensures { result.now ≡ field (fields_of pair.now) place }
-{
-    pair.get(place).unwrap_or(&[])
 }

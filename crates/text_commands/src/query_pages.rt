@@ -11,11 +11,18 @@ pub(crate) fn q1() -> &'static str
 Q1: the query (status 5)
 
 sfq: Q1 at 30
-  means: a byte that begins no token, or a string that isn't closed (at its
-    first quote)
+  means: a string isn't closed; the byte is that of its first quote
   example:
     sfq run schema.sql . \"SELECT id FROM t WHERE name = 'b\"
   to do: close the string; a quote in a string is doubled
+
+sfq: Q1 at 7
+  means: the byte begins no token: a double quote, a backquote, a bracket, a
+    question mark, or a letter that isn't ASCII
+  example:
+    sfq run schema.sql . \"SELECT [id] FROM t\"
+  to do: write names without quotes and texts in single quotes; write values
+    themselves in place of parameters
 
 Bytes count from 0. The examples are over the tables t (id, pop, name, geom),
 u (id, pop) and v (id).
@@ -49,11 +56,13 @@ sfq: Q2 at 23
 
 sfq: Q2 at 19
   means: the query goes on with a third table at this byte, or with what else
-    SQL has and this language lacks: ORDER BY, GROUP BY, DISTINCT, outer
-    joins, arithmetic, IN, LIKE
+    SQL has and this language lacks: ORDER BY, GROUP BY, DISTINCT, arithmetic,
+    IN, LIKE, or an outer join of a table with an alias
   example:
     sfq run schema.sql . \"SELECT id FROM t, u, v\"
-  to do: rows come in the order of the key; sort and group the output
+  to do: rows come in the order of the key; sort and group the output. Every
+    join is an inner one: without an alias before it LEFT is taken as one, so
+    FROM t LEFT JOIN u isn't refused and joins as JOIN does
 
 sfq: Q2 at 15
   means: another item is next to COUNT(*) at this byte, or a sign is after
@@ -111,11 +120,17 @@ pub(crate) fn q5() -> &'static str
 Q5: the query (status 5)
 
 sfq: Q5 at 7
-  means: there is no column of this name, or no table or alias of the name
-    before the point. A table with an alias is known by the alias alone
+  means: no table of the query has a column of this name
   example:
     sfq run schema.sql . \"SELECT nope FROM t\"
-  to do: write the alias
+  to do: name a column of the schema
+
+sfq: Q5 at 7
+  means: the query has no table or alias of the name before the point. A table
+    with an alias is known by the alias alone
+  example:
+    sfq run schema.sql . \"SELECT t.id FROM t x\"
+  to do: write the alias, as in x.id; without an alias write the table's name
 
 Bytes count from 0. The examples are over the tables t (id, pop, name, geom),
 u (id, pop) and v (id).

@@ -7,9 +7,10 @@ ghost use Rattle.table_model.specs.RunOutcomes.{ByEveryMatrix};
 ghost use Rattle.feature_table.specs.Reading.{IsSteady};
 
 use crate::pair_lines::put_pair;
-use crate::pair_records::{broken_off, next_record, record_reader, unequal};
+use crate::pair_records::{broken_off, next_record, unequal};
 use csv::{ByteRecord, Reader};
 use failures::Failure;
+use feature_table::record_reader;
 use std::alloc::Global;
 use std::io::Read;
 use streams::Sink;

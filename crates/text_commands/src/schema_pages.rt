@@ -15,16 +15,19 @@ sfq: S1 at 34
     doesn't belong there, a reserved word as a name, or a byte that begins no
     token
   example:
-    echo \"CREATE TABLE t (id INTEGER PRIMARY, pop INT);\" > schema.sql
-    sfq check schema.sql .
+    D=$(mktemp -d)
+    echo \"CREATE TABLE t (id INTEGER PRIMARY, pop INT);\" > \"$D/schema.sql\"
+    sfq check \"$D/schema.sql\" \"$D\"
   to do: write a table as CREATE TABLE name (column type, ..), with NOT NULL
     or PRIMARY KEY after a type; the byte is where to look
 
 sfq: S1 at 45
   means: the word that begins here isn't a type
   example:
-    echo \"CREATE TABLE t (id INTEGER PRIMARY KEY, geom CIRCLE)\" > schema.sql
-    sfq check schema.sql .
+    D=$(mktemp -d)
+    echo \"CREATE TABLE t (id INTEGER PRIMARY KEY, geom\" \\
+      \"CIRCLE)\" > \"$D/schema.sql\"
+    sfq check \"$D/schema.sql\" \"$D\"
   to do: use INTEGER (INT, BIGINT), TEXT, GEOMETRY, POINT, MULTIPOINT,
     LINESTRING, MULTILINESTRING, POLYGON or MULTIPOLYGON, without a length or
     a reference system
@@ -32,9 +35,14 @@ sfq: S1 at 45
 sfq: S1 at 27
   means: PRIMARY KEY on a column that isn't INTEGER, at the word PRIMARY
   example:
-    echo \"CREATE TABLE t (geom POINT PRIMARY KEY)\" > schema.sql
-    sfq check schema.sql .
+    D=$(mktemp -d)
+    echo \"CREATE TABLE t (geom POINT PRIMARY KEY)\" > \"$D/schema.sql\"
+    sfq check \"$D/schema.sql\" \"$D\"
   to do: give the table an INTEGER key
+
+sfq: S1 at 0
+  means: the file begins with a byte order mark, which no schema may
+  to do: save the file as UTF-8 without one; a table's file may have one
 
 Bytes count from 0.
 "
@@ -50,8 +58,10 @@ S2: the schema (status 3)
 sfq: S2 at 47
   means: a table's or a column's name comes a second time (case doesn't count)
   example:
-    echo \"CREATE TABLE t (id INTEGER PRIMARY KEY, a INT, A TEXT)\" > schema.sql
-    sfq check schema.sql .
+    D=$(mktemp -d)
+    echo \"CREATE TABLE t (id INTEGER PRIMARY KEY, a INT, A\" \\
+      \"TEXT)\" > \"$D/schema.sql\"
+    sfq check \"$D/schema.sql\" \"$D\"
   to do: rename one of the two
 
 Bytes count from 0.
@@ -68,8 +78,9 @@ S3: the schema (status 3)
 sfq: S3 at 31
   means: the table that ends at this parenthesis has no key
   example:
-    echo \"CREATE TABLE t (id INT, pop INT)\" > schema.sql
-    sfq check schema.sql .
+    D=$(mktemp -d)
+    echo \"CREATE TABLE t (id INT, pop INT)\" > \"$D/schema.sql\"
+    sfq check \"$D/schema.sql\" \"$D\"
   to do: mark one INTEGER column PRIMARY KEY
 
 Bytes count from 0.
@@ -86,9 +97,10 @@ S4: the schema (status 3)
 sfq: S4 at 46
   means: a second PRIMARY KEY in one table
   example:
+    D=$(mktemp -d)
     echo \"CREATE TABLE t (id INTEGER PRIMARY KEY, b INT PRIMARY\" \\
-      \"KEY)\" > schema.sql
-    sfq check schema.sql .
+      \"KEY)\" > \"$D/schema.sql\"
+    sfq check \"$D/schema.sql\" \"$D\"
   to do: leave one key
 
 Bytes count from 0.

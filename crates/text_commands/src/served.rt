@@ -1,12 +1,15 @@
 //! What each of these commands does.
 
 ghost use Rattle.std.specs.Prelude.{◌≡◌, Ok};
-ghost use Rattle.failures.specs.Failures.{failure_line, failure_status};
-ghost use Rattle.text_commands.specs.Ends.{Serves, Writes};
-ghost use Rattle.text_commands.specs.TextCommands.{ExplainsFault, RelateEnds, RelatesFile, RelatesReader, RelatesWords, end_of};
+ghost use Rattle.text_commands.specs.Files.{OpensFile};
+ghost use Rattle.text_commands.specs.Ends.{Serves};
+ghost use Rattle.text_commands.specs.TextCommands.{ExplainsFault, RelateEnds, RelatesFile, RelatesReader, RelatesWords};
+ghost use Rattle.text_commands.specs.TextCommands as spec;
 
-use crate::{Pairs, geometry_text, page_of, relate_pairs, relate_texts};
-use failures::{Failure, fault_line, status};
+use crate::files::File;
+use crate::given_texts::geometry_texts;
+use crate::{Pairs, page_of, relate_pairs, relate_texts};
+use failures::{Failure, ended, failed};
 use std::alloc::Global;
 use std::io::Read;
 use streams::{Sink, put_all, put_parts};
@@ -15,28 +18,31 @@ use streams::{Sink, put_all, put_parts};
 /// or `@` and the path of a file that has it; both texts are there before one is read as a geometry. It returns the status: 0,
 /// or that of the failure, whose line it writes to `err`.
 #[inline(never)]
-pub fn serve_relate<R: Read + Drop, F: FnMut(&str) -> Option<R>, S: Sink, E: Sink>(
+pub fn serve_relate<R: Read + Drop, F: FnMut(File<'_>) -> Option<R>, S: Sink, E: Sink>(
     alloc: Global,
     first: &str,
     second: &str,
-    mut opener: F,
+    opener: F,
     out: &mut S,
     err: &mut E,
 ) -> u8
     requires { F.IsAlwaysCallable opener }
     ensures serves { Serves E.taken E.failures
-        (RelatesWords F.FnMut R.remaining S.taken S.failures out.old out.new opener first.now second.now)
+        (RelatesWords (OpensFile F.FnMut) R.remaining S.taken S.failures out.old out.new
+        opener first.now second.now)
         result err.old err.new }
 {
-    let first = match geometry_text(alloc, first, "first", &mut opener) {
-        Ok(text) => text,
+    let texts = match geometry_texts(alloc, first, second, opener) {
+        Ok(texts) => texts,
         Err(failure) => return failed(&failure, err),
     };
-    let second = match geometry_text(alloc, second, "second", &mut opener) {
-        Ok(text) => text,
-        Err(failure) => return failed(&failure, err),
-    };
-    relate_given(alloc, first.as_slice(), second.as_slice(), out, err)
+    relate_given(
+        alloc,
+        texts.first.as_slice(),
+        texts.second.as_slice(),
+        out,
+        err,
+    )
 }
 
 /// Writes the nine characters of the matrix of two geometries, and a line feed.
@@ -65,7 +71,7 @@ fn relate_given<S: Sink, E: Sink>(
 /// Writes a line for each record of the file at a path: the matrix of its two geometries, or why one is refused. It returns
 /// the status: 0, 5 if at least one pair is refused, or that of the failure, whose line it writes to `err`.
 #[inline(never)]
-pub fn serve_pairs<R: Read + Drop, F: FnMut(&str) -> Option<R>, S: Sink, E: Sink>(
+pub fn serve_pairs<R: Read + Drop, F: FnMut(File<'_>) -> Option<R>, S: Sink, E: Sink>(
     alloc: Global,
     path: &str,
     mut opener: F,
@@ -74,13 +80,11 @@ pub fn serve_pairs<R: Read + Drop, F: FnMut(&str) -> Option<R>, S: Sink, E: Sink
 ) -> u8
     requires { F.IsAlwaysCallable opener }
     ensures serves { Serves E.taken E.failures
-        (RelatesFile F.FnMut R.remaining S.taken S.failures out.old out.new opener path.now)
+        (RelatesFile (OpensFile F.FnMut) R.remaining S.taken S.failures out.old out.new
+        opener path.now)
         result err.old err.new }
 {
-    match relate_file(alloc, opener(path), out) {
-        Ok(()) => 0,
-        Err(failure) => failed(&failure, err),
-    }
+    ended(relate_file(alloc, opener(File::Pairs(path)), out), err)
 }
 
 /// Relates the pairs of a file. None is a file that can't be opened.
@@ -95,14 +99,14 @@ fn relate_file<R: Read + Drop, S: Sink>(
         return Err(Failure::Unreadable("pairs"));
     };
     match relate_pairs(alloc, reader, out) {
-        Ok(pairs) => ended(pairs),
+        Ok(pairs) => end_of(pairs),
         Err(failure) => Err(failure),
     }
 }
 
 /// How a run over pairs ended for the command: that a pair is refused is a failure, as it has a status.
-fn ended(pairs: Pairs) -> Result<(), Failure<'static>>
-    ensures { result ≡ end_of (Ok pairs) }
+fn end_of(pairs: Pairs) -> Result<(), Failure<'static>>
+    ensures { result ≡ spec.end_of (Ok pairs) }
 {
     match pairs {
         Pairs::AllRelated => Ok(()),
@@ -124,14 +128,4 @@ pub fn serve_fault<S: Sink, E: Sink>(code: &str, out: &mut S, err: &mut E) -> u8
         Ok(()) => 0,
         Err(_) => failed(&Failure::WriteFailed, err),
     }
-}
-
-/// Writes the line of a failure, and returns its status. The status is the same if the line can't be written.
-pub fn failed<E: Sink>(failure: &Failure<'_>, err: &mut E) -> u8
-    ensures status { result ≡ failure_status failure.now }
-    ensures line { Writes (E.taken err.old) (E.taken err.new) (E.failures err.old)
-        (E.failures err.new) (failure_line failure.now) }
-{
-    let _ = fault_line(failure, err);
-    status(failure)
 }

@@ -11,13 +11,17 @@ pub(crate) fn l1() -> &'static str
 L1: a table's data (status 4)
 
 sfq: t L1
-  means: the header lacks a column of the schema
+  means: the header lacks a column of the schema; so does a file that is empty
+    or has no header
   example:
+    D=$(mktemp -d)
     echo \"CREATE TABLE t (id INTEGER PRIMARY KEY, pop INTEGER, name\" \\
-      \"TEXT);\" > schema.sql
-    printf 'id,pop\\n' > t.csv
-    sfq check schema.sql .
-  to do: add the column, or take it out of the schema
+      \"TEXT);\" > \"$D/schema.sql\"
+    printf 'id,pop\\n' > \"$D/t.csv\"
+    sfq check \"$D/schema.sql\" \"$D\"
+  to do: add the column, or take it out of the schema. If it is there, compare
+    the spelling: blanks count and case doesn't, and only commas separate
+    names
 
 t is the table's name as the schema spells it. Records count from 1, the first
 record after the header.
@@ -34,10 +38,11 @@ L2: a table's data (status 4)
 sfq: t L2
   means: the header has a column of the schema twice (case doesn't count)
   example:
+    D=$(mktemp -d)
     echo \"CREATE TABLE t (id INTEGER PRIMARY KEY, pop INTEGER, name\" \\
-      \"TEXT);\" > schema.sql
-    printf 'id,pop,name,Pop\\n' > t.csv
-    sfq check schema.sql .
+      \"TEXT);\" > \"$D/schema.sql\"
+    printf 'id,pop,name,Pop\\n' > \"$D/t.csv\"
+    sfq check \"$D/schema.sql\" \"$D\"
   to do: rename one
 
 t is the table's name as the schema spells it. Records count from 1, the first
@@ -55,10 +60,11 @@ L3: a table's data (status 4)
 sfq: t L3 record 2
   means: record 2 has more or fewer fields than the header
   example:
+    D=$(mktemp -d)
     echo \"CREATE TABLE t (id INTEGER PRIMARY KEY, pop INTEGER, name\" \\
-      \"TEXT);\" > schema.sql
-    printf 'id,pop,name\\n1,8,a\\n2,9\\n' > t.csv
-    sfq check schema.sql .
+      \"TEXT);\" > \"$D/schema.sql\"
+    printf 'id,pop,name\\n1,8,a\\n2,9\\n' > \"$D/t.csv\"
+    sfq check \"$D/schema.sql\" \"$D\"
   to do: write one field for each column; a field with a comma needs quotes
 
 t is the table's name as the schema spells it. Records count from 1, the first
@@ -94,10 +100,11 @@ sfq: t L5 record 2
   means: a field of an INTEGER column isn't a whole number of 64 bits, or is
     only blanks
   example:
+    D=$(mktemp -d)
     echo \"CREATE TABLE t (id INTEGER PRIMARY KEY, pop INTEGER, name\" \\
-      \"TEXT);\" > schema.sql
-    printf 'id,pop,name\\n1,8,a\\n2,9.5,b\\n' > t.csv
-    sfq check schema.sql .
+      \"TEXT);\" > \"$D/schema.sql\"
+    printf 'id,pop,name\\n1,8,a\\n2,9.5,b\\n' > \"$D/t.csv\"
+    sfq check \"$D/schema.sql\" \"$D\"
   to do: write digits with a sign or none; leave the field empty for NULL
 
 t is the table's name as the schema spells it. Records count from 1, the first
@@ -117,9 +124,11 @@ sfq: t L6 record 2 W2 at 9
     as for a geometry; bytes count within the field's text, without the quotes
     around it
   example:
-    echo \"CREATE TABLE t (id INTEGER PRIMARY KEY, geom POLYGON);\" > schema.sql
-    printf 'id,geom\\n1,\\n2,\"POLYGON((0.5 0,4 0,4 4,0 0))\"\\n' > t.csv
-    sfq check schema.sql .
+    D=$(mktemp -d)
+    echo \"CREATE TABLE t (id INTEGER PRIMARY KEY, geom\" \\
+      \"POLYGON);\" > \"$D/schema.sql\"
+    printf 'id,geom\\n1,\\n2,\"POLYGON((0.5 0,4 0,4 4,0 0))\"\\n' > \"$D/t.csv\"
+    sfq check \"$D/schema.sql\" \"$D\"
   to do: mend the text. A geometry with a comma needs quotes, else the record
     is L3
 
@@ -127,9 +136,11 @@ sfq: t L6 record 2 V3 0
   means: the geometry isn't valid. What follows the record says why, as for a
     geometry
   example:
-    echo \"CREATE TABLE t (id INTEGER PRIMARY KEY, geom POLYGON);\" > schema.sql
-    printf 'id,geom\\n1,\\n2,\"POLYGON((0 0,4 4,4 0,0 4,0 0))\"\\n' > t.csv
-    sfq check schema.sql .
+    D=$(mktemp -d)
+    echo \"CREATE TABLE t (id INTEGER PRIMARY KEY, geom\" \\
+      \"POLYGON);\" > \"$D/schema.sql\"
+    printf 'id,geom\\n1,\\n2,\"POLYGON((0 0,4 4,4 0,0 4,0 0))\"\\n' > \"$D/t.csv\"
+    sfq check \"$D/schema.sql\" \"$D\"
   to do: mend the geometry, leave the record out, or leave its field empty
     (NULL)
 
@@ -148,9 +159,11 @@ L7: a table's data (status 4)
 sfq: t L7 record 2
   means: a valid geometry, but not of the column's type, even if it is empty
   example:
-    echo \"CREATE TABLE t (id INTEGER PRIMARY KEY, geom POLYGON);\" > schema.sql
-    printf 'id,geom\\n1,\\n2,POINT EMPTY\\n' > t.csv
-    sfq check schema.sql .
+    D=$(mktemp -d)
+    echo \"CREATE TABLE t (id INTEGER PRIMARY KEY, geom\" \\
+      \"POLYGON);\" > \"$D/schema.sql\"
+    printf 'id,geom\\n1,\\n2,POINT EMPTY\\n' > \"$D/t.csv\"
+    sfq check \"$D/schema.sql\" \"$D\"
   to do: declare the column GEOMETRY, which takes every type, or write the
     column's type: a MULTIPOLYGON of one polygon isn't a POLYGON
 
@@ -169,10 +182,11 @@ L8: a table's data (status 4)
 sfq: t L8 record 1
   means: an empty field in the key or in a NOT NULL column
   example:
+    D=$(mktemp -d)
     echo \"CREATE TABLE t (id INTEGER PRIMARY KEY, pop INTEGER, name\" \\
-      \"TEXT);\" > schema.sql
-    printf 'id,pop,name\\n,9,b\\n' > t.csv
-    sfq check schema.sql .
+      \"TEXT);\" > \"$D/schema.sql\"
+    printf 'id,pop,name\\n,9,b\\n' > \"$D/t.csv\"
+    sfq check \"$D/schema.sql\" \"$D\"
   to do: give it a value
 
 t is the table's name as the schema spells it. Records count from 1, the first
@@ -190,10 +204,11 @@ L9: a table's data (status 4)
 sfq: t L9 record 3
   means: record 3 has a key that an earlier record has
   example:
+    D=$(mktemp -d)
     echo \"CREATE TABLE t (id INTEGER PRIMARY KEY, pop INTEGER, name\" \\
-      \"TEXT);\" > schema.sql
-    printf 'id,pop,name\\n1,,\\n2,,\\n1,,\\n' > t.csv
-    sfq check schema.sql .
+      \"TEXT);\" > \"$D/schema.sql\"
+    printf 'id,pop,name\\n1,,\\n2,,\\n1,,\\n' > \"$D/t.csv\"
+    sfq check \"$D/schema.sql\" \"$D\"
   to do: keys are unique
 
 t is the table's name as the schema spells it. Records count from 1, the first
@@ -210,7 +225,7 @@ L10: a table's data (status 4)
 
 sfq: t L10
   means: more than 100,000 records
-  to do: split the table
+  to do: ask by sfq-scale, which takes more, or split the table
 
 t is the table's name as the schema spells it. Records count from 1, the first
 record after the header.
@@ -227,10 +242,11 @@ L11: a table's data (status 6)
 sfq: t L11
   means: reading the table's file failed on the way (status 6)
   example:
+    D=$(mktemp -d)
     echo \"CREATE TABLE t (id INTEGER PRIMARY KEY, pop INTEGER, name\" \\
-      \"TEXT);\" > schema.sql
-    mkdir t.csv
-    sfq check schema.sql .
+      \"TEXT);\" > \"$D/schema.sql\"
+    mkdir \"$D/t.csv\"
+    sfq check \"$D/schema.sql\" \"$D\"
   to do: check the file and its disk
 
 sfq: t L11

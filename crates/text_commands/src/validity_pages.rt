@@ -15,7 +15,9 @@ sfq: first V1 0
     one position, or a ring fewer than four (the closing one counts)
   example:
     sfq relate \"LINESTRING(3 3,3 3)\" \"POINT(0 0)\"
-  to do: give a line two positions that differ, a ring three corners
+  to do: give a line two positions that differ, a ring three corners that
+    differ and the first again at its end; or leave the geometry out. If
+    rounding made it so, a smaller step of the grid keeps it
 
 Parts, rings and elements count from 0, and rings count through all polygons
 of a MULTIPOLYGON.

@@ -6,7 +6,8 @@ use Rattle.std.proofs.lemmas.Int.{ints}
 use Rattle.std.proofs.lemmas.Bool.{and_from}
 use Rattle.geometry_model.specs.Points.{Position}
 use Rattle.geometry_model.specs.Envelopes.{Envelope}
-use Rattle.table_laws.specs.Cells.{IsCut, IsOnGrid, is_within, cells_of}
+use Rattle.fraction.specs.Ranges.{IsOnGrid}
+use Rattle.table_laws.specs.Cells.{CutsGrid, is_within, cells_of}
 use Rattle.tiles.specs.Cuts.{LiesWithin}
 use Rattle.tiles.specs.Lines.{IsInGrid, times_within, whole}
 
@@ -20,10 +21,10 @@ under (negsuc n) h = grind (arith, ints)
 
 -- the box of the whole grid holds each of its positions
 within : (p : Position) → IsOnGrid p → is_within whole p ≡ true
-within p h = and_from _ _ (and_from _ _ (and_from _ _ (above p.x h.0) (under p.x h.0)) (above p.y h.1)) (under p.y h.1)
+within p h = and_from _ _ (and_from _ _ (and_from _ _ (above p.x h.x) (under p.x h.x)) (above p.y h.y)) (under p.y h.y)
 
 -- what holds positions as often as the whole grid does cuts it
-pub cuts_grid : (boxes : List Envelope) → ((p : Position) → times_within p boxes ≡ times_within p [] + times_within p (whole ∷ [])) → IsCut boxes
+pub cuts_grid : (boxes : List Envelope) → ((p : Position) → times_within p boxes ≡ times_within p [] + times_within p (whole ∷ [])) → CutsGrid boxes
 cuts_grid boxes h p on = h p ∙ ap (λ b. 0 + (0 + cond b 1 0)) (within p on) ∙ refl
 
 -- the cell of a number is the box at the place before it
@@ -40,4 +41,4 @@ pub whole_in_grid : IsInGrid whole
 whole_in_grid = (record { x = omega arith; y = omega arith }, record { x = omega arith; y = omega arith })
 
 pub all_within : (sample : List Position) → LiesWithin sample whole
-all_within sample k d l on = within (get_or sample k d) (on.x, on.y)
+all_within sample k d l on = within (get_or sample k d) on

@@ -14,3 +14,6 @@ pub mod ReadBack
 pub mod RowLemmas
 pub mod StretchLemmas
 pub mod TextLemmas
+pub mod CheckedLoads
+pub mod GridLemmas
+pub mod TileRows

@@ -2,13 +2,12 @@
 use Rattle.std.proofs.Common.{◌≡◌, ◌==◌, ◌+◌, ◌++◌, ◌<◌, ◌≤◌, ℕ, Bool, true, false, if◌then◌else◌, List, [], ◌∷◌, length, map, option_map, unwrap_or, slice_get, Option, Some, None, append-nil, arith, refl, ap, subst, sym, ◌∙◌}
 use Rattle.std.specs.List.{All, count_by, flat_map}
 use Rattle.std.proofs.lemmas.List.Sums.{length-filter}
-use Rattle.geometry_model.specs.Envelopes.{Envelope, envelope, meets}
-use Rattle.geometry_model.specs.Geometries.{Geometry}
+use Rattle.geometry_model.specs.Envelopes.{Envelope, meets}
 use Rattle.rtree.specs.Found.{meeting_places}
 use Rattle.table_model.specs.Loading.{Record}
 use Rattle.table_laws.specs.Cells.{Cell, cells_of}
-use Rattle.tiles.specs.Copies.{is_copied_to, meets_cell}
-use Rattle.tiles.specs.RecordLines.{cell_row, envelope_row, line_of, mark_fields, marked_line}
+use Rattle.tiles.specs.Copies.{meets_cell}
+use Rattle.tiles.specs.RecordLines.{envelope_row, line_of, mark_fields, marked_line}
 use Rattle.tiles.specs.Texts.{gets_of}
 use Rattle.tiles.proofs.PlaceLemmas.{found_once, passes_at, within}
 
@@ -45,21 +44,10 @@ met_are_cells boxes e = within (λ (c : Cell). meets c e) 0 (length boxes + 1) (
     size : 0 + length (cells_of boxes) ≡ length boxes + 1
     size = let l = boxes_stay boxes in omega (arith, l)
 
--- where the envelope is that of a geometry, so is the row
-pub row_of_geometry : (boxes : List Envelope) (geometry : Option Geometry) (e : Option Envelope) (copied : Record) (k : ℕ)
-    → Some e ≡ option_map envelope geometry → envelope_row boxes e copied k ≡ cell_row boxes geometry copied k
-row_of_geometry boxes None e copied k h = cc h
-row_of_geometry boxes (Some g) e copied k h = let same : e ≡ envelope g = cc h in ap (λ (f : Option Envelope). envelope_row boxes f copied k) same
-
 -- nothing, whatever the cell is
 nothing : (none : List ℕ) (o : Option Cell) → none ≡ unwrap_or (option_map (λ (cell : Cell). none) o) none
 nothing none None = refl
 nothing none (Some c) = refl
-
--- null is copied nowhere
-pub no_row : (boxes : List Envelope) (geometry : Option Geometry) (copied : Record) (k : ℕ) → None ≡ option_map envelope geometry → [] ≡ cell_row boxes geometry copied k
-no_row boxes None copied k h = nothing [] (slice_get (cells_of boxes) k)
-no_row boxes (Some g) copied k h = cc h
 
 -- how often the number of a cell is among those that meet an envelope
 pub met_count : (boxes : List Envelope) (e : Option Envelope) (k : ℕ) → count_by (λ n. n == k) (meeting_places (cells_of boxes) e) ≡ (if meets_cell boxes e k then 1 else 0)
@@ -82,17 +70,3 @@ met_few boxes e k = subst (λ (n : ℕ). n ≤ 1) (sym (met_count boxes e k)) (o
     one : (b : Bool) → (if b then 1 else 0) ≤ 1
     one true = omega arith
     one false = omega arith
-
--- where the envelope is that of a geometry, the geometry is copied to the cells that meet it
-pub met_is_copied : (boxes : List Envelope) (geometry : Option Geometry) (e : Option Envelope) (k : ℕ) → Some e ≡ option_map envelope geometry → meets_cell boxes e k ≡ is_copied_to boxes geometry k
-met_is_copied boxes None e k h = cc h
-met_is_copied boxes (Some g) e k h = let same : e ≡ envelope g = cc h in ap (λ (f : Option Envelope). meets_cell boxes f k) same
-
--- null is copied nowhere
-pub null_not_copied : (boxes : List Envelope) (geometry : Option Geometry) (k : ℕ) → None ≡ option_map envelope geometry → is_copied_to boxes geometry k ≡ false
-null_not_copied boxes None k h = none (slice_get (cells_of boxes) k)
-  where
-    none : (o : Option Cell) → unwrap_or (option_map (λ (cell : Cell). false) o) false ≡ false
-    none None = refl
-    none (Some c) = refl
-null_not_copied boxes (Some g) k h = cc h

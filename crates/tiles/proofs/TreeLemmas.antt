@@ -98,9 +98,6 @@ found-append e xs ys =
 found_none : (n : ℕ) (box e : Envelope) → overlap box e ≡ false → places_found e ((n, box) ∷ []) ≡ []
 found_none n box e h = ap (λ b. map (λ (m : ℕ × Envelope). m.0) (cond b ((n, box) ∷ []) [])) h
 
-pub found_one : (n : ℕ) (box e : Envelope) → overlap box e ≡ true → places_found e ((n, box) ∷ []) ≡ n ∷ []
-found_one n box e h = ap (λ b. map (λ (m : ℕ × Envelope). m.0) (cond b ((n, box) ∷ []) [])) h
-
 -- in a box that an envelope doesn't meet nothing is found
 none_within : (t : Tree) (box e : Envelope) → is_parted t box ≡ true → overlap box e ≡ false → places_found e (numbered_boxes t box) ≡ []
 none_within (Whole n) box e parted h = found_none n box e h

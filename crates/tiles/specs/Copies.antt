@@ -9,7 +9,7 @@ use Rattle.feature_table.specs.Tables.{AreRecordsOf}
 use Rattle.table_model.specs.Loading.{Record, header_fault}
 use Rattle.table_model.specs.declared.definitions.ColumnDef.{ColumnDef}
 use Rattle.table_laws.specs.Cells.{Cell, cells_of, is_copied}
-use Rattle.tiles.specs.RecordLines.{field_in, geometry_of, line_of, mark_fields, places_in}
+use Rattle.tiles.specs.RecordLines.{field_in, geometry_in_field, line_of, mark_fields, places_in}
 use Rattle.tiles.specs.Texts.{Grow, Texts}
 
 -- ---- records
@@ -29,7 +29,7 @@ pub record AreRecordsOfTable {T : Type 0} (known : Option (List ℕ)) (columns :
 
 -- the geometry of a record in a column; the columns of the table are at these places of the header
 abbrev pub geometry_in : List ℕ → ℕ → Record → Option Geometry
-geometry_in places column fields = geometry_of (field_in places fields column)
+geometry_in places column fields = geometry_in_field (field_in places fields column)
 
 -- the fields of a record that are copied: those in some columns, in this order (SQL, the select list)
 abbrev pub copied_fields : List ℕ → List ℕ → Record → Record

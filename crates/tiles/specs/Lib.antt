@@ -9,3 +9,5 @@ pub mod RecordLines
 pub mod ReadBack
 pub mod Stretches
 pub mod Texts
+pub mod LoadedRows
+pub mod TileRows

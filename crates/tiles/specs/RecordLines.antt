@@ -32,9 +32,9 @@ abbrev pub field_in : List ℕ → Record → ℕ → List ℕ
 field_in places fields column = unwrap_or (option_map (λ place. slice_index_or fields place []) (slice_get places column)) []
 
 -- the geometry that a field spells; an empty field is null (06-104r4, feature tables)
-unfoldable pub geometry_of : List ℕ → Option Geometry
-geometry_of [] = None
-geometry_of (byte ∷ bytes) = result_ok (read_text (byte ∷ bytes))
+unfoldable pub geometry_in_field : List ℕ → Option Geometry
+geometry_in_field [] = None
+geometry_in_field (byte ∷ bytes) = result_ok (read_text (byte ∷ bytes))
 
 -- the digit of a mark (this project's choice)
 abbrev pub mark_text : ℤ → List ℕ

@@ -5,7 +5,7 @@ ghost use Rattle.std.specs.List.{enumerate_from};
 ghost use Rattle.std.specs.List.Sorted.{IsPermutation};
 ghost use Rattle.geometry_model.specs.Envelopes.{Envelope as Rectangle};
 ghost use Rattle.rtree.specs.Found.{meeting_places};
-ghost use Rattle.table_laws.specs.Cells.{IsCut, cells_of};
+ghost use Rattle.table_laws.specs.Cells.{CutsGrid, cells_of};
 ghost use Rattle.tiles.specs.Cuts.{IsCutAtMedians};
 ghost use Rattle.tiles.specs.Lines.{whole};
 ghost use Rattle.tiles.specs.Trees.{numbered_boxes, is_parted};
@@ -55,7 +55,7 @@ impl Cells {
     /// position, or it lies behind ten lines. The same sample in the same order gives the same cells. The sample is put into
     /// another order. It fails only when memory runs out.
     pub fn cut(alloc: Global, sample: &mut [GridPoint], most: usize) -> Result<Cells, AllocError>
-        ensures cut { IfOk result (λ cells. IsCut cells) }
+        ensures cut { IfOk result (λ cells. CutsGrid cells) }
         ensures medians { IfOk result (λ cells. IsCutAtMedians 10 most sample.old whole cells) }
         ensures moved { OnOk result (IsPermutation sample.old sample.new) }
         ensures few { IfOk result (λ cells. length cells ≤ MOST_BOXES) }

@@ -3,7 +3,7 @@
 ghost use Rattle.std.specs.Prelude.{◌≡◌, IfErr, IfOk, option_map};
 ghost use Rattle.geometry_model.specs.Envelopes.{envelope};
 ghost use Rattle.tiles.specs.Faults.{IsReadFault};
-ghost use Rattle.tiles.specs.RecordLines.{geometry_of};
+ghost use Rattle.tiles.specs.RecordLines.{geometry_in_field};
 
 use crate::faults::CopyFault;
 use rtree::Envelope;
@@ -12,12 +12,12 @@ use table_model::faults::LoadFault;
 use validity::envelope_of;
 
 /// The envelope of the geometry in a field, if the field isn't empty.
-#[tactic(auto, unfolding(crate::specs::RecordLines::geometry_of))]
+#[tactic(auto, unfolding(crate::specs::RecordLines::geometry_in_field))]
 pub(crate) fn envelope_in(
     alloc: Global,
     field: &[u8],
 ) -> Result<Option<Option<Envelope>>, CopyFault>
-    ensures found { IfOk result (λ found. found ≡ option_map envelope (geometry_of field.now)) }
+    ensures found { IfOk result (λ found. found ≡ option_map envelope (geometry_in_field field.now)) }
     ensures fault { IfErr result IsReadFault }
 {
     if field.is_empty() {

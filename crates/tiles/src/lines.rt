@@ -12,7 +12,7 @@ use rtree::Envelope;
 /// The direction in which a line's coordinate is counted.
 #[derive(Clone, Copy, Drop)]
 pub(crate) enum Axis {
-    /// Eastwards: the line is upright.
+    /// Eastwards: the line is vertical.
     X,
     /// Northwards: the line is level.
     Y,

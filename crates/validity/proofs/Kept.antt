@@ -14,8 +14,8 @@ use Rattle.geometry_model.specs.Geometries.{Geometry, Edge, edges, listed, kind,
 use Rattle.geometry_model.specs.FirstFaults.{validity_fault}
 use Rattle.edge_boxes.specs.BoxLists.{BoxesOf}
 use Rattle.edge_boxes.specs.declared.boxes.EdgeBoxes.{EdgeBoxes}
-use Rattle.validity.specs.ValidGeometries.{IsKept, AreSearched}
-use Rattle.validity.specs.Contents.{geometry_of, IsKeptIn}
+use Rattle.validity.specs.ValidGeometries.{IsValidWith, AreSearched}
+use Rattle.validity.specs.Contents.{content_geometry, IsKeptIn}
 use Rattle.validity.specs.declared.valid_geometry.Content.{Content}
 use Rattle.validity.specs.declared.valid_geometry.Content.TheVariants as content
 use Rattle.validity.proofs.Faults.{no_fault_valid}
@@ -25,12 +25,12 @@ pub boxes_of_same : (g h : Geometry) (boxes : EdgeBoxes) → g ≡ h → BoxesOf
 boxes_of_same g h boxes e are = subst (λ (k : Geometry). BoxesOf boxes (edges k)) e are
 
 -- where no fault is found the geometry is kept with its boxes
-pub is_kept : (g : Geometry) (boxes : EdgeBoxes) → BoxesOf boxes (edges g) → validity_fault g ≡ None → IsKept g boxes
+pub is_kept : (g : Geometry) (boxes : EdgeBoxes) → BoxesOf boxes (edges g) → validity_fault g ≡ None → IsValidWith g boxes
 is_kept g boxes are none = record { valid = no_fault_valid g none; over_edges = are }
 
 -- the boxes that are kept are those of the geometry's edges
-pub boxes_of_point : (k : Content) (now g : Geometry) (boxes : EdgeBoxes) → geometry_of k ≡ now → IsKeptIn k → k ≡ content.Point g boxes → BoxesOf boxes (edges now)
-boxes_of_point k now g boxes view kept is = boxes_of_same g now boxes (ap geometry_of (sym is) ∙ view) (subst IsKeptIn is kept).1.over_edges
+pub boxes_of_point : (k : Content) (now g : Geometry) (boxes : EdgeBoxes) → content_geometry k ≡ now → IsKeptIn k → k ≡ content.Point g boxes → BoxesOf boxes (edges now)
+boxes_of_point k now g boxes view kept is = boxes_of_same g now boxes (ap content_geometry (sym is) ∙ view) (subst IsKeptIn is kept).1.over_edges
 
 -- a POINT has no edges and no fault
 pub point_has_no_edges : (g : Geometry) → type_of g ≡ types.Point → edges g ≡ []
@@ -51,7 +51,7 @@ point_has_no_fault (g.Polygon rs) e = absurd cc
 point_has_no_fault (g.MultiPolygon es) e = absurd cc
 
 -- a POINT is kept with boxes of no edges
-pub point_is_kept : (g : Geometry) (edges : List Edge) (boxes : EdgeBoxes) → type_of g ≡ types.Point → edges ≡ [] → BoxesOf boxes edges → IsKept g boxes
+pub point_is_kept : (g : Geometry) (edges : List Edge) (boxes : EdgeBoxes) → type_of g ≡ types.Point → edges ≡ [] → BoxesOf boxes edges → IsValidWith g boxes
 point_is_kept g none boxes point e are = is_kept g boxes (subst (BoxesOf boxes) (e ∙ sym (point_has_no_edges g point)) are) (point_has_no_fault g point)
 
 -- the one position of a POINT ascends
@@ -66,9 +66,9 @@ point_is_searched (g.Polygon rs) e = absurd cc
 point_is_searched (g.MultiPolygon es) e = absurd cc
 
 -- so what is searched of a POINT that is kept is what it lists
-pub searched_of_point : (k : Content) (now g : Geometry) (boxes : EdgeBoxes) (positions : List Position) → geometry_of k ≡ now → IsKeptIn k → k ≡ content.Point g boxes → positions ≡ listed g → AreSearched positions now
+pub searched_of_point : (k : Content) (now g : Geometry) (boxes : EdgeBoxes) (positions : List Position) → content_geometry k ≡ now → IsKeptIn k → k ≡ content.Point g boxes → positions ≡ listed g → AreSearched positions now
 searched_of_point k now g boxes positions view kept is e =
-    subst (λ l. AreSearched l now) (sym e) (subst (AreSearched (listed g)) (ap geometry_of (sym is) ∙ view) (point_is_searched g (subst IsKeptIn is kept).0))
+    subst (λ l. AreSearched l now) (sym e) (subst (AreSearched (listed g)) (ap content_geometry (sym is) ∙ view) (point_is_searched g (subst IsKeptIn is kept).0))
 
 -- only lines have ends
 only_lines_end : (g : Geometry) → kind g ≢ kinds.Line → ended_lines g ≡ []

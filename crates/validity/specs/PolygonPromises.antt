@@ -57,7 +57,7 @@ abbrev pub OutsideIsExterior : Geometry → Type 0
 OutsideIsExterior g = (p : Point) → IsPoint p → IsOutside (envelope g) p → locate g p ≡ Exterior
 
 -- the point is strictly within an edge of a ring, and the edge isn't vertical (06-103r4, 6.1.11.1)
-pub record IsWithinSlantOfRing (g : Geometry) (p : Point) : Type 0 where
+pub record IsWithinRingEdge (g : Geometry) (p : Point) : Type 0 where
   pub is_point : IsPoint p
   pub ring : List Position
   pub is_ring : Contains (rings g) ring
@@ -70,8 +70,8 @@ pub record IsWithinSlantOfRing (g : Geometry) (p : Point) : Type 0 where
 
 -- there exactly one of the two numbers of edges, strictly above and at or above, is odd (06-103r4, 6.1.11.1)
 abbrev pub RingsPart : Geometry → Type 0
-RingsPart g = (p : Point) → IsWithinSlantOfRing g p → exactly_one (odd_above (rings g) p) (odd_at_or_above (rings g) p) ≡ true
+RingsPart g = (p : Point) → IsWithinRingEdge g p → exactly_one (odd_above (rings g) p) (odd_at_or_above (rings g) p) ≡ true
 
 -- of below and above one is interior there and the other exterior; arbitrarily near there are points that lie so, and all near enough do (06-103r4, 6.1.11.1)
 abbrev pub RingsHaveSides : Geometry → Type 0
-RingsHaveSides g = (p : Point) → IsWithinSlantOfRing g p → ArePartedAs (below g p) (above g p) × ((k : ℕ) → NearSides g p k) × AreAllNear g p
+RingsHaveSides g = (p : Point) → IsWithinRingEdge g p → ArePartedAs (below g p) (above g p) × ((k : ℕ) → NearSides g p k) × AreAllNear g p

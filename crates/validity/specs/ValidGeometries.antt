@@ -13,7 +13,7 @@ pub use Rattle.validity.specs.Runs.{HasLength}
 use Rattle.validity.specs.OddEnds.{ended_lines}
 
 -- the geometry has no fault, and the boxes are those of its edges (06-103r4, 6.1.7 and 6.1.11)
-pub record IsKept (g : Geometry) (boxes : EdgeBoxes) : Type 0 where
+pub record IsValidWith (g : Geometry) (boxes : EdgeBoxes) : Type 0 where
   pub valid : IsValid g
   pub over_edges : BoxesOf boxes (edges g)
 

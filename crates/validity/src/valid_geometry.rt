@@ -8,7 +8,7 @@ ghost use Rattle.geometry_model.specs.Locations.{is_odd_end, is_at};
 ghost use Rattle.geometry_model.specs.Validity.{IsValid};
 ghost use Rattle.geometry_model.specs.FirstFaults.{validity_fault};
 ghost use Rattle.edge_boxes.specs.BoxLists.{BoxesOf};
-ghost use Rattle.validity.specs.ValidGeometries.{IsKept, AreSearched};
+ghost use Rattle.validity.specs.ValidGeometries.{IsValidWith, AreSearched};
 ghost use Rattle.validity.specs.OddEnds.{AreOddEnds, ended_lines};
 ghost use Rattle.validity.specs.CheckFaults.{IsFaultOf, IsAnyFaultOf, IsFirstFaultOf};
 ghost use Rattle.validity.specs.PolygonPromises.{HolesAreCutOut, HolesAreInside, InteriorByElements, ElementsAreApart};
@@ -54,11 +54,11 @@ pub(crate) struct Searched {
 
 impl Model for Valid {
     ghost use Rattle.geometry_model.specs.Geometries as spec;
-    ghost use Rattle.validity.specs.Contents.{geometry_of, IsKeptIn};
+    ghost use Rattle.validity.specs.Contents.{content_geometry, IsKeptIn};
 
     ghost Value = { spec.Geometry };
 
-    ghost view = { λ v. geometry_of v.content };
+    ghost view = { λ v. content_geometry v.content };
 
     ghost invariant = { λ v. IsKeptIn v.content };
 }
@@ -218,7 +218,7 @@ fn with_boxes(alloc: Global, outline: Outline, boxes: EdgeBoxes) -> Result<Searc
     requires faultless { validity_fault outline ≡ None }
     requires boxes { BoxesOf boxes (spec.edges outline) }
     ensures same { IfOk result (λ kept. kept.outline ≡ outline) }
-    ensures kept { IfOk result (λ kept. IsKept kept.outline kept.boxes) }
+    ensures kept { IfOk result (λ kept. IsValidWith kept.outline kept.boxes) }
     ensures searched { IfOk result (λ kept. AreSearched kept.positions.items kept.outline) }
 {
     let positions = searched_positions(alloc, outline.geometry())?;

@@ -11,7 +11,7 @@ use Rattle.basics.proofs.Signs.{plus_plus, strict_plus_plus, cancel_nonnegative,
 use Rattle.basics.proofs.Quotients.{trans_at_most}
 use Rattle.basics.proofs.Tests.{equal_yes}
 use Rattle.basics.proofs.Orders.{weak_positive, between_cases, gap_weak, at_most_from_gap, gap_none}
-use Rattle.geometry_laws.specs.CoverLaws.{IsStraightOver}
+use Rattle.geometry_laws.specs.CoverLaws.{IsStraightOver, IsNotUprightAt}
 use Rattle.geometry_laws.proofs.RingParity.{position_is_point}
 use Rattle.geometry_laws.proofs.LineSides.{side_turned}
 use Rattle.geometry_laws.proofs.LineOrder.{up}
@@ -21,7 +21,7 @@ use Rattle.geometry_laws.proofs.VerticalLines.{side_along, straight_through}
 use Rattle.witnesses.specs.declared.heights.Side.{Side}
 use Rattle.witnesses.specs.declared.heights.Side.TheVariants.{Upper, Lower}
 use Rattle.witnesses.specs.declared.heights.Height.{Height}
-use Rattle.witnesses.specs.Heights.{ahead, IsAhead, IsPast, Keeps, ClearsEdge, ClearsPosition, IsSlant, IsHeight}
+use Rattle.witnesses.specs.Heights.{ahead, IsAhead, IsPast, Keeps, ClearsEdge, ClearsPosition, IsHeight}
 
 -- ---- a lesser height
 none_left : (u : ℤ) (z : ℤ) → z ≡ pos 0 → z *ℤ u ≡ pos 0
@@ -53,9 +53,6 @@ past g r h s w u hg hr hh hs hw hu l k = go (at_most_or_less s (pos 0)) (at_most
 
 pub keeps_lesser : (side : Side) (p : Point) (h g : Height) → IsHeight h → IsHeight g → (g.rise *ℤ h.run) ≤ℤ (h.rise *ℤ g.run) → Keeps side p h g
 keeps_lesser side p h g hh hg l z a k = past g.rise g.run h.rise h.run z.W (ahead side p z) hg.positive hg.forward hh.positive hh.forward a.is_point a.ahead l k
-
-pub keeps_itself : (side : Side) (p : Point) (h : Height) → Keeps side p h h
-keeps_itself side p h z a k = k
 
 pub keeps_both : (side : Side) (p : Point) (h g f : Height) → Keeps side p h g → Keeps side p g f → Keeps side p h f
 keeps_both side p h g f k l z a m = l z a (k z a m)
@@ -267,8 +264,8 @@ swap_cases (inl a) = inr a
 swap_cases (inr b) = inl b
 
 -- a vertical edge that p isn't on is past a height that both its ends are past
-pub clears_upright : (sd : Side) (p : Point) (e : Edge) (h : Height) → IsHeight h → IsPoint p → e.start.x ≡ e.end.x → IsSlant p e → ClearsPosition sd p h e.start → ClearsPosition sd p h e.end → ClearsEdge sd p h e
-clears_upright sd p e h hh hp f slant cs ce z i k = cases sd refl (between_cases (e.start.y *ℤ z.W) (e.end.y *ℤ z.W) z.Y ((on_parts e z k).in_y))
+pub clears_upright : (sd : Side) (p : Point) (e : Edge) (h : Height) → IsHeight h → IsPoint p → e.start.x ≡ e.end.x → IsNotUprightAt p e → ClearsPosition sd p h e.start → ClearsPosition sd p h e.end → ClearsEdge sd p h e
+clears_upright sd p e h hh hp f not_upright cs ce z i k = cases sd refl (between_cases (e.start.y *ℤ z.W) (e.end.y *ℤ z.W) z.Y ((on_parts e z k).in_y))
   where
     xs : (e.start.x *ℤ z.W ≡ z.X *ℤ pos 1) × (e.end.x *ℤ z.W ≡ z.X *ℤ pos 1)
     xs = upright_x e z i.is_point f k
@@ -287,10 +284,10 @@ clears_upright sd p e h hh hp f slant cs ce z i k = cases sd refl (between_cases
         go (inr l) = past_near h.rise h.run z.W (ahead sd p (point_at n)) (ahead sd p z) hh.forward i.is_point (clear (record { is_point = position_is_point n; straight = st; ahead = l })) (near_end sd p z n far hp am)
 
     first : Amid e.start e.end p → ⊥
-    first a = slant (upright_on e p f start_straight (between_of (e.start.y *ℤ p.W) (e.end.y *ℤ p.W) p.Y a)) f
+    first a = not_upright (upright_on e p f start_straight (between_of (e.start.y *ℤ p.W) (e.end.y *ℤ p.W) p.Y a)) f
 
     second : Amid e.end e.start p → ⊥
-    second a = slant (upright_on e p f start_straight (between_of (e.start.y *ℤ p.W) (e.end.y *ℤ p.W) p.Y (swap_cases a))) f
+    second a = not_upright (upright_on e p f start_straight (between_of (e.start.y *ℤ p.W) (e.end.y *ℤ p.W) p.Y (swap_cases a))) f
 
     cases : (t : Side) → sd ≡ t → (((e.start.y *ℤ z.W) ≤ℤ z.Y) × (z.Y ≤ℤ (e.end.y *ℤ z.W))) ⊎ (((e.end.y *ℤ z.W) ≤ℤ z.Y) × (z.Y ≤ℤ (e.start.y *ℤ z.W))) → IsPast sd p h z
     cases Upper q (inl g) = at e.start e.end start_straight cs first (let w : IsAmid Upper e.start e.end z = (g.0, g.1) in rw q w)

@@ -20,10 +20,6 @@ before_read e n' z' w' n z w fe fn fz fw i en ez ew =
 pub rise_fits : (a : ℤ) → unsigned_abs a ≤ rise_limit → SFits w128 a
 rise_fits a h = omega (arith, ints)
 
--- and so does a run
-pub run_fits : (a : ℤ) → unsigned_abs a ≤ 4 * coordinate_limit → SFits w128 a
-run_fits a h = omega (arith, ints)
-
 pub run_fits_twice : (a : ℤ) → unsigned_abs a ≤ 2 * coordinate_limit → SFits w128 a
 run_fits_twice a h = omega (arith, ints)
 
@@ -56,6 +52,3 @@ sum_fits a b r h k l = fits (a *ℤ b) r (product_within a b (4 * coordinate_lim
 
 pub denominator_within : (w : ℤ) → unsigned_abs w ≤ denominator_limit → unsigned_abs w ≤ coordinate_limit * denominator_limit
 denominator_within w h = omega (arith, ints)
-
-pub denominator_rise : (w : ℤ) → unsigned_abs w ≤ denominator_limit → unsigned_abs w ≤ rise_limit
-denominator_rise w h = omega (arith, ints)

@@ -1,12 +1,12 @@
 -- What a place shows, fault by fault.
-use Rattle.std.proofs.Common.{◌≡◌, ◌≢◌, ◌⊎◌, inl, inr, refl, sym, subst, ◌∙◌, ℕ, ◌+◌, ◌-◌, ◌<◌, true, false, List, [], ◌∷◌, length, Option, Some, None, IfSome, IfNone, slice_get, arith}
+use Rattle.std.proofs.Common.{◌≡◌, ◌⊎◌, inl, inr, refl, sym, subst, ◌∙◌, ℕ, ◌+◌, ◌-◌, ◌<◌, true, false, List, [], ◌∷◌, Option, Some, None, IfSome, IfNone, slice_get, arith}
 use Rattle.std.proofs.lemmas.Option.{slice_get_within, same_Some}
 use Rattle.basics.proofs.Lists.{contains_at}
 use Rattle.basics.proofs.Bools.{not_both}
 use Rattle.geometry_model.specs.Points.{Position, point_at}
-use Rattle.geometry_model.specs.Geometries.{Geometry, rings, elements}
+use Rattle.geometry_model.specs.Geometries.{Geometry, rings}
 use Rattle.geometry_model.specs.Crossings.{odd_above}
-use Rattle.geometry_model.specs.Validity.{HasFault, IsNotSimple, RingsShare, ElementsShare, inside, inside_element}
+use Rattle.geometry_model.specs.Validity.{HasFault, IsNotSimple, RingsShare, inside}
 use Rattle.geometry_model.specs.declared.validity_faults.ValidityFault.{ValidityFault}
 use Rattle.geometry_model.specs.declared.validity_faults.ValidityFault.TheVariants.{TooFewPoints, RingNotClosed, RingNotSimple, RingsMeet, HoleOutside, HolesNested, ElementsMeet, ElementInside}
 use Rattle.witnesses.specs.Places.{IsClashOf, IsMeetingOf}
@@ -135,22 +135,6 @@ nested_place g i j first count r s at h later within other at_i at_j odd = let f
 )
 
 -- ---- V7 and V8
-same_element : (g : Geometry) (n : ℕ) (d e : List (List Position)) → slice_get (elements g) n ≡ Some d → slice_get (elements g) n ≡ Some e → d ≡ e
-same_element g n d e h k = same_Some d e (sym h ∙ k)
-
-pub elements_within : (g : Geometry) (i j : ℕ) → HasFault g (ElementsMeet i j) → (i < j) × (j < length (elements g))
-elements_within g i j f = (f.2, slice_get_within (elements g) j f.1 f.4)
-
-pub elements_none : (g : Geometry) (i j : ℕ) (d e : List (List Position)) → slice_get (elements g) i ≡ Some d → slice_get (elements g) j ≡ Some e → (ElementsShare d e → ⊥) → HasFault g (ElementsMeet i j) → ⊥
-elements_none g i j d e at_i at_j none f = none (subst (λ (q : List (List Position)). ElementsShare d q) (same_element g j f.1 e f.4 at_j) (subst (λ (q : List (List Position)). ElementsShare q f.1) (same_element g i f.0 d f.3 at_i) f.5))
-
-pub inside_within : (g : Geometry) (i j : ℕ) → HasFault g (ElementInside i j) → (i ≢ j) × (i < length (elements g)) × (j < length (elements g))
-inside_within g i j f = (f.2, slice_get_within (elements g) i f.0 f.3, slice_get_within (elements g) j f.1 f.4)
-
-pub polygon_none : (g : Geometry) (i j : ℕ) (d e : List (List Position)) → slice_get (elements g) i ≡ Some d → slice_get (elements g) j ≡ Some e → inside_element e d ≡ false → HasFault g (ElementInside i j) → ⊥
-polygon_none g i j d e at_i at_j even f =
-    let odd : inside_element e d ≡ true = subst (λ (q : List (List Position)). inside_element q d ≡ true) (same_element g j f.1 e f.4 at_j) (subst (λ (q : List (List Position)). inside_element f.1 q ≡ true) (same_element g i f.0 d f.3 at_i) f.5) in
-    let z : true ≡ false = sym odd ∙ even in absurd cc
 
 -- ---- a place shows that the geometry has the fault
 not_simple : (ring : List Position) (shared : SharedPlace) → IsClashOf ring shared → IsNotSimple ring

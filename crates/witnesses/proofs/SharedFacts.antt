@@ -23,9 +23,6 @@ both_on e f p h = and_parts (on e p) (on f p) h
 pub apart : (e f : Edge) → IsMeeting e f Apart → SharePoint e f → ⊥
 apart e f m s = let z : true ≡ false = sym (and_from (on e s.at) (on f s.at) s.on_first s.on_second) ∙ m s.at s.is_point in absurd cc
 
-pub apart_other : (common : Position) (e f : Edge) → IsMeeting e f Apart → ShareOther common e f → ⊥
-apart_other common e f m s = let z : true ≡ false = sym (and_from (on e s.at) (on f s.at) s.on_first s.on_second) ∙ m s.at s.is_point in absurd cc
-
 at_on : (e f : Edge) (p : Point) → IsPoint p → IsMeeting e f (At p) → on_both e f p ≡ true
 at_on e f p hp m = m p hp ∙ same_reflexive p
 

@@ -11,8 +11,8 @@ use Rattle.geometry_model.specs.Points.{Point}
 use Rattle.geometry_model.specs.declared.point_sets.Location.{Location}
 use Rattle.witnesses.specs.declared.witness.Witness.{Witness}
 use Rattle.witnesses.specs.declared.witness.Witness.TheVariants as kinds
-use Rattle.witnesses.specs.PointTexts.{fraction_text, point_text, quotient_text}
-use Rattle.witnesses.specs.WitnessTexts.{cell_text, line_text, location_text}
+use Rattle.witnesses.specs.PointTexts.{fraction_text, fractions_text, quotient_text}
+use Rattle.witnesses.specs.WitnessTexts.{cell_text, witness_line, location_text}
 
 -- ---- parts joined
 
@@ -34,16 +34,16 @@ pub three_parts : (x y z : List ℕ) → concat (x ∷ y ∷ z ∷ []) ≡ x ++ 
 three_parts x y z = simp (append_assoc, append-nil)
 
 -- a cell of one point
-pub point_cell : (p : Point) → concat (codes "0 at " ∷ point_text p ∷ []) ≡ cell_text (kinds.Point p)
-point_cell p = two_parts (codes "0 at ") (point_text p)
+pub point_cell : (p : Point) → concat (codes "0 at " ∷ fractions_text p ∷ []) ≡ cell_text (kinds.Point p)
+point_cell p = two_parts (codes "0 at ") (fractions_text p)
 
 -- a cell of a face point
-pub face_cell : (p : Point) → concat (codes "2 around " ∷ point_text p ∷ []) ≡ cell_text (kinds.Around p)
-face_cell p = two_parts (codes "2 around ") (point_text p)
+pub face_cell : (p : Point) → concat (codes "2 around " ∷ fractions_text p ∷ []) ≡ cell_text (kinds.Around p)
+face_cell p = two_parts (codes "2 around ") (fractions_text p)
 
 -- a cell of a stretch
-pub stretch_cell : (p q : Point) → concat (codes "1 from " ∷ point_text p ∷ codes " to " ∷ point_text q ∷ []) ≡ cell_text (kinds.Stretch p q)
-stretch_cell p q = four_parts (codes "1 from ") (point_text p) (codes " to ") (point_text q)
+pub stretch_cell : (p q : Point) → concat (codes "1 from " ∷ fractions_text p ∷ codes " to " ∷ fractions_text q ∷ []) ≡ cell_text (kinds.Stretch p q)
+stretch_cell p q = four_parts (codes "1 from ") (fractions_text p) (codes " to ") (fractions_text q)
 
 -- two numbers of which the second isn't 1
 pub over_quotient : (n d : ℤ) (first second : List ℕ) → first ≡ signed_decimal n → second ≡ signed_decimal d → (d ≡ pos 1 → ⊥) → first ++ codes "/" ++ second ≡ quotient_text n d
@@ -53,18 +53,18 @@ over_quotient n d first second e f other =
 
 -- the two coordinates of a point and the space between
 pub point_parts : (x y w i j k : ℤ) → i ≡ x → j ≡ y → k ≡ w
-    → fraction_text (record { numerator = i; denominator = k }) ++ (codes " " ++ fraction_text (record { numerator = j; denominator = k })) ≡ point_text (record { X = x; Y = y; W = w })
+    → fraction_text (record { numerator = i; denominator = k }) ++ (codes " " ++ fraction_text (record { numerator = j; denominator = k })) ≡ fractions_text (record { X = x; Y = y; W = w })
 point_parts x y w i j k e f h =
     (λ t. fraction_text (record { numerator = e t; denominator = h t }) ++ (codes " " ++ fraction_text (record { numerator = f t; denominator = h t })))
     ∙ sym (append_assoc (fraction_text (record { numerator = x; denominator = w })) (codes " ") (fraction_text (record { numerator = y; denominator = w })))
 
 -- a point by its three numbers
-pub same_triple : (p : Point) (x y w : ℤ) → x ≡ p.X → y ≡ p.Y → w ≡ p.W → point_text (record { X = x; Y = y; W = w }) ≡ point_text p
-same_triple p x y w first second third = λ i. point_text (record { X = first i; Y = second i; W = third i })
+pub same_triple : (p : Point) (x y w : ℤ) → x ≡ p.X → y ≡ p.Y → w ≡ p.W → fractions_text (record { X = x; Y = y; W = w }) ≡ fractions_text p
+same_triple p x y w first second third = λ i. fractions_text (record { X = first i; Y = second i; W = third i })
 
 -- the words, the cell and the line feed of a line
 pub line_parts : (l k : Location) (witness : Witness) (first second : List ℕ) → first ≡ location_text l → second ≡ location_text k
-    → (first ++ codes " " ++ second ++ codes " ") ++ (cell_text witness ++ codes "\n") ≡ line_text l k witness
+    → (first ++ codes " " ++ second ++ codes " ") ++ (cell_text witness ++ codes "\n") ≡ witness_line l k witness
 line_parts l k witness first second e f =
     ap₂ (λ a b. (a ++ codes " " ++ b ++ codes " ") ++ (cell_text witness ++ codes "\n")) e f
     ∙ sym (append_assoc (location_text l ++ codes " " ++ location_text k ++ codes " ") (cell_text witness) (codes "\n"))

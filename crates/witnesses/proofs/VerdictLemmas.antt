@@ -1,10 +1,7 @@
 -- The first fault of a geometry that is read twice.
-use Rattle.std.proofs.Common.{◌≡◌, subst, List, ℕ, Option, Some, Result, Ok}
-use Rattle.std.specs.Prelude.{MatchOption}
-use Rattle.geometry_model.specs.FirstFaults.{validity_fault}
+use Rattle.std.proofs.Common.{◌≡◌, subst, List, ℕ, Result, Ok}
 use Rattle.geometry_model.specs.Geometries.{Geometry}
 use Rattle.geometry_model.specs.TextReading.{read_text}
-use Rattle.geometry_model.specs.Validity.{HasFault}
 use Rattle.geometry_model.specs.declared.text_faults.TextFault.{TextFault}
 use Rattle.geometry_model.specs.declared.validity_faults.ValidityFault.{ValidityFault}
 use Rattle.witnesses.specs.Verdicts.{HasFirstFault, IsFirstFaultIn}
@@ -17,15 +14,3 @@ same_read r a b first second = cc
 pub first_fault_of : (text : List ℕ) (fault : ValidityFault) (geometry : Geometry) → IsFirstFaultIn text fault → read_text text ≡ Ok geometry → HasFirstFault geometry fault
 first_fault_of text fault geometry found read =
     subst (λ a. HasFirstFault a fault) (same_read (read_text text) found.geometry geometry found.read read) found.has
-
--- the fault that a geometry is refused with, as the first fault in its text
-pub first_fault_in : (text : List ℕ) (geometry : Geometry) (refused : Option ValidityFault) (fault : ValidityFault) → refused ≡ Some fault → read_text text ≡ Ok geometry
-    → MatchOption refused (Unit {0}) (λ found. validity_fault geometry ≡ Some found) → MatchOption refused (Unit {0}) (λ found. HasFault geometry found) → IsFirstFaultIn text fault
-first_fault_in text geometry refused fault e read first applies = record {
-  geometry = geometry;
-  read = read;
-  has = record {
-    first = subst (λ o. MatchOption o (Unit {0}) (λ found. validity_fault geometry ≡ Some found)) e first;
-    applies = subst (λ o. MatchOption o (Unit {0}) (λ found. HasFault geometry found)) e applies;
-  };
-}

@@ -11,7 +11,7 @@ use Rattle.witnesses.specs.declared.shared.SharedPlace.{SharedPlace}
 use Rattle.witnesses.specs.declared.places.Place.{Place}
 use Rattle.witnesses.specs.declared.places.Place.TheVariants as places
 use Rattle.table_model.specs.FaultLines.{geometry_text}
-use Rattle.witnesses.specs.PointTexts.{point_text}
+use Rattle.witnesses.specs.PointTexts.{fractions_text}
 
 -- an edge by its two ends
 abbrev pub edge_text : Edge → List ℕ
@@ -20,8 +20,8 @@ edge_text e = position_text e.start ++ codes " to " ++ position_text e.end
 -- what two edges share: a point, or a stretch by its two ends (06-103r4, 6.1.15.2: intersection)
 abbrev pub meet_text : Meet → List ℕ
 meet_text Apart = codes "nothing"
-meet_text (At p) = point_text p
-meet_text (Along p q) = point_text p ++ codes " to " ++ point_text q
+meet_text (At p) = fractions_text p
+meet_text (Along p q) = fractions_text p ++ codes " to " ++ fractions_text q
 
 -- two edges, and what they share
 abbrev pub shared_text : SharedPlace → List ℕ

@@ -33,10 +33,6 @@ Keeps side p h g = (z : Point) → IsAhead side p z → IsPast side p h z → Is
 abbrev pub ClearsEdge : Side → Point → Height → Edge → Type 0
 ClearsEdge side p h e = (z : Point) → IsAhead side p z → on e z ≡ true → IsPast side p h z
 
--- the edge, if it goes through the point, isn't vertical
-abbrev pub IsSlant : Point → Edge → Type 0
-IsSlant p e = on e p ≡ true → e.start.x ≡ e.end.x → ⊥
-
 -- the position, if it is straight ahead, is past the height
 abbrev pub ClearsPosition : Side → Point → Height → Position → Type 0
 ClearsPosition side p h a = IsAhead side p (point_at a) → IsPast side p h (point_at a)

@@ -4,6 +4,8 @@ pub mod Shown
 pub mod Places
 pub mod Numbers
 pub mod FaultPlaces
+pub mod FirstPlaces
+pub mod FirstWitnesses
 pub mod PointTexts
 pub mod FractionLaws
 pub mod WitnessTexts

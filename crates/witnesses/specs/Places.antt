@@ -38,6 +38,7 @@ pub record ClashesWith (ring : List Position) (i : ℕ) : Type 0 where
 -- the place: the edge of this number and the first later edge that clashes with it
 pub record IsFirstClashWith (ring : List Position) (i : ℕ) (place : SharedPlace) : Type 0 where
   pub j : ℕ
+  pub later : i < j
   pub first : slice_get (edges_of_line ring) i ≡ Some place.first
   pub second : slice_get (edges_of_line ring) j ≡ Some place.second
   pub clash : Clash (length (edges_of_line ring)) i j place.first place.second

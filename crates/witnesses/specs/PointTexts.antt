@@ -21,13 +21,13 @@ abbrev pub fraction_text : Fraction → List ℕ
 fraction_text f = divided_text f (gcd (unsigned_abs f.numerator) (unsigned_abs f.denominator))
 
 -- a point: its two coordinates with a space between, each in least form
-abbrev pub point_text : Point → List ℕ
-point_text p = fraction_text (x_of p) ++ codes " " ++ fraction_text (y_of p)
+abbrev pub fractions_text : Point → List ℕ
+fractions_text p = fraction_text (x_of p) ++ codes " " ++ fraction_text (y_of p)
 
 -- a piece of a line: words as they are, a number, a position or point by its coordinates
 abbrev pub piece_text : Piece → List ℕ
 piece_text (pieces.Words words) = words.now
 piece_text (pieces.Number n) = decimal n
 piece_text (pieces.Position at) = position_text at
-piece_text (pieces.Point p) = point_text p
-piece_text (pieces.Face p) = point_text p
+piece_text (pieces.Point p) = fractions_text p
+piece_text (pieces.Face p) = fractions_text p

@@ -5,7 +5,7 @@ use Rattle.geometry_model.specs.Geometries.{Geometry, edges, listed}
 use Rattle.geometry_model.specs.Dimensions.{Matrix, matrix_of, HasPoint, common}
 use Rattle.geometry_model.specs.CutPoints.{IsCut}
 use Rattle.geometry_model.specs.Pieces.{Piece, sample}
-use Rattle.geometry_model.specs.Labels.{Labels, SideLabels, labels_of, edges_of_both, is_pair, above, below}
+use Rattle.geometry_model.specs.Labels.{Labels, SideLabels, labels, labels_of, cuts_of_both, edges_of_both, is_pair, above, below}
 use Rattle.geometry_model.specs.declared.point_sets.Location.{Location}
 use Rattle.geometry_model.specs.declared.point_sets.Location.TheVariants.{Interior, Boundary, Exterior}
 use Rattle.geometry_model.specs.declared.point_sets.Dimension.{Dimension}
@@ -13,6 +13,7 @@ use Rattle.geometry_model.specs.declared.point_sets.Dimension.TheVariants.{Empty
 use Rattle.geometry_laws.specs.PieceLaws.{HasClosedRings, IsPieceOf}
 use Rattle.noding.specs.Nodings.{HasNodeTriples}
 use Rattle.matrix_laws.specs.Witnessing.{HoldsStretch, IsFacePoint}
+use Rattle.side_labels.specs.Noding.{pieces_of_both}
 use Rattle.witnesses.specs.Heights.{IsAhead, IsPast, ahead, ClearsEdge, ClearsPosition}
 use Rattle.witnesses.specs.declared.heights.Side.{Side}
 use Rattle.witnesses.specs.declared.heights.Side.TheVariants.{Upper, Lower}
@@ -45,21 +46,21 @@ abbrev pub shown_matrix : (Location → Location → Witness) → Matrix
 shown_matrix w = matrix_of (λ l k. shown_dimension (w l k))
 
 -- the witness shows what part l of a and part k of b have in common: a point of both, an open stretch in both, a face point of both; or nothing, where they have no point in common (06-103r4, 6.1.15.2)
-abbrev pub Shows : Geometry → Location → Geometry → Location → Witness → Type 0
-Shows a l b k kinds.Nothing = HasPoint (common a l b k) → ⊥
-Shows a l b k (kinds.Point p) = IsPoint p × common a l b k p
-Shows a l b k (kinds.Stretch p q) = HoldsStretch (common a l b k) p q
-Shows a l b k (kinds.Around p) = IsFacePoint a l b k p
+abbrev pub IsShownBy : Geometry → Location → Geometry → Location → Witness → Type 0
+IsShownBy a l b k kinds.Nothing = HasPoint (common a l b k) → ⊥
+IsShownBy a l b k (kinds.Point p) = IsPoint p × common a l b k p
+IsShownBy a l b k (kinds.Stretch p q) = HoldsStretch (common a l b k) p q
+IsShownBy a l b k (kinds.Around p) = IsFacePoint a l b k p
 
 -- each witness shows what its two parts have in common (06-103r4, 6.1.15.2)
 abbrev pub ShowsAll : Geometry → Geometry → (Location → Location → Witness) → Type 0
-ShowsAll a b w = (l k : Location) → Shows a l b k (w l k)
+ShowsAll a b w = (l k : Location) → IsShownBy a l b k (w l k)
 
 -- ---- steps by which witnesses are found
 
 -- the witness shows what it says it shows, unless it is `Nothing`
 abbrev pub ShowsIfAny : Geometry → Location → Geometry → Location → Witness → Type 0
-ShowsIfAny a l b k w = w ≢ kinds.Nothing → Shows a l b k w
+ShowsIfAny a l b k w = w ≢ kinds.Nothing → IsShownBy a l b k w
 
 -- the witness shows this dimension, and shows what it says unless it is `Nothing`
 pub record IsWitnessOf (a : Geometry) (l : Location) (b : Geometry) (k : Location) (d : Dimension) (w : Witness) : Type 0 where
@@ -94,4 +95,7 @@ pub record AreLabelled (a b : Geometry) (nodes : List Point) (cs : List Piece) (
   pub are_cuts : All (IsCut (edges_of_both a b) (listed a ++ listed b)) nodes
   pub are_pieces : All (IsPieceOf a b) cs
   pub triples : All HasNodeTriples cs
+  pub exact_nodes : nodes ≡ cuts_of_both a b
+  pub exact_pieces : cs ≡ pieces_of_both a b
+  pub exact : x ≡ labels a b
   pub labels : x ≡ labels_of a b nodes cs

@@ -3,6 +3,7 @@
 ghost use Rattle.std.specs.Prelude.{◌≡◌, IfSome, IfNone, false};
 ghost use Rattle.geometry_model.specs.Validity.{HasFault, ElementsShare, inside_element};
 ghost use Rattle.witnesses.specs.FaultPlaces.{IsPlaceOf, IsMeetingOfPolygons, IsMeetingWithOne, MeetsOne, IsPolygonInsideAt};
+ghost use Rattle.witnesses.specs.FirstPlaces.{IsFirstMeetingOfPolygons, IsFirstMeetingWithOne, IsFirstPlaceOf};
 
 use crate::insides::is_inside;
 use crate::parts::first_position;
@@ -15,6 +16,7 @@ use wkt::{Geometry, LineString};
 /// Where a ring meets the first of some rings that it meets.
 fn ring_meeting(ring: &LineString, others: &[LineString]) -> Option<SharedPlace>
     ensures place { IfSome result (IsMeetingWithOne ring.now others.now) }
+    ensures first { IfSome result (IsFirstMeetingWithOne ring.now others.now) }
     ensures none { IfNone result (MeetsOne ring.now others.now → ⊥) }
 {
     for other in others {
@@ -28,6 +30,7 @@ fn ring_meeting(ring: &LineString, others: &[LineString]) -> Option<SharedPlace>
 /// Where rings of two polygons share a point.
 fn polygons_meeting(polygon: &[LineString], other: &[LineString]) -> Option<SharedPlace>
     ensures place { IfSome result (IsMeetingOfPolygons polygon.now other.now) }
+    ensures first { IfSome result (IsFirstMeetingOfPolygons polygon.now other.now) }
     ensures none { IfNone result (ElementsShare polygon.now other.now → ⊥) }
 {
     for ring in polygon {
@@ -41,6 +44,7 @@ fn polygons_meeting(polygon: &[LineString], other: &[LineString]) -> Option<Shar
 /// Where two polygons share a point of their rings.
 pub(crate) fn elements_meeting(geometry: &Geometry, element: usize, later: usize) -> Option<Place>
     ensures place { IfSome result (IsPlaceOf geometry.now (ValidityFault.ElementsMeet element later)) }
+    ensures first { IfSome result (IsFirstPlaceOf geometry.now (ValidityFault.ElementsMeet element later)) }
     ensures none { IfNone result (HasFault geometry.now (ValidityFault.ElementsMeet element later) → ⊥) }
 {
     if element >= later || later >= geometry.element_count() {

@@ -3,7 +3,7 @@
 ghost use Rattle.std.specs.Prelude.{◌≡◌, ◌*◌, ◌≤◌, pos, ◌<ℤ◌, unsigned_abs};
 ghost use Rattle.geometry_model.specs.Points.{IsPoint};
 ghost use Rattle.geometry_model.specs.WellKnownText.{coordinate_limit};
-ghost use Rattle.geometry_laws.specs.CoverLaws.{IsSlantAt};
+ghost use Rattle.geometry_laws.specs.CoverLaws.{MissesUprights};
 ghost use Rattle.geometry_laws.specs.FaceLaws.{SeesUp, SeesDown};
 ghost use Rattle.witnesses.specs.Heights.{IsHeight, Keeps, moved_point, rise_limit};
 ghost use Rattle.witnesses.specs.Shown.{Clears, IsHalfWay};
@@ -16,7 +16,7 @@ use validity::Valid;
 /// The nearest height once the edges and listed positions of a geometry are seen too.
 fn past_geometry(nearest: Height, side: Side, p: &RatPoint, valid: &Valid) -> Height
     requires height { IsHeight nearest }
-    requires slant { IsSlantAt valid.now p.now }
+    requires not_upright { MissesUprights valid.now p.now }
     ensures height { IsHeight result }
     ensures keeps { Keeps side p.now nearest result }
     ensures clears { Clears side p.now result valid.now }
@@ -59,8 +59,8 @@ fn moved(side: Side, p: &RatPoint, scale: i128, rise: i128) -> FacePoint
 /// either geometry, or one step away where there is none (06-103r4, 6.1.11.1; face points: this project's choice). No
 /// vertical edge may go through the point, and no listed position may be there. It takes no memory.
 pub fn face_point(first: &Valid, second: &Valid, side: Side, p: &RatPoint) -> FacePoint
-    requires first { IsSlantAt first.now p.now }
-    requires second { IsSlantAt second.now p.now }
+    requires first { MissesUprights first.now p.now }
+    requires second { MissesUprights second.now p.now }
     ensures above { side ≡ Side.Upper → SeesUp first.now p.now result × SeesUp second.now p.now result }
     ensures below { side ≡ Side.Lower → SeesDown first.now p.now result × SeesDown second.now p.now result }
 {

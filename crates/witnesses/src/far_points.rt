@@ -5,6 +5,7 @@ ghost use Rattle.geometry_model.specs.declared.point_sets.Location.TheVariants.{
 ghost use Rattle.geometry_model.specs.WellKnownText.{coordinate_limit};
 ghost use Rattle.matrix_laws.specs.Witnessing.{IsFacePoint};
 ghost use Rattle.witnesses.specs.FarPoints.{Reaches};
+ghost use Rattle.witnesses.specs.FirstWitnesses.{IsFarRight};
 
 use crate::face_points::FacePoint;
 use fraction::GridPoint;
@@ -73,7 +74,8 @@ fn past_geometry(from: i32, valid: &Valid) -> i32
 /// A face point of both exteriors: on the x axis, one step to the right of all positions of both geometries, or at the origin
 /// where they all lie left of it (06-103r4, 6.1.15.2; which point: this project's choice).
 pub(crate) fn far_point(first: &Valid, second: &Valid) -> FacePoint
-    ensures { IsFacePoint first.now Exterior second.now Exterior result }
+    ensures shows { IsFacePoint first.now Exterior second.now Exterior result }
+    ensures far { IsFarRight first.now second.now result }
 {
     let of_first = past_geometry(-1, first);
     let of_both = past_geometry(of_first, second);

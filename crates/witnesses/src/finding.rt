@@ -1,6 +1,6 @@
 //! Finds a witness for each cell of the matrix of two geometries.
 
-ghost use Rattle.std.specs.Prelude.{◌≡◌, ◌||◌, IfOk, IfSome, List, map, is_some, position, true, false};
+ghost use Rattle.std.specs.Prelude.{◌≡◌, ◌||◌, IfNone, IfOk, IfSome, List, None, map, is_some, position, true, false};
 ghost use Rattle.std.specs.List.{list_any};
 ghost use Rattle.geometry_model.specs.Dimensions.{IsMatrix};
 ghost use Rattle.geometry_model.specs.Labels as spec;
@@ -11,6 +11,7 @@ ghost use Rattle.geometry_model.specs.declared.point_sets.Dimension.TheVariants.
 ghost use Rattle.geometry_laws.specs.PieceLaws.{IsPieceOf};
 ghost use Rattle.noding.specs.Nodings.{piece_of, HasNodeTriples};
 ghost use Rattle.matrix_laws.specs.Witnessing.{IsFacePoint};
+ghost use Rattle.witnesses.specs.FirstWitnesses.{AreFirst, IsBesideFirst, IsFirstOfExteriors, IsFirstOn, IsFirstWitness, IsSeenBeside, first_side};
 ghost use Rattle.witnesses.specs.Shown.{AreLabelled, HasPairOn, IsBeside, IsWitnessOf, ShowsAll, shown_matrix, witness_at};
 
 use crate::face_points::FacePoint;
@@ -44,7 +45,8 @@ fn find_sides(sides: &[Option<SideLabels>], first: Location, second: Location) -
 /// The side of a piece that has this pair of parts: the upper one where both have it.
 fn side_of(sides: &Option<SideLabels>, first: Location, second: Location) -> Side
     requires { spec.is_side_pair first second sides.now ≡ true }
-    ensures { HasPairOn first second sides.now result }
+    ensures on { HasPairOn first second sides.now result }
+    ensures first { IsFirstOn first second sides.now result }
 {
     match sides {
         Some(both) if both.upper.is_pair(first, second) => Side::Upper,
@@ -56,8 +58,9 @@ fn side_of(sides: &Option<SideLabels>, first: Location, second: Location) -> Sid
 fn beside(first: &Valid, second: &Valid, piece: &(RatPoint, RatPoint), side: Side) -> FacePoint
     requires piece { IsPieceOf first.now second.now (piece_of piece.now) }
     requires triples { HasNodeTriples (piece_of piece.now) }
-    requires slanted { spec.is_upright (piece_of piece.now) ≡ false }
-    ensures { IsBeside first.now second.now (piece_of piece.now) side result }
+    requires not_upright { spec.is_upright (piece_of piece.now) ≡ false }
+    ensures beside { IsBeside first.now second.now (piece_of piece.now) side result }
+    ensures seen { IsSeenBeside first.now second.now (piece_of piece.now) side result }
 {
     let sample = RatPoint::mediant(&piece.0, &piece.1);
     face_point(first, second, side, &sample)
@@ -75,6 +78,8 @@ fn find_face(
     requires { AreLabelled first.now second.now noded.now.nodes noded.now.pieces found.now }
     ensures shows { IfSome result (IsFacePoint first.now l second.now k) }
     ensures exact { is_some result ≡ list_any (spec.is_side_pair l k) found.now.of_sides }
+    ensures first { IfSome result (IsBesideFirst first.now l second.now k) }
+    ensures none { IfNone result (first_side first.now l second.now k ≡ None) }
 {
     let place = find_sides(found.sides(), l, k)?;
     let side = side_of(&found.sides()[place], l, k);
@@ -91,7 +96,8 @@ fn find_witness(
     k: Location,
 ) -> Witness
     requires { AreLabelled first.now second.now noded.now.nodes noded.now.pieces found.now }
-    ensures { IsWitnessOf first.now l second.now k (spec.labelled_cell found.now l k) result }
+    ensures is { IsWitnessOf first.now l second.now k (spec.labelled_cell found.now l k) result }
+    ensures first { IsFirstWitness first.now l second.now k result }
 {
     if let Some(face) = find_face(first, second, noded, found, l, k) {
         return Witness::Around(face);
@@ -109,7 +115,8 @@ fn find_witness(
 /// The witness of the two exteriors, which always share an area.
 fn find_exteriors(first: &Valid, second: &Valid, noded: &Noded, found: &Labels) -> Witness
     requires { AreLabelled first.now second.now noded.now.nodes noded.now.pieces found.now }
-    ensures { IsWitnessOf first.now Exterior second.now Exterior Two result }
+    ensures is { IsWitnessOf first.now Exterior second.now Exterior Two result }
+    ensures first { IsFirstOfExteriors first.now second.now result }
 {
     match find_face(
         first,
@@ -132,6 +139,7 @@ fn find_exteriors(first: &Valid, second: &Valid, noded: &Noded, found: &Labels) 
 pub fn find_witnesses(alloc: Global, first: &Valid, second: &Valid) -> Result<Witnesses, AllocError>
     ensures matrix { IfOk result (λ w. IsMatrix first.now second.now (shown_matrix (witness_at w))) }
     ensures shows { IfOk result (λ w. ShowsAll first.now second.now (witness_at w)) }
+    ensures first { IfOk result (λ w. AreFirst first.now second.now (witness_at w)) }
 {
     let noded = node_both(alloc, first, second)?;
     let found = labels_of(alloc, first, second, &noded)?;
@@ -141,11 +149,11 @@ pub fn find_witnesses(alloc: Global, first: &Valid, second: &Valid) -> Result<Wi
 /// The witnesses of two geometries by their nodes, pieces and labels.
 fn of_labels(first: &Valid, second: &Valid, noded: &Noded, found: &Labels) -> Witnesses
     requires labelled { AreLabelled first.now second.now noded.now.nodes noded.now.pieces found.now }
-    requires exact { found.now ≡ spec.labels first.now second.now }
     requires first_valid { IsValid first.now }
     requires second_valid { IsValid second.now }
     ensures matrix { IsMatrix first.now second.now (shown_matrix (witness_at result)) }
     ensures shows { ShowsAll first.now second.now (witness_at result) }
+    ensures first { AreFirst first.now second.now (witness_at result) }
 {
     use Location::{Boundary, Exterior, Interior};
     Witnesses {

@@ -5,6 +5,7 @@ ghost use Rattle.geometry_model.specs.Points.{IsPoint, point_at};
 ghost use Rattle.geometry_model.specs.Sides.{side as spec_side};
 ghost use Rattle.geometry_model.specs.WellKnownText.{coordinate_limit};
 ghost use Rattle.fraction.specs.Ranges.{denominator_limit};
+ghost use Rattle.geometry_laws.specs.CoverLaws.{IsNotUprightAt};
 ghost use Rattle.witnesses.specs.Heights as spec;
 
 use fraction::{GridPoint, RatPoint};
@@ -123,7 +124,7 @@ fn is_under(p: &RatPoint, left: GridPoint, right: GridPoint) -> bool
 }
 
 /// The nearest height once the edge from `left` to `right` is seen too, which goes to the right.
-fn past_slant(
+fn past_not_upright(
     nearest: Height,
     side: Side,
     p: &RatPoint,
@@ -147,7 +148,7 @@ fn past_slant(
 /// The nearest height once an edge is seen too. If the edge is vertical it may not go through the point.
 fn past_edge(nearest: Height, side: Side, p: &RatPoint, edge: &Segment) -> Height
     requires height { spec.IsHeight nearest }
-    requires slant { spec.IsSlant p.now edge.now }
+    requires not_upright { IsNotUprightAt p.now edge.now }
     ensures height { spec.IsHeight result }
     ensures keeps { spec.Keeps side p.now nearest result }
     ensures clears { spec.ClearsEdge side p.now result edge.now }
@@ -155,8 +156,8 @@ fn past_edge(nearest: Height, side: Side, p: &RatPoint, edge: &Segment) -> Heigh
     let start = edge.start();
     let end = edge.end();
     match start.x().cmp(&end.x()) {
-        Ordering::Less => past_slant(nearest, side, p, start, end),
-        Ordering::Greater => past_slant(nearest, side, p, end, start),
+        Ordering::Less => past_not_upright(nearest, side, p, start, end),
+        Ordering::Greater => past_not_upright(nearest, side, p, end, start),
         Ordering::Equal => past_position(past_position(nearest, side, p, start), side, p, end),
     }
 }
@@ -164,7 +165,7 @@ fn past_edge(nearest: Height, side: Side, p: &RatPoint, edge: &Segment) -> Heigh
 /// The nearest height once these edges are seen too, none of which is vertical and goes through the point.
 pub(crate) fn past_edges(nearest: Height, side: Side, p: &RatPoint, edges: &[Segment]) -> Height
     requires height { spec.IsHeight nearest }
-    requires slant { All (spec.IsSlant p.now) edges.now }
+    requires not_upright { All (IsNotUprightAt p.now) edges.now }
     ensures height { spec.IsHeight result }
     ensures keeps { spec.Keeps side p.now nearest result }
     ensures clears { All (spec.ClearsEdge side p.now result) edges.now }

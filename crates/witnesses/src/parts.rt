@@ -5,6 +5,7 @@ ghost use Rattle.geometry_model.specs.Geometries as spec;
 ghost use Rattle.geometry_model.specs.Points.{Position};
 ghost use Rattle.geometry_model.specs.Validity.{HasFault, is_short};
 ghost use Rattle.witnesses.specs.FaultPlaces.{IsPlaceOf};
+ghost use Rattle.witnesses.specs.FirstPlaces.{IsFirstPlaceOf};
 
 use crate::clash_place;
 use crate::places::Place;
@@ -76,6 +77,7 @@ pub(crate) fn open_ring(geometry: &Geometry, number: usize) -> Option<Place>
 /// Where a ring touches, crosses or covers itself.
 pub(crate) fn ring_clash(geometry: &Geometry, number: usize) -> Option<Place>
     ensures place { IfSome result (IsPlaceOf geometry.now (ValidityFault.RingNotSimple number)) }
+    ensures first { IfSome result (IsFirstPlaceOf geometry.now (ValidityFault.RingNotSimple number)) }
     ensures none { IfNone result (HasFault geometry.now (ValidityFault.RingNotSimple number) → ⊥) }
 {
     let ring = ring(geometry, number)?;

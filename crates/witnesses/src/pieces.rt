@@ -6,7 +6,7 @@ ghost use Rattle.std.specs.List.{concat};
 ghost use Rattle.std.specs.Io.KnownBytes.{Appends};
 ghost use Rattle.streams.specs.Sinks.{AppendsFront, CountsFailure};
 ghost use Rattle.geometry_model.specs.CanonicalText.{position_text};
-ghost use Rattle.witnesses.specs.PointTexts.{fraction_text, piece_text, point_text, quotient_text};
+ghost use Rattle.witnesses.specs.PointTexts.{fraction_text, piece_text, fractions_text, quotient_text};
 
 use crate::FacePoint;
 use fraction::{GridPoint, RatPoint, common_divisor};
@@ -92,9 +92,9 @@ fn put_two<'t, S: Sink>(sink: &mut S, first: &'t str, second: &'t str) -> Result
 
 /// Writes the two coordinates of a point.
 fn put_rational<S: Sink>(sink: &mut S, p: &RatPoint) -> Result<(), SinkFault>
-    ensures ok { OnOk result (Appends (S.taken sink.old) (S.taken sink.new) (point_text p.now)) }
+    ensures ok { OnOk result (Appends (S.taken sink.old) (S.taken sink.new) (fractions_text p.now)) }
     ensures front { OnErr result
-        (AppendsFront (S.taken sink.old) (S.taken sink.new) (point_text p.now)) }
+        (AppendsFront (S.taken sink.old) (S.taken sink.new) (fractions_text p.now)) }
     ensures failures { CountsFailure (S.failures sink.old) (S.failures sink.new) result }
 {
     let denominator = i128::from(p.denominator());
@@ -103,9 +103,9 @@ fn put_rational<S: Sink>(sink: &mut S, p: &RatPoint) -> Result<(), SinkFault>
 
 /// Writes the two coordinates of a face point.
 fn put_face<S: Sink>(sink: &mut S, p: &FacePoint) -> Result<(), SinkFault>
-    ensures ok { OnOk result (Appends (S.taken sink.old) (S.taken sink.new) (point_text p.now)) }
+    ensures ok { OnOk result (Appends (S.taken sink.old) (S.taken sink.new) (fractions_text p.now)) }
     ensures front { OnErr result
-        (AppendsFront (S.taken sink.old) (S.taken sink.new) (point_text p.now)) }
+        (AppendsFront (S.taken sink.old) (S.taken sink.new) (fractions_text p.now)) }
     ensures failures { CountsFailure (S.failures sink.old) (S.failures sink.new) result }
 {
     put_point(sink, p.numerator_x(), p.numerator_y(), p.denominator())
@@ -115,9 +115,9 @@ fn put_face<S: Sink>(sink: &mut S, p: &FacePoint) -> Result<(), SinkFault>
 fn put_point<S: Sink>(sink: &mut S, x: i128, y: i128, w: i128) -> Result<(), SinkFault>
     requires { pos 0 <ℤ w }
     ensures ok { OnOk result
-        (Appends (S.taken sink.old) (S.taken sink.new) (point_text (record { X = x; Y = y; W = w }))) }
+        (Appends (S.taken sink.old) (S.taken sink.new) (fractions_text (record { X = x; Y = y; W = w }))) }
     ensures front { OnErr result
-        (AppendsFront (S.taken sink.old) (S.taken sink.new) (point_text (record { X = x; Y = y; W = w }))) }
+        (AppendsFront (S.taken sink.old) (S.taken sink.new) (fractions_text (record { X = x; Y = y; W = w }))) }
     ensures failures { CountsFailure (S.failures sink.old) (S.failures sink.new) result }
 {
     put_fraction(sink, x, w)?;

@@ -3,6 +3,7 @@
 ghost use Rattle.std.specs.Prelude.{IfSome, IfNone};
 ghost use Rattle.geometry_model.specs.Validity.{HasFault};
 ghost use Rattle.witnesses.specs.FaultPlaces.{IsPlaceOf};
+ghost use Rattle.witnesses.specs.FirstPlaces.{IsFirstPlaceOf};
 
 use crate::SharedPlace;
 use crate::elements::{element_inside, elements_meeting};
@@ -44,6 +45,7 @@ pub enum Place {
 /// inside the first before the other way round (06-103r4, 6.1.7, 6.1.11 and 6.1.14). It takes no memory.
 pub fn place_of(geometry: &Geometry, fault: ValidityFault) -> Option<Place>
     ensures place { IfSome result (IsPlaceOf geometry.now fault) }
+    ensures first { IfSome result (IsFirstPlaceOf geometry.now fault) }
     ensures applies { IfSome result (λ _. HasFault geometry.now fault) }
     ensures none { IfNone result (HasFault geometry.now fault → ⊥) }
 {

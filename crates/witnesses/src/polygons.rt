@@ -3,6 +3,7 @@
 ghost use Rattle.std.specs.Prelude.{◌≡◌, ◌-◌, ◌<◌, ◌≤◌, ◌∷◌, [], true, false, IfSome, IfNone};
 ghost use Rattle.geometry_model.specs.Validity.{HasFault, inside};
 ghost use Rattle.witnesses.specs.FaultPlaces.{IsPlaceOf, IsInsideAt};
+ghost use Rattle.witnesses.specs.FirstPlaces.{IsFirstPlaceOf};
 
 use crate::insides::is_inside_ring;
 use crate::meeting_place;
@@ -25,6 +26,7 @@ fn is_no_later_ring(around: RingNumbers, number: usize, later: usize) -> bool
 /// Where two rings of one polygon share a point.
 pub(crate) fn rings_meeting(geometry: &Geometry, number: usize, later: usize) -> Option<Place>
     ensures place { IfSome result (IsPlaceOf geometry.now (ValidityFault.RingsMeet number later)) }
+    ensures first { IfSome result (IsFirstPlaceOf geometry.now (ValidityFault.RingsMeet number later)) }
     ensures none { IfNone result (HasFault geometry.now (ValidityFault.RingsMeet number later) → ⊥) }
 {
     let around = numbers_around(geometry, number)?;
@@ -70,6 +72,7 @@ fn position_inside(outer: &LineString, ring: &LineString) -> Option<GridPoint>
 /// Where one of two holes of a polygon is inside the other.
 pub(crate) fn nested_holes(geometry: &Geometry, number: usize, later: usize) -> Option<Place>
     ensures place { IfSome result (IsPlaceOf geometry.now (ValidityFault.HolesNested number later)) }
+    ensures first { IfSome result (IsFirstPlaceOf geometry.now (ValidityFault.HolesNested number later)) }
     ensures none { IfNone result (HasFault geometry.now (ValidityFault.HolesNested number later) → ⊥) }
 {
     let around = numbers_around(geometry, number)?;

@@ -5,7 +5,7 @@ ghost use Rattle.std.specs.List.{concat};
 ghost use Rattle.std.specs.Io.KnownBytes.{Appends};
 ghost use Rattle.streams.specs.Sinks.{AppendsFront, CountsFailure};
 ghost use Rattle.witnesses.specs.Shown.{witness_at};
-ghost use Rattle.witnesses.specs.WitnessTexts.{cell_text, line_text, location_text, row_text, witnesses_text};
+ghost use Rattle.witnesses.specs.WitnessTexts.{cell_text, witness_line, location_text, row_text, witnesses_text};
 ghost use Rattle.witnesses.specs.declared.witness.Witness.TheVariants as kinds;
 
 use crate::pieces::{Piece, put_pieces};
@@ -69,9 +69,9 @@ fn put_lines<S: Sink>(
     parts: &[Location],
 ) -> Result<(), SinkFault>
     ensures ok { OnOk result (Appends (S.taken sink.old) (S.taken sink.new)
-        (concat (map (λ k. line_text first k (witness_at witnesses.now first k)) parts.now))) }
+        (concat (map (λ k. witness_line first k (witness_at witnesses.now first k)) parts.now))) }
     ensures front { OnErr result (AppendsFront (S.taken sink.old) (S.taken sink.new)
-        (concat (map (λ k. line_text first k (witness_at witnesses.now first k)) parts.now))) }
+        (concat (map (λ k. witness_line first k (witness_at witnesses.now first k)) parts.now))) }
     ensures failures { CountsFailure (S.failures sink.old) (S.failures sink.new) result }
 {
     for part in parts {
@@ -88,9 +88,9 @@ fn put_line<S: Sink>(
     second: Location,
 ) -> Result<(), SinkFault>
     ensures ok { OnOk result (Appends (S.taken sink.old) (S.taken sink.new)
-        (line_text first second (witness_at witnesses.now first second))) }
+        (witness_line first second (witness_at witnesses.now first second))) }
     ensures front { OnErr result (AppendsFront (S.taken sink.old) (S.taken sink.new)
-        (line_text first second (witness_at witnesses.now first second))) }
+        (witness_line first second (witness_at witnesses.now first second))) }
     ensures failures { CountsFailure (S.failures sink.old) (S.failures sink.new) result }
 {
     put_locations(sink, word(first), word(second))?;

@@ -54,21 +54,21 @@ abbrev point_list : Reader (List Position)
 point_list = padded (position position_limit) >>= λ p. pure (p ∷ [])
 
 -- name by name, what the definition reads behind it, as it is meant, is what the code reads: behind POINT
-pub behind_point : (at : ℕ) (name : List ℕ) (i : Input) → str_eq_ignore_ascii_case name (codes "POINT") ≡ true → meant (typed at name) i ≡ steps.point_text i
+pub behind_point : (at : ℕ) (name : List ℕ) (i : Input) → str_eq_ignore_ascii_case name (codes "POINT") ≡ true → meant (typed at name) i ≡ steps.point_body i
 unfolding typed
 behind_point at name i is = let own = codes "POINT" in let w : Word own name = word_is name own is in
     rw (named name own (codes "POINT") w)
     (meant_text point_list point_list (λ ps. ps) (λ ps. Point (first ps)) refl (λ x. refl) (λ j. itself (point_list j)) i)
 
 -- behind MULTIPOINT, whose equal points stay
-pub behind_multi_point : (at : ℕ) (name : List ℕ) (i : Input) → str_eq_ignore_ascii_case name (codes "MULTIPOINT") ≡ true → meant (typed at name) i ≡ steps.multi_point_text i
+pub behind_multi_point : (at : ℕ) (name : List ℕ) (i : Input) → str_eq_ignore_ascii_case name (codes "MULTIPOINT") ≡ true → meant (typed at name) i ≡ steps.multi_point_body i
 unfolding typed
 behind_multi_point at name i is = let own = codes "MULTIPOINT" in let w : Word own name = word_is name own is in
     rw (named name own (codes "POINT") w, named name own (codes "MULTIPOINT") w)
     (meant_text (separated point position_limit) (separated point position_limit) (λ ps. ps) MultiPoint refl (λ x. refl) (λ j. itself (separated point position_limit j)) i)
 
 -- behind LINESTRING, without repeats
-pub behind_line_string : (at : ℕ) (name : List ℕ) (i : Input) → str_eq_ignore_ascii_case name (codes "LINESTRING") ≡ true → meant (typed at name) i ≡ steps.line_string_text i
+pub behind_line_string : (at : ℕ) (name : List ℕ) (i : Input) → str_eq_ignore_ascii_case name (codes "LINESTRING") ≡ true → meant (typed at name) i ≡ steps.line_string_body i
 unfolding typed
 behind_line_string at name i is = let own = codes "LINESTRING" in let w : Word own name = word_is name own is in
     rw (named name own (codes "POINT") w, named name own (codes "MULTIPOINT") w, named name own (codes "LINESTRING") w)
@@ -76,7 +76,7 @@ behind_line_string at name i is = let own = codes "LINESTRING" in let w : Word o
     (λ j. room_dropped (separated position position_limit j) _ _) i)
 
 -- behind MULTILINESTRING, each line without repeats
-pub behind_multi_line_string : (at : ℕ) (name : List ℕ) (i : Input) → str_eq_ignore_ascii_case name (codes "MULTILINESTRING") ≡ true → meant (typed at name) i ≡ steps.multi_line_string_text i
+pub behind_multi_line_string : (at : ℕ) (name : List ℕ) (i : Input) → str_eq_ignore_ascii_case name (codes "MULTILINESTRING") ≡ true → meant (typed at name) i ≡ steps.multi_line_string_body i
 unfolding typed
 behind_multi_line_string at name i is = let own = codes "MULTILINESTRING" in let w : Word own name = word_is name own is in
     rw (named name own (codes "POINT") w, named name own (codes "MULTIPOINT") w, named name own (codes "LINESTRING") w, named name own (codes "MULTILINESTRING") w)
@@ -84,7 +84,7 @@ behind_multi_line_string at name i is = let own = codes "MULTILINESTRING" in let
     (λ j. room_dropped (parts part_limit position_limit j) _ _) i)
 
 -- behind POLYGON, each ring without repeats
-pub behind_polygon : (at : ℕ) (name : List ℕ) (i : Input) → str_eq_ignore_ascii_case name (codes "POLYGON") ≡ true → meant (typed at name) i ≡ steps.polygon_text i
+pub behind_polygon : (at : ℕ) (name : List ℕ) (i : Input) → str_eq_ignore_ascii_case name (codes "POLYGON") ≡ true → meant (typed at name) i ≡ steps.polygon_body i
 unfolding typed
 behind_polygon at name i is = let own = codes "POLYGON" in let w : Word own name = word_is name own is in
     rw (
@@ -98,7 +98,7 @@ behind_polygon at name i is = let own = codes "POLYGON" in let w : Word own name
     (λ j. room_dropped (parts part_limit position_limit j) _ _) i)
 
 -- behind MULTIPOLYGON, likewise
-pub behind_multi_polygon : (at : ℕ) (name : List ℕ) (i : Input) → str_eq_ignore_ascii_case name (codes "MULTIPOLYGON") ≡ true → meant (typed at name) i ≡ steps.multi_polygon_text i
+pub behind_multi_polygon : (at : ℕ) (name : List ℕ) (i : Input) → str_eq_ignore_ascii_case name (codes "MULTIPOLYGON") ≡ true → meant (typed at name) i ≡ steps.multi_polygon_body i
 unfolding typed
 behind_multi_polygon at name i is = let own = codes "MULTIPOLYGON" in let w : Word own name = word_is name own is in
     rw (

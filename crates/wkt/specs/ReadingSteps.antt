@@ -89,23 +89,23 @@ abbrev pub without_room : {A B : Type 0} → Reader (A × B) → Reader A
 without_room step = step >>= λ found. pure found.0
 
 -- what comes after the name of each type, lines and rings without repeats (06-103r4, 7.2.2: the tagged texts)
-abbrev pub point_text : Reader Geometry
-point_text = body (padded (position position_limit) >>= λ p. pure (p ∷ [])) >>= λ ps. pure (Point (first ps))
+abbrev pub point_body : Reader Geometry
+point_body = body (padded (position position_limit) >>= λ p. pure (p ∷ [])) >>= λ ps. pure (Point (first ps))
 
-abbrev pub multi_point_text : Reader Geometry
-multi_point_text = body (separated point position_limit) >>= λ ps. pure (MultiPoint ps)
+abbrev pub multi_point_body : Reader Geometry
+multi_point_body = body (separated point position_limit) >>= λ ps. pure (MultiPoint ps)
 
-abbrev pub line_string_text : Reader Geometry
-line_string_text = body (without_room (line_positions position_limit)) >>= λ ps. pure (LineString ps)
+abbrev pub line_string_body : Reader Geometry
+line_string_body = body (without_room (line_positions position_limit)) >>= λ ps. pure (LineString ps)
 
-abbrev pub multi_line_string_text : Reader Geometry
-multi_line_string_text = body (without_room (rings whole_room)) >>= λ ls. pure (MultiLineString ls)
+abbrev pub multi_line_string_body : Reader Geometry
+multi_line_string_body = body (without_room (rings whole_room)) >>= λ ls. pure (MultiLineString ls)
 
-abbrev pub polygon_text : Reader Geometry
-polygon_text = body (without_room (rings whole_room)) >>= λ ls. pure (Polygon ls)
+abbrev pub polygon_body : Reader Geometry
+polygon_body = body (without_room (rings whole_room)) >>= λ ls. pure (Polygon ls)
 
-abbrev pub multi_polygon_text : Reader Geometry
-multi_polygon_text = body (without_room (polygons whole_room)) >>= λ es. pure (MultiPolygon es)
+abbrev pub multi_polygon_body : Reader Geometry
+multi_polygon_body = body (without_room (polygons whole_room)) >>= λ es. pure (MultiPolygon es)
 
 -- the reader with the geometry of what is written: lines and rings without repeats
 abbrev pub meant : Reader Geometry → Reader Geometry

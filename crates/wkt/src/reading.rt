@@ -38,8 +38,8 @@ fn reads_empty(cursor: &mut Cursor<'_>) -> Result<bool, TextFault>
 }
 
 /// Reads the one position of a POINT, or EMPTY.
-fn point_text(cursor: &mut Cursor<'_>) -> Result<Shape, TextFault>
-    ensures { ReadsAs geometry_in (steps.point_text cursor.old) result cursor.new }
+fn point_body(cursor: &mut Cursor<'_>) -> Result<Shape, TextFault>
+    ensures { ReadsAs geometry_in (steps.point_body cursor.old) result cursor.new }
 {
     if reads_empty(cursor)? {
         return Ok(Shape::Point(None));
@@ -51,8 +51,8 @@ fn point_text(cursor: &mut Cursor<'_>) -> Result<Shape, TextFault>
 }
 
 /// Reads the positions of a MULTIPOINT, or EMPTY.
-fn multi_point_text(alloc: Global, cursor: &mut Cursor<'_>) -> Result<Shape, WktFault>
-    ensures { ReadsInMemory geometry_in (steps.multi_point_text cursor.old) result cursor.new }
+fn multi_point_body(alloc: Global, cursor: &mut Cursor<'_>) -> Result<Shape, WktFault>
+    ensures { ReadsInMemory geometry_in (steps.multi_point_body cursor.old) result cursor.new }
 {
     if reads_empty(cursor)? {
         return Shape::larger(alloc, Larger::MultiPoint(Vec::new(alloc)));
@@ -64,8 +64,8 @@ fn multi_point_text(alloc: Global, cursor: &mut Cursor<'_>) -> Result<Shape, Wkt
 }
 
 /// Reads the positions of a LINESTRING, or EMPTY.
-fn line_string_text(alloc: Global, cursor: &mut Cursor<'_>) -> Result<Shape, WktFault>
-    ensures { ReadsInMemory geometry_in (steps.line_string_text cursor.old) result cursor.new }
+fn line_string_body(alloc: Global, cursor: &mut Cursor<'_>) -> Result<Shape, WktFault>
+    ensures { ReadsInMemory geometry_in (steps.line_string_body cursor.old) result cursor.new }
 {
     if reads_empty(cursor)? {
         let line = LineString::new(Vec::new(alloc));
@@ -92,24 +92,24 @@ fn ring_list(alloc: Global, cursor: &mut Cursor<'_>) -> Result<Vec<LineString>, 
 }
 
 /// Reads the elements of a MULTILINESTRING, or EMPTY.
-fn multi_line_string_text(alloc: Global, cursor: &mut Cursor<'_>) -> Result<Shape, WktFault>
-    ensures { ReadsInMemory geometry_in (steps.multi_line_string_text cursor.old) result cursor.new }
+fn multi_line_string_body(alloc: Global, cursor: &mut Cursor<'_>) -> Result<Shape, WktFault>
+    ensures { ReadsInMemory geometry_in (steps.multi_line_string_body cursor.old) result cursor.new }
 {
     let lines = ring_list(alloc, cursor)?;
     Shape::larger(alloc, Larger::MultiLineString(lines))
 }
 
 /// Reads the rings of a POLYGON, or EMPTY.
-fn polygon_text(alloc: Global, cursor: &mut Cursor<'_>) -> Result<Shape, WktFault>
-    ensures { ReadsInMemory geometry_in (steps.polygon_text cursor.old) result cursor.new }
+fn polygon_body(alloc: Global, cursor: &mut Cursor<'_>) -> Result<Shape, WktFault>
+    ensures { ReadsInMemory geometry_in (steps.polygon_body cursor.old) result cursor.new }
 {
     let rings = ring_list(alloc, cursor)?;
     Shape::larger(alloc, Larger::Polygon(rings))
 }
 
 /// Reads the polygons of a MULTIPOLYGON, or EMPTY.
-fn multi_polygon_text(alloc: Global, cursor: &mut Cursor<'_>) -> Result<Shape, WktFault>
-    ensures { ReadsInMemory geometry_in (steps.multi_polygon_text cursor.old) result cursor.new }
+fn multi_polygon_body(alloc: Global, cursor: &mut Cursor<'_>) -> Result<Shape, WktFault>
+    ensures { ReadsInMemory geometry_in (steps.multi_polygon_body cursor.old) result cursor.new }
 {
     if reads_empty(cursor)? {
         return Shape::larger(alloc, Larger::MultiPolygon(Polygons::new(alloc)));
@@ -126,17 +126,17 @@ fn typed(alloc: Global, cursor: &mut Cursor<'_>, at: usize, name: &[u8]) -> Resu
     ensures { ReadsInMemory geometry_in (meant (spec.typed at name.now) cursor.old) result cursor.new }
 {
     if name.eq_ignore_ascii_case(b"POINT") {
-        Ok(point_text(cursor)?)
+        Ok(point_body(cursor)?)
     } else if name.eq_ignore_ascii_case(b"MULTIPOINT") {
-        multi_point_text(alloc, cursor)
+        multi_point_body(alloc, cursor)
     } else if name.eq_ignore_ascii_case(b"LINESTRING") {
-        line_string_text(alloc, cursor)
+        line_string_body(alloc, cursor)
     } else if name.eq_ignore_ascii_case(b"MULTILINESTRING") {
-        multi_line_string_text(alloc, cursor)
+        multi_line_string_body(alloc, cursor)
     } else if name.eq_ignore_ascii_case(b"POLYGON") {
-        polygon_text(alloc, cursor)
+        polygon_body(alloc, cursor)
     } else if name.eq_ignore_ascii_case(b"MULTIPOLYGON") {
-        multi_polygon_text(alloc, cursor)
+        multi_polygon_body(alloc, cursor)
     } else {
         Err(WktFault::Syntax(at))
     }

@@ -1,36 +1,29 @@
-use Rattle.std.proofs.Common.{◌∙◌, ap, sym, refl}
-use Rattle.std.proofs.lemmas.Bool.{false≢true}
-use Rattle.geometry_model.specs.Labels.{below, above}
-use Rattle.geometry_model.specs.declared.point_sets.Dimension.TheVariants.{Two}
-use Rattle.matrix_laws.specs.Cells.{raised}
-use Rattle.matrix_laws.specs.Gaps.{of_own_edges}
+use Rattle.std.proofs.Common.{sym, subst}
+use Rattle.de9im.specs.Raising.{IsRaisedTo, ShowsIn}
 use Rattle.de9im.proofs.OffEdges.{shown_on, shown_off}
-use Rattle.de9im.proofs.GapCells.{sides_are, on_upright, on_slanted, at_off, at_on}
+use Rattle.de9im.proofs.GapCells.{off_in, on_in_first, on_in_second}
 use Rattle.de9im.proofs.gap_cells.raise_at.Goals as goal
 
 pub returns-then-not-found : goal.returns-then-not-found
 returns-then-not-found c =
     let b = c.args.second.now in
-    let said = shown_off b c.args.p.now c.crossings-found.result c.kind.result c.off_edges.result c.crossings-found.ensures c.if-not-found.true c.kind.ensures c.off_edges.ensures in
-    at_off c.args.first.now b c.args.edge.now c.args.p.now c.off_edges.result c.args.matrix.now c.raise_off.new.matrix said.0 said.1 c.raise_off.ensures
+    let part = c.off_edges-part.result in
+    let said = shown_off b c.args.p.now c.crossings-found.result c.kind.result part c.crossings-found.ensures c.if-not-found.true c.kind.ensures c.off_edges-part.ensures in
+    off_in c.args.pass c.args.first.now b c.args.edge.now c.args.p.now part c.args.matrix.now c.raise_off.new.matrix said.0 said.1 c.raise_off.ensures
 
-pub returns-then-not-is_upright : goal.returns-then-not-is_upright
-returns-then-not-is_upright c =
+pub returns-in-First : goal.returns-in-First
+returns-in-First c =
     let a = c.args.first.now in
     let b = c.args.second.now in
-    let x = c.args.p.now in
-    let n = c.raise.new.self in
-    at_on a b c.args.edge.now x c.args.matrix.now c.raise_sides.new.matrix (shown_on b x c.crossings-found.result c.crossings-found.ensures c.if-not-found.false)
-    (on_slanted a b c.args.edge.now x c.of_own_edges.result c.of_own_edges-2.result c.args.matrix.now n (raised n (below a x) (below b x) Two) c.raise_sides.new.matrix
-    (c.of_own_edges.ensures ∙ ap of_own_edges c.kind-2.ensures) (c.of_own_edges-2.ensures ∙ ap of_own_edges c.kind-3.ensures) (λ e. false≢true (sym c.if-not-is_upright.true ∙ c.is_upright.ensures.1 e))
-    c.raise.ensures refl
-    (sides_are c.sides_at.result c.sides_by.result (below a x) (below b x) (above a x) (above b x) n c.raise_sides.new.matrix c.sides_at.ensures.lower (c.sides_by.ensures.lower x c.crossings-found.ensures)
-    c.sides_at.ensures.upper (c.sides_by.ensures.upper x c.crossings-found.ensures) c.raise_sides.ensures))
+    let m = c.args.matrix.now in
+    let n = c.raise_on.new.matrix in
+    subst (λ p. IsRaisedTo (λ o. ShowsIn p a b o c.args.edge.now c.args.p.now) m n) (sym c.in-First.is)
+    (on_in_first a b c.args.edge.now c.args.p.now m n (shown_on b c.args.p.now c.crossings-found.result c.crossings-found.ensures c.if-not-found.false) c.raise_on.ensures)
 
-pub returns-else-not-is_upright : goal.returns-else-not-is_upright
-returns-else-not-is_upright c =
+pub returns-in-Second : goal.returns-in-Second
+returns-in-Second c =
     let a = c.args.first.now in
     let b = c.args.second.now in
-    at_on a b c.args.edge.now c.args.p.now c.args.matrix.now c.raise.new.self (shown_on b c.args.p.now c.crossings-found.result c.crossings-found.ensures c.if-not-found.false)
-    (on_upright a b c.args.edge.now c.args.p.now c.of_own_edges.result c.of_own_edges-2.result c.args.matrix.now c.raise.new.self
-    (c.of_own_edges.ensures ∙ ap of_own_edges c.kind-2.ensures) (c.of_own_edges-2.ensures ∙ ap of_own_edges c.kind-3.ensures) (c.is_upright.ensures.0 c.if-not-is_upright.false) c.raise.ensures)
+    let m = c.args.matrix.now in
+    subst (λ p. IsRaisedTo (λ o. ShowsIn p a b o c.args.edge.now c.args.p.now) m m) (sym c.in-Second.is)
+    (on_in_second a b c.args.edge.now c.args.p.now m (shown_on b c.args.p.now c.crossings-found.result c.crossings-found.ensures c.if-not-found.false))

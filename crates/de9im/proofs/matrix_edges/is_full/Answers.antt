@@ -15,7 +15,7 @@ returns-then-is_full_off c full =
     let b = c.args.second.now in
     let m = c.args.matrix.now in
     All-weaker (Contains (edges a)) (Covers a b m) (λ e own. full_covers a b c.requires.first_valid c.requires.second_valid e own (All-contains HasLength (edges a) e c.requires.lengths own) m c.requires.ends
-    (c.is_full_off.ensures c.if-is_full_off.true) (c.is_full_on.ensures full)) (edges a) (All-contains_itself (edges a))
+    (c.is_full_off.ensures c.if-is_full_off.true e) (record { piece = (c.is_full_on.ensures full).piece; sides = λ _. c.is_full_on.ensures full })) (edges a) (All-contains_itself (edges a))
 
 pub returns-in-Second : goal.returns-in-Second
 returns-in-Second c full =
@@ -23,4 +23,4 @@ returns-in-Second c full =
     let b = c.args.second.now in
     let m = c.args.matrix.now in
     All-weaker (Contains (edges a)) (Covers a b m) (λ e own. full_off_is_enough a b e own (All-contains HasLength (edges a) e c.requires.lengths own) m c.requires.ends
-    (subst (λ p. IsReady p a b m) c.in-Second.is c.requires.ready) (c.is_full_off-in-Second.ensures full)) (edges a) (All-contains_itself (edges a))
+    (subst (λ p. IsReady p a b m) c.in-Second.is c.requires.ready) (c.is_full_off-in-Second.ensures full e)) (edges a) (All-contains_itself (edges a))

@@ -17,7 +17,7 @@ returns-then-is_full_off-clause-covers c =
     let b = c.args.second.now in
     let m = c.loop-edge.matrix in
     All-weaker (Contains (edges a)) (Covers a b m) (λ e own. full_off_is_enough a b e own (All-contains HasLength (edges a) e c.requires.lengths own) m (ends_kept a b c.args.matrix.now m c.loop-edge.invariant.grows.grown c.requires.ends)
-    (subst (All (Covers a b m)) (sym c.requires.none) (All-nil (Covers a b m))) (c.is_full_off.ensures c.if-is_full_off.true)) (edges a) (All-contains_itself (edges a))
+    (subst (All (Covers a b m)) (sym c.requires.none) (All-nil (Covers a b m))) (c.is_full_off.ensures c.if-is_full_off.true e)) (edges a) (All-contains_itself (edges a))
 
 pub loop-edge-preserved : goal.loop-edge-preserved
 loop-edge-preserved c =

@@ -4,7 +4,7 @@ use Rattle.std.specs.List.{All}
 use Rattle.de9im.specs.Raising.{IsUprightOutside}
 use Rattle.de9im.proofs.outside_edges.left_upright.Given as goal
 
--- the edges from this place on are upright and outside
+-- the edges from this place on are vertical and outside
 abbrev pub invariant-loop-left : goal.invariant-loop-left
 invariant-loop-left l = record {
   before : l.left ≤ l.end;

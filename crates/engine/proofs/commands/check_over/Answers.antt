@@ -1,12 +1,14 @@
 -- Each exit over the tables' files.
 use Rattle.std.proofs.Common.{◌≡◌, Err, Ok, Result, refl}
-use Rattle.engine.proofs.FileLemmas.{check-loaded, handed-on, table-counts}
+use Rattle.engine.proofs.FileLemmas.{check-loaded, table-counts}
+use Rattle.text_commands.proofs.WordLemmas.{handed-on}
 use Rattle.engine.specs.Commands.{CheckEnds, OverTables, IsLoadedTo, check_text}
 use Rattle.query_runs.proofs.RunLemmas.{table-refused}
 use Rattle.failures.specs.declared.run_fault.Fault.{Fault}
 use Rattle.failures.specs.declared.run_fault.Fault.TheVariants as faults
 use Rattle.table_model.specs.Databases.{load_tables}
 use Rattle.table_model.specs.GeometryColumns.{read_geometry}
+use Rattle.text_commands.specs.Files.{OpensFile}
 use Rattle.engine.proofs.commands.check_over.Goals as goal
 
 pub returns-in_err-readers-clause-checks : goal.returns-in_err-readers-clause-checks
@@ -14,7 +16,8 @@ returns-in_err-readers-clause-checks g c =
     let before = g.S.Sink.taken c.args.out.now in
     let count = g.S.Sink.failures c.args.out.now in
     handed-on c.from_residual.result c.in_err-readers.field-0.0 c.from_residual.ensures.1
-    (λ r. OverTables g.F.FnMut g.R.Read.remaining c.args.opener.now c.args.directory.now c.args.schema.now (CheckEnds c.args.schema.now before before count count) r (c.args.out.now ≡ c.args.out.now))
+    (λ r. OverTables (OpensFile g.F.FnMut) g.R.Read.remaining c.args.opener.now c.open_tables.new.opener c.args.directory.now
+    c.args.schema.now (CheckEnds c.args.schema.now before before count count) r (c.args.out.now ≡ c.args.out.now))
     (record { readers = Err c.in_err-readers.field-0.0; opened = c.in_err-readers.ensures.failure; rest = (refl, refl) })
 
 pub returns-in-Err-clause-checks : goal.returns-in-Err-clause-checks

@@ -2,9 +2,12 @@
 use Rattle.std.proofs.Common.{◌≡◌, ◌∙◌, ◌∷◌, [], Some, ap, arith, length, length-append, refl, subst}
 use denote.Param.Always.{mut_next}
 use Rattle.std.specs.Prelude.{slice_get}
-use Rattle.engine.proofs.FileLemmas.{map-there, table-next, there}
+use Rattle.basics.proofs.Lists.{mapped, read_at}
+use Rattle.engine.proofs.FileLemmas.{table-next}
 use Rattle.engine.specs.Commands.{table_names, table_path, table_paths}
 use Rattle.table_model.specs.SpatialTables.{SpatialSchema}
+use Rattle.text_commands.specs.Files.{OpensFile}
+use Rattle.text_commands.specs.declared.files.File.TheVariants as role
 use Rattle.engine.proofs.commands.open_tables.Goals as goal
 
 pub loop-table-preserved : goal.loop-table-preserved
@@ -12,13 +15,17 @@ loop-table-preserved g c =
     let item = c.table-item.result in
     let P : SpatialSchema → Type 0 = λ ds. slice_get ds c.loop-table.table-index ≡ Some item in
     let here : slice_get c.args.schema.now c.loop-table.table-index ≡ Some item =
-    subst P c.tables-table-items.ensures.value (there c.tables-table-items.result.now c.loop-table.table-index item c.loop-table-test.true c.table-item.is) in
+    subst P c.tables-table-items.ensures.value
+    (read_at c.tables-table-items.result.now c.loop-table.table-index item c.loop-table-test.true c.table-item.is) in
     record {
-      callable = λ always. mut_next g.F.FnMut c.loop-table.opener (c.as_str.result, tt) c.opener.result c.opener.new.self c.opener.new.self c.opener.ensures refl (c.loop-table.invariant.callable always);
+      callable = λ always. mut_next g.F.FnMut c.loop-table.opener (role.Table c.as_str.result, tt) c.opener.result
+          c.opener.new.self c.opener.new.self c.opener.ensures refl (c.loop-table.invariant.callable always);
       count = omega (arith, ap length c.in-Ok-push.ensures.items, length-append c.loop-table.readers.items (c.in-Some.reader ∷ []), c.loop-table.invariant.count);
-      opens = table-next g.F.FnMut c.args.opener.now (table_paths c.args.directory.now c.args.schema.now) c.loop-table.table-index (table_path c.args.directory.now item.name) c.loop-table.readers.items c.loop-table.opener
+      opens = table-next (OpensFile g.F.FnMut) c.args.opener.now (table_paths c.args.directory.now c.args.schema.now)
+          c.loop-table.table-index (table_path c.args.directory.now item.name) c.loop-table.readers.items c.loop-table.opener
           c.in-Some.reader c.push.new.self.items c.opener.new.self
-          (map-there (table_path c.args.directory.now) (table_names c.args.schema.now) c.loop-table.table-index item.name (map-there (λ t. t.name) c.args.schema.now c.loop-table.table-index item here))
+          (mapped (table_path c.args.directory.now) (table_names c.args.schema.now) c.loop-table.table-index item.name
+          (mapped (λ t. t.name) c.args.schema.now c.loop-table.table-index item here))
           c.loop-table.invariant.opens
           (record {
             shown = c.as_str.result;

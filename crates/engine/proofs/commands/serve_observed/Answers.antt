@@ -6,14 +6,18 @@ use Rattle.engine.specs.Commands.{ServesOrder}
 use Rattle.text_commands.specs.Ends.{Serves}
 use Rattle.text_commands.specs.Reasons.{ExplainsCells}
 use Rattle.text_commands.specs.TextCommands.{RelatesWords}
+use Rattle.text_commands.specs.Files.{OpensFile}
 use Rattle.engine.proofs.commands.serve_observed.Goals as goal
 
 pub returns-in-Relate : goal.returns-in-Relate
 returns-in-Relate g c =
-    let words = RelatesWords g.F.FnMut g.R.Read.remaining g.S.Sink.taken g.S.Sink.failures c.args.out.now c.serve_relate.new.out
+    let words =
+    RelatesWords (OpensFile g.F.FnMut) g.R.Read.remaining g.S.Sink.taken g.S.Sink.failures c.args.out.now
+    c.serve_relate.new.out
     c.args.opener in record {
       serves = subst
-          (λ order. ServesOrder g.F.FnMut g.R.Read.remaining g.E.Sink.taken g.E.Sink.failures g.S.Sink.taken g.S.Sink.failures c.args.out.now c.serve_relate.new.out
+          (λ order. ServesOrder (OpensFile g.F.FnMut) g.R.Read.remaining g.E.Sink.taken g.E.Sink.failures g.S.Sink.taken
+          g.S.Sink.failures c.args.out.now c.serve_relate.new.out
           c.args.opener order c.serve_relate.result c.args.err.now c.serve_relate.new.err) (sym c.in-Relate.is)
           (subst
           (λ first. Serves g.E.Sink.taken g.E.Sink.failures (words first (string_bytes c.in-Relate.second)) c.serve_relate.result c.args.err.now
@@ -25,13 +29,17 @@ returns-in-Relate g c =
 
 pub returns-in-Some : goal.returns-in-Some
 returns-in-Some g c =
-    let words = ExplainsCells g.F.FnMut g.R.Read.remaining g.S.Sink.taken g.S.Sink.failures c.args.out.now c.serve_witnesses.new.out
+    let words =
+    ExplainsCells (OpensFile g.F.FnMut) g.R.Read.remaining g.S.Sink.taken g.S.Sink.failures c.args.out.now
+    c.serve_witnesses.new.out
     c.args.opener in record {
       serves = subst
-          (λ order. ServesOrder g.F.FnMut g.R.Read.remaining g.E.Sink.taken g.E.Sink.failures g.S.Sink.taken g.S.Sink.failures c.args.out.now c.serve_witnesses.new.out
+          (λ order. ServesOrder (OpensFile g.F.FnMut) g.R.Read.remaining g.E.Sink.taken g.E.Sink.failures g.S.Sink.taken
+          g.S.Sink.failures c.args.out.now c.serve_witnesses.new.out
           c.args.opener order c.serve_witnesses.result c.args.err.now c.serve_witnesses.new.err) (sym c.in-Why.is)
           (subst
-          (λ second. ServesOrder g.F.FnMut g.R.Read.remaining g.E.Sink.taken g.E.Sink.failures g.S.Sink.taken g.S.Sink.failures c.args.out.now c.serve_witnesses.new.out
+          (λ second. ServesOrder (OpensFile g.F.FnMut) g.R.Read.remaining g.E.Sink.taken g.E.Sink.failures g.S.Sink.taken
+          g.S.Sink.failures c.args.out.now c.serve_witnesses.new.out
           c.args.opener (orders.Why c.in-Why.first second) c.serve_witnesses.result c.args.err.now c.serve_witnesses.new.err) (sym c.in-Some.is)
           (subst
           (λ first. Serves g.E.Sink.taken g.E.Sink.failures (words first (string_bytes c.in-Some.second)) c.serve_witnesses.result c.args.err.now

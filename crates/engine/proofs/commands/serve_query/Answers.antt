@@ -2,6 +2,7 @@
 use Rattle.std.proofs.Common.{Err, Ok, refl, subst}
 use Rattle.std.specs.String.{string_bytes}
 use Rattle.engine.specs.Commands.{RunsFiles}
+use Rattle.text_commands.specs.Files.{OpensFile}
 use Rattle.engine.proofs.commands.serve_query.Goals as goal
 
 pub returns-in-Err : goal.returns-in-Err
@@ -26,7 +27,8 @@ returns g c =
         next = c.query_text.new.opener;
         given = c.in-Ok.ensures.text;
         rest = subst
-            (λ query. RunsFiles g.F.FnMut g.R.Read.remaining g.S.Sink.taken g.S.Sink.failures c.args.out.now c.serve_run.new.out c.query_text.new.opener
+            (λ query. RunsFiles (OpensFile g.F.FnMut) g.R.Read.remaining g.S.Sink.taken g.S.Sink.failures c.args.out.now
+            c.serve_run.new.out c.query_text.new.opener
             paths.schema.now paths.directory.now query c.serve_run.ensures.end) c.as_str.ensures.value c.serve_run.ensures.ends;
       };
       returned = c.serve_run.ensures.returned;

@@ -31,7 +31,7 @@ returns-in-Ok-check_over g c = (
       opened = record { shown = c.args.paths.now.schema; shows = refl; called = c.opener.ensures };
       schema = Ok c.in-Ok.schema;
       read = c.in-Ok.ensures;
-      rest = (c.in-Ok-check_over.ensures.checks, c.put_notes.ensures);
+      rest = (c.check_over.new.opener, c.in-Ok-check_over.ensures.checks, c.put_notes.ensures);
     };
     returned = refl;
     reported = refl;
@@ -49,7 +49,7 @@ returns g c = (
       opened = record { shown = c.args.paths.now.schema; shows = refl; called = c.opener.ensures };
       schema = Ok c.in-Ok.schema;
       read = c.in-Ok.ensures;
-      rest = (c.in-Err-check_over.ensures.checks, c.explain.ensures);
+      rest = (c.check_over.new.opener, c.in-Err-check_over.ensures.checks, c.explain.ensures);
     };
     returned = c.failed-status.ensures.status;
     reported = c.failed-status.ensures.line;

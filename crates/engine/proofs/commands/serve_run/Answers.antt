@@ -1,4 +1,4 @@
--- Each exit: the schema isn't read, the command over it is done, or it ends in a failure.
+-- Each exit: the schema isn't read, or the command over it ends so.
 use Rattle.std.proofs.Common.{Err, Ok, refl}
 use Rattle.engine.proofs.commands.serve_run.Goals as goal
 
@@ -17,32 +17,17 @@ returns-in-Err g c = record {
   reported = c.failed.ensures.line;
 }
 
-pub returns-in-Ok-run_over : goal.returns-in-Ok-run_over
-returns-in-Ok-run_over g c = record {
-  end = Ok tt;
-  ends = record {
-    file = c.opener.result;
-    next = c.opener.new.self;
-    opened = record { shown = c.args.paths.now.schema; shows = refl; called = c.opener.ensures };
-    schema = Ok c.in-Ok.schema;
-    read = c.in-Ok.ensures;
-    rest = c.in-Ok-run_over.ensures;
-  };
-  returned = refl;
-  reported = refl;
-}
-
 pub returns : goal.returns
 returns g c = record {
-  end = Err c.in-Err-run_over.failure;
+  end = c.run_over-end.result;
   ends = record {
     file = c.opener.result;
     next = c.opener.new.self;
     opened = record { shown = c.args.paths.now.schema; shows = refl; called = c.opener.ensures };
     schema = Ok c.in-Ok.schema;
     read = c.in-Ok.ensures;
-    rest = c.in-Err-run_over.ensures;
+    rest = c.run_over-end.ensures;
   };
-  returned = c.failed-in-Err-run_over.ensures.status;
-  reported = c.failed-in-Err-run_over.ensures.line;
+  returned = c.ended.ensures.status;
+  reported = c.ended.ensures.line;
 }

@@ -4,7 +4,7 @@ use Rattle.csv.specs.Records.{fields_of}
 use Rattle.csv.specs.contracts.record.ByteRecord.{the_view}
 use Rattle.feature_table.specs.Records.{records_in}
 use Rattle.record_reasons.proofs.KeyLemmas.{map-more}
-use Rattle.record_reasons.proofs.SeenLemmas.{absent, begins, none-left, read-more, taken}
+use Rattle.record_reasons.proofs.SeenLemmas.{absent, begins, first-read, none-left, read-more, taken}
 use Rattle.record_reasons.specs.Reasons.{key_under}
 use Rattle.record_reasons.specs.SeenRecords.{HasRead}
 use Rattle.record_reasons.proofs.same_keys.seen_keys.Goals as goal
@@ -12,18 +12,19 @@ use Rattle.record_reasons.proofs.same_keys.seen_keys.Goals as goal
 pub loop-place-init : goal.loop-place-init
 loop-place-init g c =
     let remaining = g.R.Read.remaining in
-    let known = remaining c.args.reader in
     let header = fields_of c.take_record.new.record in
-    let first = read-more remaining known c.new-records.result c.take_record.new.records [] header
-    (λ text is. (records_in text, c.new-records.ensures.gives text is, refl))
-    (taken remaining c.new-records.result c.take_record.new.records c.in_ok-take_record.field-0 header c.if-not-branch.false c.in_ok-take_record.ensures.takes) in record {
+    let next = taken remaining c.args.records.now c.take_record.new.records c.in_ok-take_record.field-0 header
+    c.if-not-branch.false
+    c.in_ok-take_record.ensures.takes in record {
       ready = c.in_ok-take_record.ensures.ready;
-      asked = omega (arith, c.take_record.ensures.asked, c.new-records.ensures.none);
+      asked = omega (arith, c.take_record.ensures.asked, c.requires.none);
       read = (
         [],
         refl,
         c.new-keys.ensures.items,
-        subst (λ r. HasRead remaining known c.take_record.new.records (fields_of r ∷ [])) (sym c.header.view_is) first,
+        λ known of. subst (λ r. HasRead remaining known c.take_record.new.records (fields_of r ∷ [])) (sym c.header.view_is)
+            (first-read remaining known c.args.records.now c.take_record.new.records header
+            (λ text is. (records_in text, of text is, refl)) next),
       );
     }
 
@@ -49,27 +50,28 @@ loop-place-preserved g c =
         omega (arith, length-append was.0 (fields ∷ []), was.1),
         map-more (key_under c.args.table.now header) was.0 fields c.loop-place.keys.items c.push.new.self.items c.key_of.result was.2 c.in_ok-push.ensures.items
             (of_key ∙ ap (λ h. key_under c.args.table.now (fields_of h) fields) (sym c.header.view_is)),
-        read-more remaining (remaining c.args.reader) old new (header ∷ was.0) fields was.3
+        λ known of. read-more remaining known old new (header ∷ was.0) fields (was.3 known of)
             (taken remaining old new c.in_ok-take_record-2.field-0 fields c.if-not-branch-2.false c.in_ok-take_record-2.ensures.takes),
       );
     }
 
 pub returns-clause-seen : goal.returns-clause-seen
-returns-clause-seen g c =
+returns-clause-seen g c known of =
     let was = c.loop-place.invariant.read in
     let at_end : c.loop-place._place ≡ c.args.number = omega (arith, c.loop-place-test.false, c.loop-place.auto._place-end) in record {
       header = fields_of (the_view c.header.inside);
       rest = was.0;
-      begins = begins g.R.Read.remaining (g.R.Read.remaining c.args.reader) c.loop-place.records (fields_of (the_view c.header.inside) ∷ was.0) was.3;
+      begins = begins g.R.Read.remaining known c.loop-place.records (fields_of (the_view c.header.inside) ∷ was.0)
+          (was.3 known of);
       size = was.1 ∙ at_end;
       are = was.2;
     }
 
 pub returns-then-not-branch-2-clause-absent : goal.returns-then-not-branch-2-clause-absent
-returns-then-not-branch-2-clause-absent g c =
+returns-then-not-branch-2-clause-absent g c known of =
     let remaining = g.R.Read.remaining in
     let was = c.loop-place.invariant.read in
-    absent remaining (remaining c.args.reader) c.loop-place.records (fields_of (the_view c.header.inside) ∷ was.0) c.args.number was.3
+    absent remaining known c.loop-place.records (fields_of (the_view c.header.inside) ∷ was.0) c.args.number (was.3 known of)
     (none-left remaining c.loop-place.records c.take_record-in-loop-place.new.records c.in_ok-take_record-2.field-0
     (fields_of c.take_record-in-loop-place.new.record) c.if-not-branch-2.true c.in_ok-take_record-2.ensures.takes)
     (omega (arith, was.1, c.loop-place-test.true))

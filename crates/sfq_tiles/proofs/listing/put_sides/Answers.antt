@@ -3,10 +3,10 @@ use Rattle.std.proofs.Common.{◌∙◌, refl, subst, w32}
 use Rattle.std.proofs.lemmas.Int.{to_z-of_z}
 use mir.Val.{SFits, of_z, to_z}
 use Rattle.streams.proofs.PartLemmas.{front-same}
-use Rattle.streams.proofs.SinkLemmas.{AppendsFront-more, OnErr-holds}
+use Rattle.streams.proofs.SinkLemmas.{AppendsFront-more, OnErr-holds, then-put}
 use Rattle.streams.specs.Sinks.{AppendsFront}
 use Rattle.sfq_tiles.specs.Lists.{span_text}
-use Rattle.sfq_tiles.proofs.ListLemmas.{last_front, last_put, spans}
+use Rattle.sfq_tiles.proofs.ListLemmas.{last_front, spans}
 use Rattle.sfq_tiles.proofs.listing.put_sides.Goals as goal
 
 pub returns-in_err-put_span-clause-front : goal.returns-in_err-put_span-clause-front
@@ -33,7 +33,7 @@ returns-clause-ok g c =
     let yy = to_z w32 (of_z w32 c.greatest_y.result) in
     let text = spans c.args.cell.now c.in-Some.sides x xx y yy c.in-Some.is (to_z-of_z w32 c.least_x.result f1 ∙ c.least_x.ensures.value) (to_z-of_z w32 c.greatest_x.result f2 ∙ c.greatest_x.ensures)
     (to_z-of_z w32 c.least_y.result f3 ∙ c.least_y.ensures.value) (to_z-of_z w32 c.greatest_y.result f4 ∙ c.greatest_y.ensures) in
-    last_put c.put_span-2.result (g.S.Sink.taken c.args.out.now) (g.S.Sink.taken c.put_span.new.out) (g.S.Sink.taken c.put_span-2.new.out) (span_text x xx) (span_text y yy) _ text c.in_ok-put_span.ensures.ok c.put_span-2.ensures.ok
+    then-put c.put_span-2.result (g.S.Sink.taken c.args.out.now) (g.S.Sink.taken c.put_span.new.out) (g.S.Sink.taken c.put_span-2.new.out) (span_text x xx) (span_text y yy) _ text c.in_ok-put_span.ensures.ok c.put_span-2.ensures.ok
 
 pub returns-clause-front : goal.returns-clause-front
 returns-clause-front g c =

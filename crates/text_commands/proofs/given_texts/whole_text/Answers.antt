@@ -1,7 +1,7 @@
 -- What was read is the beginning of the file, and all of it where it isn't longer than the limit.
 use Rattle.std.proofs.Common.{rules, ◌≡◌, ◌+◌, ◌++◌, ℕ, List, IfSome, subst}
 use Rattle.std.specs.Io.Take.{take_remaining}
-use Rattle.text_commands.proofs.TakenBytes.{past, taken-from, whole}
+use Rattle.text_commands.proofs.TakenBytes.{taken-from, whole}
 use Rattle.text_commands.proofs.given_texts.whole_text.Goals as goal
 
 pub returns-in-Ok-clause-text : goal.returns-in-Ok-clause-text

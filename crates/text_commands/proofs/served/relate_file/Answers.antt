@@ -5,14 +5,15 @@ use Rattle.text_commands.proofs.served.relate_file.Goals as goal
 
 pub returns-in-Ok : goal.returns-in-Ok
 returns-in-Ok g c =
-    subst (λ file. RelatesReader g.R.Read.remaining g.S.Sink.taken g.S.Sink.failures c.args.out.now c.relate_pairs.new.sink file c.ended.result) (sym c.in-Some.is)
+    subst (λ file. RelatesReader g.R.Read.remaining g.S.Sink.taken g.S.Sink.failures c.args.out.now c.relate_pairs.new.sink file
+    c.end_of.result) (sym c.in-Some.is)
     (record {
       result = Ok c.in-Ok.pairs;
       records = c.in-Ok.ensures.relates.0;
       read = c.in-Ok.ensures.relates.1;
       relates = c.in-Ok.ensures.relates.2;
       failures = c.in-Ok.ensures.failures;
-      ended = c.ended.ensures;
+      ended = c.end_of.ensures;
     })
 
 pub returns-in-Err : goal.returns-in-Err

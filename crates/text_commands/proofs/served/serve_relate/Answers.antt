@@ -1,63 +1,41 @@
--- Each exit: a word's text can't be got, or the command goes on with both.
-use Rattle.std.proofs.Common.{ℕ, List, Err, Ok, refl, subst}
+-- Each exit: a word gives no text, or the command goes on with both.
+use Rattle.std.proofs.Common.{ℕ, List, Err, refl, subst}
+use Rattle.failures.specs.Ends.{End}
+use Rattle.text_commands.specs.Files.{OpensFile}
 use Rattle.text_commands.specs.TextCommands.{RelateEnds}
+use Rattle.text_commands.proofs.WordLemmas.{over-both, over-not-both}
 use Rattle.text_commands.proofs.served.serve_relate.Goals as goal
 
 pub returns-in-Err : goal.returns-in-Err
-returns-in-Err g c = record {
-  serves = record {
-    end = Err c.in-Err.failure;
-    ends = record {
-      text = Err c.in-Err.failure;
-      next = c.geometry_text.new.opener;
-      given = c.in-Err.ensures.failure;
-      rest = (refl, refl);
-    };
-    returned = c.failed.ensures.status;
-    reported = c.failed.ensures.line;
-  };
-}
-
-pub returns-in-Err-geometry_text : goal.returns-in-Err-geometry_text
-returns-in-Err-geometry_text g c = record {
-  serves = record {
-    end = Err c.in-Err-geometry_text.failure;
-    ends = record {
-      text = Ok c.in-Ok.text.items;
-      next = c.geometry_text.new.opener;
-      given = c.in-Ok.ensures.text;
-      rest = record {
-        text = Err c.in-Err-geometry_text.failure;
-        next = c.geometry_text-2.new.opener;
-        given = c.in-Err-geometry_text.ensures.failure;
-        rest = (refl, refl);
+returns-in-Err g c =
+    let Ends : List ℕ → List ℕ → End → Type 0 = λ first second end.
+    RelateEnds first second end (g.S.Sink.taken c.args.out.now) (g.S.Sink.taken c.args.out.now) (g.S.Sink.failures c.args.out.now)
+    (g.S.Sink.failures c.args.out.now) in
+    record {
+      serves = record {
+        end = Err c.in-Err.failure;
+        ends = over-not-both (OpensFile g.F.FnMut) g.R.Read.remaining Ends _ c.args.opener c.args.first.now c.args.second.now
+            c.in-Err.failure c.in-Err.ensures.failure refl;
+        returned = c.failed.ensures.status;
+        reported = c.failed.ensures.line;
       };
-    };
-    returned = c.failed-in-Err-geometry_text.ensures.status;
-    reported = c.failed-in-Err-geometry_text.ensures.line;
-  };
-}
+    }
 
 pub returns : goal.returns
 returns g c =
-    let Related : List ℕ → List ℕ → Type 0 = λ first second.
-    RelateEnds first second c.relate_given.ensures.end (g.S.Sink.taken c.args.out.now) (g.S.Sink.taken c.relate_given.new.out)
+    let Ends : List ℕ → List ℕ → End → Type 0 = λ first second end.
+    RelateEnds first second end (g.S.Sink.taken c.args.out.now) (g.S.Sink.taken c.relate_given.new.out)
     (g.S.Sink.failures c.args.out.now) (g.S.Sink.failures c.relate_given.new.out) in
+    let end = c.relate_given.ensures.end in
+    let texts = c.in-Ok.texts in
     record {
       serves = record {
-        end = c.relate_given.ensures.end;
-        ends = record {
-          text = Ok c.in-Ok.text.items;
-          next = c.geometry_text.new.opener;
-          given = c.in-Ok.ensures.text;
-          rest = record {
-            text = Ok c.in-Ok-geometry_text.text.items;
-            next = c.geometry_text-2.new.opener;
-            given = c.in-Ok-geometry_text.ensures.text;
-            rest = subst (Related c.in-Ok.text.items) c.as_slice-2.ensures.value
-                (subst (λ first. Related first c.as_slice-2.result.now) c.as_slice.ensures.value c.relate_given.ensures.ends);
-          };
-        };
+        end = end;
+        ends = over-both (OpensFile g.F.FnMut) g.R.Read.remaining Ends _ c.args.opener c.args.first.now c.args.second.now
+            texts.first.items texts.second.items end
+            c.in-Ok.ensures.texts
+            (subst (λ other. Ends texts.first.items other end) c.as_slice-2.ensures.value
+            (subst (λ one. Ends one c.as_slice-2.result.now end) c.as_slice.ensures.value c.relate_given.ensures.ends));
         returned = c.relate_given.ensures.returned;
         reported = c.relate_given.ensures.reported;
       };

@@ -13,14 +13,24 @@ more x' x fx f e = ap (λ (z : ℤ). to_z w128 (of_z w128 (z +ℤ pos 1))) (read
     fits : (x : ℤ) → SFits w32 x → SFits w128 (x +ℤ pos 1)
     fits x f = omega (arith, ints)
 
-pub returns : goal.returns
-returns c = far_face c.args.first.now c.args.second.now c.past_geometry-of_both.result c.new.result
-    (reaches_further c.past_geometry-of_first.result c.past_geometry-of_both.result c.args.first.now
-    (subst (λ (z : ℤ). z ≤ℤ c.past_geometry-of_both.result) (to_z-of_z w32 c.past_geometry-of_first.result (record { sfits = c.past_geometry-of_first.type_inv })) c.past_geometry-of_both.ensures.from) c.past_geometry-of_first.ensures.reaches)
-    c.past_geometry-of_both.ensures.reaches
-    (c.new.ensures ∙ (λ i. record {
-      X = more c.from.result c.past_geometry-of_both.result (record { sfits = c.from.type_inv }) (record { sfits = c.past_geometry-of_both.type_inv })
-          (c.from.ensures ∙ to_z-of_z w32 c.past_geometry-of_both.result (record { sfits = c.past_geometry-of_both.type_inv })) i;
-      Y = pos 0;
-      W = pos 1;
-    }))
+pub returns-clause-far : goal.returns-clause-far
+returns-clause-far c = (
+  c.past_geometry-of_both.result,
+  reaches_further c.past_geometry-of_first.result c.past_geometry-of_both.result c.args.first.now
+      (subst (λ (z : ℤ). z ≤ℤ c.past_geometry-of_both.result)
+      (to_z-of_z w32 c.past_geometry-of_first.result (record { sfits = c.past_geometry-of_first.type_inv }))
+      c.past_geometry-of_both.ensures.from)
+      c.past_geometry-of_first.ensures.reaches,
+  c.past_geometry-of_both.ensures.reaches,
+  c.new.ensures ∙ (λ i. record {
+    X = more c.from.result c.past_geometry-of_both.result (record { sfits = c.from.type_inv })
+        (record { sfits = c.past_geometry-of_both.type_inv })
+        (c.from.ensures ∙ to_z-of_z w32 c.past_geometry-of_both.result (record { sfits = c.past_geometry-of_both.type_inv })) i;
+    Y = pos 0;
+    W = pos 1;
+  }),
+)
+
+pub returns-clause-shows : goal.returns-clause-shows
+returns-clause-shows c =
+    let far = returns-clause-far c in far_face c.args.first.now c.args.second.now far.0 c.new.result far.1 far.2 far.3

@@ -11,5 +11,8 @@ of_labels-requires-clause-labelled c =
       are_cuts = noded.are_cuts;
       are_pieces = noded.are_pieces;
       triples = noded.triples;
+      exact_nodes = noded.exact_nodes;
+      exact_pieces = noded.exact_pieces;
       labels = c.in_ok-found.ensures ∙ sym noded.labels;
+      exact = c.in_ok-found.ensures;
     }

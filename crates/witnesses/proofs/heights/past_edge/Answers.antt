@@ -8,11 +8,11 @@ use Rattle.witnesses.proofs.HeightFacts.{keeps_both, clears_turned, clears_uprig
 use Rattle.witnesses.proofs.heights.past_edge.Goals as goal
 
 pub returns-in-Less-clause-clears : goal.returns-in-Less-clause-clears
-returns-in-Less-clause-clears c = subst (ClearsEdge c.args.side c.args.p.now c.past_slant.result) (same_edge c.args.edge.now c.start-start.result c.end-end.result c.start-start.ensures c.end-end.ensures.value) c.past_slant.ensures.clears
+returns-in-Less-clause-clears c = subst (ClearsEdge c.args.side c.args.p.now c.past_not_upright.result) (same_edge c.args.edge.now c.start-start.result c.end-end.result c.start-start.ensures c.end-end.ensures.value) c.past_not_upright.ensures.clears
 
 pub returns-in-Greater-clause-clears : goal.returns-in-Greater-clause-clears
-returns-in-Greater-clause-clears c = subst (ClearsEdge c.args.side c.args.p.now c.past_slant-in-Greater.result) (same_edge c.args.edge.now c.start-start.result c.end-end.result c.start-start.ensures c.end-end.ensures.value)
-    (clears_turned c.args.side c.args.p.now c.past_slant-in-Greater.result c.start-start.result c.end-end.result c.past_slant-in-Greater.ensures.clears)
+returns-in-Greater-clause-clears c = subst (ClearsEdge c.args.side c.args.p.now c.past_not_upright-in-Greater.result) (same_edge c.args.edge.now c.start-start.result c.end-end.result c.start-start.ensures c.end-end.ensures.value)
+    (clears_turned c.args.side c.args.p.now c.past_not_upright-in-Greater.result c.start-start.result c.end-end.result c.past_not_upright-in-Greater.ensures.clears)
 
 pub returns-in-Equal-clause-keeps : goal.returns-in-Equal-clause-keeps
 returns-in-Equal-clause-keeps c = keeps_both c.args.side c.args.p.now c.args.nearest c.past_position.result c.past_position-in-Equal.result c.past_position.ensures.keeps c.past_position-in-Equal.ensures.keeps
@@ -24,4 +24,4 @@ returns-in-Equal-clause-clears c =
     let start : ClearsPosition c.args.side c.args.p.now c.past_position-in-Equal.result c.args.edge.now.start = subst (ClearsPosition c.args.side c.args.p.now c.past_position-in-Equal.result) c.start-start.ensures
     (λ i. c.past_position-in-Equal.ensures.keeps (point_at c.start-start.result) i (c.past_position.ensures.clears i)) in
     let end : ClearsPosition c.args.side c.args.p.now c.past_position-in-Equal.result c.args.edge.now.end = subst (ClearsPosition c.args.side c.args.p.now c.past_position-in-Equal.result) c.end-end.ensures.value c.past_position-in-Equal.ensures.clears in
-    clears_upright c.args.side c.args.p.now c.args.edge.now c.past_position-in-Equal.result c.past_position-in-Equal.ensures.height c.past_position.ensures.is_point level c.requires.slant start end
+    clears_upright c.args.side c.args.p.now c.args.edge.now c.past_position-in-Equal.result c.past_position-in-Equal.ensures.height c.past_position.ensures.is_point level c.requires.not_upright start end

@@ -22,6 +22,7 @@ returns-then-clashes-clause-place c = record {
 pub returns-then-clashes-clause-first : goal.returns-then-clashes-clause-first
 returns-then-clashes-clause-first c = record {
   j = c.loop-j.j;
+  later = later c.args.i c.loop-j.j c.loop-j.auto.j;
   first = c.edge-first.ensures;
   second = c.edge-second.ensures;
   clash = subst (λ (n : ℕ). Clash n c.args.i c.loop-j.j c.edge-first.result c.edge-second.result) c.edge_count-count.ensures (c.clashes.ensures.yes c.if-clashes.true);

@@ -3,7 +3,7 @@ use Rattle.std.proofs.lemmas.List.{length_push}
 use Rattle.feature_table.specs.Indexes.{HoldsNone}
 use Rattle.table_model.specs.GeometryColumns.{ColumnShape}
 use Rattle.table_model.specs.declared.definitions.ColumnDef.{ColumnDef}
-use Rattle.feature_table.proofs.IndexLemmas.{EachKept, IsKept, all_kept, kept_at, one_more_kept}
+use Rattle.feature_table.proofs.IndexLemmas.{EachKept, IsOwnIndex, all_kept, kept_at, one_more_kept}
 use Rattle.feature_table.proofs.indexes.Indexes.build.Goals as goal
 
 pub loop-place-preserved : goal.loop-place-preserved
@@ -18,9 +18,10 @@ loop-place-preserved g c =
     (subst (λ (d : ColumnDef ColumnShape). c.in_ok-own_index.field-0 ≡ None → HoldsNone d.column_type) (sym c.index-columns-place.is) c.in_ok-own_index.ensures.none) in
     record {
       count = ap length pushed ∙ longer ∙ ap (λ n. n + 1) c.loop-place.invariant.count;
-      kept = subst (EachKept (IsKept indexed table rows)) (sym pushed)
-          (one_more_kept (IsKept indexed table rows) c.loop-place.own.items c.in_ok-own_index.field-0 c.loop-place.invariant.kept
-          (subst (λ n. IsKept indexed table rows n c.in_ok-own_index.field-0) (sym c.loop-place.invariant.count) own));
+      kept = subst (EachKept (IsOwnIndex indexed table rows)) (sym pushed)
+          (one_more_kept (IsOwnIndex indexed table rows) c.loop-place.own.items c.in_ok-own_index.field-0
+          c.loop-place.invariant.kept
+          (subst (λ n. IsOwnIndex indexed table rows n c.in_ok-own_index.field-0) (sym c.loop-place.invariant.count) own));
     }
 
 pub returns : goal.returns

@@ -1,5 +1,5 @@
 use Rattle.std.proofs.Common.{◌∙◌, sym, ap, subst}
-use Rattle.validity.specs.Contents.{geometry_of}
+use Rattle.validity.specs.Contents.{content_geometry}
 use Rattle.validity.specs.ValidGeometries.{AreSearched}
 use Rattle.validity.proofs.Kept.{searched_of_point}
 use Rattle.validity.proofs.valid_geometry.Valid.searched.Goals as goal
@@ -10,5 +10,5 @@ returns-in-Point c = searched_of_point c.self.inside.content c.args.self.now c.i
 pub returns-in-Larger : goal.returns-in-Larger
 returns-in-Larger c =
     let kept = rw c.in-Larger.is at c.self.invariant in
-    let same = ap geometry_of (sym c.in-Larger.is) ∙ c.self.view_is in
+    let same = ap content_geometry (sym c.in-Larger.is) ∙ c.self.view_is in
     rw (c.as_slice.ensures.value, c.deref.ensures) (subst (AreSearched c.in-Larger.searched.value.positions.items) same kept.1)

@@ -1,0 +1,6 @@
+-- The blanks that were added.
+use Rattle.std.proofs.Common.{◌≡◌, ◌++◌, replicate}
+use Rattle.explanations.proofs.marks.push_blanks.Given as goal
+
+abbrev pub invariant-loop : goal.invariant-loop
+invariant-loop l = l.text.items ≡ l.fn.text.items ++ replicate l.counter 32

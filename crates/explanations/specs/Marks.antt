@@ -1,0 +1,76 @@
+-- How a line is shown, with a caret below a place of it (this project's choice).
+use Rattle.std.specs.Prelude.{◌≡◌, ◌++◌, ◌-◌, ◌≤◌, ◌&&◌, ◌||◌, Option, Some, None, ℕ, Bool, true, false, List, [], ◌∷◌, codes, decimal, drop, if◌then◌else◌, length, min, nat_le, nat_lt, replicate, take}
+use Rattle.std.specs.List.{count_by, flat_map}
+use Rattle.std.specs.Char.Escape.{escape_ascii}
+use Rattle.explanations.specs.Lines.{IsLine, IsWhite, line_number}
+
+-- whether a byte is shown as it is: printable ASCII; and one of a character that isn't ASCII, in a text that is shown in UTF-8
+abbrev pub is_shown : Bool → ℕ → Bool
+is_shown utf8 byte = (nat_le 32 byte && nat_lt byte 127) || (utf8 && nat_le 128 byte)
+
+-- a byte as it is shown: itself, or its escape, as in Rust
+abbrev pub shown_byte : Bool → ℕ → List ℕ
+shown_byte utf8 byte = if is_shown utf8 byte then byte ∷ [] else escape_ascii byte
+
+-- bytes as they are shown
+abbrev pub shown : Bool → List ℕ → List ℕ
+shown utf8 bytes = flat_map (shown_byte utf8) bytes
+
+-- whether a byte begins a character of UTF-8
+abbrev pub begins_character : ℕ → Bool
+begins_character byte = nat_lt byte 128 || nat_le 192 byte
+
+-- how many characters a text in UTF-8 has
+abbrev pub characters : List ℕ → ℕ
+characters bytes = count_by begins_character bytes
+
+-- two dots where a line is cut
+abbrev pub dots : Bool → List ℕ
+dots true = codes ".."
+dots false = []
+
+-- a number in at least three columns
+abbrev pub numbered : ℕ → List ℕ
+numbered number = replicate (3 - length (decimal number)) 32 ++ decimal number
+
+-- two lines: a number, a bar and a text; and a bar and a caret below the place where the text's second part begins
+abbrev pub two_lines : List ℕ → List ℕ → List ℕ → List ℕ
+two_lines number before after =
+    number ++ codes " | " ++ before ++ after ++ codes "\n"
+    ++ replicate (length number) 32 ++ codes " | " ++ replicate (characters before) 32 ++ codes "^\n"
+
+-- the two lines show the line of a place: with the line's number, and with the caret below the byte at the place. They show the line from
+-- one place of the text to another, with dots where it goes on; white space at its end is left out
+pub record IsMarkAt (text : List ℕ) (place : ℕ) (lines : List ℕ) : Type 0 where
+  pub start : ℕ
+  pub end : ℕ
+  pub line : IsLine text place start end
+  pub from : ℕ
+  pub to : ℕ
+  pub last : ℕ
+  pub from_within : (start ≤ from) × (from ≤ place)
+  pub to_within : (place ≤ to) × (to ≤ last) × (last ≤ end)
+  pub white : IsWhite text last end
+  pub utf8 : Bool
+  pub is : lines ≡ two_lines (numbered (line_number text place))
+      (dots (nat_lt start from) ++ shown utf8 (drop from (take place text)))
+      (shown utf8 (drop place (take to text)) ++ dots (nat_lt to last))
+
+-- the same, but a place in the white space at a text's end, or past it, is shown as that where this white space begins
+pub record IsMark (text : List ℕ) (place : ℕ) (lines : List ℕ) : Type 0 where
+  pub end : ℕ
+  pub within : end ≤ length text
+  pub white : IsWhite text end (length text)
+  pub marks : IsMarkAt text (min place end) lines
+
+-- ---- explanations
+
+-- a line that says something
+abbrev pub said : List ℕ → List ℕ
+said sentence = codes "sfq: " ++ sentence ++ codes "\n"
+
+-- an explanation of a fault at a place of a text, or of one without a place: the two lines that show the place, and a sentence
+abbrev pub IsExplanation : List ℕ → Option ℕ → List ℕ → Type 0
+IsExplanation text None explanation = (sentence : List ℕ) × (explanation ≡ said sentence)
+IsExplanation text (Some place) explanation =
+    (lines sentence : List ℕ) × IsMark text place lines × (explanation ≡ lines ++ said sentence)

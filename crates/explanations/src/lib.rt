@@ -1,0 +1,23 @@
+//! Explanations of faults of texts: the line of the place with a caret below it, and a sentence that says what is there and what to do.
+//! Each is a text of its own, which is written after the line of the fault.
+#![tactic(auto)]
+
+mod geometry_sentences;
+mod lines;
+mod marks;
+mod nearest_names;
+mod parts;
+mod query_explanations;
+mod query_sentences;
+mod query_words;
+mod said_lines;
+mod schema_explanations;
+mod text_explanations;
+
+pub use lines::{Line, line_of};
+pub use marks::marked;
+pub use nearest_names::nearest;
+pub use query_explanations::{Names, query_explained};
+pub use said_lines::explained;
+pub use schema_explanations::schema_explained;
+pub use text_explanations::{text_explained, validity_explained};

@@ -1,0 +1,57 @@
+//! The line of a text that a place is in.
+
+ghost use Rattle.std.specs.Prelude.{◌≡◌, ◌≤◌, ◌<◌, ◌+◌, length};
+ghost use Rattle.explanations.specs.Lines.{IsLine, IsWhite, line_number};
+ghost use Rattle.explanations.specs.Lines as spec;
+
+/// A line of a text.
+#[derive(Clone, Copy, Debug)]
+pub struct Line {
+    /// Its number, from 1.
+    pub number: usize,
+    /// The place of its first byte.
+    pub start: usize,
+    /// The place after its last byte: that of its line feed, or the text's end.
+    pub end: usize,
+}
+
+/// The line that a place of a text is in. A line feed is the end of the line before it (lines: this project's choice).
+pub fn line_of(text: &[u8], place: usize) -> Line
+    requires { place ≤ length text.now }
+    ensures number { result.number ≡ line_number text.now place }
+    ensures line { IsLine text.now place result.start result.end }
+{
+    let mut number = 1;
+    let mut start = 0;
+    for at in 0..place {
+        if text[at] == b'\n' {
+            number += 1;
+            start = at + 1;
+        }
+    }
+    let mut end = place;
+    while end < text.len() && text[end] != b'\n' {
+        end += 1;
+    }
+    Line { number, start, end }
+}
+
+/// Whether a byte is white space.
+pub(crate) fn is_white(byte: u8) -> bool
+    ensures { result ≡ spec.is_white byte }
+{
+    byte == b' ' || byte == b'\t' || byte == b'\n' || byte == b'\r'
+}
+
+/// Where a part of a text ends if white space at its end is left out. The part is from one place to another.
+pub(crate) fn trimmed_end(text: &[u8], from: usize, to: usize) -> usize
+    requires { (from ≤ to) × (to ≤ length text.now) }
+    ensures within { (from ≤ result) × (result ≤ to) }
+    ensures white { IsWhite text.now result to }
+{
+    let mut end = to;
+    while end > from && is_white(text[end - 1]) {
+        end -= 1;
+    }
+    end
+}

@@ -1,0 +1,250 @@
+//! A line of a text, as it is shown, with a caret below a place of it.
+
+ghost use Rattle.std.specs.Prelude.{◌≡◌, ◌≤◌, ◌++◌, IfOk, OnOk, length, replicate, take, drop};
+ghost use Rattle.std.specs.Char.Escape.{escape_ascii};
+ghost use Rattle.explanations.specs.Marks.{IsMark, IsMarkAt, dots, two_lines};
+ghost use Rattle.explanations.specs.Marks as spec;
+
+use crate::lines::{line_of, trimmed_end};
+use itoa::Buffer;
+use std::alloc::{AllocError, Global};
+
+/// How many columns of a line are shown before the place.
+const COLUMNS_BEFORE: usize = 100;
+
+/// How many are shown from it on.
+const COLUMNS_AFTER: usize = 60;
+
+/// Two lines that show a place of a text: the number of the line that it is in, a bar and the line, cut to 100 columns before the place and
+/// 60 from it on; and a bar and a caret below the byte at the place. White space at the end of the line and of the text isn't shown, and a
+/// place in that of the text is shown as where it begins. Bytes that aren't printable are shown as escapes; so are characters that aren't
+/// ASCII, where the line isn't UTF-8 or has some that aren't seen or that terminals obey. At Err memory ran out (the form: this project's
+/// choice).
+pub fn marked(alloc: Global, text: &[u8], place: usize) -> Result<Vec<u8>, AllocError>
+    ensures { IfOk result (λ lines. IsMark text.now place lines.items) }
+{
+    let end = trimmed_end(text, 0, text.len());
+    marked_within(alloc, text, place.min(end))
+}
+
+/// The same of a place within the text.
+fn marked_within(alloc: Global, text: &[u8], place: usize) -> Result<Vec<u8>, AllocError>
+    requires { place ≤ length text.now }
+    ensures { IfOk result (λ lines. IsMarkAt text.now place lines.items) }
+{
+    let line = line_of(text, place);
+    let last = trimmed_end(text, place, line.end);
+    let utf8 = is_plain(part(text, line.start, line.end));
+    let from = first_shown(text, line.start, place, utf8);
+    let to = last_shown(text, place, last, utf8);
+    let front = part(text, from, place);
+    let before = front_shown(alloc, line.start < from, front, utf8)?;
+    let back = part(text, place, to);
+    let after = back_shown(alloc, back, utf8, to < last)?;
+    let number = numbered(alloc, line.number)?;
+    laid_out(
+        alloc,
+        number.as_slice(),
+        before.as_slice(),
+        after.as_slice(),
+    )
+}
+
+/// A number in at least three columns.
+fn numbered(alloc: Global, number: usize) -> Result<Vec<u8>, AllocError>
+    ensures { IfOk result (λ text. text.items ≡ spec.numbered number) }
+{
+    let mut digits = Buffer::new();
+    let digits = digits.format(number);
+    let mut text = Vec::new(alloc);
+    push_blanks(&mut text, 3usize.saturating_sub(digits.len()))?;
+    text.extend_from_slice(digits.as_bytes())?;
+    Ok(text)
+}
+
+/// The bytes of a text from one place to another.
+fn part(text: &[u8], from: usize, to: usize) -> &[u8]
+    requires { (from ≤ to) × (to ≤ length text.now) }
+    ensures { result.now ≡ drop from (take to text.now) }
+{
+    let front = &text[..to];
+    &front[from..]
+}
+
+/// What is shown before a place, with dots before it if the line is cut there.
+fn front_shown(alloc: Global, is_cut: bool, bytes: &[u8], utf8: bool) -> Result<Vec<u8>, AllocError>
+    ensures { IfOk result (λ text. text.items ≡ dots is_cut ++ spec.shown utf8 bytes.now) }
+{
+    let mut text = Vec::from_slice(alloc, dots_if(is_cut).as_bytes())?;
+    push_shown(&mut text, bytes, utf8)?;
+    Ok(text)
+}
+
+/// What is shown from a place on, with dots after it if the line is cut there.
+fn back_shown(alloc: Global, bytes: &[u8], utf8: bool, is_cut: bool) -> Result<Vec<u8>, AllocError>
+    ensures { IfOk result (λ text. text.items ≡ spec.shown utf8 bytes.now ++ dots is_cut) }
+{
+    let mut text = Vec::new(alloc);
+    push_shown(&mut text, bytes, utf8)?;
+    text.extend_from_slice(dots_if(is_cut).as_bytes())?;
+    Ok(text)
+}
+
+/// Whether a line is shown in UTF-8: it is UTF-8, and each of its characters is seen, and none obeyed by terminals.
+fn is_plain(line: &[u8]) -> bool {
+    match std::str::from_utf8(line) {
+        Ok(text) => !text.chars().any(is_hidden),
+        Err(_) => false,
+    }
+}
+
+/// Whether a character isn't seen, or is obeyed by terminals: those of control, of direction and of no width.
+fn is_hidden(character: char) -> bool {
+    let code = character as u32;
+    (128..160).contains(&code)
+        || (0x200b..0x2010).contains(&code)
+        || (0x2028..0x202f).contains(&code)
+        || (0x2060..0x2070).contains(&code)
+        || code == 0xfeff
+}
+
+/// Where what is shown before a place begins.
+fn first_shown(text: &[u8], start: usize, place: usize, utf8: bool) -> usize
+    requires { (start ≤ place) × (place ≤ length text.now) }
+    ensures { (start ≤ result) × (result ≤ place) }
+{
+    let mut left = COLUMNS_BEFORE;
+    let mut from = place;
+    while from > start && width(text[from - 1], utf8) <= left {
+        left = left.saturating_sub(width(text[from - 1], utf8));
+        from -= 1;
+    }
+    while utf8 && from < place && !begins_character(text[from]) {
+        from += 1;
+    }
+    from
+}
+
+/// Where what is shown from a place on ends.
+fn last_shown(text: &[u8], place: usize, end: usize, utf8: bool) -> usize
+    requires { (place ≤ end) × (end ≤ length text.now) }
+    ensures { (place ≤ result) × (result ≤ end) }
+{
+    let mut left = COLUMNS_AFTER;
+    let mut to = place;
+    while to < end && width(text[to], utf8) <= left {
+        left = left.saturating_sub(width(text[to], utf8));
+        to += 1;
+    }
+    to
+}
+
+/// At most how many columns a byte takes that is shown.
+fn width(byte: u8, utf8: bool) -> usize {
+    if byte == b'\t' || byte == b'\r' {
+        2
+    } else if !is_shown(byte, utf8) {
+        4
+    } else if begins_character(byte) {
+        1
+    } else {
+        0
+    }
+}
+
+/// Two dots, where a line is cut.
+fn dots_if(is_cut: bool) -> &'static str
+    ensures { result.now ≡ dots is_cut }
+{
+    if is_cut { ".." } else { "" }
+}
+
+/// Whether a byte is shown as it is.
+fn is_shown(byte: u8, utf8: bool) -> bool
+    ensures { result ≡ spec.is_shown utf8 byte }
+{
+    (32 <= byte && byte < 127) || (utf8 && 128 <= byte)
+}
+
+/// Whether a byte begins a character of UTF-8.
+fn begins_character(byte: u8) -> bool
+    ensures { result ≡ spec.begins_character byte }
+{
+    byte < 128 || 192 <= byte
+}
+
+/// Adds bytes, as they are shown.
+fn push_shown(text: &mut Vec<u8>, bytes: &[u8], utf8: bool) -> Result<(), AllocError>
+    ensures { OnOk result (text.new.items ≡ text.old.items ++ spec.shown utf8 bytes.now) }
+{
+    for byte in bytes {
+        push_byte(text, *byte, utf8)?;
+    }
+    Ok(())
+}
+
+/// Adds a byte, as it is shown.
+fn push_byte(text: &mut Vec<u8>, byte: u8, utf8: bool) -> Result<(), AllocError>
+    ensures { OnOk result (text.new.items ≡ text.old.items ++ spec.shown_byte utf8 byte) }
+{
+    if is_shown(byte, utf8) {
+        text.push(byte)?;
+        return Ok(());
+    }
+    push_escape(text, byte)
+}
+
+/// Adds the escape of a byte.
+fn push_escape(text: &mut Vec<u8>, byte: u8) -> Result<(), AllocError>
+    ensures { OnOk result (text.new.items ≡ text.old.items ++ escape_ascii byte) }
+{
+    let mut rest = byte.escape_ascii();
+    while let Some(escaped) = rest.next() {
+        text.push(escaped)?;
+    }
+    Ok(())
+}
+
+/// How many characters a text in UTF-8 has.
+fn characters(text: &[u8]) -> usize
+    ensures { result ≡ spec.characters text.now }
+{
+    let mut count = 0;
+    for byte in text {
+        if begins_character(*byte) {
+            count += 1;
+        }
+    }
+    count
+}
+
+/// Adds so many blanks.
+fn push_blanks(text: &mut Vec<u8>, count: usize) -> Result<(), AllocError>
+    ensures { OnOk result (text.new.items ≡ text.old.items ++ replicate count 32) }
+{
+    for _ in 0..count {
+        text.push(b' ')?;
+    }
+    Ok(())
+}
+
+/// The two lines of a text in two parts, with the caret below the place where the second begins.
+fn laid_out(
+    alloc: Global,
+    number: &[u8],
+    before: &[u8],
+    after: &[u8],
+) -> Result<Vec<u8>, AllocError>
+    ensures { IfOk result (λ lines. lines.items ≡ two_lines number.now before.now after.now) }
+{
+    let mut lines = Vec::from_slice(alloc, number)?;
+    lines.extend_from_slice(b" | ")?;
+    lines.extend_from_slice(before)?;
+    lines.extend_from_slice(after)?;
+    lines.extend_from_slice(b"\n")?;
+    push_blanks(&mut lines, number.len())?;
+    lines.extend_from_slice(b" | ")?;
+    push_blanks(&mut lines, characters(before))?;
+    lines.extend_from_slice(b"^\n")?;
+    Ok(lines)
+}

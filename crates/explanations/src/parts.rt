@@ -1,0 +1,176 @@
+//! Parts of texts, for sentences that say what is at a place. Past a text's end there is nothing.
+
+use crate::lines::{is_white, trimmed_end};
+use std::alloc::{AllocError, Global};
+
+/// The most bytes of a part that a sentence shows.
+const SHOWN_BYTES: usize = 40;
+
+/// What comes from a place on.
+pub(crate) fn rest(text: &[u8], place: usize) -> &[u8] {
+    if place <= text.len() {
+        return &text[place..];
+    }
+    &[]
+}
+
+/// What comes before a place.
+pub(crate) fn front(text: &[u8], place: usize) -> &[u8] {
+    if place <= text.len() {
+        return &text[..place];
+    }
+    text
+}
+
+/// The first byte, or 0.
+pub(crate) fn first(text: &[u8]) -> u8 {
+    if text.is_empty() {
+        return 0;
+    }
+    text[0]
+}
+
+/// The last byte, or 0.
+pub(crate) fn last(text: &[u8]) -> u8 {
+    if text.is_empty() {
+        return 0;
+    }
+    text[text.len() - 1]
+}
+
+/// A text without the white space at its beginning.
+pub(crate) fn trimmed(text: &[u8]) -> &[u8] {
+    for (at, byte) in text.iter().enumerate() {
+        if !is_white(*byte) {
+            return rest(text, at);
+        }
+    }
+    &[]
+}
+
+/// A text without the white space at its end.
+pub(crate) fn trimmed_back(text: &[u8]) -> &[u8] {
+    front(text, trimmed_end(text, 0, text.len()))
+}
+
+/// The letters, digits and `_` at a text's beginning.
+pub(crate) fn word(text: &[u8]) -> &[u8] {
+    for (at, byte) in text.iter().enumerate() {
+        if !(byte.is_ascii_alphanumeric() || *byte == b'_') {
+            return front(text, at);
+        }
+    }
+    text
+}
+
+/// The letters, digits, signs and points at a text's beginning.
+pub(crate) fn number(text: &[u8]) -> &[u8] {
+    for (at, byte) in text.iter().enumerate() {
+        if !(byte.is_ascii_alphanumeric() || *byte == b'.' || *byte == b'-' || *byte == b'+') {
+            return front(text, at);
+        }
+    }
+    text
+}
+
+/// What comes before the first of these bytes.
+pub(crate) fn before(text: &[u8], end: u8) -> &[u8] {
+    for (at, byte) in text.iter().enumerate() {
+        if *byte == end {
+            return front(text, at);
+        }
+    }
+    text
+}
+
+/// The character at a text's beginning: one of UTF-8, if it begins one.
+pub(crate) fn character(text: &[u8]) -> &[u8] {
+    let first = first(text);
+    let length = if first < 128 {
+        1
+    } else if first < 224 {
+        2
+    } else if first < 240 {
+        3
+    } else {
+        4
+    };
+    front(text, length.min(text.len()))
+}
+
+/// Whether a text is a word, in any ASCII case.
+pub(crate) fn is(text: &[u8], word: &str) -> bool {
+    text.eq_ignore_ascii_case(word.as_bytes())
+}
+
+/// The place of a word in a list of words, in any ASCII case.
+pub(crate) fn place_in(words: &[&[u8]], text: &[u8]) -> Option<usize> {
+    for (place, word) in words.iter().enumerate() {
+        if text.eq_ignore_ascii_case(word) {
+            return Some(place);
+        }
+    }
+    None
+}
+
+/// The sentence of the first row whose word this is, in any ASCII case.
+pub(crate) fn said_of(text: &[u8], rows: &[(&str, &'static str)]) -> Option<&'static str> {
+    for row in rows {
+        if is(text, row.0) {
+            return Some(row.1);
+        }
+    }
+    None
+}
+
+/// The parts of a sentence, one after another.
+pub(crate) fn joined(alloc: Global, parts: &[&[u8]]) -> Result<Vec<u8>, AllocError> {
+    let mut text = Vec::new(alloc);
+    for part in parts {
+        text.extend_from_slice(part)?;
+    }
+    Ok(text)
+}
+
+/// A part of a text as a sentence shows it: its first 40 bytes, and two dots if it has more; each that isn't printable ASCII, and isn't of
+/// a character of UTF-8, as a question mark.
+pub(crate) fn shown(alloc: Global, part: &[u8]) -> Result<Vec<u8>, AllocError> {
+    let mut text = Vec::new(alloc);
+    let utf8 = std::str::from_utf8(front(part, SHOWN_BYTES.min(part.len()))).is_ok();
+    for byte in front(part, SHOWN_BYTES.min(part.len())) {
+        let is_plain = (32 <= *byte && *byte < 127) || (utf8 && 128 <= *byte);
+        text.push(if is_plain { *byte } else { b'?' })?;
+    }
+    if part.len() > SHOWN_BYTES {
+        text.extend_from_slice(b"..")?;
+    }
+    Ok(text)
+}
+
+/// A part of a text between words, as a sentence shows it.
+pub(crate) fn worded(
+    alloc: Global,
+    before: &str,
+    part: &[u8],
+    after: &str,
+) -> Result<Vec<u8>, AllocError> {
+    let mut text = Vec::from_slice(alloc, before.as_bytes())?;
+    let part = shown(alloc, part)?;
+    text.extend_from_slice(part.as_slice())?;
+    text.extend_from_slice(after.as_bytes())?;
+    Ok(text)
+}
+
+/// The same, with a name that is proposed in its place.
+pub(crate) fn worded_with(
+    alloc: Global,
+    before: &str,
+    part: &[u8],
+    between: &str,
+    name: &[u8],
+) -> Result<Vec<u8>, AllocError> {
+    let mut text = worded(alloc, before, part, between)?;
+    text.extend_from_slice(name)?;
+    text.extend_from_slice(b"?")?;
+    Ok(text)
+}

@@ -1,0 +1,113 @@
+//! Explanations of faults: the place that they show, and their sentence.
+
+use explanations::{
+    Names, explained, marked, nearest, query_explained, schema_explained, text_explained,
+    validity_explained,
+};
+use geometry_model::{TextFault, ValidityFault};
+use std::test::Fail;
+use streams::MemorySink;
+use table_model::faults::{QueryFault, SchemaFault};
+use text_commands::{File, explain_word, explain_words};
+
+const TABLES: [&[u8]; 2] = [b"building", b"parcel"];
+
+const COLUMNS: [&[u8]; 3] = [b"id", b"name", b"zone"];
+
+#[test]
+fn a_place_has_a_caret_below_it(rt: HostRuntime) -> Result<(), Fail> {
+    let text = "SELECT id\r\nFROM parcel\r\nWHERE name = 'Käse'\t? 1\r\n".as_bytes();
+    let lines = marked(rt.alloc(), text, 45)?;
+    let shown = "  3 | WHERE name = 'Käse'\\t? 1\n    |                      ^\n";
+    assert_eq!(rt; lines.as_slice(), shown.as_bytes());
+    Ok(())
+}
+
+#[test]
+fn a_sentence_comes_behind_its_place(rt: HostRuntime) -> Result<(), Fail> {
+    let lines = explained(
+        rt.alloc(),
+        b"a\nb c\n",
+        Some(4),
+        b"c isn't there: leave it out",
+    )?;
+    let shown = b"  2 | b c\n    |   ^\nsfq: c isn't there: leave it out\n";
+    assert_eq!(rt; lines.as_slice(), shown.as_slice());
+    Ok(())
+}
+
+#[test]
+fn the_nearest_name_is_found(rt: HostRuntime) -> Result<(), Fail> {
+    assert_eq!(rt; nearest(rt.alloc(), b"PARCELS", &TABLES)?, Some(1));
+    assert_eq!(rt; nearest(rt.alloc(), b"streets", &TABLES)?, None);
+    Ok(())
+}
+
+#[test]
+fn a_query_is_explained(rt: HostRuntime) -> Result<(), Fail> {
+    let names = Names {
+        tables: &TABLES,
+        columns: &COLUMNS,
+    };
+    let text = b"SELECT id FROM parcels";
+    let lines = query_explained(rt.alloc(), text, QueryFault::UnknownTable(15), &names)?;
+    let shown =
+        b"  1 | SELECT id FROM parcels\n    |                ^\nsfq: there is no table parcels: did you mean parcel?\n";
+    assert_eq!(rt; lines.as_slice(), shown.as_slice());
+    Ok(())
+}
+
+#[test]
+fn a_schema_is_explained(rt: HostRuntime) -> Result<(), Fail> {
+    let text = b"CREATE TABLE t (id SMALLINT PRIMARY KEY);";
+    let lines = schema_explained(rt.alloc(), text, SchemaFault::Syntax(19))?;
+    let shown =
+        b"  1 | CREATE TABLE t (id SMALLINT PRIMARY KEY);\n    |                    ^\nsfq: SMALLINT isn't a type here: write INTEGER\n";
+    assert_eq!(rt; lines.as_slice(), shown.as_slice());
+    Ok(())
+}
+
+#[test]
+fn a_geometry_is_explained(rt: HostRuntime) -> Result<(), Fail> {
+    let lines = text_explained(rt.alloc(), b"POINT(1 2", TextFault::Syntax(9))?;
+    let shown = b"  1 | POINT(1 2\n    |          ^\nsfq: the text ends where ) is to come\n";
+    assert_eq!(rt; lines.as_slice(), shown.as_slice());
+    let text = b"LINESTRING(3 3,3 3)";
+    let lines = validity_explained(rt.alloc(), text, ValidityFault::TooFewPoints(0))?;
+    let shown =
+        b"sfq: a line has at least two positions that differ: write a POINT, or leave the line out\n";
+    assert_eq!(rt; lines.as_slice(), shown.as_slice());
+    Ok(())
+}
+
+/// The text of the file of a geometry, whose ring crosses itself.
+fn ring_of(file: File<'_>) -> Option<&'static [u8]> {
+    match file {
+        File::Geometry("ring.wkt") => Some(b"POLYGON((0 0,4 4,4 0,0 4,0 0))"),
+        _ => None,
+    }
+}
+
+#[test]
+fn the_second_of_two_words_is_explained(rt: HostRuntime) {
+    let mut err = MemorySink::new(rt.alloc());
+    let opener = |file: File<'_>| ring_of(file);
+    explain_words(rt.alloc(), "POINT(0 0)", "@ring.wkt", opener, &mut err);
+    let shown =
+        b"sfq: V3 0: 0 0 to 4 4 and 4 0 to 0 4 share 2 2\nsfq: split the ring where it meets itself\n";
+    assert!(rt; err.bytes() == shown.as_slice());
+}
+
+/// Of a word alone, a geometry that isn't valid is no fault.
+#[test]
+fn one_word_is_explained(rt: HostRuntime) {
+    let mut err = MemorySink::new(rt.alloc());
+    let opener = |file: File<'_>| ring_of(file);
+    explain_word(rt.alloc(), "@ring.wkt", opener, &mut err);
+    assert!(rt; err.bytes().is_empty());
+    let opener = |file: File<'_>| ring_of(file);
+    explain_word(rt.alloc(), "POINT(1.5 2)", opener, &mut err);
+    let shown =
+        b"  1 | POINT(1.5 2)\n    |       ^\nsfq: 1.5 isn't whole: scale or round the coordinates; sfq-import does\n";
+    assert!(rt; err.bytes() == shown.as_slice());
+}

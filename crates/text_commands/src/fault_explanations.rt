@@ -1,0 +1,145 @@
+//! What is written after the line of a fault of `relate` and `why`, where more is asked for: its place, and what to do. The words give
+//! their texts once more.
+
+ghost use Rattle.std.specs.Prelude.{◌≡◌, ◌⊎◌, IfSome};
+ghost use Rattle.text_commands.specs.Explanations.{Explains, HasFirst, MayExplain, MayExplainBoth, MayExplainWord};
+ghost use Rattle.text_commands.specs.Files.{OpensFile};
+ghost use Rattle.failures.specs.declared.failure.Failure.TheVariants as f;
+ghost use Rattle.geometry_model.specs.declared.geometry_faults.GeometryFault.TheVariants as g;
+
+use crate::files::File;
+use crate::given_texts::geometry_texts;
+use crate::{geometry_of, geometry_text, reason_of_text};
+use explanations::{text_explained, validity_explained};
+use failures::{Failure, GeometryWord};
+use geometry_model::{GeometryFault, TextFault, ValidityFault};
+use std::alloc::Global;
+use std::io::Read;
+use streams::{Sink, put_all};
+use witnesses::put_verdict;
+
+/// Writes what explains the first fault of the texts of the geometries that two words give, after the line of that fault: the place and
+/// what to do. Nothing is written where neither has one, or a text isn't there, or memory runs out.
+pub fn explain_words<R: Read + Drop, F: FnMut(File<'_>) -> Option<R>, E: Sink>(
+    alloc: Global,
+    first: &str,
+    second: &str,
+    opener: F,
+    err: &mut E,
+)
+    requires { F.IsAlwaysCallable opener }
+    ensures explains { MayExplainBoth E.taken E.failures (OpensFile F.FnMut) R.remaining opener
+        first.now second.now err.old err.new }
+{
+    let Ok(texts) = geometry_texts(alloc, first, second, opener) else {
+        return;
+    };
+    explain_texts(alloc, texts.first.as_slice(), texts.second.as_slice(), err);
+}
+
+/// The same of the word of `why` alone, whose geometry may be invalid: that is no fault of it.
+pub fn explain_word<R: Read + Drop, F: FnMut(File<'_>) -> Option<R>, E: Sink>(
+    alloc: Global,
+    word: &str,
+    mut opener: F,
+    err: &mut E,
+)
+    requires { F.IsAlwaysCallable opener }
+    ensures explains { MayExplainWord E.taken E.failures (OpensFile F.FnMut) R.remaining opener
+        word.now err.old err.new }
+{
+    let Ok(text) = geometry_text(alloc, word, "first", &mut opener) else {
+        return;
+    };
+    if is_unread(alloc, text.as_slice()) {
+        explain_text(alloc, text.as_slice(), err);
+    }
+}
+
+/// Whether a text spells no geometry.
+fn is_unread(alloc: Global, text: &[u8]) -> bool {
+    matches!(fault_of(alloc, text), Some(GeometryFault::Text(_)))
+}
+
+/// Explains the first fault of two texts.
+fn explain_texts<E: Sink>(alloc: Global, first: &[u8], second: &[u8], err: &mut E)
+    ensures { MayExplain E.taken E.failures err.old err.new first.now
+        ⊎ MayExplain E.taken E.failures err.old err.new second.now }
+{
+    if has_fault(alloc, first) {
+        explain_text(alloc, first, err);
+        return;
+    }
+    explain_text(alloc, second, err);
+}
+
+/// Whether a text has a fault.
+fn has_fault(alloc: Global, text: &[u8]) -> bool {
+    fault_of(alloc, text).is_some()
+}
+
+/// The first fault of a text, if it has one and memory didn't run out.
+fn fault_of(alloc: Global, text: &[u8]) -> Option<GeometryFault>
+    ensures { IfSome result (HasFirst text.now) }
+{
+    let Err(failure) = geometry_of(alloc, GeometryWord::First, text) else {
+        return None;
+    };
+    let refused = refusal(&failure)?;
+    Some(refused.1)
+}
+
+/// The geometry that is refused, and its fault, if a failure is that.
+fn refusal(failure: &Failure<'_>) -> Option<(GeometryWord, GeometryFault)>
+    ensures { IfSome result (λ refused. failure.now ≡ f.Refused refused.0 refused.1) }
+{
+    match *failure {
+        Failure::Refused(word, fault) => Some((word, fault)),
+        _ => None,
+    }
+}
+
+/// Explains the first fault of a text, if it has one.
+fn explain_text<E: Sink>(alloc: Global, text: &[u8], err: &mut E)
+    ensures { MayExplain E.taken E.failures err.old err.new text.now }
+{
+    let Some(fault) = fault_of(alloc, text) else {
+        return;
+    };
+    explain_fault(alloc, text, fault, err);
+}
+
+/// Writes what explains a fault of a text.
+fn explain_fault<E: Sink>(alloc: Global, text: &[u8], fault: GeometryFault, err: &mut E)
+    ensures { (err.new ≡ err.old) ⊎ Explains E.taken E.failures err.old err.new text.now fault }
+{
+    match fault {
+        GeometryFault::Text(fault) => explain_refused(alloc, text, fault, err),
+        GeometryFault::Invalid(fault) => explain_invalid(alloc, text, fault, err),
+    }
+}
+
+/// Writes what explains a fault of a text that spells no geometry.
+fn explain_refused<E: Sink>(alloc: Global, text: &[u8], fault: TextFault, err: &mut E)
+    ensures { (err.new ≡ err.old) ⊎ Explains E.taken E.failures err.old err.new text.now (g.Text fault) }
+{
+    let Ok(explanation) = text_explained(alloc, text, fault) else {
+        return;
+    };
+    let _ = put_all(err, explanation.as_slice());
+}
+
+/// Writes what explains a fault of the geometry of a text, which isn't valid.
+fn explain_invalid<E: Sink>(alloc: Global, text: &[u8], fault: ValidityFault, err: &mut E)
+    ensures { (err.new ≡ err.old) ⊎ Explains E.taken E.failures err.old err.new text.now (g.Invalid fault) }
+{
+    let Ok(verdict) = reason_of_text(alloc, text) else {
+        return;
+    };
+    let Ok(explanation) = validity_explained(alloc, text, fault) else {
+        return;
+    };
+    let _ = put_all(err, b"sfq: ");
+    let _ = put_verdict(&verdict, err);
+    let _ = put_all(err, explanation.as_slice());
+}

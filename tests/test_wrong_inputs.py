@@ -1,0 +1,128 @@
+"""The cases of tests/wrong_inputs: what sfq writes of wrong inputs, without --why, and with it where the command has that switch."""
+import collections
+import functools
+import os
+import re
+import subprocess
+import tempfile
+import unittest
+
+from support import ROOT, needs_build, read, write
+
+import answers
+import repository
+import wrong_cases
+
+SWITCH = "--why"
+COMMANDS = ("run", "relate", "why", "pairs", "check")
+
+
+@functools.lru_cache(maxsize=None)
+def played():
+    """Returns the cases with what sfq writes of each without the switch, what with it, and the help of each command."""
+    cases = wrong_cases.all_cases()
+    with tempfile.TemporaryDirectory(prefix="sfq-wrong-") as room:
+        calls = [it.make(f"{room}/{at}") for at, it in enumerate(cases)]
+        switched = [[it[0], SWITCH, *it[1:]] for it in calls]
+        helps = [[it, "--help"] for it in COMMANDS]
+        given = answers.ask([*calls, *switched, *helps])
+        folders = [f"{room}/{at}" for at in range(len(cases))]
+    first, second, texts = given[: len(cases)], given[len(cases) : -len(helps)], given[-len(helps) :]
+    can = {it for it, text in zip(COMMANDS, texts) if SWITCH in text.out.decode()}
+    # check had a switch of this name before the others, which adds less.
+    can -= {"check"} if "run" not in can else set()
+    return list(zip(cases, first, second, folders)), can
+
+
+class Cases(unittest.TestCase):
+    """What the files say, without the program."""
+
+    def test_each_code_has_a_case(self):
+        faults = " ".join(it.fault for it in wrong_cases.all_cases())
+        for it in sorted(set(re.findall(r"`sfq: [^`]*?\b([SLQWV]\d+)\b", read(f"{ROOT}/docs/FAULTS.md")))):
+            self.assertRegex(faults, rf"\b{it}\b")
+        for it in ("schema unreadable", "parcel unreadable", "query unreadable", "first unreadable", "pairs unreadable"):
+            self.assertIn(f"sfq: {it}\n", faults)
+
+    def test_there_are_enough(self):
+        count = collections.Counter(it.name.partition(":")[0] for it in wrong_cases.all_cases())
+        for name, least in (("tables.txt", 50), ("schemas.txt", 30), ("queries.txt", 100), ("geometries.txt", 40)):
+            self.assertGreaterEqual(count[name], least, name)
+
+    def test_the_form_of_what_is_added(self):
+        for it in wrong_cases.all_cases():
+            with self.subTest(case=it.name):
+                self.assertLessEqual(len(it.added), 8)
+                for line in it.added:
+                    self.assertLessEqual(len(line), 200)
+                    self.assertRegex(line, r"\A(sfq: \S.*[^. ]| *\d+ \| ?.*| +\| +\^)\Z")
+
+    def test_places_are_those_of_the_faults(self):
+        for it in filter(lambda it: it.fault, wrong_cases.all_cases()):
+            with self.subTest(case=it.name):
+                self.assertEqual([line for line in it.added if not line.startswith("sfq: ")], wrong_cases.shown_place(it))
+
+
+class Played(unittest.TestCase):
+    """What the proved program writes: an unproved build would take too long over so many cases."""
+
+    ASKS_PROGRAM = True
+
+    @needs_build
+    def test_without_the_switch(self):
+        for case, given, _, _ in played()[0]:
+            with self.subTest(case=case.name):
+                self.assertEqual((given.out.decode(), given.err.decode(), given.status), (case.out, case.fault, case.status))
+
+    @needs_build
+    def test_with_the_switch(self):
+        found, can = played()
+        skipped = []
+        for case, _, given, folder in found:
+            if case.words[0] not in can or case.is_later:
+                skipped.append(case.name)
+                continue
+            with self.subTest(case=case.name):
+                added = "".join(f"{it}\n" for it in case.added).replace("$DIR", folder)
+                self.assertEqual((given.out.decode(), given.err.decode(), given.status), (case.out, case.fault + added, case.status))
+        if skipped:
+            self.skipTest(f"{SWITCH} says nothing or something else yet of {len(skipped)} cases: {' '.join(skipped)}")
+
+
+class Streams(unittest.TestCase):
+    """What the switch adds where a file of a case can't be the input: nothing, or well-formed lines."""
+
+    ASKS_PROGRAM = True
+
+    def run_with_switch(self, words, given="", **how):
+        """Runs the program with the switch, and returns what it wrote to standard error. Skips the test where it has no such switch."""
+        if SWITCH not in subprocess.run([repository.PROGRAM, "run", "--help"], capture_output=True, text=True).stdout:
+            self.skipTest(f"sfq run has no {SWITCH}")
+        words = [repository.PROGRAM, words[0], SWITCH, *words[1:]]
+        return subprocess.run(words, input=given, stderr=subprocess.PIPE, text=True, timeout=60, **how).stderr
+
+    def look(self, said, fault):
+        """Looks at the fault's line and the form of those behind it."""
+        first, *added = said.splitlines()
+        self.assertEqual(first, fault)
+        self.assertLessEqual(len(added), 8)
+        for it in added:
+            self.assertRegex(it, r"\Asfq: .")
+
+    @needs_build
+    def test_an_output_that_takes_no_more(self):
+        with open("/dev/full", "wb") as full:
+            said = self.run_with_switch(["relate", "POINT(1 2)", "POINT(1 2)"], stdout=full)
+        self.look(said, "sfq: write failed")
+
+    @needs_build
+    def test_a_table_that_is_a_pipe(self):
+        with tempfile.TemporaryDirectory(prefix="sfq-pipe-") as room:
+            write(f"{room}/schema.sql", "CREATE TABLE t (id INTEGER PRIMARY KEY)")
+            os.symlink("/dev/stdin", f"{room}/t.csv")
+            said = self.run_with_switch(["check", f"{room}/schema.sql", room], given="id\nx\n", stdout=subprocess.DEVNULL)
+        self.look(said, "sfq: t L5 record 1")
+
+
+if __name__ == "__main__":
+    unittest.main()

@@ -1,0 +1,144 @@
+"""Edits: wrong changes of a crate that the prover has to refuse.
+
+An edit is a line `file: PATH`, and below it pairs of lines `old: TEXT` and `new: TEXT`. Edits of a crate that change different
+functions are tried together, by one check: each is refused if the check leaves a goal of its function open. An edit that such a
+check doesn't settle is tried alone, by the kit: it changes no function, its change takes away what an answer names, or its
+function calls one that isn't proved with the others.
+"""
+import os
+import re
+from typing import Iterable, Optional
+
+# How a check says of a function that it has no proof.
+UNPROVED = re.compile(r"fn (\S+): (?:not proved|no proof)(?:: |; )?(.*)")
+ERROR = re.compile(r"\./proofs/(\S+)/\w+\.antt:\d+:\d+: error: (.*)")
+# What says of an answer only that the change took away what it names, or what rests on such an answer.
+TAKEN_AWAY = re.compile(r"has no (?:field )?`|is not in scope|is no name|which was rejected, w(?:as|ere) not checked")
+HEAD = re.compile(r'^( *)(?:pub(?:\([a-z]+\))? )?(?:const |unsafe |extern "C" )*fn (\w+)')
+BLOCK = re.compile(r"^(?:pub )?(?:unsafe )?(?:impl|trait)\b")
+
+
+class Edit:
+    """An edit: its path, its name, the file that it changes, and what it replaces there by what."""
+
+    def __init__(self, path: str) -> None:
+        self.path, self.name = path, os.path.basename(path)
+        self.file, self.pairs = "", list[tuple[str, str]]()
+        old = ""
+        with open(path, encoding="utf-8") as text:
+            for line in text.read().split("\n"):
+                word, _, rest = line.partition(": ")
+                if word == "file":
+                    self.file = rest
+                elif word == "old":
+                    old = rest
+                elif line.startswith("new:"):
+                    self.pairs.append((old, line[len("new: ") :]))
+
+    def applied(self, text: str) -> Optional[str]:
+        """Returns the changed text, or None where what it replaces isn't there once."""
+        for old, new in self.pairs:
+            if text.count(old) != 1:
+                return None
+            text = text.replace(old, new)
+        return text
+
+    def functions(self, crate: str, text: str) -> set[str]:
+        """Returns the functions that it changes, by the names that a check gives them; none where it changes something else too."""
+        found = set()
+        for old, _ in self.pairs:
+            name = function_at(text, text.find(old)) if text.count(old) == 1 else ""
+            if not name:
+                return set()
+            module = re.sub(r"^src/|\.rt$", "", self.file).replace("/", "::")
+            found.add("::".join(it for it in (crate, "" if module in ("lib", "main") else module, name) if it))
+        return found
+
+
+def owner_of(line: str) -> str:
+    """Returns what a check calls the functions of a block by: its type, and behind that its trait."""
+    head = re.match(r"(?:pub )?(?:unsafe )?(?:impl|trait)\b(?:<(?:[^<>]|<[^<>]*>)*>)? *(.*)", line)
+    trait, is_of, of = (head[1] if head else "").partition(" for ")
+    words = [re.match(r"(?:\w+::)*(\w+)", it) for it in ([of, trait] if is_of else [trait])]
+    return "".join(it[1] for it in words if it)
+
+
+def function_at(text: str, place: int) -> str:
+    """Returns the function whose body has a place of a source as `rt fmt` lays it out, with its owner, or an empty text."""
+    owner, name, indent, begun = "", "", "", False
+    for line in text[:place].split("\n"):
+        if BLOCK.match(line):
+            owner = owner_of(line)
+        head = HEAD.match(line)
+        if head:
+            name, indent, begun = head[2], head[1], False
+        begun = begun or bool(name) and line.endswith("{")
+        if name and line == indent + "}":
+            name = ""
+        if line == "}":
+            owner = ""
+    return "::".join(it for it in (owner, name) if it) if name and begun else ""
+
+
+def parted(crate: str, folder: str, edits: Iterable[Edit]) -> tuple[list[list[Edit]], list[Edit]]:
+    """Returns the edits in groups of which no two change one function, and those that have to be tried alone."""
+    groups: list[tuple[set[str], list[Edit]]] = []
+    alone = []
+    for edit in edits:
+        functions = edit.functions(crate, texts_of(folder, [edit])[edit.file])
+        if not functions:
+            alone.append(edit)
+            continue
+        # What one edit replaces may be twice in what another has made.
+        fitting = (it for it in groups if not it[0] & functions and changed(texts_of(folder, [*it[1], edit]), [*it[1], edit]))
+        group = next(fitting, None)
+        if group is None:
+            group = (set(), [])
+            groups.append(group)
+        group[0].update(functions)
+        group[1].append(edit)
+    return [it for _, it in groups], alone
+
+
+def texts_of(folder: str, edits: Iterable[Edit]) -> dict[str, str]:
+    """Returns the texts of the files that the edits change."""
+    texts = {}
+    for edit in edits:
+        with open(f"{folder}/{edit.file}", encoding="utf-8") as text:
+            texts[edit.file] = text.read()
+    return texts
+
+
+def changed(texts: dict[str, str], edits: Iterable[Edit]) -> Optional[dict[str, str]]:
+    """Returns these texts as the edits change them, or None where one can't be applied."""
+    found = dict(texts)
+    for edit in edits:
+        text = edit.applied(found[edit.file])
+        if text is None:
+            return None
+        found[edit.file] = text
+    return found
+
+
+def write(folder: str, texts: dict[str, str]) -> None:
+    for path, text in texts.items():
+        with open(f"{folder}/{path}", "w", encoding="utf-8") as file:
+            file.write(text)
+
+
+def refused_in(log: str) -> set[str]:
+    """Returns the functions of which a check leaves a goal open by itself: not over what an answer names, nor over what they call."""
+    errors: dict[str, list[str]] = {}
+    for line in log.split("\n"):
+        error = ERROR.match(line)
+        if error:
+            errors.setdefault(error[1].replace("/", "::"), []).append(error[2])
+    found = set()
+    for line in log.split("\n"):
+        said = UNPROVED.match(line)
+        if not said:
+            continue
+        own = errors.get(said[1].partition("::")[2], [])
+        if any(not TAKEN_AWAY.search(it) for it in own) or not own and said[2] and not said[2].startswith("it calls `"):
+            found.add(said[1])
+    return found

@@ -1,0 +1,115 @@
+#!/usr/bin/env python3
+"""The texts that sfq prints whatever it is given: help, the version, and the page of each fault, from the files of this repository.
+
+    python3 tools/own_texts.py     writes packaging/help anew, which has the texts of help, by the program or an unproved build of it
+
+./sfq prints them where ./build hasn't made the program, so that nobody waits for a build to read them. The pages of faults are those in
+the program's source. The texts of help were printed by the program; where its words were changed since then, none is taken from here.
+"""
+import hashlib
+import os
+import re
+import sys
+from typing import NamedTuple, Optional, Sequence
+
+ROOT = os.path.dirname(os.path.dirname(os.path.realpath(__file__)))
+FOLDER = f"{ROOT}/packaging/help"
+COMMANDS = ("run", "check", "relate", "why", "pairs", "fault")
+# The file of the pages of each letter of a code.
+PAGES = {"W": "text_pages", "V": "validity_pages", "S": "schema_pages", "L": "table_pages", "Q": "query_pages"}
+
+
+class Text(NamedTuple):
+    """What a call writes to standard output and to standard error, and its status."""
+
+    out: str
+    err: str
+    status: int
+
+
+def read(path: str) -> str:
+    with open(path, encoding="utf-8") as file:
+        return file.read()
+
+
+def sum_of_words() -> str:
+    """Returns the sum of the sources that have the words of the command line and the texts of its help."""
+    folder = f"{ROOT}/crates/command_line/src"
+    texts = [f"{it}\n{read(f'{folder}/{it}')}" for it in sorted(os.listdir(folder)) if it.endswith(".rt")]
+    return hashlib.sha256("".join(texts).encode()).hexdigest()
+
+
+def help_of(name: str) -> Optional[str]:
+    """Returns the help of sfq or of a command, or None where the sources have other words now."""
+    return read(f"{FOLDER}/{name}.txt") if read(f"{FOLDER}/sum.txt").strip() == sum_of_words() else None
+
+
+def version() -> Optional[str]:
+    """Returns the version that the program's source has, or None where it isn't as expected there."""
+    found = re.search(r'^pub const VERSION: &str = "([\d.]+)";$', read(f"{ROOT}/crates/command_line/src/command_words.rt"), re.M)
+    return f"sfq {found[1]}\n" if found else None
+
+
+def page(code: str) -> Optional[str]:
+    """Returns the page of a code, in any case, as the program's source has it; None where there is none."""
+    name = PAGES.get(code[:1].upper())
+    if not name or not re.fullmatch(r"[a-zA-Z][0-9]+", code):
+        return None
+    found = re.search(rf'^pub\(crate\) fn {code.lower()}\(\) -> .*?^    "\\\n(.*?)^"$', read(f"{ROOT}/crates/text_commands/src/{name}.rt"), re.M | re.S)
+    return re.sub(r'\\(["\\])', r"\1", found[1]) if found else None
+
+
+def unknown_code() -> Optional[str]:
+    """Returns the line of an unknown code, as the program's source has it."""
+    found = re.search(r'^    "(unknown code: [^"\\]*)";$', read(f"{ROOT}/crates/failures/src/failure.rt"), re.M)
+    return f"sfq: {found[1]}\n" if found else None
+
+
+def text_of(words: Sequence[str]) -> Optional[Text]:
+    """Returns what a call writes that asks for such a text, or None where it asks for anything else or its text isn't known."""
+    try:
+        return found_text(words)
+    except OSError:
+        return None
+
+
+def found_text(words: Sequence[str]) -> Optional[Text]:
+    """The same, with the error where a source isn't there."""
+    asked = list(words)
+    flags = ["--help"], ["-h"]
+    if asked in (["--version"], ["-V"]):
+        found = version()
+    elif asked in (*flags, ["help"], []):
+        found = help_of("sfq")
+        if not asked and found:
+            return Text("", found, 2)
+    elif len(asked) == 2 and (asked[0] in COMMANDS and asked[1:] in flags or asked[0] == "help" and asked[1] in COMMANDS):
+        found = help_of(asked[1] if asked[0] == "help" else asked[0])
+    elif len(asked) == 2 and asked[0] == "fault" and not asked[1].startswith("-"):
+        found = page(asked[1])
+        line = None if found else unknown_code()
+        if line:
+            return Text("", line, 2)
+    else:
+        found = None
+    return Text(found, "", 0) if found else None
+
+
+def main() -> int:
+    """Writes the texts of help, by the program."""
+    import answers
+
+    given = answers.ask([["--help"], *([it, "--help"] for it in COMMANDS)])
+    os.makedirs(FOLDER, exist_ok=True)
+    for name, it in zip(("sfq", *COMMANDS), given):
+        if it.status or it.err:
+            raise SystemExit(f"sfq {name} --help ended with status {it.status}: {it.err.decode()}")
+        with open(f"{FOLDER}/{name}.txt", "wb") as file:
+            file.write(it.out)
+    with open(f"{FOLDER}/sum.txt", "w", encoding="utf-8") as file:
+        file.write(f"{sum_of_words()}\n")
+    return 0
+
+
+if __name__ == "__main__":
+    sys.exit(main())
