@@ -17,7 +17,7 @@ ghost use Rattle.edge_boxes.specs.BoxCells.{IsCellOf};
 ghost use Rattle.edge_boxes.specs.EdgeCrossings.{AreCrossings, on_any};
 ghost use Rattle.edge_boxes.specs.BoxLists.{AreBoxes, BoxesOf, covered};
 ghost use Rattle.edge_boxes.specs.Sharings.{places_sharing};
-ghost use Rattle.edge_boxes.specs.OneLine.{meet_on_one_line};
+ghost use Rattle.edge_boxes.specs.OneLine.{overlap_on_one_line};
 ghost use Rattle.edge_boxes.specs.NearEdges.{is_near, EndsNear};
 ghost use Rattle.edge_boxes.specs.Walks.{IsStep};
 
@@ -77,11 +77,11 @@ impl EdgeBoxes {
         is_held_among(self.boxes.as_slice(), edges, point)
     }
 
-    /// Whether one of the edges is on one line with another edge and shares a point with it. If it returns false, none of them
-    /// shares a stretch with it (06-103r4, 6.1.15.2: intersection). It takes no memory.
-    pub fn meets_on_line(&self, edges: &[Segment], edge: &Segment) -> bool
+    /// Whether one of the edges is on one line with another edge and shares more than a common end with it. If it returns false,
+    /// none of them shares a stretch with it (06-103r4, 6.1.15.2: intersection). It takes no memory.
+    pub fn overlaps_on_line(&self, edges: &[Segment], edge: &Segment) -> bool
         requires { BoxesOf self.now edges.now }
-        ensures { result ≡ list_any (meet_on_one_line edge.now) edges.now }
+        ensures { result ≡ list_any (overlap_on_one_line edge.now) edges.now }
     {
         is_one_on_line_among(self.boxes.as_slice(), edges, edge)
     }

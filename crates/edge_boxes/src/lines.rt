@@ -1,16 +1,18 @@
-//! Which edges are on one line with another and share a point with it.
+//! Which edges are on one line with another and share a stretch with it.
 
 ghost use Rattle.std.specs.Prelude.{◌≡◌, ◌≤◌, ◌<◌, true, length};
 ghost use Rattle.std.specs.List.{list_any};
 ghost use Rattle.geometry_model.specs.Sides.{on_one_line};
 ghost use Rattle.edge_boxes.specs.RunLaws.{box_of};
 ghost use Rattle.edge_boxes.specs.BoxLists.{AreBoxes};
-ghost use Rattle.edge_boxes.specs.OneLine.{meet_on_one_line, SharesNone, IsLineStep};
+ghost use Rattle.edge_boxes.specs.OneLine.{touch_at, touch, overlap_on_one_line, SharesNone, IsLineStep};
 
 use crate::bounds::Bounds;
 use crate::boxes::{EdgeBox, covered, run_of};
+use crate::edge_pairs::share_other;
 use crate::kept_runs::Run;
 use crate::share_point;
+use fraction::GridPoint;
 use orient::{Segment, side_number};
 
 /// Whether two edges are on one line.
@@ -20,18 +22,34 @@ fn are_on_one_line(edge: &Segment, other: &Segment) -> bool
     side_number(edge, other.start()) == 0 && side_number(edge, other.end()) == 0
 }
 
-/// Whether two edges are on one line and share a point.
-fn meet_on_one_line(edge: &Segment, other: &Segment) -> bool
-    ensures { result ≡ meet_on_one_line edge.now other.now }
+/// Whether a position, which is an end of an edge, is an end of another too, and the two share no other point.
+fn touch_at(common: GridPoint, edge: &Segment, other: &Segment) -> bool
+    ensures { result ≡ touch_at common edge.now other.now }
 {
-    are_on_one_line(edge, other) && share_point(edge, other)
+    let is_common = common == other.start() || common == other.end();
+    is_common && !share_other(common, edge, other)
 }
 
-/// Whether one of the edges is on one line with another and shares a point with it.
-fn is_one_on_line(edges: &[Segment], edge: &Segment) -> bool
-    ensures { result ≡ list_any (meet_on_one_line edge.now) edges.now }
+/// Whether two edges share a common end and no other point.
+fn touch(edge: &Segment, other: &Segment) -> bool
+    ensures { result ≡ touch edge.now other.now }
 {
-    edges.iter().any(|other| meet_on_one_line(edge, other))
+    touch_at(edge.start(), edge, other) || touch_at(edge.end(), edge, other)
+}
+
+/// Whether two edges are on one line and share more than a common end.
+fn overlap_on_one_line(edge: &Segment, other: &Segment) -> bool
+    ensures { result ≡ overlap_on_one_line edge.now other.now }
+{
+    let meet_on_line = are_on_one_line(edge, other) && share_point(edge, other);
+    meet_on_line && !touch(edge, other)
+}
+
+/// Whether one of the edges is on one line with another and shares more than a common end with it.
+fn is_one_on_line(edges: &[Segment], edge: &Segment) -> bool
+    ensures { result ≡ list_any (overlap_on_one_line edge.now) edges.now }
+{
+    edges.iter().any(|other| overlap_on_one_line(edge, other))
 }
 
 /// Whether an edge is far from a run, by the run's bounds or its strip. The bounds are the edge's.
@@ -48,10 +66,10 @@ pub(crate) fn is_far(run: &Run, edge: &Segment, bounds: &Bounds) -> bool
     }
 }
 
-/// Whether one of the edges is on one line with another and shares a point with it, from the last box to the first.
+/// Whether one of the edges is on one line with another and shares more than a common end with it, from the last box to the first.
 pub(crate) fn is_one_on_line_among(boxes: &[EdgeBox], edges: &[Segment], edge: &Segment) -> bool
     requires { AreBoxes boxes.now edges.now }
-    ensures { result ≡ list_any (meet_on_one_line edge.now) edges.now }
+    ensures { result ≡ list_any (overlap_on_one_line edge.now) edges.now }
 {
     let bounds = Bounds::of(edge);
     let mut place = boxes.len();

@@ -43,10 +43,10 @@ fn edges_near_an_envelope(rt: HostRuntime) -> Result<(), Fail> {
     Ok(())
 }
 
-/// Whether one of the edges lies on the line of the segment between two places and shares a point with it.
-fn meets_on_line(alloc: Global, edges: &[Segment], a: Place, b: Place) -> Result<bool, Fail> {
+/// Whether one of the edges lies on the line of the segment between two places and shares more than an end with it.
+fn overlaps_on_line(alloc: Global, edges: &[Segment], a: Place, b: Place) -> Result<bool, Fail> {
     let boxes = EdgeBoxes::build(alloc, edges)?;
-    Ok(boxes.meets_on_line(edges, &segment(a, b)?))
+    Ok(boxes.overlaps_on_line(edges, &segment(a, b)?))
 }
 
 #[test]
@@ -57,12 +57,13 @@ fn edges_on_the_line_of_an_edge(rt: HostRuntime) -> Result<(), Fail> {
         edges.push(segment((x, x), (x + 1, x + 1))?)?;
     }
     let edges = edges.as_slice();
-    // Along one of the edges, and one that touches the last.
-    assert!(rt; meets_on_line(rt.alloc(), edges, (10, 10), (11, 11))?);
-    assert!(rt; meets_on_line(rt.alloc(), edges, (80, 80), (90, 90))?);
-    // On the line beyond its end, across it, and along it at its side.
-    assert!(rt; !meets_on_line(rt.alloc(), edges, (81, 81), (90, 90))?);
-    assert!(rt; !meets_on_line(rt.alloc(), edges, (0, 80), (80, 0))?);
-    assert!(rt; !meets_on_line(rt.alloc(), edges, (0, 1), (79, 80))?);
+    // Along one of the edges, and one that begins on the last.
+    assert!(rt; overlaps_on_line(rt.alloc(), edges, (10, 10), (11, 11))?);
+    assert!(rt; overlaps_on_line(rt.alloc(), edges, (79, 79), (90, 90))?);
+    // One that touches the last, on the line beyond its end, across it, and along it at its side.
+    assert!(rt; !overlaps_on_line(rt.alloc(), edges, (80, 80), (90, 90))?);
+    assert!(rt; !overlaps_on_line(rt.alloc(), edges, (81, 81), (90, 90))?);
+    assert!(rt; !overlaps_on_line(rt.alloc(), edges, (0, 80), (80, 0))?);
+    assert!(rt; !overlaps_on_line(rt.alloc(), edges, (0, 1), (79, 80))?);
     Ok(())
 }

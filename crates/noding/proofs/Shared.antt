@@ -1,15 +1,20 @@
 -- The points that an edge shares with others, as they are found one edge after the other.
-use Rattle.std.proofs.Common.{◌≡◌, ◌⊎◌, inl, inr, ℕ, suc, ◌+◌, ◌<◌, ◌≤◌, true, false, refl, sym, ap, subst, ◌∙◌, List, [], ◌∷◌, ◌++◌, length, get_or, All, Contains, pos, ◌≤ℤ◌, arith}
+use Rattle.std.proofs.Common.{◌≡◌, ◌⊎◌, inl, inr, ℕ, suc, ◌+◌, ◌<◌, ◌≤◌, Bool, true, false, not, ◌&&◌, ◌||◌, refl, sym, ap, subst, ◌∙◌, List, [], ◌∷◌, ◌++◌, length, get_or, All, Contains, pos, ◌≤ℤ◌, arith}
 use Rattle.std.proofs.lemmas.List.{get_or_default}
 use Rattle.std.specs.List.{list_any}
 use Rattle.std.proofs.lemmas.List.Folds.{list_any_at}
 use Rattle.std.proofs.lemmas.List.Elements.{All-contains, Contains-append_cases}
-use Rattle.std.proofs.lemmas.Bool.{and_parts, and_from}
+use Rattle.std.proofs.lemmas.Bool.{and_parts, and_from, or_cases, not-true}
 use Rattle.basics.proofs.Numbers.{earlier_or_last}
-use Rattle.geometry_model.specs.Points.{Point, IsPoint, same_point}
+use Rattle.geometry_model.specs.Points.{Position, Point, IsPoint, same_point, point_at}
 use Rattle.geometry_model.specs.Geometries.{Edge}
 use Rattle.geometry_model.specs.Sides.{on, on_one_line}
-use Rattle.geometry_model.specs.FirstFaults.{share_point}
+use Rattle.geometry_model.specs.FirstFaults.{share_point, share_other}
+use Rattle.geometry_model.specs.WellKnownText.{same_position}
+use Rattle.geometry_laws.specs.SharedPointLaws.{IsEnd}
+use Rattle.geometry_laws.proofs.OtherPoints.{same_from, other_point_is_decided}
+use Rattle.geometry_laws.proofs.PointOrder.{same_symmetric, same_transitive}
+use Rattle.geometry_laws.proofs.RingParity.{position_is_point}
 use Rattle.geometry_model.specs.Envelopes.{overlap}
 use Rattle.geometry_laws.proofs.SharedPoints.{shared_point_is_decided}
 use Rattle.fraction.specs.Ranges.{meeting_limit}
@@ -17,7 +22,7 @@ use Rattle.matrix_laws.proofs.MatrixLists.{among_from_contains, any_from_some}
 use Rattle.edge_boxes.specs.RunLaws.{box_of}
 use Rattle.edge_boxes.proofs.OverlappingBoxes.{sharing_boxes_overlap}
 use Rattle.edge_boxes.specs.Sharings.{places_sharing}
-use Rattle.edge_boxes.specs.OneLine.{meet_on_one_line}
+use Rattle.edge_boxes.specs.OneLine.{touch_at, touch, overlap_on_one_line}
 use Rattle.noding.specs.Meetings.{on_both, named, is_common_cut}
 use Rattle.noding.specs.Nodings.{ListsPoint, PutsPointsInOrder}
 use Rattle.noding.specs.declared.answers.Meet.{Meet}
@@ -124,9 +129,47 @@ shared_in_order e others points ordered h o = record {
   found = λ f c p hp k. point_kept points ordered (shared_points e others points h) o p (h.found f c p hp k);
 }
 
--- ---- none of the others is on one line with the edge and shares a point with it
-pub none_shares : (e : Edge) (others : List Edge) → list_any (meet_on_one_line e) others ≡ false → SharesNoStretch e others
-none_shares e others none f c one x y hx hy kx lx ky ly =
-    let shares : share_point e f ≡ true = (shared_point_is_decided e f).1 (record { at = x; is_point = hx; on_first = kx; on_second = lx }) in
-    let found = list_any_at (meet_on_one_line e) others c.0 f c.1 (ap (meet_on_one_line e) c.2 ∙ and_from (on_one_line e f) (share_point e f) one shares) in
-    absurd (let clash : true ≡ false = sym found ∙ none in cc)
+-- ---- none of the others overlaps the edge on one line
+-- edges that share a common end alone have all points in common there
+at_common : (c : Position) (e f : Edge) → IsEnd c e → touch_at c e f ≡ true → (x : Point) → IsPoint x → on e x ≡ true → on f x ≡ true → same_point x (point_at c) ≡ true
+at_common c e f own touching x hx k l = go (same_point x (point_at c)) refl
+  where
+    parts : ((same_position c f.start || same_position c f.end) ≡ true) × (not (share_other c e f) ≡ true)
+    parts = and_parts (same_position c f.start || same_position c f.end) (not (share_other c e f)) touching
+
+    ends : (same_position c f.start ≡ true) ⊎ (same_position c f.end ≡ true) → IsEnd c f
+    ends (inl h) = inl (sym (same_from c f.start h))
+    ends (inr h) = inr (sym (same_from c f.end h))
+
+    other : same_point x (point_at c) ≡ false → share_other c e f ≡ true
+    other s = (other_point_is_decided c e f own (ends (or_cases (same_position c f.start) (same_position c f.end) parts.0))).1
+        (record { at = x; is_point = hx; on_first = k; on_second = l; other = s })
+
+    go : (b : Bool) → same_point x (point_at c) ≡ b → same_point x (point_at c) ≡ true
+    go true s = s
+    go false s = absurd (let clash : true ≡ false = sym (other s) ∙ not-true (share_other c e f) parts.1 in cc)
+
+touching_alike : (e f : Edge) → touch e f ≡ true → (x y : Point) → IsPoint x → IsPoint y → on e x ≡ true → on f x ≡ true → on e y ≡ true → on f y ≡ true → same_point x y ≡ true
+touching_alike e f touching x y hx hy kx lx ky ly = go (or_cases (touch_at e.start e f) (touch_at e.end e f) touching)
+  where
+    at : (c : Position) → IsEnd c e → touch_at c e f ≡ true → same_point x y ≡ true
+    at c own t = same_transitive x (point_at c) y (position_is_point c) (at_common c e f own t x hx kx lx)
+        (same_symmetric (point_at c) y ∙ at_common c e f own t y hy ky ly)
+
+    go : (touch_at e.start e f ≡ true) ⊎ (touch_at e.end e f ≡ true) → same_point x y ≡ true
+    go (inl t) = at e.start (inl refl) t
+    go (inr t) = at e.end (inr refl) t
+
+pub none_shares : (e : Edge) (others : List Edge) → list_any (overlap_on_one_line e) others ≡ false → SharesNoStretch e others
+none_shares e others none f c one x y hx hy kx lx ky ly = go (touch e f) refl
+  where
+    shares : share_point e f ≡ true
+    shares = (shared_point_is_decided e f).1 (record { at = x; is_point = hx; on_first = kx; on_second = lx })
+
+    found : touch e f ≡ false → list_any (overlap_on_one_line e) others ≡ true
+    found apart = list_any_at (overlap_on_one_line e) others c.0 f c.1 (ap (overlap_on_one_line e) c.2
+        ∙ and_from (on_one_line e f && share_point e f) (not (touch e f)) (and_from (on_one_line e f) (share_point e f) one shares) (ap not apart))
+
+    go : (b : Bool) → touch e f ≡ b → same_point x y ≡ true
+    go true t = touching_alike e f t x y hx hy kx lx ky ly
+    go false t = absurd (let clash : true ≡ false = sym (found t) ∙ none in cc)

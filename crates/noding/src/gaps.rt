@@ -3,7 +3,7 @@
 ghost use Rattle.std.specs.Prelude.{◌≡◌, false, [], OnErr, OnOk};
 ghost use Rattle.std.specs.List.{list_any};
 ghost use Rattle.edge_boxes.specs.BoxLists.{BoxesOf};
-ghost use Rattle.edge_boxes.specs.OneLine.{meet_on_one_line};
+ghost use Rattle.edge_boxes.specs.OneLine.{overlap_on_one_line};
 ghost use Rattle.matrix_laws.specs.Gaps.{AreGaps, SharesNoStretch};
 
 use crate::sharing::{find_shared, put_in_order};
@@ -87,14 +87,14 @@ impl Gaps {
         set_stops(&mut self.stops, edge, self.shared.as_slice())
     }
 
-    /// Whether one of the others, whose boxes are given, is on one line with the edge and shares a point with it. If it returns
-    /// false, none shares a stretch with the edge. It takes no memory.
+    /// Whether one of the others, whose boxes are given, is on one line with the edge and shares more than a common end with it. If
+    /// it returns false, none shares a stretch with the edge. It takes no memory.
     pub fn may_share_stretch(edge: &Segment, others: &[Segment], boxes: &EdgeBoxes) -> bool
         requires { BoxesOf boxes.now others.now }
-        ensures exact { result ≡ list_any (meet_on_one_line edge.now) others.now }
+        ensures exact { result ≡ list_any (overlap_on_one_line edge.now) others.now }
         ensures none { result ≡ false → SharesNoStretch edge.now others.now }
     {
-        boxes.meets_on_line(others, edge)
+        boxes.overlaps_on_line(others, edge)
     }
 
     /// How often points that the edge shares with others were found, a point as often as others share it: a measure of the work
