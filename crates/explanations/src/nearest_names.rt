@@ -10,8 +10,8 @@ use strsim::generic_levenshtein;
 /// The most bytes of a word that is compared.
 const WORD_BYTES: usize = 64;
 
-/// The place of the name that is nearest to a word, in any ASCII case, where it is near: at most two edits away, and no more than a third
-/// of the word's bytes. Of several that are as near the first is taken. None is also for a word of more than 64 bytes. At Err memory ran
+/// The place of the name that is nearest to a word, in any ASCII case, where it is near: at most two edits away, and no more than half of
+/// the word's bytes. Of several that are as near the first is taken. None is also for a word of more than 64 bytes. At Err memory ran
 /// out (edits: Levenshtein's; how near: this project's choice).
 pub fn nearest(alloc: Global, word: &[u8], names: &[&[u8]]) -> Result<Option<usize>, AllocError>
     ensures { IfOk result (λ found. IfSome found (IsNearest word.now names.now)) }
@@ -19,7 +19,7 @@ pub fn nearest(alloc: Global, word: &[u8], names: &[&[u8]]) -> Result<Option<usi
     if word.len() > WORD_BYTES {
         return Ok(None);
     }
-    let most = (word.len() / 3).min(2);
+    let most = (word.len() / 2).min(2);
     let mut best = 0;
     let mut least = usize::MAX;
     for place in 0..names.len() {

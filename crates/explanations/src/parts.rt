@@ -63,6 +63,18 @@ pub(crate) fn word(text: &[u8]) -> &[u8] {
     text
 }
 
+/// The last word of a text.
+pub(crate) fn last_word(text: &[u8]) -> &[u8] {
+    let text = trimmed_back(text);
+    let mut found = text;
+    for at in 0..text.len() {
+        if !(text[at].is_ascii_alphanumeric() || text[at] == b'_') {
+            found = rest(text, at.saturating_add(1));
+        }
+    }
+    found
+}
+
 /// The letters, digits, signs and points at a text's beginning.
 pub(crate) fn number(text: &[u8]) -> &[u8] {
     for (at, byte) in text.iter().enumerate() {

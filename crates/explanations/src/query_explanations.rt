@@ -6,8 +6,10 @@ ghost use Rattle.explanations.specs.Marks.{IsExplanation};
 
 use crate::geometry_sentences::{advice, text_sentence};
 use crate::nearest_names::nearest;
-use crate::parts::{before, character, first, is, joined, rest, shown, word};
-use crate::query_sentences::{byte_sentence, syntax_sentence};
+use crate::parts::{
+    before, character, first, front, is, joined, last, last_word, rest, shown, trimmed_back, word,
+};
+use crate::query_sentences::{byte_sentence, syntax_sentence, truth_words};
 use crate::said_lines::explained;
 use geometry_model::GeometryFault;
 use std::alloc::{AllocError, Global};
@@ -67,7 +69,7 @@ fn query_sentence(
         QueryFault::Syntax(at) => syntax_sentence(alloc, text, at),
         QueryFault::UnknownTable(at) => unknown_table(alloc, word(rest(text, at)), names),
         QueryFault::SameName(at) => same_name(alloc, word(rest(text, at))),
-        QueryFault::UnknownColumn(at) => unknown_column(alloc, rest(text, at), names),
+        QueryFault::UnknownColumn(at) => unknown_name(alloc, text, at, names),
         QueryFault::AmbiguousColumn(at) => ambiguous_column(alloc, word(rest(text, at))),
         QueryFault::TypeMismatch(_) => joined(
             alloc,
@@ -86,13 +88,26 @@ fn query_sentence(
         QueryFault::TooLong => joined(alloc, &[b"the query has more than 65536 bytes: shorten it"]),
         QueryFault::NumberTooBig(at) => {
             let found = shown(alloc, word(rest(text, at)))?;
-            joined(
-                alloc,
-                &[found.as_slice(), b" is past 64 bits: no field is as large"],
-            )
+            let what = greatness(front(text, at));
+            joined(alloc, &[found.as_slice(), what.as_bytes()])
         }
         QueryFault::OutOfMemory => joined(alloc, &[b"memory ran out"]),
     }
+}
+
+/// What is said of a number that is too large, after this text.
+fn greatness(text: &[u8]) -> &'static str {
+    if is(last_word(text), "LIMIT") {
+        " is past 64 bits: leave LIMIT out for all rows"
+    } else {
+        " is past 64 bits: no field is as large"
+    }
+}
+
+/// Whether something is compared with what is at a place.
+fn is_compared(text: &[u8], at: usize) -> bool {
+    let before = last(trimmed_back(front(text, at)));
+    before == b'=' || before == b'<' || before == b'>'
 }
 
 /// The sentence of a table that isn't in the schema.
@@ -157,6 +172,22 @@ fn same_name(alloc: Global, found: &[u8]) -> Result<Vec<u8>, AllocError> {
             b" here: give each an alias, as in FROM t a, t b",
         ],
     )
+}
+
+/// The sentence of what isn't a column's name: of a truth that is compared, or of a name.
+fn unknown_name(
+    alloc: Global,
+    text: &[u8],
+    at: usize,
+    names: &Names<'_>,
+) -> Result<Vec<u8>, AllocError> {
+    let found = rest(text, at);
+    if is_compared(text, at)
+        && let Some(sentence) = truth_words(word(found))
+    {
+        return joined(alloc, &[sentence.as_bytes()]);
+    }
+    unknown_column(alloc, found, names)
 }
 
 /// The sentence of a column or an alias that isn't there.

@@ -99,6 +99,9 @@ pub(crate) fn syntax_sentence(
     if same_kind(near.kind, TokenKind::Word) && is(near.next, "(") {
         return function_sentence(alloc, &near);
     }
+    if let Some(sentence) = value_sentence(tokens, place, &near) {
+        return joined(alloc, &[sentence.as_bytes()]);
+    }
     if let Some(sentence) = plain_sentence(tokens, place, &near) {
         return joined(alloc, &[sentence.as_bytes()]);
     }
@@ -198,6 +201,11 @@ fn listed<'t>(near: &Around<'t>) -> Option<(&'t [u8], &'static str)> {
         }
         return Some((near.here, sentence));
     }
+    if is(near.here, "NOT")
+        && let Some(sentence) = said_of(near.next, &HERE)
+    {
+        return Some((near.next, sentence));
+    }
     if let Some(sentence) = said_of(near.before, &BEFORE) {
         return Some((near.before, sentence));
     }
@@ -274,6 +282,30 @@ fn count_sentence(near: &Around<'_>) -> &'static str {
         "COUNT(*) comes alone: nothing else is selected beside it"
     } else {
         "COUNT takes * alone: write COUNT(*), with WHERE and IS NOT NULL if that is meant"
+    }
+}
+
+/// The sentences of what is compared, or is a geometry's text.
+fn value_sentence(tokens: &[Token<'_>], place: usize, near: &Around<'_>) -> Option<&'static str> {
+    if is(near.before, "(") && is(near.second, "ST_GeomFromText") {
+        Some("ST_GeomFromText takes one text in single quotes, as 'POINT(1 1)'")
+    } else if is(near.here, ",") && is(written(tokens, back(place, 3)), "ST_GeomFromText") {
+        Some("ST_GeomFromText takes one text: reference systems aren't taken")
+    } else if compares(near.before) {
+        truth_words(near.here)
+    } else {
+        None
+    }
+}
+
+/// What is said of a truth that something is compared with.
+pub(crate) fn truth_words(here: &[u8]) -> Option<&'static str> {
+    if is(here, "TRUE") {
+        Some("TRUE isn't there: write 1")
+    } else if is(here, "FALSE") {
+        Some("FALSE isn't there: write 0")
+    } else {
+        None
     }
 }
 
@@ -354,6 +386,17 @@ fn other_sentence(alloc: Global, near: &Around<'_>) -> Result<Vec<u8>, AllocErro
             ],
         );
     }
+    if first(near.before).is_ascii_digit() && has_exponent(here) {
+        let digits = shown(alloc, near.before)?;
+        return joined(
+            alloc,
+            &[
+                digits.as_slice(),
+                found.as_slice(),
+                b" has an exponent: write the whole number",
+            ],
+        );
+    }
     if is(here, "+") || is(here, "-") || is(here, "*") {
         return joined(
             alloc,
@@ -366,6 +409,7 @@ fn other_sentence(alloc: Global, near: &Around<'_>) -> Result<Vec<u8>, AllocErro
     if let Some(place) = nearest(alloc, here, &OWN_WORDS)?
         && place < 12
         && !is(here, "OR")
+        && !is(here, "ON")
         && !same_name(here, OWN_WORDS[place])
     {
         return joined(alloc, &[b"did you mean ", OWN_WORDS[place], b"?"]);
@@ -398,6 +442,11 @@ fn other_sentence(alloc: Global, near: &Around<'_>) -> Result<Vec<u8>, AllocErro
         );
     }
     joined(alloc, &[found.as_slice(), b" can't be here"])
+}
+
+/// Whether a word is the exponent of a number.
+fn has_exponent(here: &[u8]) -> bool {
+    is(front(here, 1), "E") && first(rest(here, 1)).is_ascii_digit()
 }
 
 /// Whether two words are the same, in any ASCII case.
@@ -435,7 +484,7 @@ pub(crate) fn byte_sentence(alloc: Global, text: &[u8], at: usize) -> Result<Vec
             &[there.as_slice(), b" isn't there: write the value itself"],
         );
     }
-    if byte == b'/' || byte == b'%' || byte == b'^' || byte == b'~' {
+    if byte == b'/' || byte == b'%' || byte == b'^' {
         return joined(
             alloc,
             &[
@@ -467,6 +516,8 @@ fn symbol_sentence(found: &[u8]) -> Option<&'static str> {
         Some(":: isn't there: a column keeps its type")
     } else if first(found) == b'!' {
         Some("! isn't there: write NOT")
+    } else if first(found) == b'~' {
+        Some("~ isn't there: compare whole texts by =, or filter the output")
     } else if first(found) == b'#' {
         Some("# isn't there: a comment begins with -- and ends with its line")
     } else if first(found) == 0xef && found.len() > 2 && found[1] == 0xbb {

@@ -317,11 +317,11 @@ pub(crate) const FUNCTIONS: [(&str, &str); 58] = [
     ),
     (
         "ST_Covers",
-        " isn't there in a query: the library has sfq_covers (docs/LIBRARY.md)",
+        " isn't there in a query: the library has it (docs/LIBRARY.md)",
     ),
     (
         "ST_CoveredBy",
-        " isn't there in a query: the library has sfq_covered_by (docs/LIBRARY.md)",
+        " isn't there in a query: the library has it (docs/LIBRARY.md)",
     ),
     (
         "ST_IsValid",

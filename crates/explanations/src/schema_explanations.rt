@@ -4,10 +4,11 @@ ghost use Rattle.std.specs.Prelude.{◌≡◌, IfOk};
 ghost use Rattle.explanations.specs.Faults.{schema_place};
 ghost use Rattle.explanations.specs.Marks.{IsExplanation};
 
+use crate::lines::is_white;
 use crate::nearest_names::nearest;
 use crate::parts::{
-    first, front, is, joined, last, place_in, rest, said_of, shown, trimmed, trimmed_back, word,
-    worded, worded_with,
+    first, front, is, joined, last, last_word, place_in, rest, said_of, shown, trimmed,
+    trimmed_back, word, worded, worded_with,
 };
 use crate::query_sentences::byte_sentence;
 use crate::said_lines::explained;
@@ -192,9 +193,21 @@ fn schema_sentence(alloc: Global, text: &[u8], fault: SchemaFault) -> Result<Vec
     }
 }
 
-/// The sentence of a table without a key, or with one that isn't a whole number.
+/// The name of the last table that begins in a text.
+fn last_table(text: &[u8]) -> &[u8] {
+    let mut name = text;
+    for at in 0..text.len() {
+        let behind = rest(text, at.saturating_add(5));
+        if is(front(rest(text, at), 5), "TABLE") && is_white(first(behind)) {
+            name = trimmed(behind);
+        }
+    }
+    word(name)
+}
+
+/// The sentence of a table without a key, which ends at this place.
 fn key_sentence(alloc: Global, text: &[u8], at: usize) -> Result<Vec<u8>, AllocError> {
-    let name = shown(alloc, word(rest(text, at)))?;
+    let name = shown(alloc, last_table(front(text, at)))?;
     joined(
         alloc,
         &[
@@ -202,18 +215,6 @@ fn key_sentence(alloc: Global, text: &[u8], at: usize) -> Result<Vec<u8>, AllocE
             b" has no key: write PRIMARY KEY after the type of one INTEGER column",
         ],
     )
-}
-
-/// The last word of a text.
-fn last_word(text: &[u8]) -> &[u8] {
-    let text = trimmed_back(text);
-    let mut found = text;
-    for at in 0..text.len() {
-        if !(text[at].is_ascii_alphanumeric() || text[at] == b'_') {
-            found = rest(text, at.saturating_add(1));
-        }
-    }
-    found
 }
 
 /// The sentence of what can't be there.
@@ -225,6 +226,12 @@ fn syntax_sentence(alloc: Global, text: &[u8], at: usize) -> Result<Vec<u8>, All
         return joined(
             alloc,
             &[end_sentence(trimmed_back(front(text, at))).as_bytes()],
+        );
+    }
+    if here.len() < found.len() && found[here.len()] == 0 {
+        return joined(
+            alloc,
+            &[b"the file has bytes that are 0: is it UTF-16? save it as UTF-8"],
         );
     }
     if here.is_empty() {
@@ -245,10 +252,28 @@ fn syntax_sentence(alloc: Global, text: &[u8], at: usize) -> Result<Vec<u8>, All
             &[b"IF NOT EXISTS isn't there: write CREATE TABLE and the name"],
         );
     }
+    if is(here, "PRIMARY") && place_in(&TYPES, before).is_some() {
+        return key_type_sentence(alloc, before, trimmed_back(front(text, at)));
+    }
     if let Some(sentence) = said_of(here, &WORDS) {
         return joined(alloc, &[name.as_slice(), sentence.as_bytes()]);
     }
     word_sentence(alloc, here, before, trimmed_back(front(text, at)))
+}
+
+/// The sentence of a key that isn't a whole number, by its type and the text up to that type's end.
+fn key_type_sentence(alloc: Global, kind: &[u8], text: &[u8]) -> Result<Vec<u8>, AllocError> {
+    let name = last_word(front(text, text.len().saturating_sub(kind.len())));
+    let name = shown(alloc, name)?;
+    joined(
+        alloc,
+        &[
+            b"the key is a column of type INTEGER: ",
+            name.as_slice(),
+            b" is a ",
+            kind,
+        ],
+    )
 }
 
 /// The sentence of a schema that ends too early.
@@ -323,6 +348,21 @@ fn missing(before: &[u8], text: &[u8]) -> Option<&'static str> {
     }
 }
 
+/// The sentence of a name in quotes.
+fn quoted_sentence(alloc: Global, name: &[u8]) -> Result<Vec<u8>, AllocError> {
+    let name = shown(alloc, name)?;
+    joined(
+        alloc,
+        &[
+            b"names aren't quoted: write ",
+            name.as_slice(),
+            b" for \"",
+            name.as_slice(),
+            b"\"",
+        ],
+    )
+}
+
 /// The sentence of a symbol that can't be there.
 fn symbol_sentence(
     alloc: Global,
@@ -332,6 +372,9 @@ fn symbol_sentence(
 ) -> Result<Vec<u8>, AllocError> {
     let found = rest(text, at);
     let byte = first(found);
+    if byte == b'"' {
+        return quoted_sentence(alloc, word(rest(found, 1)));
+    }
     let behind = last(trimmed_back(front(text, at)));
     let sentence = if byte == b'('
         && (is(before, "TEXT") || is(before, "INTEGER") || is(before, "INT"))
