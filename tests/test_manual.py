@@ -199,16 +199,19 @@ class Completions(unittest.TestCase):
         self.assertEqual(self.complete("sfq-import", "--invalid", "m"), ["mend"])
         self.assertEqual(self.complete("sfq-tiles", "--part", ""), [])
 
-    def by_zsh(self, line, seconds):
-        """Returns what zsh offers at the end of a line, typed into one that has a terminal."""
+    def by_zsh(self, line, wanted):
+        """Returns what zsh offers at the end of a line, typed into one that has a terminal: it is asked each half second till all that is wanted is there,
+        for a list that is asked for before the line editor has begun is never shown."""
         script = (
             "zmodload zsh/zpty; zpty z zsh -f -i; w() { zpty -w z \"$1\"; }; "
             f"w \"PS1=; stty -echo; fpath=('{ROOT}/packaging/completions' \\$fpath); autoload -Uz compinit; compinit -u -D\"; "
             "w 'zstyle \":completion:*\" list-prompt \"\"; LISTMAX=1000; setopt no_beep; echo BEGUN'; "
             "while zpty -r z line && [[ $line != *BEGUN* ]]; do :; done; "
-            f"zpty -w -n z $'{line}\\C-d'; sleep {seconds}; zpty -rt z text; print -r -- \"$text\"; while zpty -rt z text; do print -r -- \"$text\"; done; zpty -d z"
+            f"zpty -w -n z $'{line}'; text=; tries=0; "
+            "while (( tries < 240 )); do zpty -w -n z $'\\C-d'; sleep 0.5; while zpty -rt z more; do text+=$more; done; (( tries += 1 )); "
+            'missing=0; for it in "$@"; do [[ $text == *"$it"* ]] || missing=1; done; (( missing )) || break; done; print -r -- "$text"; zpty -d z'
         )
-        ran = subprocess.run([shutil.which("zsh"), "-f", "-c", script], capture_output=True, text=True, timeout=60)
+        ran = subprocess.run([shutil.which("zsh"), "-f", "-c", script, "zsh", *wanted], capture_output=True, text=True, timeout=300)
         return re.sub(r"\x1b\[[\d;?]*[A-Za-z]", "", ran.stdout).split()
 
     @needs("zsh", "zsh")
@@ -218,9 +221,7 @@ class Completions(unittest.TestCase):
             self.assertEqual((ran.stderr, ran.returncode), ("", 0))
             self.assertEqual(read(f"{ROOT}/packaging/completions/_{name}").splitlines()[0], f"#compdef {name}")
         for line, wanted in (("sfq fault ", codes()), ("sfq relate ", [it.replace("(", "\\(") for it in GEOMETRIES]), ("sfq r", ["relate", "run"])):
-            # The terminal may be slow on a busy machine.
-            found = next((it for it in (self.by_zsh(line, seconds) for seconds in (1, 5, 20)) if set(wanted) <= set(it)), None)
-            self.assertIsNotNone(found, line)
+            self.assertLessEqual(set(wanted), set(self.by_zsh(line, wanted)), line)
 
     @needs("fish", "fish")
     def test_fish(self):
