@@ -200,15 +200,18 @@ class Completions(unittest.TestCase):
         self.assertEqual(self.complete("sfq-tiles", "--part", ""), [])
 
     def by_zsh(self, line, wanted):
-        """Returns what zsh offers at the end of a line, typed into one that has a terminal: it is asked each half second till all that is wanted is there,
-        for a list that is asked for before the line editor has begun is never shown."""
+        """Returns what zsh offers at the end of a line, typed into one that has a terminal.
+
+        The line is typed anew each half second, behind ^U, which takes the one before away, until all that is wanted is there: on a busy
+        machine the line editor begins late, and what is asked for before that is never shown.
+        """
         script = (
             "zmodload zsh/zpty; zpty z zsh -f -i; w() { zpty -w z \"$1\"; }; "
             f"w \"PS1=; stty -echo; fpath=('{ROOT}/packaging/completions' \\$fpath); autoload -Uz compinit; compinit -u -D\"; "
             "w 'zstyle \":completion:*\" list-prompt \"\"; LISTMAX=1000; setopt no_beep; echo BEGUN'; "
             "while zpty -r z line && [[ $line != *BEGUN* ]]; do :; done; "
-            f"zpty -w -n z $'{line}'; text=; tries=0; "
-            "while (( tries < 240 )); do zpty -w -n z $'\\C-d'; sleep 0.5; while zpty -rt z more; do text+=$more; done; (( tries += 1 )); "
+            f"text=; tries=0; while (( tries < 240 )); do zpty -w -n z $'\\C-u{line}\\C-d'; sleep 0.5; "
+            "while zpty -rt z more; do text+=$more; done; (( tries += 1 )); "
             'missing=0; for it in "$@"; do [[ $text == *"$it"* ]] || missing=1; done; (( missing )) || break; done; print -r -- "$text"; zpty -d z'
         )
         ran = subprocess.run([shutil.which("zsh"), "-f", "-c", script, "zsh", *wanted], capture_output=True, text=True, timeout=300)
