@@ -3,3 +3,4 @@ pub mod RunLemmas
 pub mod SinkLemmas
 pub mod PartLemmas
 pub mod LineLemmas
+pub mod WriterLemmas

@@ -1,11 +1,12 @@
 -- How the line of a record grows, by its fields and by their bytes.
-use Rattle.std.proofs.Common.{◌≡◌, ◌∙◌, ◌<◌, ◌+◌, ◌++◌, ◌∷◌, [], ℕ, List, true, false, length, take, get_or, refl, sym, ap, arith, append_assoc, append-nil, length-append}
-use Rattle.std.specs.Prelude.{◌==◌, Some, None}
+use Rattle.std.proofs.Common.{◌≡◌, ◌∙◌, ◌<◌, ◌+◌, ◌++◌, ◌∷◌, [], ℕ, Bool, List, true, false, Result, Ok, Err, OnOk, length, take, get_or, refl, sym, ap, arith, append_assoc, append-nil, length-append}
+use Rattle.std.specs.Prelude.{◌==◌, Some, None, not, if◌then◌else◌}
 use Rattle.std.specs.List.{list_any}
 use Rattle.std.proofs.lemmas.Bool.{ne_eqb}
 use Rattle.std.proofs.lemmas.List.{take_more}
 use Rattle.csv.specs.Records.{field_at}
 use Rattle.csv.specs.Writing.{default_writer, escaped, field_text, fields_text, is_blank, next_sep, row_body, row_text}
+use Rattle.streams.specs.RecordWriters.{line_end, separator}
 use Rattle.csv.proofs.RecordFacts.{field-get, field-there}
 use Rattle.csv.proofs.WriteFacts.{escaped-append, escaped-double, escaped-none, escaped-other, row-step}
 
@@ -41,13 +42,21 @@ unquoted-added field none = escaped-none default_writer field none
 
 -- ---- the fields of a record
 
+-- what comes before a field
+pub separated : (i : ℕ) → separator (not (i == 0)) ≡ next_sep default_writer i
+separated i = go (i == 0)
+  where
+    go : (b : Bool) → separator (not b) ≡ (if b then [] else 44 ∷ [])
+    go true = refl
+    go false = refl
+
 -- one more field
 pub field-added : (fields : List (List ℕ)) (i : ℕ) (field before with_comma after : List ℕ) → i < length fields → Some field ≡ field_at fields i
-    → before ≡ row_body default_writer (take i fields) → with_comma ≡ before ++ next_sep default_writer i
+    → before ≡ row_body default_writer (take i fields) → with_comma ≡ before ++ separator (not (i == 0))
     → after ≡ with_comma ++ field_text default_writer field → after ≡ row_body default_writer (take (i + 1) fields)
 field-added fields i field before with_comma after lt is so_far comma added =
     let same : get_or fields i [] ≡ field = field-get fields i field (sym is) in
-    added ∙ ap (λ t. t ++ field_text default_writer field) (comma ∙ ap (λ t. t ++ next_sep default_writer i) so_far)
+    added ∙ ap (λ t. t ++ field_text default_writer field) (comma ∙ ap (λ s. before ++ s) (separated i) ∙ ap (λ t. t ++ next_sep default_writer i) so_far)
     ∙ append_assoc _ (next_sep default_writer i) (field_text default_writer field)
     ∙ ap (λ f. row_body default_writer (take i fields) ++ (next_sep default_writer i ++ field_text default_writer f)) (sym same)
     ∙ sym (row-step default_writer fields i lt)
@@ -67,17 +76,18 @@ blank-empty (field ∷ next ∷ rest) =
     let size = length-append (field_text default_writer field) (fields_text default_writer (next ∷ rest)) in
     sym (ne_eqb _ 0 (λ z. omega (arith, z, size)))
 
--- a blank one gets two quotes
-pub blank-ended : (fields : List (List ℕ)) (body once twice line : List ℕ) → body ≡ row_body default_writer fields → (length body == 0) ≡ true
-    → once ≡ body ++ 34 ∷ [] → twice ≡ once ++ 34 ∷ [] → line ≡ twice ++ 10 ∷ [] → line ≡ row_text default_writer fields
-blank-ended fields body once twice line is none first second ended =
-    let blank : is_blank default_writer fields ≡ true = blank-empty fields ∙ ap (λ t. length t == 0) (sym is) ∙ none in
-    rw blank (ended ∙ ap (λ t. t ++ 10 ∷ []) (second ∙ ap (λ t. t ++ 34 ∷ []) (first ∙ ap (λ t. t ++ 34 ∷ []) is))
-    ∙ append_assoc _ (34 ∷ []) (10 ∷ []) ∙ append_assoc _ (34 ∷ []) (34 ∷ 10 ∷ []))
+-- so what ends a record's text depends on whether its fields show a byte
+pub ending : (fields : List (List ℕ)) → row_text default_writer fields ≡ row_body default_writer fields ++ line_end (not (length (row_body default_writer fields) == 0))
+ending fields =
+    ap (λ b. row_body default_writer fields ++ ((if b then 34 ∷ 34 ∷ [] else []) ++ 10 ∷ [])) (blank-empty fields)
+    ∙ ap (λ t. row_body default_writer fields ++ t) (go (length (row_body default_writer fields) == 0))
+  where
+    go : (b : Bool) → ((if b then 34 ∷ 34 ∷ [] else []) ++ 10 ∷ []) ≡ line_end (not b)
+    go true = refl
+    go false = refl
 
--- another one doesn't
-pub shown-ended : (fields : List (List ℕ)) (body line : List ℕ) → body ≡ row_body default_writer fields → (length body == 0) ≡ false
-    → line ≡ body ++ 10 ∷ [] → line ≡ row_text default_writer fields
-shown-ended fields body line is some ended =
-    let blank : is_blank default_writer fields ≡ false = blank-empty fields ∙ ap (λ t. length t == 0) (sym is) ∙ some in
-    rw blank (ended ∙ ap (λ t. t ++ 10 ∷ []) is)
+-- a line that ends after a record's fields
+pub line-ended : {A E : Type 0} (r : Result A E) (fields : List (List ℕ)) (body line : List ℕ) → body ≡ row_body default_writer fields
+    → OnOk r (line ≡ body ++ line_end (not (length body == 0))) → OnOk r (line ≡ row_text default_writer fields)
+line-ended (Ok a) fields body line is ended = ended ∙ ap (λ b. b ++ line_end (not (length b == 0))) is ∙ sym (ending fields)
+line-ended (Err e) fields body line is ended = tt

@@ -1,8 +1,9 @@
 //! The line of a record, as a `csv` writer with default settings makes it.
 
-ghost use Rattle.std.specs.Prelude.{◌≡◌, ◌++◌, [], OnOk};
+ghost use Rattle.std.specs.Prelude.{◌==◌, ◌||◌, ◌≡◌, ◌++◌, [], length, not, OnOk};
 ghost use Rattle.csv.specs.Records.{fields_of};
 ghost use Rattle.csv.specs.Writing as spec;
+ghost use Rattle.streams.specs.RecordWriters.{line_end, separator};
 
 use csv::ByteRecord;
 use std::alloc::AllocError;
@@ -21,7 +22,15 @@ pub fn push_line(line: &mut Vec<u8>, fields: &ByteRecord) -> Result<(), AllocErr
     ensures { OnOk result (line.new.items ≡ spec.row_text spec.default_writer (fields_of fields.now)) }
 {
     push_fields(line, fields)?;
-    if line.as_slice().is_empty() {
+    push_end(line, false)
+}
+
+/// Ends a line: two quotes if its record has no byte, neither in the line nor written before it, and a line feed.
+pub(crate) fn push_end(line: &mut Vec<u8>, is_begun: bool) -> Result<(), AllocError>
+    ensures { OnOk result (line.new.items
+        ≡ line.old.items ++ line_end (is_begun || not (length line.old.items == 0))) }
+{
+    if !is_begun && line.as_slice().is_empty() {
         line.push(QUOTE)?;
         line.push(QUOTE)?;
     }
@@ -36,19 +45,18 @@ fn push_fields(line: &mut Vec<u8>, fields: &ByteRecord) -> Result<(), AllocError
 {
     for i in 0..fields.len() {
         if let Some(field) = fields.get(i) {
-            push_separator(line, i)?;
+            push_separator(line, i == 0)?;
             push_field(line, field)?;
         }
     }
     Ok(())
 }
 
-/// Adds what comes before the field at this place: a comma, or nothing before the first.
-fn push_separator(line: &mut Vec<u8>, place: usize) -> Result<(), AllocError>
-    ensures { OnOk result
-        (line.new.items ≡ line.old.items ++ spec.next_sep spec.default_writer place) }
+/// Adds what comes before a field: a comma, or nothing before the first.
+pub(crate) fn push_separator(line: &mut Vec<u8>, is_first: bool) -> Result<(), AllocError>
+    ensures { OnOk result (line.new.items ≡ line.old.items ++ separator (not is_first)) }
 {
-    if place == 0 {
+    if is_first {
         return Ok(());
     }
     line.push(COMMA)?;
@@ -56,7 +64,7 @@ fn push_separator(line: &mut Vec<u8>, place: usize) -> Result<(), AllocError>
 }
 
 /// Adds the text of a field, in quotes if it needs them.
-fn push_field(line: &mut Vec<u8>, field: &[u8]) -> Result<(), AllocError>
+pub(crate) fn push_field(line: &mut Vec<u8>, field: &[u8]) -> Result<(), AllocError>
     ensures { OnOk result
         (line.new.items ≡ line.old.items ++ spec.field_text spec.default_writer field.now) }
 {
