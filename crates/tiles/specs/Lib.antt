@@ -3,11 +3,17 @@ pub mod Lines
 pub mod Trees
 pub mod Checks
 pub mod Passes
+pub mod PlainRecords
 pub mod Copies
 pub mod Faults
 pub mod RecordLines
 pub mod ReadBack
 pub mod Stretches
 pub mod Texts
+pub mod KeyMerges
+pub mod LoadedParts
 pub mod LoadedRows
+pub mod LoadedTexts
+pub mod TiledAnswers
 pub mod TileRows
+pub mod WholeTables
