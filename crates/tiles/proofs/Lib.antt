@@ -20,5 +20,7 @@ pub mod TileRows
 pub mod KeyMerges
 pub mod LoadedParts
 pub mod LoadedTexts
+pub mod MadeTiles
+pub mod StretchTexts
 pub mod TiledAnswers
 pub mod WholeTables

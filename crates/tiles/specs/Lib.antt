@@ -8,12 +8,14 @@ pub mod Copies
 pub mod Faults
 pub mod RecordLines
 pub mod ReadBack
+pub mod StretchTexts
 pub mod Stretches
 pub mod Texts
 pub mod KeyMerges
 pub mod LoadedParts
 pub mod LoadedRows
 pub mod LoadedTexts
+pub mod MadeTiles
 pub mod TiledAnswers
 pub mod TileRows
 pub mod WholeTables

@@ -3,7 +3,9 @@
 ghost use Rattle.tiles.specs.LoadedParts.{StretchesAreLoaded, TilesAreLoaded};
 ghost use Rattle.tiles.specs.LoadedRows.{CheckedIsLoaded, LoadedAreOnGrid};
 ghost use Rattle.tiles.specs.LoadedTexts.{TextsAreLoaded};
+ghost use Rattle.tiles.specs.MadeTiles.{MadeTilesAreMarked};
 ghost use Rattle.tiles.specs.ReadBack.{WrittenTablesAreRead};
+ghost use Rattle.tiles.specs.StretchTexts.{StretchTextsAreLoaded};
 ghost use Rattle.tiles.specs.Stretches.{StretchesAreWhole};
 ghost use Rattle.tiles.specs.TileRows.{TilesAreRead};
 ghost use Rattle.tiles.specs.TiledAnswers.{TiledAnswersAreMeant};
@@ -63,6 +65,16 @@ pub fn tiles_are_loaded()
 /// The text of a part loads as its header and its records do (06-104r4, feature tables).
 pub fn texts_are_loaded()
     ensures { TextsAreLoaded }
+{}
+
+/// The texts of the stretches of a whole table load as its stretches with the columns that are copied (06-104r4, feature tables).
+pub fn stretch_texts_are_loaded()
+    ensures { StretchTextsAreLoaded }
+{}
+
+/// A definition that has the copied columns of a table one by one, and then two of whole numbers, is that of the table's tiles.
+pub fn made_tiles_are_marked()
+    ensures { MadeTilesAreMarked }
 {}
 
 /// The rows that a query over two split tables gives in the cells of a cut, merged by their keys and up to the limit, are what is copied
