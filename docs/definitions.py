@@ -181,8 +181,14 @@ TILES = [
       ("tiles", "Passes", "+Counts IsOf"),
       ("tiles", "Copies", "+header_of AreRecordsOfTable copied_fields marked_fields tiles tiles_of size_of stretch_of stretch_count"
        " stretches stretches_of AreWritten"),
-      ("tiles", "RecordLines", "+mark_text mark_fields"),
-      ("tiles", "Faults", "")]),
+      ("tiles", "RecordLines", "+mark_text mark_fields SpellsNoGeometry"),
+      ("tiles", "Faults", "is_copy_of_reading")]),
+    ("What parts load as",
+     "The texts of tiles load, and a query is asked over each pair of them. Its answers are merged by the keys of their rows.",
+     [("tiles", "WholeTables", "+typed_row whole_table"),
+      ("tiles", "LoadedTexts", "+BeginsWord"),
+      ("tiles", "KeyMerges", ""),
+      ("tiles", "TiledAnswers", "")]),
     ("The schema and the list of the parts",
      "The schema that is written is read again as exactly the tables of the parts.",
      [("sfq_tiles", "MadeTables", "IsMade"),
@@ -194,7 +200,7 @@ SHOWN = ["IsPoint", "side", "on", "IsInterior", "IsBoundary", "IsExterior", "Has
          "HoldsStretch", "IsFacePoint", "IsOff", "IsShownBy", "ShowsAll", "IsMeeting", "IsClashOf", "IsMeetingOf",
          "IsPlaceOf", "IsVerdictOn", "HasMatrix", "HasRelation", "covers", "covered_by", "contains_properly",
          "text_fault_in_numbers", "validity_fault_in_numbers", "fault_in_numbers", "IsMade", "IsTaken", "fits", "LiesAt", "bounds_of", "IsSpelled",
-         "CutsGrid", "IsMedian", "IsCutAtMedians", "AreMade", "ok", "first_refused", "second_refused", "out_of_memory", "unknown", "too_small", "none_there"]
+         "CutsGrid", "IsMedian", "IsCutAtMedians", "TiledAnswersAreMeant", "AreMade", "ok", "first_refused", "second_refused", "out_of_memory", "unknown", "too_small", "none_there"]
 # Names that the crates of definitions have twice, on one page, each with its file beside it.
 TWICE = ["takes", "ReturnsFirst"]
 HEAD = """# Definitions

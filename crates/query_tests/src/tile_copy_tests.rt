@@ -7,7 +7,7 @@ use sql_text::read_schema;
 use std::alloc::Global;
 use std::test::Fail;
 use streams::SinkFault;
-use tiles::{CellTexts, Cells, Part, write_stretches, write_tiles};
+use tiles::{CellTexts, Cells, Part, PlainRecords, write_stretches, write_tiles};
 
 const SCHEMA: &[u8] = b"CREATE TABLE t (id INTEGER PRIMARY KEY, name TEXT, geom LINESTRING);";
 
@@ -70,7 +70,8 @@ fn records_go_to_the_cells_that_they_meet(rt: HostRuntime) -> Result<(), Fail> {
         marks: ["w", "s"],
     };
     let mut texts = empty_texts(rt.alloc(), 3)?;
-    let counts = write_tiles(rt.alloc(), &part, 2, &cells, ROWS, &mut texts)?;
+    let mut records = PlainRecords::new(rt.alloc(), ROWS);
+    let counts = write_tiles(rt.alloc(), &part, 2, &cells, &mut records, &mut texts)?;
     assert_eq!(rt; counts.as_slice(), [1, 2, 1].as_slice());
     let expected: [&[u8]; 3] = [
         b"id,geom,w,s\n3,LINESTRING EMPTY,0,0\n",
@@ -93,7 +94,8 @@ fn records_go_to_stretches(rt: HostRuntime) -> Result<(), Fail> {
         marks: ["w", "s"],
     };
     let mut texts = empty_texts(rt.alloc(), 2)?;
-    let counts = write_stretches(rt.alloc(), &part, 3, ROWS, &mut texts)?;
+    let mut records = PlainRecords::new(rt.alloc(), ROWS);
+    let counts = write_stretches(rt.alloc(), &part, 3, &mut records, &mut texts)?;
     assert_eq!(rt; counts.as_slice(), [3, 1].as_slice());
     let expected: [&[u8]; 2] = [b"id,name\n1,a\n2,b\n3,c\n", b"id,name\n4,d\n"];
     for (text, wanted) in texts.texts.iter().zip(&expected) {

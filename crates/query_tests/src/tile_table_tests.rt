@@ -4,8 +4,9 @@ use feature_table::Schema;
 use sql_text::read_schema;
 use std::alloc::{AllocError, Global};
 use std::test::Fail;
+use streams::devices::StopReader;
 use table_model::faults::LoadFault;
-use tiles::{Sampler, Unwatched, check_records, find_fault};
+use tiles::{PlainRecords, Sampler, Unwatched, check_records, find_fault};
 
 const SCHEMA: &[u8] = b"CREATE TABLE t (id INTEGER PRIMARY KEY, geom POLYGON);";
 
@@ -21,8 +22,10 @@ fn found_in(alloc: Global, text: &[u8]) -> Result<Found, Fail> {
     if schema.tables().is_empty() {
         return Err(Fail::from("no table"));
     }
-    let checked = check_records(alloc, schema.table(0), text, &mut Unwatched);
-    Ok((checked, find_fault(alloc, schema.table(0), text)))
+    let mut records = PlainRecords::new(alloc, text);
+    let checked = check_records(alloc, schema.table(0), &mut records, &mut Unwatched);
+    let mut again = PlainRecords::new(alloc, text);
+    Ok((checked, find_fault(alloc, schema.table(0), &mut again)))
 }
 
 /// What is kept of the second column of a text of the first table of a schema.
@@ -31,7 +34,8 @@ fn sampled(alloc: Global, schema: &Schema, text: &[u8]) -> Result<Sampler, Fail>
         return Err(Fail::from("no table"));
     }
     let mut sampler = Sampler::new(alloc, 1);
-    check_records(alloc, schema.table(0), text, &mut sampler)?;
+    let mut records = PlainRecords::new(alloc, text);
+    check_records(alloc, schema.table(0), &mut records, &mut sampler)?;
     Ok(sampler)
 }
 
@@ -39,6 +43,23 @@ fn sampled(alloc: Global, schema: &Schema, text: &[u8]) -> Result<Sampler, Fail>
 fn last_of(sampler: &Sampler) -> Result<(usize, i32, i32), Fail> {
     let last = sampler.corners().last().ok_or("no corner")?;
     Ok((sampler.corners().len(), last.x(), last.y()))
+}
+
+#[test]
+fn reads_that_fail_are_told(rt: HostRuntime) -> Result<(), Fail> {
+    let schema = read_schema(rt.alloc(), SCHEMA)?;
+    if schema.tables().is_empty() {
+        return Err(Fail::from("no table"));
+    }
+    let mut records = PlainRecords::new(rt.alloc(), StopReader::new(ROWS, 2));
+    let checked = check_records(rt.alloc(), schema.table(0), &mut records, &mut Unwatched);
+    assert_eq!(rt; checked, Err(LoadFault::ReadFailed));
+    assert!(rt; records.read_failed());
+    let mut again = PlainRecords::new(rt.alloc(), StopReader::new(ROWS, 1));
+    let found = find_fault(rt.alloc(), schema.table(0), &mut again);
+    assert_eq!(rt; found, Err(LoadFault::ReadFailed));
+    assert!(rt; again.read_failed());
+    Ok(())
 }
 
 #[test]

@@ -6,10 +6,12 @@ use feature_table::Schema;
 use fraction::GridPoint;
 use sql_text::read_schema;
 use std::alloc::Global;
+use std::io::Read;
 use std::test::Fail;
 use streams::SinkFault;
+use streams::devices::StopReader;
 use table_model::faults::LoadFault;
-use tiles::{CellTexts, Cells, CopyFault, Part, write_stretches, write_tiles};
+use tiles::{CellTexts, Cells, CopyFault, Part, PlainRecords, write_stretches, write_tiles};
 
 const SCHEMA: &[u8] = b"CREATE TABLE t (id INTEGER PRIMARY KEY, name TEXT, geom LINESTRING);";
 
@@ -50,7 +52,15 @@ fn a_row_goes_to_each_cell_with_its_marks(rt: HostRuntime) -> Result<(), Fail> {
     let schema = read_schema(rt.alloc(), SCHEMA)?;
     let cells = four_cells(rt.alloc())?;
     let mut texts = empty_texts(rt.alloc(), 5)?;
-    let found = write_tiles(rt.alloc(), &part(&schema)?, 2, &cells, ROWS, &mut texts);
+    let mut records = PlainRecords::new(rt.alloc(), ROWS);
+    let found = write_tiles(
+        rt.alloc(),
+        &part(&schema)?,
+        2,
+        &cells,
+        &mut records,
+        &mut texts,
+    );
     assert_eq!(rt; counted(&found)?, [0, 1, 1, 2, 3].as_slice());
     let expected: [&[u8]; 5] = [
         b"id,name,west,south\n",
@@ -78,7 +88,7 @@ fn stretches_are_full_but_for_the_last(rt: HostRuntime) -> Result<(), Fail> {
     ];
     for (size, wanted) in &most {
         let mut texts = empty_texts(rt.alloc(), wanted.len())?;
-        let found = write_stretches(rt.alloc(), &part(&schema)?, *size, ROWS, &mut texts);
+        let found = stretched(rt.alloc(), &schema, *size, ROWS, &mut texts)?;
         assert_eq!(rt; counted(&found)?, *wanted, "{size}");
     }
     Ok(())
@@ -88,7 +98,7 @@ fn stretches_are_full_but_for_the_last(rt: HostRuntime) -> Result<(), Fail> {
 fn the_next_stretch_begins_with_the_header(rt: HostRuntime) -> Result<(), Fail> {
     let schema = read_schema(rt.alloc(), SCHEMA)?;
     let mut texts = empty_texts(rt.alloc(), 2)?;
-    let found = write_stretches(rt.alloc(), &part(&schema)?, 2, ROWS, &mut texts);
+    let found = stretched(rt.alloc(), &schema, 2, ROWS, &mut texts)?;
     assert_eq!(rt; counted(&found)?, [2, 1].as_slice());
     let expected: [&[u8]; 2] = [
         b"id,name\n7,\"a,b\"\n8,\"say \"\"so\"\"\"\n",
@@ -105,7 +115,7 @@ fn a_table_without_a_row_is_one_stretch(rt: HostRuntime) -> Result<(), Fail> {
     let schema = read_schema(rt.alloc(), SCHEMA)?;
     let header = b"geom,name,id\n".as_slice();
     let mut texts = empty_texts(rt.alloc(), 1)?;
-    let found = write_stretches(rt.alloc(), &part(&schema)?, 2, header, &mut texts);
+    let found = stretched(rt.alloc(), &schema, 2, header, &mut texts)?;
     assert_eq!(rt; counted(&found)?, [0].as_slice());
     for text in &texts.texts {
         assert_eq!(rt; text.as_slice(), b"id,name\n".as_slice());
@@ -113,22 +123,57 @@ fn a_table_without_a_row_is_one_stretch(rt: HostRuntime) -> Result<(), Fail> {
     Ok(())
 }
 
+/// Whether writing the tiles of what a reader gives ends with a fault of reading, and whether the records then say that reading failed.
+fn told<R: Read + Drop>(alloc: Global, reader: R) -> Result<(bool, bool), Fail> {
+    let schema = read_schema(alloc, SCHEMA)?;
+    let cells = four_cells(alloc)?;
+    let mut texts = empty_texts(alloc, 5)?;
+    let mut records = PlainRecords::new(alloc, reader);
+    let found = write_tiles(alloc, &part(&schema)?, 2, &cells, &mut records, &mut texts);
+    let is_of_reading = matches!(found, Err(CopyFault::Load(LoadFault::ReadFailed)));
+    Ok((is_of_reading, records.read_failed()))
+}
+
+#[test]
+fn failed_reads_are_told_from_tables_that_changed(rt: HostRuntime) -> Result<(), Fail> {
+    let alloc = rt.alloc();
+    assert_eq!(rt; told(alloc, ROWS)?, (false, false));
+    assert_eq!(rt; told(alloc, StopReader::new(ROWS, 1))?, (true, true));
+    assert_eq!(rt; told(alloc, StopReader::new(ROWS, 2))?, (true, true));
+    assert_eq!(rt; told(alloc, b"".as_slice())?, (true, false));
+    let no_geometry = b"id,name,geom\n1,a,LINE\n".as_slice();
+    assert_eq!(rt; told(alloc, no_geometry)?, (true, false));
+    Ok(())
+}
+
 #[test]
 fn faults_end_the_pass(rt: HostRuntime) -> Result<(), Fail> {
     let schema = read_schema(rt.alloc(), SCHEMA)?;
     let mut one = empty_texts(rt.alloc(), 1)?;
-    let full = write_stretches(rt.alloc(), &part(&schema)?, 2, ROWS, &mut one);
+    let full = stretched(rt.alloc(), &schema, 2, ROWS, &mut one)?;
     assert!(rt; matches!(full, Err(CopyFault::Sink)));
     assert_eq!(rt; one.failures, 1);
     let mut other = empty_texts(rt.alloc(), 1)?;
     let lacking = b"id,name\n1,a\n".as_slice();
-    let missing = write_stretches(rt.alloc(), &part(&schema)?, 2, lacking, &mut other);
+    let missing = stretched(rt.alloc(), &schema, 2, lacking, &mut other)?;
     assert!(rt; matches!(missing, Err(CopyFault::Load(LoadFault::MissingColumn))));
     let long = b"id,name,geom\n1,a,,\n".as_slice();
-    let unequal = write_stretches(rt.alloc(), &part(&schema)?, 2, long, &mut other);
+    let unequal = stretched(rt.alloc(), &schema, 2, long, &mut other)?;
     assert!(rt; matches!(unequal, Err(CopyFault::Load(LoadFault::ReadFailed))));
     assert_eq!(rt; other.failures, 0);
     Ok(())
+}
+
+/// What writing a text of the one table in stretches of so many rows returns.
+fn stretched(
+    alloc: Global,
+    schema: &Schema,
+    size: usize,
+    text: &[u8],
+    texts: &mut Texts,
+) -> Result<Result<Vec<usize>, CopyFault>, Fail> {
+    let mut records = PlainRecords::new(alloc, text);
+    Ok(write_stretches(alloc, &part(schema)?, size, &mut records, texts))
 }
 
 /// The key and the name of the one table, with two marks.

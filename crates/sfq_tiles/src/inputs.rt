@@ -15,7 +15,7 @@ use streams::{BoundedReader, PatientReader};
 use table_model::faults::SchemaFault;
 use table_model::tokens::TEXT_LIMIT;
 use table_model::values::Value;
-use tiles::{RowWatcher, Sampler, check_records, find_fault};
+use tiles::{PlainRecords, RowWatcher, Sampler, check_records, find_fault};
 
 /// How many bytes of a schema's file are read: one more than a schema may have.
 const SCHEMA_BYTES: u64 = TEXT_LIMIT as u64 + 1;
@@ -108,9 +108,13 @@ fn check_table<'s>(
     requires { IsTrue (lawful (table.now ∷ [])) }
 {
     let name = table.name.as_str();
-    let found = match check_records(rt.alloc(), table, reader, watcher) {
+    let mut records = PlainRecords::new(rt.alloc(), reader);
+    let found = match check_records(rt.alloc(), table, &mut records, watcher) {
         Ok(Some(rows)) => Ok(rows),
-        Ok(None) => find_fault(rt.alloc(), table, opened(rt, directory, name)?),
+        Ok(None) => {
+            let mut again = PlainRecords::new(rt.alloc(), opened(rt, directory, name)?);
+            find_fault(rt.alloc(), table, &mut again)
+        }
         Err(fault) => Err(fault),
     };
     match found {

@@ -15,7 +15,7 @@ use feature_table::{Schema, TableDef};
 use std::alloc::{AllocError, Global};
 use std::fs;
 use streams::Sink;
-use tiles::{Cells, CopyFault, Part, Sampler, write_stretches, write_tiles};
+use tiles::{Cells, CopyFault, Part, PlainRecords, Sampler, write_stretches, write_tiles};
 
 /// Splits the tables that the words name, and returns the status.
 pub fn split<S: Sink, E: Sink>(
@@ -148,9 +148,9 @@ fn stretches_of<'w, 's>(
 ) -> Result<Vec<usize>, Ending<'s>> {
     let name = named.table.name.as_str();
     let part = part_of(named.table, named.columns.as_slice(), "", "");
-    let reader = opened(rt, words.directory, name)?;
+    let mut records = PlainRecords::new(rt.alloc(), opened(rt, words.directory, name)?);
     let mut files = CellFiles::of_stretches(rt, words.out, named.name);
-    let counts = match write_stretches(rt.alloc(), &part, rows, reader, &mut files) {
+    let counts = match write_stretches(rt.alloc(), &part, rows, &mut records, &mut files) {
         Ok(counts) => counts,
         Err(fault) => return Err(copy_ending(name, fault)),
     };
@@ -200,9 +200,9 @@ fn tiles_of<'w, 's>(
         named.west.as_str(),
         named.south.as_str(),
     );
-    let reader = opened(rt, words.directory, name)?;
+    let mut records = PlainRecords::new(rt.alloc(), opened(rt, words.directory, name)?);
     let mut files = CellFiles::of_tiles(rt, words.out, named.name);
-    let counts = match write_tiles(rt.alloc(), &part, column, cells, reader, &mut files) {
+    let counts = match write_tiles(rt.alloc(), &part, column, cells, &mut records, &mut files) {
         Ok(counts) => counts,
         Err(fault) => return Err(copy_ending(name, fault)),
     };

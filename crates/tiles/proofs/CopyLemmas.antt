@@ -8,11 +8,11 @@ use Rattle.std.proofs.lemmas.List.{append_assoc, ext_get_or, get_or_past, get_or
 use Rattle.std.proofs.lemmas.List.Elements.{All-cons, All-nil, All-push, All-weaker}
 use Rattle.std.proofs.lemmas.List.Sums.{count_by-le-length, length-filter, sum_by_more_le}
 use Rattle.std.proofs.lemmas.Option.{slice_get-get_or, slice_get_past}
-use Rattle.csv.specs.declared.reader.Reader.{Reader}
+use Rattle.tiles.specs.declared.plain_records.PlainRecords.{PlainRecords}
 use Rattle.geometry_model.specs.Envelopes.{Envelope}
 use Rattle.feature_table.specs.Layouts.{IsLayout}
 use Rattle.feature_table.specs.declared.headers.Layout.{Layout}
-use Rattle.feature_table.specs.Reading.{StillGives, TakesFirst}
+use Rattle.tiles.specs.PlainRecords.{GivesRest, TakesNext}
 use Rattle.feature_table.specs.Tables.{AreRecordsOf, records_in}
 use Rattle.table_model.specs.Loading.{Record, header_fault}
 use Rattle.table_model.specs.declared.definitions.ColumnDef.{ColumnDef}
@@ -26,12 +26,12 @@ use Rattle.tiles.proofs.TextLemmas.{grow_none, grow_same, grow_trans}
 -- ---- reading
 
 -- before the first record nothing was read
-pub read_none : {R : Type 0} (remaining : R → Option (List ℕ)) (reader : Reader R) (width : ℕ) → WereRead remaining reader reader width []
+pub read_none : {R : Type 0} (remaining : R → Option (List ℕ)) (reader : PlainRecords R) (width : ℕ) → WereRead remaining reader reader width []
 read_none remaining reader width = record { even = All-nil (λ (fields : Record). length fields ≡ width); gives = λ rest gives. (rest, gives, refl) }
 
 -- one record more was read
-pub read_more : {R : Type 0} (remaining : R → Option (List ℕ)) (old mid new : Reader R) (width : ℕ) (read : List Record) (fields : Record) → WereRead remaining old mid width read
-    → length fields ≡ width → ((rest : List Record) → StillGives remaining mid rest → TakesFirst remaining new rest true fields) → WereRead remaining old new width (read ++ fields ∷ [])
+pub read_more : {R : Type 0} (remaining : R → Option (List ℕ)) (old mid new : PlainRecords R) (width : ℕ) (read : List Record) (fields : Record) → WereRead remaining old mid width read
+    → length fields ≡ width → ((rest : List Record) → GivesRest remaining mid rest → TakesNext remaining new rest true fields) → WereRead remaining old new width (read ++ fields ∷ [])
 read_more remaining old mid new width read fields was wide takes = record {
   even = All-push (λ (f : Record). length f ≡ width) read fields was.even wide;
   gives = λ rest gives. let m = was.gives rest gives in let t = takes m.0 m.1 in
@@ -39,8 +39,8 @@ read_more remaining old mid new width read fields was wide takes = record {
 }
 
 -- no record is left: those that were read are all
-pub read_end : {R : Type 0} (remaining : R → Option (List ℕ)) (old mid : Reader R) (width : ℕ) (read : List Record) → WereRead remaining old mid width read
-    → ((rest : List Record) → StillGives remaining mid rest → rest ≡ []) → AreAll remaining old width read
+pub read_end : {R : Type 0} (remaining : R → Option (List ℕ)) (old mid : PlainRecords R) (width : ℕ) (read : List Record) → WereRead remaining old mid width read
+    → ((rest : List Record) → GivesRest remaining mid rest → rest ≡ []) → AreAll remaining old width read
 read_end remaining old mid width read was none = record {
   even = was.even;
   all = λ rest gives. let m = was.gives rest gives in m.2 ∙ ap (λ l. read ++ l) (none m.0 m.1) ∙ append-nil read;
@@ -225,9 +225,9 @@ tables_written old mid new header tables counts n size headers rows = record {
 }
 
 -- the header and the records that were read are those of the table
-pub of_table : {R T : Type 0} (remaining : R → Option (List ℕ)) (known : Option (List ℕ)) (first second : Reader R) (columns : List (ColumnDef T)) (header : Record) (width : ℕ) (read : List Record)
-    → ((text : List ℕ) → known ≡ Some text → StillGives remaining first (records_in text))
-    → ((rest : List Record) → StillGives remaining first rest → TakesFirst remaining second rest true header)
+pub of_table : {R T : Type 0} (remaining : R → Option (List ℕ)) (known : Option (List ℕ)) (first second : PlainRecords R) (columns : List (ColumnDef T)) (header : Record) (width : ℕ) (read : List Record)
+    → ((text : List ℕ) → known ≡ Some text → GivesRest remaining first (records_in text))
+    → ((rest : List Record) → GivesRest remaining first rest → TakesNext remaining second rest true header)
     → header_fault columns header ≡ None → width ≡ length header → AreAll remaining second width read → AreRecordsOfTable known columns (header ∷ read)
 of_table remaining known first second columns header width read gives takes lawful wide all = record {
   are_of = are_of known (header ∷ read) (λ text is. let t = takes (records_in text) (gives text is) in t.2 ∙ ap (λ l. header ∷ l) (all.all t.0 t.1));
@@ -236,17 +236,17 @@ of_table remaining known first second columns header width read gives takes lawf
 }
 
 -- what is known of the layout of a header that was read
-pub header_read : {R T : Type 0} (remaining : R → Option (List ℕ)) (old new : Reader R) (columns : List (ColumnDef T)) (header : Record) (r : Result Layout LoadFault)
-    → IfOk r (λ layout. (header_fault columns header ≡ None) × IsLayout columns header layout) → ((rest : List Record) → StillGives remaining old rest → TakesFirst remaining new rest true header)
-    → IfOk r (λ layout. (first : Record) × IsLayout columns first layout × (header_fault columns first ≡ None) × ((rest : List Record) → StillGives remaining old rest → TakesFirst remaining new rest true first))
+pub header_read : {R T : Type 0} (remaining : R → Option (List ℕ)) (old new : PlainRecords R) (columns : List (ColumnDef T)) (header : Record) (r : Result Layout LoadFault)
+    → IfOk r (λ layout. (header_fault columns header ≡ None) × IsLayout columns header layout) → ((rest : List Record) → GivesRest remaining old rest → TakesNext remaining new rest true header)
+    → IfOk r (λ layout. (first : Record) × IsLayout columns first layout × (header_fault columns first ≡ None) × ((rest : List Record) → GivesRest remaining old rest → TakesNext remaining new rest true first))
 header_read remaining old new columns header (Ok layout) ok takes = (header, ok.1, ok.0, takes)
 header_read remaining old new columns header (Err f) ok takes = tt
 
 -- stretches of the records after the header that was read
-pub stretches_of_table : {R T X F : Type 0} (remaining : R → Option (List ℕ)) (known : Option (List ℕ)) (first second : Reader R) (columns : List (ColumnDef T)) (header : Record) (width : ℕ)
+pub stretches_of_table : {R T X F : Type 0} (remaining : R → Option (List ℕ)) (known : Option (List ℕ)) (first second : PlainRecords R) (columns : List (ColumnDef T)) (header : Record) (width : ℕ)
     (places copied : List ℕ) (size most : ℕ) (line names : Record) (old new : Texts) (items : X → List ℕ) (r : Result X F)
-    → ((text : List ℕ) → known ≡ Some text → StillGives remaining first (records_in text))
-    → ((rest : List Record) → StillGives remaining first rest → TakesFirst remaining second rest true header)
+    → ((text : List ℕ) → known ≡ Some text → GivesRest remaining first (records_in text))
+    → ((rest : List Record) → GivesRest remaining first rest → TakesNext remaining second rest true header)
     → header_fault columns header ≡ None → width ≡ length header → places ≡ places_in header columns → size ≡ size_of most → line ≡ names
     → IfOk r (λ counts. (read : List Record) × AreAll remaining second width read × AreWritten old new line (map (map (copied_fields places copied)) (stretches size read)) (items counts))
     → IfOk r (λ counts. (records : List Record) × AreRecordsOfTable known columns records × AreWritten old new names (stretches_of (size_of most) columns copied records) (items counts))

@@ -17,3 +17,10 @@ pub mod TextLemmas
 pub mod CheckedLoads
 pub mod GridLemmas
 pub mod TileRows
+pub mod KeyMerges
+pub mod LoadedParts
+pub mod LoadedTexts
+pub mod MadeTiles
+pub mod StretchTexts
+pub mod TiledAnswers
+pub mod WholeTables

@@ -4,10 +4,10 @@ use Rattle.std.proofs.lemmas.List.{append_assoc, get_or-map, length-append, leng
 use Rattle.std.proofs.lemmas.List.FromFn.{get_or-enumerate_from, length-enumerate_from}
 use Rattle.std.specs.List.{enumerate_from}
 use Rattle.basics.proofs.Lists.{past_end}
-use Rattle.csv.specs.declared.reader.Reader.{Reader}
+use Rattle.tiles.specs.declared.plain_records.PlainRecords.{PlainRecords}
 use Rattle.feature_table.proofs.EachLemmas.{Passed, passed_all, passed_fault, passed_more}
 use Rattle.feature_table.proofs.LoadingLemmas.{at_place}
-use Rattle.feature_table.specs.Reading.{StillGives}
+use Rattle.tiles.specs.PlainRecords.{GivesRest}
 use Rattle.table_model.specs.Loading.{Record, each}
 use Rattle.table_model.specs.declared.faults.LoadFault.{LoadFault}
 use Rattle.table_model.specs.declared.faults.LoadFault.TheVariants as fault
@@ -64,14 +64,14 @@ answer_end of records place found passed none =
 -- ---- the records of a text
 
 -- so many records give values, and a reader still gives the rest
-pub record Midway {R A : Type 0} (remaining : R → Option (List ℕ)) (reader : Reader R) (of : Of A) (records : List Record) (place : ℕ) (found : List A) : Type 0 where
-  pub gives : StillGives remaining reader (drop place records)
+pub record Midway {R A : Type 0} (remaining : R → Option (List ℕ)) (reader : PlainRecords R) (of : Of A) (records : List Record) (place : ℕ) (found : List A) : Type 0 where
+  pub gives : GivesRest remaining reader (drop place records)
   pub passed : Passed (all_of of records) place found
 
 -- the next record gives a value, and the reader gives the rest
-pub midway_more : {R A : Type 0} (remaining : R → Option (List ℕ)) (old new : Reader R) (of : Of A) (records : List Record)
+pub midway_more : {R A : Type 0} (remaining : R → Option (List ℕ)) (old new : PlainRecords R) (of : Of A) (records : List Record)
     (place : ℕ) (found : List A) (first : Record) (more : List Record) (x : A) → Midway remaining old of records place found
-    → drop place records ≡ first ∷ more → of (place + 1, first) ≡ Ok x → StillGives remaining new more
+    → drop place records ≡ first ∷ more → of (place + 1, first) ≡ Ok x → GivesRest remaining new more
     → Midway remaining new of records (place + 1) (found ++ x ∷ [])
 midway_more remaining old new of records place found first more x m takes is gives =
     let at = at_place records place first more takes in

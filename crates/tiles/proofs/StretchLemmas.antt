@@ -300,30 +300,34 @@ filled_step old mid next new header row size read x counts more rows left was po
 -- ---- the whole
 
 -- the first stretches together
-whole_so_far : (size : ℕ) (rows : List Record) (n : ℕ) → flat_map (λ (s : List Record). s) (map (stretch_of size rows) (range_with_len 0 n)) ≡ take (n * size) rows
+pub whole_so_far : {X : Type 0} (size : ℕ) (rows : List X) (n : ℕ)
+    → flat_map (λ (s : List X). s) (map (stretch_of size rows) (range_with_len 0 n)) ≡ take (n * size) rows
 whole_so_far size rows zero = let e : 0 ≡ 0 * size = omega arith in ap (λ k. take k rows) e
-whole_so_far size rows (suc n) =
+whole_so_far {X = X} size rows (suc n) =
     let one : suc n ≡ n + 1 = omega arith in
     let more : n * size + size ≡ suc n * size = omega arith in
-    ap (λ k. flat_map (λ (s : List Record). s) (map (stretch_of size rows) (range_with_len 0 k))) one
-    ∙ ap (flat_map (λ (s : List Record). s)) (map-range_with_len_more (stretch_of size rows) 0 n n (omega arith))
-    ∙ flat_map-append (λ (s : List Record). s) (map (stretch_of size rows) (range_with_len 0 n)) (stretch_of size rows n ∷ [])
-    ∙ ap₂ (λ (a b : List Record). a ++ b) (whole_so_far size rows n) (append-nil (stretch_of size rows n))
+    ap (λ k. flat_map (λ (s : List X). s) (map (stretch_of size rows) (range_with_len 0 k))) one
+    ∙ ap (flat_map (λ (s : List X). s)) (map-range_with_len_more (stretch_of size rows) 0 n n (omega arith))
+    ∙ flat_map-append (λ (s : List X). s) (map (stretch_of size rows) (range_with_len 0 n)) (stretch_of size rows n ∷ [])
+    ∙ ap₂ (λ (a b : List X). a ++ b) (whole_so_far size rows n) (append-nil (stretch_of size rows n))
     ∙ sym (take-add (n * size) size rows)
     ∙ ap (λ k. take k rows) more
+
+-- so many stretches are enough for all
+pub stretches_enough : (size : ℕ) (rows : List Record) → 0 < size → length rows ≤ stretch_count size rows * size
+stretches_enough size rows pos =
+    let past : length rows - 1 < (length rows - 1) / size * size + size = lt-div-mul-add pos in
+    let more : ((length rows - 1) / size + 1) * size ≡ (length rows - 1) / size * size + size = omega arith in
+    omega (arith, past, more)
 
 -- and all of them
 pub stretches_are_whole : StretchesAreWhole
 stretches_are_whole size rows pos = (
-  whole_so_far size rows (stretch_count size rows) ∙ take_all (stretch_count size rows * size) rows enough,
-  All-map (λ (s : List Record). length s ≤ size) (stretch_of size rows) (range_with_len 0 (stretch_count size rows)) (λ k d h. few (get_or (range_with_len 0 (stretch_count size rows)) k d)),
+  whole_so_far size rows (stretch_count size rows)
+      ∙ take_all (stretch_count size rows * size) rows (stretches_enough size rows pos),
+  All-map (λ (s : List Record). length s ≤ size) (stretch_of size rows) (range_with_len 0 (stretch_count size rows))
+      (λ k d h. few (get_or (range_with_len 0 (stretch_count size rows)) k d)),
 )
   where
-    enough : length rows ≤ stretch_count size rows * size
-    enough =
-        let past : length rows - 1 < (length rows - 1) / size * size + size = lt-div-mul-add pos in
-        let more : ((length rows - 1) / size + 1) * size ≡ (length rows - 1) / size * size + size = omega arith in
-        omega (arith, past, more)
-
     few : (k : ℕ) → length (stretch_of size rows k) ≤ size
     few k = let l = length-take size (drop (k * size) rows) in omega (arith, l)

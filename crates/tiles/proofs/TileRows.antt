@@ -50,25 +50,25 @@ use Rattle.tiles.specs.TileRows.{AreTypedRows, IsOfGeometries, IsWide, TilesAreR
 -- ---- results
 
 -- where all values are Ok, so is their list
-ok_all : (ys : Row Geometry) → each {F = LoadFault} (map Ok ys) ≡ Ok ys
+pub ok_all : (ys : Row Geometry) → each {F = LoadFault} (map Ok ys) ≡ Ok ys
 ok_all [] = refl
 ok_all (y ∷ ys) = ap (λ r. and_then r (λ zs. Ok (y ∷ zs))) (ok_all ys)
 
 -- ---- names
 
 -- a name is the same as one whenever that is the same as it
-turned : (a b : List ℕ) → same_name a b ≡ true → same_name b a ≡ true
+pub turned : (a b : List ℕ) → same_name a b ≡ true → same_name b a ≡ true
 unfolding same_name
 turned a b h =
     let lower : List ℕ → List ℕ = map to_ascii_lowercase in
     (bytes_eq-Decides (lower b) (lower a)).1 (sym ((bytes_eq-Decides (lower a) (lower b)).0 h))
 
-itself : (a : List ℕ) → same_name a a ≡ true
+pub itself : (a : List ℕ) → same_name a a ≡ true
 unfolding same_name
 itself a = (bytes_eq-Decides (map to_ascii_lowercase a) (map to_ascii_lowercase a)).1 refl
 
 -- of names that differ none is the same as an earlier one
-apart : (names : List (List ℕ)) → names_differ names ≡ true → (k t : ℕ) (d : List ℕ) → k < t → t < length names
+pub apart : (names : List (List ℕ)) → names_differ names ≡ true → (k t : ℕ) (d : List ℕ) → k < t → t < length names
     → same_name (get_or names t d) (get_or names k d) ≡ false
 apart [] h k t d before within = absurd (omega (arith, within))
 apart (n ∷ names) h k zero d before within = absurd (omega (arith, before))
@@ -83,7 +83,7 @@ apart (n ∷ names) h (suc k) (suc t) d before within =
     apart names (and_parts _ _ h).1 k t d (omega (arith, before)) (omega (arith, within))
 
 -- so each is found at its place
-place_is : (names : List (List ℕ)) (t : ℕ) (name : List ℕ) → names_differ names ≡ true → slice_get names t ≡ Some name
+pub place_is : (names : List (List ℕ)) (t : ℕ) (name : List ℕ) → names_differ names ≡ true → slice_get names t ≡ Some name
     → place_in names name ≡ t
 place_is names t name differ there =
     let within = slice_get_within names t name there in
@@ -102,7 +102,7 @@ abbrev shaped : Result Geometry LoadFault → Result (Value Geometry) LoadFault
 shaped r = and_then r (λ g. Ok (values.Geometry g))
 
 -- a field that isn't empty is read alike under each number
-filled_alike : (n m : ℕ) (kind : ColumnType ColumnShape) (bytes : List ℕ) (v : Value Geometry)
+pub filled_alike : (n m : ℕ) (kind : ColumnType ColumnShape) (bytes : List ℕ) (v : Value Geometry)
     → filled_value reading n kind bytes ≡ Ok v
     → filled_value reading m kind bytes ≡ Ok v
 filled_alike n m column.Integer bytes v e = go (integer_of bytes) e
@@ -130,7 +130,7 @@ filled_alike n m (column.Geometry shape) bytes v e = go (geometry_in_text bytes)
     go (Ok g) e = typed g (takes_type shape (type_of g)) e
 
 -- and any field, where it is required no more than before
-alike : (n m : ℕ) (was now : Bool) (kind : ColumnType ColumnShape) (field : List ℕ) (v : Value Geometry)
+pub alike : (n m : ℕ) (was now : Bool) (kind : ColumnType ColumnShape) (field : List ℕ) (v : Value Geometry)
     → (now ≡ true → was ≡ true)
     → value_of reading n was kind field ≡ Ok v → value_of reading m now kind field ≡ Ok v
 unfolding value_of
@@ -211,7 +211,7 @@ given_at {X} g (y ∷ xs) i row e k x there =
         (later vs more k there ∙ ap (λ l. Ok (unwrap_or (slice_get l (suc k)) values.Null)) same)
 
 -- what copied columns give, one by one
-copies : (g : ℕ × ColumnDef ColumnShape → Result (Value Geometry) LoadFault) (h : ℕ → Result (Value Geometry) LoadFault)
+pub copies : (g : ℕ × ColumnDef ColumnShape → Result (Value Geometry) LoadFault) (h : ℕ → Result (Value Geometry) LoadFault)
     (of : ℕ → Option (ColumnDef ColumnShape)) (copied : List ℕ) (own : List (ColumnDef ColumnShape)) (i : ℕ)
     → map Some own ≡ map of copied
     → ((t k : ℕ) (x : ColumnDef ColumnShape) → slice_get copied t ≡ Some k → slice_get own t ≡ Some x → of k ≡ Some x
@@ -244,22 +244,37 @@ two_more g (z ∷ own) x y i =
 -- ---- a record of a tile
 
 -- the field of a column in a row, as a result
-abbrev given : Row Geometry → ℕ → Result (Value Geometry) LoadFault
+abbrev pub given : Row Geometry → ℕ → Result (Value Geometry) LoadFault
 given row k = Ok (unwrap_or (slice_get row k) values.Null)
 
 -- the fields of columns, and more behind them
-joined : (row : Row Geometry) (copied : List ℕ) (more : Row Geometry)
+pub joined : (row : Row Geometry) (copied : List ℕ) (more : Row Geometry)
     → map (given row) copied ++ map Ok more ≡ map Ok (fields_in copied row ++ more)
 joined row [] more = refl
 joined row (k ∷ copied) more = ap (λ (l : List (Result (Value Geometry) LoadFault)). given row k ∷ l) (joined row copied more)
 
 -- a field of a record is that under the name of its column
-field_is : (table : TableDef ColumnShape) (header fields : Record) (k : ℕ) (c : ColumnDef ColumnShape)
+pub field_is : (table : TableDef ColumnShape) (header fields : Record) (k : ℕ) (c : ColumnDef ColumnShape)
     → slice_get table.columns k ≡ Some c
     → field_in (places_in header table.columns) fields k ≡ field_under header fields c.name
 field_is table header fields k c there =
     let of : ColumnDef ColumnShape → ℕ = λ d. place_in header d.name in
     ap (λ o. unwrap_or (option_map (λ p. get_or fields p []) o) []) (slice_get-map of table.columns k ∙ ap (option_map of) there)
+
+-- the value of a field of a record that is read as a row
+pub typed_field : (table : TableDef ColumnShape) (header fields : Record) (number : ℕ) (row : Row Geometry)
+    → row_of reading table header number fields ≡ Ok row → (k : ℕ) (c : ColumnDef ColumnShape)
+    → slice_get table.columns k ≡ Some c
+    → value_of reading number (is_required table (k, c)) c.column_type (field_under header fields c.name)
+    ≡ Ok (unwrap_or (slice_get row k) values.Null)
+unfolding row_of
+typed_field table header fields number row is k c there =
+    let P : ℕ → Type 0 = λ n. value_of reading number (is_required table (n, c)) c.column_type
+    (field_under header fields c.name) ≡ Ok (unwrap_or (slice_get row k) values.Null) in
+    let none : 0 + k ≡ k = omega arith in
+    subst P none
+    (given_at (λ d. value_of reading number (is_required table d) d.1.column_type
+    (field_under header fields d.1.name)) table.columns 0 row is k c there)
 
 module _ (table wide : TableDef ColumnShape) (copied : List ℕ) (w : IsWide table wide copied) (place : ℕ)
     (g : IsOfGeometries table place)
@@ -300,14 +315,7 @@ module _ (table wide : TableDef ColumnShape) (copied : List ℕ) (w : IsWide tab
     typed : (k : ℕ) (c : ColumnDef ColumnShape) → slice_get table.columns k ≡ Some c
         → value_of reading number (is_required table (k, c)) c.column_type (field_under header fields c.name)
         ≡ Ok (unwrap_or (slice_get row k) values.Null)
-    unfolding row_of
-    typed k c there =
-        let P : ℕ → Type 0 = λ n. value_of reading number (is_required table (n, c)) c.column_type
-        (field_under header fields c.name) ≡ Ok (unwrap_or (slice_get row k) values.Null) in
-        let none : 0 + k ≡ k = omega arith in
-        subst P none
-        (given_at (λ d. value_of reading number (is_required table d) d.1.column_type
-        (field_under header fields d.1.name)) table.columns 0 row is k c there)
+    typed k c there = typed_field table header fields number row is k c there
 
     -- the geometry of the record is that of the row
     same_geometry : geometry_in (places_in header table.columns) place fields ≡ geometry_at place row

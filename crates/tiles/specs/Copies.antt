@@ -1,10 +1,10 @@
 -- The tables that are written of the records of a table: its tiles, or its stretches.
 use Rattle.std.specs.Prelude.{◌≡◌, ◌+◌, ◌-◌, ◌*◌, ◌/◌, ◌==◌, if◌then◌else◌, ℕ, Bool, false, List, [], ◌∷◌, ◌++◌, All, None, Option, drop, filter, length, map, option_and_then, option_map, slice_get, slice_index_or, take, unwrap_or}
 use Rattle.std.specs.List.{flat_map, range_with_len}
-use Rattle.csv.specs.declared.reader.Reader.{Reader}
+use Rattle.tiles.specs.declared.plain_records.PlainRecords.{PlainRecords}
 use Rattle.geometry_model.specs.Envelopes.{Envelope, envelope, meets}
 use Rattle.geometry_model.specs.Geometries.{Geometry}
-use Rattle.feature_table.specs.Reading.{StillGives}
+use Rattle.tiles.specs.PlainRecords.{GivesRest}
 use Rattle.feature_table.specs.Tables.{AreRecordsOf}
 use Rattle.table_model.specs.Loading.{Record, header_fault}
 use Rattle.table_model.specs.declared.definitions.ColumnDef.{ColumnDef}
@@ -63,8 +63,8 @@ meets_cell boxes e number = unwrap_or (option_map (λ cell. meets cell e) (slice
 abbrev pub size_of : ℕ → ℕ
 size_of most = if most == 0 then 1 else most
 
--- the stretch of a number: so many records, from behind those of the stretches before it (this project's choice)
-abbrev pub stretch_of : ℕ → List Record → ℕ → List Record
+-- the stretch of a number: so many records, or rows, from behind those of the stretches before it (this project's choice)
+abbrev pub stretch_of : {X : Type 0} → ℕ → List X → ℕ → List X
 stretch_of size rows number = take size (drop (number * size) rows)
 
 -- how many stretches there are: so many that each record is in one, and at least one (this project's choice)
@@ -106,11 +106,11 @@ pub record AreAdded (old new : Texts) (tables : List (List Record)) (counts : Li
 -- ---- reading
 
 -- these records were read, each of this length
-pub record WereRead {R : Type 0} (remaining : R → Option (List ℕ)) (old new : Reader R) (width : ℕ) (read : List Record) : Type 0 where
+pub record WereRead {R : Type 0} (remaining : R → Option (List ℕ)) (old new : PlainRecords R) (width : ℕ) (read : List Record) : Type 0 where
   pub even : All (λ fields. length fields ≡ width) read
-  pub gives : (rest : List Record) → StillGives remaining old rest → (more : List Record) × StillGives remaining new more × (rest ≡ read ++ more)
+  pub gives : (rest : List Record) → GivesRest remaining old rest → (more : List Record) × GivesRest remaining new more × (rest ≡ read ++ more)
 
 -- these records were read, each of this length, and they are all
-pub record AreAll {R : Type 0} (remaining : R → Option (List ℕ)) (old : Reader R) (width : ℕ) (read : List Record) : Type 0 where
+pub record AreAll {R : Type 0} (remaining : R → Option (List ℕ)) (old : PlainRecords R) (width : ℕ) (read : List Record) : Type 0 where
   pub even : All (λ fields. length fields ≡ width) read
-  pub all : (rest : List Record) → StillGives remaining old rest → rest ≡ read
+  pub all : (rest : List Record) → GivesRest remaining old rest → rest ≡ read

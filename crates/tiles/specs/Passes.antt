@@ -1,8 +1,8 @@
 -- What one pass over the records of a table returns.
 use Rattle.std.specs.Prelude.{◌≡◌, ◌∷◌, ⊤, ℕ, ℤ, List, [], Option, Some, None, Result, Ok, Err}
-use Rattle.csv.specs.declared.reader.Reader.{Reader}
+use Rattle.tiles.specs.declared.plain_records.PlainRecords.{PlainRecords}
 use Rattle.feature_table.specs.Outcomes.{IsFailure, Loads}
-use Rattle.feature_table.specs.Reading.{StillGives}
+use Rattle.tiles.specs.PlainRecords.{GivesRest}
 use Rattle.feature_table.specs.Tables.{AreRecordsOf}
 use Rattle.table_model.specs.Loading.{Record, and_then}
 use Rattle.table_model.specs.declared.faults.LoadFault.{LoadFault}
@@ -14,10 +14,10 @@ abbrev pub Of : Type 0 → Type 0
 Of A = ℕ × Record → Result A LoadFault
 
 -- no record was left, or the first of those left was taken and gives this value or this fault
-abbrev pub Takes : {R A : Type 0} → (R → Option (List ℕ)) → Reader R → Of A → ℕ → List Record → Result (Option A) LoadFault → Type 0
+abbrev pub Takes : {R A : Type 0} → (R → Option (List ℕ)) → PlainRecords R → Of A → ℕ → List Record → Result (Option A) LoadFault → Type 0
 Takes remaining reader of number rest (Ok None) = rest ≡ []
 Takes remaining reader of number rest (Ok (Some x)) =
-    (first : Record) × (more : List Record) × (rest ≡ first ∷ more) × (of (number, first) ≡ Ok x) × StillGives remaining reader more
+    (first : Record) × (more : List Record) × (rest ≡ first ∷ more) × (of (number, first) ≡ Ok x) × GivesRest remaining reader more
 Takes remaining reader of number rest (Err f) =
     ¬ (IsFailure f) → (first : Record) × (more : List Record) × (rest ≡ first ∷ more) × (of (number, first) ≡ Err f)
 

@@ -1,5 +1,5 @@
 -- The lines that are written of a table.
-use Rattle.std.specs.Prelude.{if◌then◌else◌, ℕ, ℤ, pos, List, [], ◌∷◌, ◌++◌, map, codes, Option, None, option_and_then, option_map, slice_get, unwrap_or}
+use Rattle.std.specs.Prelude.{◌≡◌, ◌≢◌, if◌then◌else◌, ℕ, ℤ, pos, List, [], ◌∷◌, ◌++◌, map, codes, Option, None, option_and_then, option_map, slice_get, unwrap_or}
 use Rattle.std.specs.List.{slice_index_or}
 use Rattle.std.specs.Ordering.{int_eq}
 use Rattle.std.specs.Result.{result_ok}
@@ -35,6 +35,10 @@ field_in places fields column = unwrap_or (option_map (λ place. slice_index_or 
 unfoldable pub geometry_in_field : List ℕ → Option Geometry
 geometry_in_field [] = None
 geometry_in_field (byte ∷ bytes) = result_ok (read_text (byte ∷ bytes))
+
+-- a field isn't empty, and spells no geometry
+abbrev pub SpellsNoGeometry : List ℕ → Type 0
+SpellsNoGeometry field = (field ≢ []) × (geometry_in_field field ≡ None)
 
 -- the digit of a mark (this project's choice)
 abbrev pub mark_text : ℤ → List ℕ

@@ -1,12 +1,11 @@
 //! The first pass over a table: it checks what loading checks, but for the number of rows. Rows aren't kept, only their keys.
 
-ghost use Rattle.std.specs.Prelude.{◌≡◌, ◌∷◌, [], ℕ, IfErr, IfNone, IfOk, IfSome, IsTrue, List, None, OnOk, Some, int_lt, length, vec_len};
+ghost use Rattle.std.specs.Prelude.{◌≡◌, ◌∷◌, [], ℕ, IfErr, IfNone, IfOk, IfSome, IsTrue, List, None, OnOk, Option, Some, int_lt, length, false, true, vec_len};
 ghost use Rattle.std.specs.List.{IsAllAdjacentAnswer};
 ghost use Rattle.csv.specs.Records.{fields_of};
 ghost use Rattle.feature_table.specs.GeometryFields.{reading};
 ghost use Rattle.feature_table.specs.Layouts.{IsLayout};
-ghost use Rattle.feature_table.specs.Outcomes.{Loads};
-ghost use Rattle.feature_table.specs.Reading.{IsSteady, StillGives};
+ghost use Rattle.feature_table.specs.Outcomes.{Loads, is_of_reading};
 ghost use Rattle.feature_table.specs.Tables.{AreRecordsOf};
 ghost use Rattle.table_model.specs.Definitions.{lawful};
 ghost use Rattle.table_model.specs.Loading.{Record};
@@ -15,29 +14,33 @@ ghost use Rattle.table_model.specs.Outcomes.{Gives};
 ghost use Rattle.table_model.specs.declared.faults.LoadFault.TheVariants as fault;
 ghost use Rattle.tiles.specs.Checks.{checked, keys_of_table, record_key, record_keys};
 ghost use Rattle.tiles.specs.Passes.{Counts, IsOf, IsOfRecord, Takes};
+ghost use Rattle.tiles.specs.PlainRecords.{AreAllOf, GivesRest, IsReady, read_failed};
 
-use crate::plain_records::read_next;
+use crate::plain_records::PlainRecords;
 use crate::watching::{RowWatcher, Unwatched};
-use csv::{ByteRecord, Reader};
-use feature_table::{Layout, TableDef, double_key, key_of, layout_of, record_reader, row_of};
+use csv::ByteRecord;
+use feature_table::{Layout, TableDef, double_key, key_of, layout_of, row_of};
 use std::alloc::Global;
 use std::io::Read;
 use table_model::faults::LoadFault;
 
-/// Checks the records that a reader gives, and shows each row to a watcher. It returns how many rows there are, or None where the
-/// one fault is that two keys are equal: `find_fault` looks which. The error is the first fault but that of keys; `ReadFailed` and
-/// `OutOfMemory` may come in place of any result. Eight bytes are kept for each row (06-104r4, feature tables).
+/// Checks records, of which none was read yet, and shows each row to a watcher. It returns how many rows there are, or None where the
+/// one fault is that two keys are equal: `find_fault` looks which. The error is the first fault but that of keys; `ReadFailed`, only
+/// where `csv` returned an error of reading, and `OutOfMemory` may come in place of any result. Eight bytes are kept for each row
+/// (06-104r4, feature tables).
 pub fn check_records<R: Read + Drop, W: RowWatcher>(
     alloc: Global,
     table: &TableDef,
-    reader: R,
+    records: &mut PlainRecords<R>,
     watcher: &mut W,
 ) -> Result<Option<usize>, LoadFault>
-    requires { IsTrue (lawful (table.now ∷ [])) }
-    ensures { (records : List Record) × AreRecordsOf (R.remaining reader) records
-        × Counts result (keys_of_table reading table.now records) }
+    requires lawful { IsTrue (lawful (table.now ∷ [])) }
+    requires ready { IsReady records.old }
+    ensures counts { (known : Option (List ℕ)) → AreAllOf R.remaining known records.old
+        → (read : List Record) × AreRecordsOf known read × Counts result (keys_of_table reading table.now read) }
+    ensures read_failed { IfErr result (λ f. is_of_reading f ≡ true → read_failed records.new ≡ true) }
 {
-    let keys = keys_in(alloc, table, reader, watcher)?;
+    let keys = keys_in(alloc, table, records, watcher)?;
     Ok(differing(keys))
 }
 
@@ -64,42 +67,47 @@ fn ascend(keys: &[i64]) -> bool
     keys.is_sorted_by(|key, next| *key < *next)
 }
 
-/// How many rows the records that a reader gives have. The error is their first fault, that of keys too; `ReadFailed` and
-/// `OutOfMemory` may come in place of any result (06-104r4, feature tables).
+/// How many rows records give, of which none was read yet. The error is their first fault, that of keys too; `ReadFailed`, only where
+/// `csv` returned an error of reading, and `OutOfMemory` may come in place of any result (06-104r4, feature tables).
 pub fn find_fault<R: Read + Drop>(
     alloc: Global,
     table: &TableDef,
-    reader: R,
+    records: &mut PlainRecords<R>,
 ) -> Result<usize, LoadFault>
-    requires { IsTrue (lawful (table.now ∷ [])) }
-    ensures { IsOf (R.remaining reader) (λ rows. rows) result (checked reading table.now) }
+    requires lawful { IsTrue (lawful (table.now ∷ [])) }
+    requires ready { IsReady records.old }
+    ensures rows { (known : Option (List ℕ)) → AreAllOf R.remaining known records.old
+        → IsOf known (λ rows. rows) result (checked reading table.now) }
+    ensures read_failed { IfErr result (λ f. is_of_reading f ≡ true → read_failed records.new ≡ true) }
 {
-    let keys = keys_in(alloc, table, reader, &mut Unwatched)?;
+    let keys = keys_in(alloc, table, records, &mut Unwatched)?;
     match double_key(alloc, keys.as_slice())? {
         Some(number) => Err(LoadFault::DoubleKey(number)),
         None => Ok(keys.len()),
     }
 }
 
-/// The keys of the records that a reader gives, in their order, or the first fault that isn't one of keys.
+/// The keys of records of which none was read yet, in their order, or the first fault that isn't one of keys.
 fn keys_in<R: Read + Drop, W: RowWatcher>(
     alloc: Global,
     table: &TableDef,
-    reader: R,
+    records: &mut PlainRecords<R>,
     watcher: &mut W,
 ) -> Result<Vec<i64>, LoadFault>
-    requires { IsTrue (lawful (table.now ∷ [])) }
-    ensures { IsOf (R.remaining reader) (λ keys. keys.items) result (keys_of_table reading table.now) }
+    requires lawful { IsTrue (lawful (table.now ∷ [])) }
+    requires ready { IsReady records.old }
+    ensures keys { (known : Option (List ℕ)) → AreAllOf R.remaining known records.old
+        → IsOf known (λ keys. keys.items) result (keys_of_table reading table.now) }
+    ensures read_failed { IfErr result (λ f. is_of_reading f ≡ true → read_failed records.new ≡ true) }
 {
-    let mut rows = record_reader(alloc, reader);
     let mut header = ByteRecord::new(alloc);
-    let found = read_next(&mut rows, &mut header)?;
+    let found = records.read(&mut header)?;
     // Without a header record, the header has no fields, so it lacks the first column.
     if !found {
         return Err(LoadFault::MissingColumn);
     }
     let layout = layout_of(alloc, table.columns.as_slice(), &header)?;
-    keys_after(alloc, table, &layout, &mut rows, watcher)
+    keys_after(alloc, table, &layout, records, watcher)
 }
 
 /// The keys of the records after the header, or the first fault.
@@ -107,16 +115,17 @@ fn keys_after<R: Read + Drop, W: RowWatcher>(
     alloc: Global,
     table: &TableDef,
     layout: &Layout,
-    reader: &mut Reader<R>,
+    records: &mut PlainRecords<R>,
     watcher: &mut W,
 ) -> Result<Vec<i64>, LoadFault>
     requires size { vec_len layout.now.places ≡ length table.now.columns }
-    requires steady { IsSteady reader.old }
+    requires ready { IsReady records.old }
     ensures loads { (header : Record) (rest : List Record) → IsLayout table.now.columns header layout.now
-        → StillGives R.remaining reader.old rest
+        → GivesRest R.remaining records.old rest
         → Loads (λ keys. keys.items) result (record_keys reading table.now header rest) }
-    ensures records { (header : Record) → IsLayout table.now.columns header layout.now
-        → (records : List Record) × Loads (λ keys. keys.items) result (record_keys reading table.now header records) }
+    ensures some { (header : Record) → IsLayout table.now.columns header layout.now
+        → (read : List Record) × Loads (λ keys. keys.items) result (record_keys reading table.now header read) }
+    ensures read_failed { IfErr result (λ f. is_of_reading f ≡ true → read_failed records.new ≡ true) }
 {
     let mut keys = Vec::new(alloc);
     let mut fields = ByteRecord::new(alloc);
@@ -126,7 +135,7 @@ fn keys_after<R: Read + Drop, W: RowWatcher>(
             table,
             layout,
             place + 1,
-            reader,
+            records,
             &mut fields,
             watcher,
         )? {
@@ -143,20 +152,21 @@ fn next_key<R: Read + Drop, W: RowWatcher>(
     table: &TableDef,
     layout: &Layout,
     number: usize,
-    reader: &mut Reader<R>,
+    records: &mut PlainRecords<R>,
     fields: &mut ByteRecord,
     watcher: &mut W,
 ) -> Result<Option<i64>, LoadFault>
     requires size { vec_len layout.now.places ≡ length table.now.columns }
-    requires steady { IsSteady reader.old }
-    ensures steady { OnOk result (IsSteady reader.new) }
+    requires ready { IsReady records.old }
+    ensures ready { OnOk result (IsReady records.new) }
     ensures takes { (header : Record) (rest : List Record) → IsLayout table.now.columns header layout.now
-        → StillGives R.remaining reader.old rest
-        → Takes R.remaining reader.new (record_key reading table.now header) number rest result }
+        → GivesRest R.remaining records.old rest
+        → Takes R.remaining records.new (record_key reading table.now header) number rest result }
     ensures of_record { (header : Record) → IsLayout table.now.columns header layout.now
         → IsOfRecord (record_key reading table.now header) number result }
+    ensures read_failed { IfErr result (λ f. is_of_reading f ≡ true → read_failed records.new ≡ true) }
 {
-    let found = read_next(reader, fields)?;
+    let found = records.read(fields)?;
     if !found {
         return Ok(None);
     }
@@ -174,8 +184,9 @@ fn shown_key<W: RowWatcher>(
     watcher: &mut W,
 ) -> Result<i64, LoadFault>
     requires { vec_len layout.now.places ≡ length table.now.columns }
-    ensures { (header : Record) → IsLayout table.now.columns header layout.now
+    ensures gives { (header : Record) → IsLayout table.now.columns header layout.now
         → Gives fault.OutOfMemory (λ key. key) result (record_key reading table.now header (number, fields_of fields.now)) }
+    ensures no_reading { IfErr result (λ f. is_of_reading f ≡ false) }
 {
     if fields.len() != layout.width {
         return Err(LoadFault::UnequalRecord(number));

@@ -1,25 +1,26 @@
 //! The second pass over a table that is split into tiles: each record is written to each cell that it is copied to.
 
-ghost use Rattle.std.specs.Prelude.{◌≡◌, ◌+◌, ◌++◌, ◌==◌, ◌<◌, ◌^◌, if◌then◌else◌, [], ℕ, IfErr, IfOk, List, OnOk, count_by, length, map, nat_lt, replicate, slice_index, vec_len};
+ghost use Rattle.std.specs.Prelude.{◌≡◌, ◌≢◌, ◌⊎◌, ◌+◌, ◌++◌, ◌==◌, ◌<◌, ◌^◌, if◌then◌else◌, [], ℕ, IfErr, IfOk, List, OnOk, Option, count_by, length, map, nat_lt, replicate, slice_index, true, vec_len};
 ghost use Rattle.std.specs.List.{All};
 ghost use Rattle.csv.specs.Records.{fields_of, partial_of};
-ghost use Rattle.feature_table.specs.Outcomes.{IsFailure};
-ghost use Rattle.feature_table.specs.Reading.{IsSteady};
 ghost use Rattle.table_model.specs.Loading.{Record};
+ghost use Rattle.table_model.specs.declared.faults.LoadFault.TheVariants as load;
 ghost use Rattle.tiles.specs.Copies.{AreAdded, AreAll, AreRecordsOfTable, AreWritten, copied_fields, geometry_in, is_copied_to, meets_cell, tiles, tiles_of};
-ghost use Rattle.tiles.specs.Faults.{IsCopyFault, IsTableFault};
-ghost use Rattle.tiles.specs.RecordLines.{cell_row, envelope_row, line_of, marked_line, names_of};
+ghost use Rattle.tiles.specs.Faults.{AreSpoilt, IsCopyFault, IsTableFault, IsUntiled, is_copy_of_reading};
+ghost use Rattle.tiles.specs.PlainRecords.{AreAllOf, HasLeft, IsMemory, IsReadFault, IsReady, read_failed};
+ghost use Rattle.tiles.specs.RecordLines.{SpellsNoGeometry, cell_row, envelope_row, field_in, line_of, marked_line, names_of};
 ghost use Rattle.tiles.specs.Texts.{Grow, gets_of, in_cell};
 
 use crate::envelopes::envelope_in;
 use crate::faults::CopyFault;
 use crate::parts::Part;
-use crate::reading::{read_layout, read_record};
+use crate::plain_records::PlainRecords;
+use crate::reading::read_layout;
 use crate::record_lines::{copied_fields, field_in, marked_names, push_marks, put_record};
 use crate::texts::CellTexts;
 use crate::{Cells, Marks};
-use csv::{ByteRecord, Reader};
-use feature_table::{Layout, record_reader};
+use csv::ByteRecord;
+use feature_table::Layout;
 use rtree::Envelope;
 use std::alloc::Global;
 use std::io::Read;
@@ -33,21 +34,25 @@ pub fn write_tiles<R: Read + Drop, T: CellTexts>(
     part: &Part<'_>,
     column: usize,
     cells: &Cells,
-    reader: R,
+    records: &mut PlainRecords<R>,
     texts: &mut T,
 ) -> Result<Vec<usize>, CopyFault>
-    ensures tiles { IfOk result (λ counts. (records : List Record)
-        × AreRecordsOfTable (R.remaining reader) part.now.table.now.columns records
+    requires { IsReady records.old }
+    ensures tiles { (known : Option (List ℕ)) → AreAllOf R.remaining known records.old → IfOk result (λ counts. (read : List Record)
+        × AreRecordsOfTable known part.now.table.now.columns read
         × AreWritten (T.texts texts.old) (T.texts texts.new)
         (names_of part.now.table.now.columns part.now.columns.now ++ map (λ mark. mark.now) part.now.marks)
-        (tiles_of cells.now part.now.table.now.columns column part.now.columns.now records) counts.items) }
+        (tiles_of cells.now part.now.table.now.columns column part.now.columns.now read) counts.items) }
     ensures size { IfOk result (λ counts. vec_len counts ≡ length cells.now + 1) }
     ensures same { OnOk result (T.failures texts.new ≡ T.failures texts.old) }
-    ensures fault { IfErr result (IsCopyFault (IsTableFault (R.remaining reader) part.now.table.now.columns)
+    ensures fault { (known : Option (List ℕ)) → AreAllOf R.remaining known records.old
+        → IfErr result (IsCopyFault (IsTableFault known part.now.table.now.columns)
         (T.failures texts.old) (T.failures texts.new)) }
+    ensures read_failed { (known : Option (List ℕ)) → AreAllOf R.remaining known records.old
+        → IfErr result (λ f. is_copy_of_reading f ≡ true
+        → (read_failed records.new ≡ true) ⊎ AreSpoilt (IsUntiled part.now.table.now.columns column) known) }
 {
-    let mut reader = record_reader(alloc, reader);
-    let layout = read_layout(alloc, part.table, &mut reader)?;
+    let layout = read_layout(alloc, part.table, records)?;
     let mut header = ByteRecord::new(alloc);
     marked_names(part, &mut header)?;
     let mut counts = put_headers(alloc, &header, cells.boxes().len() + 1, texts)?;
@@ -57,7 +62,7 @@ pub fn write_tiles<R: Read + Drop, T: CellTexts>(
         column,
         cells,
         &layout,
-        &mut reader,
+        records,
         texts,
         &mut counts,
     )?;
@@ -75,7 +80,7 @@ fn put_headers<T: CellTexts>(
         (λ cell. if nat_lt cell cells then line_of (fields_of header.now) else [])) }
     ensures counts { IfOk result (λ counts. counts.items ≡ replicate cells 0) }
     ensures same { OnOk result (T.failures texts.new ≡ T.failures texts.old) }
-    ensures fault { IfErr result (IsCopyFault IsFailure (T.failures texts.old) (T.failures texts.new)) }
+    ensures fault { IfErr result (IsCopyFault IsMemory (T.failures texts.old) (T.failures texts.new)) }
 {
     let mut text = Vec::new(alloc);
     let mut counts = Vec::new(alloc);
@@ -93,21 +98,23 @@ fn copy_records<R: Read + Drop, T: CellTexts>(
     column: usize,
     cells: &Cells,
     layout: &Layout,
-    reader: &mut Reader<R>,
+    records: &mut PlainRecords<R>,
     texts: &mut T,
     counts: &mut Vec<usize>,
 ) -> Result<(), CopyFault>
-    requires steady { IsSteady reader.old }
+    requires ready { IsReady records.old }
     requires counts { counts.old.items ≡ replicate (length cells.now + 1) 0 }
-    ensures added { OnOk result ((read : List Record) × AreAll R.remaining reader.old layout.now.width read
+    ensures added { OnOk result ((read : List Record) × AreAll R.remaining records.old layout.now.width read
         × AreAdded (T.texts texts.old) (T.texts texts.new)
         (tiles cells.now layout.now.places.items column columns.now read) counts.new.items) }
     ensures same { OnOk result (T.failures texts.new ≡ T.failures texts.old) }
-    ensures fault { IfErr result (IsCopyFault IsFailure (T.failures texts.old) (T.failures texts.new)) }
+    ensures fault { IfErr result (IsCopyFault (IsReadFault records.new (HasLeft R.remaining records.old
+        (λ fields. (length fields ≢ layout.now.width) ⊎ SpellsNoGeometry (field_in layout.now.places.items fields column))))
+        (T.failures texts.old) (T.failures texts.new)) }
 {
     let mut fields = ByteRecord::new(alloc);
     for _place in 0..u64::MAX {
-        if !read_record(layout, reader, &mut fields)? {
+        if !records.read_even(layout.width, &mut fields)? {
             return Ok(());
         }
         copy_record(
@@ -145,7 +152,9 @@ fn copy_record<T: CellTexts>(
         ≡ slice_index counts.old.items cell
         + (if is_copied_to cells.now (geometry_in places.now column (fields_of fields.now)) cell then 1 else 0)) }
     ensures same { OnOk result (T.failures texts.new ≡ T.failures texts.old) }
-    ensures fault { IfErr result (IsCopyFault IsFailure (T.failures texts.old) (T.failures texts.new)) }
+    ensures fault { IfErr result (IsCopyFault (λ f. IsMemory f ⊎ ((f ≡ load.ReadFailed)
+        × SpellsNoGeometry (field_in places.now (fields_of fields.now) column)))
+        (T.failures texts.old) (T.failures texts.new)) }
 {
     match envelope_in(alloc, field_in(places, fields, column))? {
         Some(envelope) => copy_to_cells(
@@ -174,7 +183,7 @@ fn copy_to_cells<T: CellTexts>(
     ensures counted { OnOk result ((cell : ℕ) → slice_index counts.new.items cell
         ≡ slice_index counts.old.items cell + (if meets_cell cells.now envelope.now cell then 1 else 0)) }
     ensures same { OnOk result (T.failures texts.new ≡ T.failures texts.old) }
-    ensures fault { IfErr result (IsCopyFault IsFailure (T.failures texts.old) (T.failures texts.new)) }
+    ensures fault { IfErr result (IsCopyFault IsMemory (T.failures texts.old) (T.failures texts.new)) }
 {
     let mut met = Vec::new(alloc);
     cells.meeting(*envelope, &mut met)?;
@@ -208,7 +217,7 @@ fn put_rows<T: CellTexts>(
         (gets_of (marked_line cells.now envelope.now (copied_fields places.now columns.now (fields_of fields.now)))
         numbers.now)) }
     ensures same { OnOk result (T.failures texts.new ≡ T.failures texts.old) }
-    ensures fault { IfErr result (IsCopyFault IsFailure (T.failures texts.old) (T.failures texts.new)) }
+    ensures fault { IfErr result (IsCopyFault IsMemory (T.failures texts.old) (T.failures texts.new)) }
 {
     let mut text = Vec::new(alloc);
     let mut line = ByteRecord::new(alloc);
@@ -233,7 +242,7 @@ fn put_row<T: CellTexts>(
     ensures texts { OnOk result (Grow (T.texts texts.old) (T.texts texts.new)
         (in_cell number (marked_line cells.now envelope.now (fields_of line.old) number))) }
     ensures same { OnOk result (T.failures texts.new ≡ T.failures texts.old) }
-    ensures fault { IfErr result (IsCopyFault IsFailure (T.failures texts.old) (T.failures texts.new)) }
+    ensures fault { IfErr result (IsCopyFault IsMemory (T.failures texts.old) (T.failures texts.new)) }
 {
     let marks = Marks::of(&cells.cell(number), envelope);
     push_marks(&marks, line)?;

@@ -28,6 +28,7 @@ pub use copying::write_tiles;
 pub use faults::CopyFault;
 pub use marks::Marks;
 pub use parts::Part;
+pub use plain_records::PlainRecords;
 pub use sampling::Sampler;
 pub use stretching::write_stretches;
 pub use texts::CellTexts;

@@ -2,10 +2,10 @@
 
 ghost use Rattle.std.specs.Prelude.{◌≡◌, ◌++◌, ◌∷◌, [], IfErr, OnOk, map};
 ghost use Rattle.csv.specs.Records.{fields_of, partial_of};
-ghost use Rattle.feature_table.specs.Outcomes.{IsFailure};
 ghost use Rattle.table_laws.specs.Cells.{mark};
 ghost use Rattle.tiles.specs.Copies.{copied_fields};
 ghost use Rattle.tiles.specs.Faults.{IsCopyFault};
+ghost use Rattle.tiles.specs.PlainRecords.{IsMemory};
 ghost use Rattle.tiles.specs.RecordLines.{field_in, line_of, mark_text, name_at, names_of};
 ghost use Rattle.tiles.specs.Texts.{Grow, in_cell};
 
@@ -112,7 +112,7 @@ pub(crate) fn put_record<T: CellTexts>(
     ensures texts { OnOk result
         (Grow (T.texts texts.old) (T.texts texts.new) (in_cell cell (line_of (fields_of line.now)))) }
     ensures same { OnOk result (T.failures texts.new ≡ T.failures texts.old) }
-    ensures fault { IfErr result (IsCopyFault IsFailure (T.failures texts.old) (T.failures texts.new)) }
+    ensures fault { IfErr result (IsCopyFault IsMemory (T.failures texts.old) (T.failures texts.new)) }
 {
     text.clear();
     push_line(text, line)?;

@@ -1,22 +1,22 @@
 //! The second pass over a table that is split into stretches: each record is written to its stretch.
 
-ghost use Rattle.std.specs.Prelude.{◌≡◌, ◌+◌, ◌++◌, ◌∷◌, ◌<◌, ◌≤◌, [], ℕ, IfErr, IfOk, List, OnOk, length, map, vec_len};
+ghost use Rattle.std.specs.Prelude.{◌≡◌, ◌≢◌, ◌⊎◌, ◌+◌, ◌++◌, ◌∷◌, ◌<◌, ◌≤◌, [], ℕ, IfErr, IfOk, List, OnOk, Option, length, map, true, vec_len};
 ghost use Rattle.csv.specs.Records.{fields_of, partial_of};
-ghost use Rattle.feature_table.specs.Outcomes.{IsFailure};
-ghost use Rattle.feature_table.specs.Reading.{IsSteady};
 ghost use Rattle.table_model.specs.Loading.{Record};
 ghost use Rattle.tiles.specs.Copies.{AreAll, AreRecordsOfTable, AreWritten, copied_fields, size_of, stretches, stretches_of};
-ghost use Rattle.tiles.specs.Faults.{IsCopyFault, IsTableFault};
+ghost use Rattle.tiles.specs.Faults.{AreSpoilt, IsCopyFault, IsTableFault, IsUneven, is_copy_of_reading};
+ghost use Rattle.tiles.specs.PlainRecords.{AreAllOf, HasLeft, IsMemory, IsReadFault, IsReady, read_failed};
 ghost use Rattle.tiles.specs.RecordLines.{line_of, names_of};
 ghost use Rattle.tiles.specs.Texts.{Grow, in_cell};
 
 use crate::faults::CopyFault;
 use crate::parts::Part;
-use crate::reading::{read_layout, read_record};
+use crate::plain_records::PlainRecords;
+use crate::reading::read_layout;
 use crate::record_lines::{copied_fields, names, put_record};
 use crate::texts::CellTexts;
-use csv::{ByteRecord, Reader};
-use feature_table::{Layout, record_reader};
+use csv::ByteRecord;
+use feature_table::Layout;
 use std::alloc::Global;
 use std::io::Read;
 use table_model::faults::LoadFault;
@@ -28,21 +28,25 @@ pub fn write_stretches<R: Read + Drop, T: CellTexts>(
     alloc: Global,
     part: &Part<'_>,
     most: usize,
-    reader: R,
+    records: &mut PlainRecords<R>,
     texts: &mut T,
 ) -> Result<Vec<usize>, CopyFault>
-    ensures stretches { IfOk result (λ counts. (records : List Record)
-        × AreRecordsOfTable (R.remaining reader) part.now.table.now.columns records
+    requires { IsReady records.old }
+    ensures stretches { (known : Option (List ℕ)) → AreAllOf R.remaining known records.old → IfOk result (λ counts. (read : List Record)
+        × AreRecordsOfTable known part.now.table.now.columns read
         × AreWritten (T.texts texts.old) (T.texts texts.new)
         (names_of part.now.table.now.columns part.now.columns.now)
-        (stretches_of (size_of most) part.now.table.now.columns part.now.columns.now records) counts.items) }
+        (stretches_of (size_of most) part.now.table.now.columns part.now.columns.now read) counts.items) }
     ensures some { IfOk result (λ counts. 0 < vec_len counts) }
     ensures same { OnOk result (T.failures texts.new ≡ T.failures texts.old) }
-    ensures fault { IfErr result (IsCopyFault (IsTableFault (R.remaining reader) part.now.table.now.columns)
+    ensures fault { (known : Option (List ℕ)) → AreAllOf R.remaining known records.old
+        → IfErr result (IsCopyFault (IsTableFault known part.now.table.now.columns)
         (T.failures texts.old) (T.failures texts.new)) }
+    ensures read_failed { (known : Option (List ℕ)) → AreAllOf R.remaining known records.old
+        → IfErr result (λ f. is_copy_of_reading f ≡ true
+        → (read_failed records.new ≡ true) ⊎ AreSpoilt IsUneven known) }
 {
-    let mut reader = record_reader(alloc, reader);
-    let layout = read_layout(alloc, part.table, &mut reader)?;
+    let layout = read_layout(alloc, part.table, records)?;
     let mut header = ByteRecord::new(alloc);
     names(part.table.columns.as_slice(), part.columns, &mut header)?;
     copy_stretches(
@@ -51,7 +55,7 @@ pub fn write_stretches<R: Read + Drop, T: CellTexts>(
         at_least_one(most),
         &header,
         &layout,
-        &mut reader,
+        records,
         texts,
     )
 }
@@ -71,16 +75,18 @@ fn copy_stretches<R: Read + Drop, T: CellTexts>(
     size: usize,
     header: &ByteRecord,
     layout: &Layout,
-    reader: &mut Reader<R>,
+    records: &mut PlainRecords<R>,
     texts: &mut T,
 ) -> Result<Vec<usize>, CopyFault>
-    requires steady { IsSteady reader.old }
+    requires ready { IsReady records.old }
     requires size { 0 < size }
-    ensures written { IfOk result (λ counts. (read : List Record) × AreAll R.remaining reader.old layout.now.width read
+    ensures written { IfOk result (λ counts. (read : List Record) × AreAll R.remaining records.old layout.now.width read
         × AreWritten (T.texts texts.old) (T.texts texts.new) (fields_of header.now)
         (map (map (copied_fields layout.now.places.items columns.now)) (stretches size read)) counts.items) }
     ensures same { OnOk result (T.failures texts.new ≡ T.failures texts.old) }
-    ensures fault { IfErr result (IsCopyFault IsFailure (T.failures texts.old) (T.failures texts.new)) }
+    ensures fault { IfErr result (IsCopyFault (IsReadFault records.new (HasLeft R.remaining records.old
+        (λ fields. length fields ≢ layout.now.width)))
+        (T.failures texts.old) (T.failures texts.new)) }
 {
     let mut text = Vec::new(alloc);
     put_record(&mut text, 0, header, texts)?;
@@ -89,7 +95,7 @@ fn copy_stretches<R: Read + Drop, T: CellTexts>(
     let mut counts = Vec::new(alloc);
     let mut rows = 0;
     for _place in 0..u64::MAX {
-        if !read_record(layout, reader, &mut fields)? {
+        if !records.read_even(layout.width, &mut fields)? {
             counts.push(rows)?;
             return Ok(counts);
         }
@@ -115,7 +121,7 @@ fn begin_if_full<T: CellTexts>(
     ensures begins { size ≤ rows → IfOk result (λ left. (left ≡ 0) × (counts.new.items ≡ counts.old.items ++ rows ∷ [])
         × Grow (T.texts texts.old) (T.texts texts.new) (in_cell (length counts.old.items + 1) (line_of (fields_of header.now)))) }
     ensures same { OnOk result (T.failures texts.new ≡ T.failures texts.old) }
-    ensures fault { IfErr result (IsCopyFault IsFailure (T.failures texts.old) (T.failures texts.new)) }
+    ensures fault { IfErr result (IsCopyFault IsMemory (T.failures texts.old) (T.failures texts.new)) }
 {
     if rows < size {
         return Ok(rows);

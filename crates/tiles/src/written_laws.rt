@@ -1,9 +1,15 @@
 //! The laws of what is written. Nothing here runs: each function has an empty body, and its contract is a law.
 
+ghost use Rattle.tiles.specs.LoadedParts.{StretchesAreLoaded, TilesAreLoaded};
 ghost use Rattle.tiles.specs.LoadedRows.{CheckedIsLoaded, LoadedAreOnGrid};
+ghost use Rattle.tiles.specs.LoadedTexts.{TextsAreLoaded};
+ghost use Rattle.tiles.specs.MadeTiles.{MadeTilesAreMarked};
 ghost use Rattle.tiles.specs.ReadBack.{WrittenTablesAreRead};
+ghost use Rattle.tiles.specs.StretchTexts.{StretchTextsAreLoaded};
 ghost use Rattle.tiles.specs.Stretches.{StretchesAreWhole};
 ghost use Rattle.tiles.specs.TileRows.{TilesAreRead};
+ghost use Rattle.tiles.specs.TiledAnswers.{TiledAnswersAreMeant};
+ghost use Rattle.tiles.specs.WholeTables.{CheckedIsWhole, LoadedIsWhole, WholeTablesAreKeyed};
 
 /// The text of a tile or of a stretch is read as its header and its records, each of the fields that were written (RFC 4180).
 pub fn written_tables_are_read()
@@ -29,4 +35,50 @@ pub fn loaded_are_on_grid()
 /// and its marks (06-104r4, feature tables).
 pub fn tiles_are_read()
     ensures { TilesAreRead }
+{}
+
+/// A check gives how many rows a whole table has, however many, or its fault (06-104r4, feature tables).
+pub fn checked_is_whole()
+    ensures { CheckedIsWhole }
+{}
+
+/// Up to 100,000 records load as their whole table, or have its fault (06-104r4, feature tables).
+pub fn loaded_is_whole()
+    ensures { LoadedIsWhole }
+{}
+
+/// The rows of a whole table are rows of its definition by ascending key, and their geometries are on the grid.
+pub fn whole_tables_are_keyed()
+    ensures { WholeTablesAreKeyed }
+{}
+
+/// The records of each stretch of a whole table load, as its stretches with the columns that are copied (06-104r4, feature tables).
+pub fn stretches_are_loaded()
+    ensures { StretchesAreLoaded }
+{}
+
+/// The records of a tile of a whole table load as its tile with the columns that are copied (06-104r4, feature tables).
+pub fn tiles_are_loaded()
+    ensures { TilesAreLoaded }
+{}
+
+/// The text of a part loads as its header and its records do (06-104r4, feature tables).
+pub fn texts_are_loaded()
+    ensures { TextsAreLoaded }
+{}
+
+/// The texts of the stretches of a whole table load as its stretches with the columns that are copied (06-104r4, feature tables).
+pub fn stretch_texts_are_loaded()
+    ensures { StretchTextsAreLoaded }
+{}
+
+/// A definition that has the copied columns of a table one by one, and then two of whole numbers, is that of the table's tiles.
+pub fn made_tiles_are_marked()
+    ensures { MadeTilesAreMarked }
+{}
+
+/// The rows that a query over two split tables gives in the cells of a cut, merged by their keys and up to the limit, are what is copied
+/// of the rows that the query means over the whole tables (SQL, the query).
+pub fn tiled_answers_are_meant()
+    ensures { TiledAnswersAreMeant }
 {}

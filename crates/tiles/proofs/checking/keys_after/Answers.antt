@@ -25,7 +25,7 @@ returns-in-None-clause-loads g c header records layout gives =
 
 pub loop-place-preserved : goal.loop-place-preserved
 loop-place-preserved g c = record {
-  steady = c.in_ok-key.ensures.steady;
+  ready = c.in_ok-key.ensures.ready;
   midway = λ header records layout gives.
       let m = c.loop-place.invariant.midway header records layout gives in
       let t = rw c.in-Some.is at (c.in_ok-key.ensures.takes header (drop c.loop-place.place records) layout m.gives) in
@@ -38,14 +38,14 @@ loop-place-preserved g c = record {
       rw (c.in_ok-push-in-Some.ensures.items, to_z-of_z fits) (read_more (record_key reading c.args.table.now header) c.loop-place.place c.loop-place.keys.items t.0 c.in-Some.key a t.1);
 }
 
-pub returns-in_err-key-clause-records : goal.returns-in_err-key-clause-records
-returns-in_err-key-clause-records g c header layout =
+pub returns-in_err-key-clause-some : goal.returns-in_err-key-clause-some
+returns-in_err-key-clause-some g c header layout =
     let a = c.loop-place.invariant.read header layout in
     let p = err_from_is_err_and c.from_residual.result c.from_residual.ensures.1 in
     rw (p.1, p.2)
     (of_fault c.in_err-key.field-0.0 (λ records. record_keys reading c.args.table.now header records ≡ Err c.in_err-key.field-0.0) (λ other. let t = c.in_err-key.ensures.of_record header layout other in
     read_fault (record_key reading c.args.table.now header) c.loop-place.place c.loop-place.keys.items t.0 c.in_err-key.field-0.0 a t.1))
 
-pub returns-in-None-clause-records : goal.returns-in-None-clause-records
-returns-in-None-clause-records g c header layout =
+pub returns-in-None-clause-some : goal.returns-in-None-clause-some
+returns-in-None-clause-some g c header layout =
     read_end (record_key reading c.args.table.now header) c.loop-place.place c.loop-place.keys.items (c.loop-place.invariant.read header layout)
