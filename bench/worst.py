@@ -117,8 +117,8 @@ PAIRS = (
     Input("one edge, and a spiral askew", shapes.edge_and_spiral_askew, 4_000, 400, 2.02),
     Input("a point, and closed lines round it", shapes.point_in_closed_lines, 499, 60, 1.20),
     Input("a short line, and closed lines round it", shapes.line_in_closed_lines, 499, 60, 1.18),
-    Input("chevrons, and lines that touch stubs end to end", shapes.chevrons_and_touching_lines, 249, 40, 2.91),
-    Input("chevrons and touching lines, both backwards", shapes.chevrons_and_touching_lines_backwards, 249, 40, 2.93),
+    Input("chevrons, and lines that touch stubs end to end", shapes.chevrons_and_touching_lines, 249, 40, 1.42),
+    Input("chevrons and touching lines, both backwards", shapes.chevrons_and_touching_lines_backwards, 249, 40, 1.41),
     Input("level lines, and to and fro through their ends", shapes.level_lines_and_upright, 499, 60, 1.87),
 )
 

@@ -1,7 +1,7 @@
 -- The first element of least number, when one element more is looked at.
-use Rattle.std.specs.Prelude.{◌≡◌, refl, ℕ, ◌<◌, ◌≤◌, Bool, true, false, cond, nat_le, List, [], ◌∷◌, ◌++◌, ◌+◌, length, take, get_or, All, Option, Some, None, IsSome}
+use Rattle.std.specs.Prelude.{◌≡◌, refl, ℕ, ◌<◌, ◌≤◌, Bool, true, false, cond, nat_le, List, [], ◌∷◌, ◌++◌, All, Option, Some, None, IsSome}
 use Rattle.std.proofs.Common.{arith, ap, ◌∙◌, sym, leb-true, leb-false}
-use Rattle.std.proofs.lemmas.List.{append_assoc, take_more}
+use Rattle.std.proofs.lemmas.List.{append_assoc}
 use Rattle.std.proofs.lemmas.List.Elements.{All-nil, All-cons, All-append, All-weaker}
 use Rattle.table_model.specs.Plans.{first_of_least}
 use Rattle.table_model.specs.PlanLaws.{IsFirstOfLeast}
@@ -49,13 +49,3 @@ one_more {X = X} number xs y = go (first_of_least number xs) refl
     go : (o : Option X) → first_of_least number xs ≡ o → first_of_least number (xs ++ y ∷ []) ≡ Some (cheaper number o y)
     go None is = nothing xs is
     go (Some x) is = pick x is (nat_le (number x) (number y)) refl
-
--- the same of the first elements of a list
-pub one_more_taken : {X : Type 0} (number : X → ℕ) (xs : List X) (i : ℕ) (d : X) → i < length xs
-    → first_of_least number (take (i + 1) xs) ≡ Some (cheaper number (first_of_least number (take i xs)) (get_or xs i d))
-one_more_taken number xs i d l = ap (first_of_least number) (take_more xs i d l) ∙ one_more number (take i xs) (get_or xs i d)
-
--- where the first of least number of those is known, the cheaper one is that of one element more
-pub one_more_kept : {X : Type 0} (number : X → ℕ) (xs : List X) (i : ℕ) (d least new : X) → i < length xs → first_of_least number (take i xs) ≡ Some least
-    → new ≡ cheaper number (Some least) (get_or xs i d) → first_of_least number (take (i + 1) xs) ≡ Some new
-one_more_kept number xs i d least new l is e = one_more_taken number xs i d l ∙ ap (λ o. Some (cheaper number o (get_or xs i d))) is ∙ ap Some (sym e)

@@ -4,3 +4,4 @@ pub mod LeastStep
 pub mod Counts
 pub mod LeastMap
 pub mod PlanOfLeast
+pub mod Taken

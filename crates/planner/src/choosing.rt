@@ -6,8 +6,7 @@ ghost use Rattle.table_model.specs.Plans as spec;
 
 use crate::costs::cost;
 use crate::filter_order::filters;
-use crate::lawful_accesses::{Nesting, lawful_nestings};
-use crate::least::first_of_least;
+use crate::lawful_accesses::{Nesting, cheapest};
 use sqlite_items::Items;
 use std::alloc::{AllocError, Global};
 use table_model::conditions::{Bound, Cond, GeometryArgument};
@@ -56,11 +55,6 @@ pub fn choose_by_counts<G, C>(
     ensures { IfOk result (λ plan. chosen_for rows.now query.now ≡ Some plan) }
 {
     let conjuncts = query.conjuncts.as_slice();
-    let nestings = lawful_nestings(alloc, &query.references, conjuncts)?;
-    plan_of(
-        alloc,
-        rows,
-        conjuncts,
-        first_of_least(rows, nestings.as_slice()),
-    )
+    let nesting = cheapest(alloc, rows, &query.references, conjuncts)?;
+    plan_of(alloc, rows, conjuncts, nesting)
 }
