@@ -1,5 +1,5 @@
 -- Which order the words of a command line give, by `clap`'s own definition of what matches a command.
-use Rattle.std.specs.Prelude.{◌≡◌, ◌⊎◌, Bool, false, List, Option, Some, None, codes, option_map, IsSome}
+use Rattle.std.specs.Prelude.{◌≡◌, ◌⊎◌, Bool, true, false, List, Option, Some, None, codes, option_map, IsSome}
 use Rattle.std.specs.Str.{bytes_eq}
 use Rattle.std.specs.String.{string_bytes}
 use Rattle.clap.specs.Words.{Row, Text, first_of, subcommand_of}
@@ -24,6 +24,15 @@ asks_why (order.Relate first second why) = why
 asks_why (order.Why first second why) = why
 asks_why (order.Pairs file why) = why
 asks_why (order.Fault code) = false
+
+-- the same order, asking to say more of a fault
+abbrev pub with_why : Order → Order
+with_why (order.Run schema directory query why) = order.Run schema directory query true
+with_why (order.Check schema directory why) = order.Check schema directory true
+with_why (order.Relate first second why) = order.Relate first second true
+with_why (order.Why first second why) = order.Why first second true
+with_why (order.Pairs file why) = order.Pairs file true
+with_why (order.Fault code) = order.Fault code
 
 -- whether a flag is there, by the word that `clap` has of it: `true`, else `false`
 abbrev pub is_set : Option Text → Bool

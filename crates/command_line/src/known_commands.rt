@@ -72,4 +72,44 @@ impl Order {
             Order::Fault { .. } => false,
         }
     }
+
+    /// The same order, asking to say more of a fault.
+    pub fn with_why(self) -> Order
+        ensures { result ≡ spec.with_why self }
+    {
+        match self {
+            Order::Run {
+                schema,
+                directory,
+                query,
+                ..
+            } => Order::Run {
+                schema,
+                directory,
+                query,
+                why: true,
+            },
+            Order::Check {
+                schema,
+                directory,
+                ..
+            } => Order::Check {
+                schema,
+                directory,
+                why: true,
+            },
+            Order::Relate { first, second, .. } => Order::Relate {
+                first,
+                second,
+                why: true,
+            },
+            Order::Why { first, second, .. } => Order::Why {
+                first,
+                second,
+                why: true,
+            },
+            Order::Pairs { file, .. } => Order::Pairs { file, why: true },
+            Order::Fault { code } => Order::Fault { code },
+        }
+    }
 }
