@@ -16,28 +16,29 @@ optional_word id = record (new_rule id) { value_names = 1 }
 abbrev pub flag : Text → Rule
 flag id = record (new_rule id) { long = Some id; action = Some SetTrue }
 
--- `run SCHEMA DIR QUERY`
+-- `run SCHEMA DIR QUERY`, with the flag `--why`
 abbrev pub run : App
-run = with_rule (with_rule (with_rule (new_app (codes "run")) (required_word (codes "schema")))
-    (required_word (codes "directory"))) (required_word (codes "query"))
+run = with_rule (with_rule (with_rule (with_rule (new_app (codes "run")) (required_word (codes "schema")))
+    (required_word (codes "directory"))) (required_word (codes "query"))) (flag (codes "why"))
 
 -- `check SCHEMA DIR`, with the flag `--why`
 abbrev pub check : App
 check = with_rule (with_rule (with_rule (new_app (codes "check")) (required_word (codes "schema")))
     (required_word (codes "directory"))) (flag (codes "why"))
 
--- `relate WKT WKT`
+-- `relate WKT WKT`, with the flag `--why`
 abbrev pub relate : App
-relate = with_rule (with_rule (new_app (codes "relate")) (required_word (codes "first")))
-    (required_word (codes "second"))
+relate = with_rule (with_rule (with_rule (new_app (codes "relate")) (required_word (codes "first")))
+    (required_word (codes "second"))) (flag (codes "why"))
 
--- `why WKT [WKT]`
+-- `why WKT [WKT]`, with the flag `--why`
 abbrev pub why : App
-why = with_rule (with_rule (new_app (codes "why")) (required_word (codes "first"))) (optional_word (codes "second"))
+why = with_rule (with_rule (with_rule (new_app (codes "why")) (required_word (codes "first"))) (optional_word (codes "second")))
+    (flag (codes "why"))
 
--- `pairs FILE`
+-- `pairs FILE`, with the flag `--why`
 abbrev pub pairs : App
-pairs = with_rule (new_app (codes "pairs")) (required_word (codes "file"))
+pairs = with_rule (with_rule (new_app (codes "pairs")) (required_word (codes "file"))) (flag (codes "why"))
 
 -- `fault CODE`
 abbrev pub fault : App

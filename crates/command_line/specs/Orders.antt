@@ -1,5 +1,5 @@
 -- Which order the words of a command line give, by `clap`'s own definition of what matches a command.
-use Rattle.std.specs.Prelude.{◌≡◌, ◌⊎◌, Bool, false, List, Option, Some, None, codes, option_map, IsSome}
+use Rattle.std.specs.Prelude.{◌≡◌, ◌⊎◌, Bool, true, false, List, Option, Some, None, codes, option_map, IsSome}
 use Rattle.std.specs.Str.{bytes_eq}
 use Rattle.std.specs.String.{string_bytes}
 use Rattle.clap.specs.Words.{Row, Text, first_of, subcommand_of}
@@ -9,12 +9,30 @@ use Rattle.command_line.specs.declared.known_commands.Order.TheVariants as order
 
 -- the name of the order's subcommand
 abbrev pub name_of : Order → Text
-name_of (order.Run schema directory query) = codes "run"
+name_of (order.Run schema directory query why) = codes "run"
 name_of (order.Check schema directory why) = codes "check"
-name_of (order.Relate first second) = codes "relate"
-name_of (order.Why first second) = codes "why"
-name_of (order.Pairs file) = codes "pairs"
+name_of (order.Relate first second why) = codes "relate"
+name_of (order.Why first second why) = codes "why"
+name_of (order.Pairs file why) = codes "pairs"
 name_of (order.Fault code) = codes "fault"
+
+-- whether an order asks to say more of a fault
+abbrev pub asks_why : Order → Bool
+asks_why (order.Run schema directory query why) = why
+asks_why (order.Check schema directory why) = why
+asks_why (order.Relate first second why) = why
+asks_why (order.Why first second why) = why
+asks_why (order.Pairs file why) = why
+asks_why (order.Fault code) = false
+
+-- the same order, asking to say more of a fault
+abbrev pub with_why : Order → Order
+with_why (order.Run schema directory query why) = order.Run schema directory query true
+with_why (order.Check schema directory why) = order.Check schema directory true
+with_why (order.Relate first second why) = order.Relate first second true
+with_why (order.Why first second why) = order.Why first second true
+with_why (order.Pairs file why) = order.Pairs file true
+with_why (order.Fault code) = order.Fault code
 
 -- whether a flag is there, by the word that `clap` has of it: `true`, else `false`
 abbrev pub is_set : Option Text → Bool
@@ -23,21 +41,26 @@ is_set (Some word) = bytes_eq word (codes "true")
 
 -- each text of the order is the word in its place, and a word that may be missing is there exactly if its text is; so is a flag
 abbrev pub HasTextsOf : List Row → Order → Type 0
-HasTextsOf rows (order.Run schema directory query) =
+HasTextsOf rows (order.Run schema directory query why) =
     (first_of (codes "schema") rows ≡ Some (string_bytes schema))
     × (first_of (codes "directory") rows ≡ Some (string_bytes directory))
     × (first_of (codes "query") rows ≡ Some (string_bytes query))
+    × (why ≡ is_set (first_of (codes "why") rows))
 HasTextsOf rows (order.Check schema directory why) =
     (first_of (codes "schema") rows ≡ Some (string_bytes schema))
     × (first_of (codes "directory") rows ≡ Some (string_bytes directory))
     × (why ≡ is_set (first_of (codes "why") rows))
-HasTextsOf rows (order.Relate first second) =
+HasTextsOf rows (order.Relate first second why) =
     (first_of (codes "first") rows ≡ Some (string_bytes first))
     × (first_of (codes "second") rows ≡ Some (string_bytes second))
-HasTextsOf rows (order.Why first second) =
+    × (why ≡ is_set (first_of (codes "why") rows))
+HasTextsOf rows (order.Why first second why) =
     (first_of (codes "first") rows ≡ Some (string_bytes first))
     × (first_of (codes "second") rows ≡ option_map string_bytes second)
-HasTextsOf rows (order.Pairs file) = first_of (codes "file") rows ≡ Some (string_bytes file)
+    × (why ≡ is_set (first_of (codes "why") rows))
+HasTextsOf rows (order.Pairs file why) =
+    (first_of (codes "file") rows ≡ Some (string_bytes file))
+    × (why ≡ is_set (first_of (codes "why") rows))
 HasTextsOf rows (order.Fault code) = first_of (codes "code") rows ≡ Some (string_bytes code)
 
 -- the subcommand is that of the order, and so are its words

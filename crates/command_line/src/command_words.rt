@@ -55,6 +55,21 @@ fn bare_command<'a>(alloc: Global) -> Command<'a>
         .after_help(MORE)
 }
 
+/// What the help of a command says of the flag that asks to say more of a fault.
+const WHY: &str =
+    "Shows below the line of a fault where it is, and says what to do; so does SFQ_WHY=1 in the environment";
+
+/// The flag that asks to say more of a fault.
+fn why_flag<'a>(alloc: Global) -> Arg<'a>
+    ensures rule { rule_of result ≡ flag (codes "why") }
+    ensures local { result.global ≡ false }
+{
+    Arg::new(alloc, "why")
+        .long("why")
+        .action(ArgAction::SetTrue)
+        .help(WHY)
+}
+
 /// The word that names the schema's file.
 fn schema_word<'a>(alloc: Global) -> Arg<'a>
     ensures rule { rule_of result ≡ required_word (codes "schema") }
@@ -115,13 +130,15 @@ fn query_word<'a>(alloc: Global) -> Arg<'a>
     )
 }
 
-/// `run SCHEMA DIR QUERY`
+/// `run SCHEMA DIR QUERY`, with the flag `--why`
 fn run_command<'a>(alloc: Global) -> Result<Command<'a>, AllocError>
     ensures { IfOk result (λ c. app_of c ≡ run) }
 {
     let about = "Runs a SELECT and writes its rows as CSV";
     let run = Command::new(alloc, "run").about(about).after_help(EXAMPLES);
-    with_places(alloc, run)?.arg(query_word(alloc))
+    with_places(alloc, run)?
+        .arg(query_word(alloc))?
+        .arg(why_flag(alloc))
 }
 
 /// What the help of `check` shows below its words.
@@ -132,19 +149,6 @@ Examples, in a checkout:
 
 Statuses: 0 done, 3 the schema, 4 a table, 6 a file or the output, 7 out of memory.
 docs/FAULTS.md and man sfq explain each fault.";
-
-/// The flag that asks for the reason of a fault.
-fn why_flag<'a>(alloc: Global) -> Arg<'a>
-    ensures rule { rule_of result ≡ flag (codes "why") }
-    ensures local { result.global ≡ false }
-{
-    Arg::new(alloc, "why")
-        .long("why")
-        .action(ArgAction::SetTrue)
-        .help(
-            "Reads the table of a fault again, and says what is wrong there; notes fields with a line end",
-        )
-}
 
 /// `check SCHEMA DIR`, with the flag `--why`
 fn check_command<'a>(alloc: Global) -> Result<Command<'a>, AllocError>
@@ -189,7 +193,7 @@ Example:
 Statuses: 0 done, 5 a geometry, 6 a file or the output, 7 out of memory.
 docs/FAULTS.md and man sfq explain each fault.";
 
-/// `relate WKT WKT`
+/// `relate WKT WKT`, with the flag `--why`
 fn relate_command<'a>(alloc: Global) -> Result<Command<'a>, AllocError>
     ensures { IfOk result (λ c. app_of c ≡ relate) }
 {
@@ -197,7 +201,10 @@ fn relate_command<'a>(alloc: Global) -> Result<Command<'a>, AllocError>
     let relate = Command::new(alloc, "relate")
         .about(about)
         .after_help(RELATING);
-    relate.arg(first_word(alloc))?.arg(second_word(alloc))
+    relate
+        .arg(first_word(alloc))?
+        .arg(second_word(alloc))?
+        .arg(why_flag(alloc))
 }
 
 /// The second geometry of a command that also takes one alone.
@@ -219,13 +226,15 @@ Examples:
 Statuses: 0 done, 5 a geometry, 6 a file or the output, 7 out of memory.
 docs/FAULTS.md and man sfq explain each fault.";
 
-/// `why WKT [WKT]`
+/// `why WKT [WKT]`, with the flag `--why`
 fn why_command<'a>(alloc: Global) -> Result<Command<'a>, AllocError>
     ensures { IfOk result (λ c. app_of c ≡ why) }
 {
     let about = "Shows where two geometries meet, or why one isn't valid";
     let why = Command::new(alloc, "why").about(about).after_help(REASONS);
-    why.arg(first_word(alloc))?.arg(other_word(alloc))
+    why.arg(first_word(alloc))?
+        .arg(other_word(alloc))?
+        .arg(why_flag(alloc))
 }
 
 /// What the help of `pairs` shows below its word.
@@ -249,13 +258,16 @@ fn file_word<'a>(alloc: Global) -> Arg<'a>
     )
 }
 
-/// `pairs FILE`
+/// `pairs FILE`, with the flag `--why`
 fn pairs_command<'a>(alloc: Global) -> Result<Command<'a>, AllocError>
     ensures { IfOk result (λ c. app_of c ≡ pairs) }
 {
     let about = "Writes the DE-9IM matrix of each pair of geometries in a file";
     let pairs = Command::new(alloc, "pairs").about(about);
-    pairs.after_help(PAIRING).arg(file_word(alloc))
+    pairs
+        .after_help(PAIRING)
+        .arg(file_word(alloc))?
+        .arg(why_flag(alloc))
 }
 
 /// What the help of `fault` shows below its word.

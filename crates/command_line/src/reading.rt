@@ -66,7 +66,7 @@ fn read_order(alloc: Global, matches: &ArgMatches<'_>) -> Result<Option<Order>, 
     Ok(None)
 }
 
-/// The order that the three words of `run` give, if they are there.
+/// The order that the three words and the flag of `run` give, if the words are there.
 fn read_run(alloc: Global, run: &ArgMatches<'_>) -> Result<Option<Order>, AllocError>
     ensures name { IfOk result (λ r. IfSome r (λ o. name_of o ≡ codes "run")) }
     ensures some { IfOk result (λ r. IfSome r (HasTextsOf (rows_of (found_of run.now)))) }
@@ -81,10 +81,12 @@ fn read_run(alloc: Global, run: &ArgMatches<'_>) -> Result<Option<Order>, AllocE
     let Some(query) = text_of(alloc, run, "query")? else {
         return Ok(None);
     };
+    let why = flag_of(run, "why");
     Ok(Some(Order::Run {
         schema,
         directory,
         query,
+        why,
     }))
 }
 
@@ -108,7 +110,7 @@ fn read_check(alloc: Global, check: &ArgMatches<'_>) -> Result<Option<Order>, Al
     }))
 }
 
-/// The order that the two words of `relate` give, if they are there.
+/// The order that the two words and the flag of `relate` give, if the words are there.
 fn read_relate(alloc: Global, relate: &ArgMatches<'_>) -> Result<Option<Order>, AllocError>
     ensures name { IfOk result (λ r. IfSome r (λ o. name_of o ≡ codes "relate")) }
     ensures some { IfOk result (λ r. IfSome r (HasTextsOf (rows_of (found_of relate.now)))) }
@@ -120,23 +122,25 @@ fn read_relate(alloc: Global, relate: &ArgMatches<'_>) -> Result<Option<Order>, 
     let Some(second) = text_of(alloc, relate, "second")? else {
         return Ok(None);
     };
-    Ok(Some(Order::Relate { first, second }))
+    let why = flag_of(relate, "why");
+    Ok(Some(Order::Relate { first, second, why }))
 }
 
-/// The order that the words of `why` give, if the first is there.
-fn read_why(alloc: Global, why: &ArgMatches<'_>) -> Result<Option<Order>, AllocError>
+/// The order that the words and the flag of `why` give, if the first word is there.
+fn read_why(alloc: Global, matches: &ArgMatches<'_>) -> Result<Option<Order>, AllocError>
     ensures name { IfOk result (λ r. IfSome r (λ o. name_of o ≡ codes "why")) }
-    ensures some { IfOk result (λ r. IfSome r (HasTextsOf (rows_of (found_of why.now)))) }
-    ensures none { IfOk result (λ r. IfNone r (¬ HasWhyWords (rows_of (found_of why.now)))) }
+    ensures some { IfOk result (λ r. IfSome r (HasTextsOf (rows_of (found_of matches.now)))) }
+    ensures none { IfOk result (λ r. IfNone r (¬ HasWhyWords (rows_of (found_of matches.now)))) }
 {
-    let Some(first) = text_of(alloc, why, "first")? else {
+    let Some(first) = text_of(alloc, matches, "first")? else {
         return Ok(None);
     };
-    let second = text_of(alloc, why, "second")?;
-    Ok(Some(Order::Why { first, second }))
+    let second = text_of(alloc, matches, "second")?;
+    let why = flag_of(matches, "why");
+    Ok(Some(Order::Why { first, second, why }))
 }
 
-/// The order that the word of `pairs` gives, if it is there.
+/// The order that the word and the flag of `pairs` give, if the word is there.
 fn read_pairs(alloc: Global, pairs: &ArgMatches<'_>) -> Result<Option<Order>, AllocError>
     ensures name { IfOk result (λ r. IfSome r (λ o. name_of o ≡ codes "pairs")) }
     ensures some { IfOk result (λ r. IfSome r (HasTextsOf (rows_of (found_of pairs.now)))) }
@@ -145,7 +149,8 @@ fn read_pairs(alloc: Global, pairs: &ArgMatches<'_>) -> Result<Option<Order>, Al
     let Some(file) = text_of(alloc, pairs, "file")? else {
         return Ok(None);
     };
-    Ok(Some(Order::Pairs { file }))
+    let why = flag_of(pairs, "why");
+    Ok(Some(Order::Pairs { file, why }))
 }
 
 /// The order that the word of `fault` gives, if it is there.

@@ -63,6 +63,13 @@ pub record IsMark (text : List ℕ) (place : ℕ) (lines : List ℕ) : Type 0 wh
   pub white : IsWhite text end (length text)
   pub marks : IsMarkAt text (min place end) lines
 
+-- a path is shown from one of its bytes on, with dots if that isn't the first
+pub record IsPath (path shown_path : List ℕ) : Type 0 where
+  pub from : ℕ
+  pub within : from ≤ length path
+  pub utf8 : Bool
+  pub is : shown_path ≡ dots (nat_lt 0 from) ++ shown utf8 (drop from path)
+
 -- ---- explanations
 
 -- a line that says something
@@ -74,3 +81,7 @@ abbrev pub IsExplanation : List ℕ → Option ℕ → List ℕ → Type 0
 IsExplanation text None explanation = (sentence : List ℕ) × (explanation ≡ said sentence)
 IsExplanation text (Some place) explanation =
     (lines sentence : List ℕ) × IsMark text place lines × (explanation ≡ lines ++ said sentence)
+
+-- what is said of the file at a path: the path, and these words
+abbrev pub SaysOfFile : List ℕ → List ℕ → List ℕ → Type 0
+SaysOfFile path words line = (shown_path : List ℕ) × IsPath path shown_path × (line ≡ said (shown_path ++ words))

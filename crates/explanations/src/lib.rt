@@ -15,9 +15,9 @@ mod schema_explanations;
 mod text_explanations;
 
 pub use lines::{Line, line_of};
-pub use marks::marked;
+pub use marks::{marked, path_shown};
 pub use nearest_names::nearest;
 pub use query_explanations::{Names, query_explained};
-pub use said_lines::explained;
+pub use said_lines::{explained, file_explained, said_line};
 pub use schema_explanations::schema_explained;
-pub use text_explanations::{text_explained, validity_explained};
+pub use text_explanations::{geometry_said, text_explained, validity_explained};

@@ -2,7 +2,7 @@
 
 ghost use Rattle.std.specs.Prelude.{◌≡◌, ◌≤◌, ◌++◌, IfOk, OnOk, length, replicate, take, drop};
 ghost use Rattle.std.specs.Char.Escape.{escape_ascii};
-ghost use Rattle.explanations.specs.Marks.{IsMark, IsMarkAt, dots, two_lines};
+ghost use Rattle.explanations.specs.Marks.{IsMark, IsMarkAt, IsPath, dots, two_lines};
 ghost use Rattle.explanations.specs.Marks as spec;
 
 use crate::lines::{line_of, trimmed_end};
@@ -14,6 +14,17 @@ const COLUMNS_BEFORE: usize = 100;
 
 /// How many are shown from it on.
 const COLUMNS_AFTER: usize = 60;
+
+/// The end of a path, as it is shown: at most its last 100 columns, with two dots before them if it has more. Bytes are shown as in a line of
+/// a text. At Err memory ran out (the form: this project's choice).
+pub fn path_shown(alloc: Global, path: &[u8]) -> Result<Vec<u8>, AllocError>
+    ensures { IfOk result (λ shown. IsPath path.now shown.items) }
+{
+    let utf8 = is_plain(path);
+    let from = first_shown(path, 0, path.len(), utf8);
+    let back = part(path, from, path.len());
+    front_shown(alloc, 0 < from, back, utf8)
+}
 
 /// Two lines that show a place of a text: the number of the line that it is in, a bar and the line, cut to 100 columns before the place and
 /// 60 from it on; and a bar and a caret below the byte at the place. White space at the end of the line and of the text isn't shown, and a

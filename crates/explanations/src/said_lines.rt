@@ -1,9 +1,9 @@
 //! Explanations: the lines that show a place, and a sentence below them.
 
 ghost use Rattle.std.specs.Prelude.{◌≡◌, IfOk, None, Some};
-ghost use Rattle.explanations.specs.Marks.{IsExplanation, said};
+ghost use Rattle.explanations.specs.Marks.{IsExplanation, SaysOfFile, said};
 
-use crate::marks::marked;
+use crate::marks::{marked, path_shown};
 use std::alloc::{AllocError, Global};
 
 /// The explanation of a fault at a place of a text: two lines that show the place, and the sentence. At Err memory ran out.
@@ -21,14 +21,23 @@ pub fn explained(
     }
 }
 
-/// The line of a sentence.
-fn said_line(alloc: Global, sentence: &[u8]) -> Result<Vec<u8>, AllocError>
+/// The line of a sentence. At Err memory ran out.
+pub fn said_line(alloc: Global, sentence: &[u8]) -> Result<Vec<u8>, AllocError>
     ensures { IfOk result (λ e. e.items ≡ said sentence.now) }
 {
     let mut line = Vec::from_slice(alloc, b"sfq: ")?;
     line.extend_from_slice(sentence)?;
     line.extend_from_slice(b"\n")?;
     Ok(line)
+}
+
+/// The line that says something of a file: its path, and words that come after it. At Err memory ran out.
+pub fn file_explained(alloc: Global, path: &[u8], words: &str) -> Result<Vec<u8>, AllocError>
+    ensures { IfOk result (λ line. SaysOfFile path.now words.now line.items) }
+{
+    let mut sentence = path_shown(alloc, path)?;
+    sentence.extend_from_slice(words.as_bytes())?;
+    said_line(alloc, sentence.as_slice())
 }
 
 /// The lines that show a place, and the sentence.

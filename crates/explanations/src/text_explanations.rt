@@ -6,7 +6,7 @@ ghost use Rattle.explanations.specs.Faults.{text_place};
 
 use crate::geometry_sentences::{advice, text_sentence};
 use crate::said_lines::explained;
-use geometry_model::{TextFault, ValidityFault};
+use geometry_model::{GeometryFault, TextFault, ValidityFault};
 use std::alloc::{AllocError, Global};
 
 /// The explanation of a fault of a geometry's text: the place of the fault, and a sentence. At Err memory ran out.
@@ -38,4 +38,16 @@ pub fn validity_explained(
     ensures { IfOk result (λ e. IsExplanation text.now None e.items) }
 {
     explained(alloc, text, None, advice(fault, text).as_bytes())
+}
+
+/// What is said of a geometry that is refused: what is there and what to do, or what to do about one that isn't valid. At Err memory ran out.
+pub fn geometry_said(
+    alloc: Global,
+    text: &[u8],
+    fault: GeometryFault,
+) -> Result<Vec<u8>, AllocError> {
+    match fault {
+        GeometryFault::Text(fault) => text_sentence(alloc, text, fault),
+        GeometryFault::Invalid(fault) => Vec::from_slice(alloc, advice(fault, text).as_bytes()),
+    }
 }

@@ -7,3 +7,4 @@ pub mod WitnessLemmas
 pub mod WordLemmas
 mod CodeLemmas
 mod ExplanationLemmas
+mod PairNoteLemmas

@@ -145,7 +145,7 @@ abbrev pub Takes : {R : Type 0} → (R → Option (List ℕ)) → Reader R → R
 Takes remaining reader after found fields = (rest : List Record) → StillGives remaining reader rest → TakesFirst remaining after rest found fields
 
 -- the records begin with those read and the next
-begins_more : {R : Type 0} (remaining : R → Option (List ℕ)) (known : Option (List ℕ)) (reader after : Reader R) (read : List Record) (fields : Record)
+pub begins_more : {R : Type 0} (remaining : R → Option (List ℕ)) (known : Option (List ℕ)) (reader after : Reader R) (read : List Record) (fields : Record)
     → Begins remaining known reader read → Takes remaining reader after true fields → Begins remaining known after (read ++ fields ∷ [])
 begins_more remaining known reader after read fields begins takes text e =
     let b = begins text e in

@@ -4,6 +4,7 @@ pub mod Reasons
 pub mod TextCommands
 pub mod Relations
 pub mod GivenTexts
+pub mod PairNotes
 pub mod Pairs
 pub mod TextWitnesses
 pub mod TextVerdicts

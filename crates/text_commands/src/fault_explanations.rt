@@ -74,12 +74,12 @@ fn explain_texts<E: Sink>(alloc: Global, first: &[u8], second: &[u8], err: &mut 
 }
 
 /// Whether a text has a fault.
-fn has_fault(alloc: Global, text: &[u8]) -> bool {
+pub(crate) fn has_fault(alloc: Global, text: &[u8]) -> bool {
     fault_of(alloc, text).is_some()
 }
 
 /// The first fault of a text, if it has one and memory didn't run out.
-fn fault_of(alloc: Global, text: &[u8]) -> Option<GeometryFault>
+pub(crate) fn fault_of(alloc: Global, text: &[u8]) -> Option<GeometryFault>
     ensures { IfSome result (HasFirst text.now) }
 {
     let Err(failure) = geometry_of(alloc, GeometryWord::First, text) else {
