@@ -3,6 +3,7 @@ pub mod StreamLemmas
 mod FirstLemmas
 pub mod OrderLemmas
 mod KeptLemmas
+mod KeptRowLemmas
 mod MemoryLemmas
 mod IterationLemmas
 pub mod CandidateLemmas
