@@ -2,6 +2,7 @@
 import collections
 import functools
 import os
+import pty
 import re
 import subprocess
 import tempfile
@@ -108,6 +109,63 @@ class Streams(unittest.TestCase):
         self.assertLessEqual(len(added), 8)
         for it in added:
             self.assertRegex(it, r"\Asfq: .")
+
+    @needs_build
+    def test_the_environment_asks(self):
+        self.run_with_switch(["relate", "POINT(1 2)", "POINT(1 2)"])
+        for asked, lines in (("1", 4), ("0", 1), ("", 1)):
+            ran = subprocess.run([repository.PROGRAM, "relate", "POINT(1 x)", "POINT(1 2)"], env={**os.environ, "SFQ_WHY": asked}, capture_output=True)
+            self.assertEqual((ran.returncode, len(ran.stderr.splitlines())), (5, lines), asked)
+
+    @needs_build
+    def test_colour_on_a_terminal(self):
+        self.run_with_switch(["relate", "POINT(1 2)", "POINT(1 2)"])
+        for variables, is_coloured in (({}, True), ({"NO_COLOR": "1"}, False), ({"NO_COLOR": ""}, True)):
+            ours, theirs = pty.openpty()
+            words = [repository.PROGRAM, "relate", SWITCH, "POINT(1 x)", "POINT(1 2)"]
+            plain = {name: it for name, it in os.environ.items() if name != "NO_COLOR"}
+            subprocess.run(words, env={**plain, **variables}, stderr=theirs, timeout=60)
+            os.close(theirs)
+            first, *added = os.read(ours, 1 << 16).decode().replace("\r", "").splitlines()
+            os.close(ours)
+            self.assertEqual(first, "sfq: first W1 at 8")
+            self.assertEqual(len(added), 3)
+            for it in added:
+                self.assertEqual((it.startswith("\x1b[36m"), it.endswith("\x1b[0m"), it.count("\x1b")), (is_coloured, is_coloured, 2 * is_coloured))
+
+    @needs_build
+    def test_texts_from_standard_input(self):
+        said = self.run_with_switch(["relate", "@-", "POINT(1 2)"], given="POINT(1 x)", stdout=subprocess.DEVNULL)
+        self.assertEqual(said, "sfq: first W1 at 8\nsfq: - can't be read twice: save it as a file to see more\n")
+        said = self.run_with_switch(["pairs", "-"], given="POINT(1 x),POINT(1 2)\n", stdout=subprocess.DEVNULL)
+        self.assertEqual(said, "sfq: - can't be read twice: save it as a file to see more\n")
+
+    @needs_build
+    def test_a_named_pipe_is_not_waited_for(self):
+        with tempfile.TemporaryDirectory(prefix="sfq-pipe-") as room:
+            os.mkfifo(f"{room}/a.wkt")
+            ours = subprocess.Popen(["sh", "-c", f"printf 'POINT(1 x)' > {room}/a.wkt"])
+            said = self.run_with_switch(["relate", f"@{room}/a.wkt", "POINT(1 2)"], stdout=subprocess.DEVNULL)
+            ours.wait(timeout=60)
+        self.assertEqual(said, f"sfq: first W1 at 8\nsfq: {room}/a.wkt can't be read twice: save it as a file to see more\n")
+
+    @needs_build
+    def test_many_pairs_that_are_refused(self):
+        with tempfile.TemporaryDirectory(prefix="sfq-pairs-") as room:
+            write(f"{room}/pairs.csv", "POINT(1 2),POINT(1 2)\n" + 150 * "POINT(1 2),POINT(1.5 2)\n")
+            said = self.run_with_switch(["pairs", f"{room}/pairs.csv"], stdout=subprocess.DEVNULL).splitlines()
+        self.assertEqual(len(said), 100)
+        for number, it in enumerate(said, 2):
+            self.assertEqual(it, f"sfq: record {number}: second: 1.5 isn't whole: scale or round the coordinates; sfq-import does")
+
+    @needs_build
+    @unittest.skipUnless(os.geteuid(), "root may read every file")
+    def test_a_file_that_may_not_be_read(self):
+        with tempfile.TemporaryDirectory(prefix="sfq-closed-") as room:
+            write(f"{room}/a.wkt", "POINT(1 2)")
+            os.chmod(f"{room}/a.wkt", 0)
+            said = self.run_with_switch(["relate", f"@{room}/a.wkt", "POINT(1 2)"], stdout=subprocess.DEVNULL)
+        self.assertEqual(said, f"sfq: first unreadable\nsfq: {room}/a.wkt may not be read by this user\n")
 
     @needs_build
     def test_an_output_that_takes_no_more(self):

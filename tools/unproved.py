@@ -23,6 +23,8 @@ NOTICE = "sfq: answered by an unproved build with run-time checks, made anew for
 NO_ANSWER = 1
 # After a call that took as many seconds, a line says how to end the waiting.
 LONG = 10.0
+# The commands that say more of a fault where the environment asks for it.
+EXPLAINED = ("run", "check", "relate", "why", "pairs")
 # The calls of `rt` that run now.
 RUNNING: set[subprocess.Popen[bytes]] = set()
 # The last lines of `rt try`'s standard error, after what the program wrote there.
@@ -58,9 +60,15 @@ def text_places(words: list[str]) -> list[int]:
 
 
 def is_for_clap(words: list[str]) -> bool:
-    """Whether the words can only ask for help or for the version, or be mistaken: no command of sfq has an option."""
+    """Whether the words can only ask for help or for the version, or be mistaken, or ask by `--why`."""
     before = words[: words.index("--")] if "--" in words else words
     return not before or before[0] == "help" or any(it.startswith("-") and it != "-" for it in before)
+
+
+def asking(words: list[str]) -> list[str]:
+    """Returns the words with `--why` where the environment asks for it: `rt try` gives the program no environment."""
+    asks = os.environ.get("SFQ_WHY", "") not in ("", "0") and words[:1] and words[0] in EXPLAINED and "--why" not in words
+    return [words[0], "--why", *words[1:]] if asks else words
 
 
 class HandedIn:
@@ -284,7 +292,7 @@ def answer(words: list[str]) -> int:
     begun = time.monotonic()
     with tempfile.TemporaryDirectory(prefix="sfq-") as room:
         handed = HandedIn(room, os.getcwd())
-        named = handed.words(words)
+        named = handed.words(asking(words))
         out, said = run_rt(["try", *handed.flags(), "--", *named], room, show_waiting)
     clear_waiting()
     ended = ENDED.search(said)

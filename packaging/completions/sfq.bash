@@ -8,11 +8,11 @@ _sfq() {
     fi
     if [[ $word == -* ]]; then
         local flags='-h --help'
-        [[ $command == check ]] && flags+=' --why'
+        [[ $command == @(run|check|relate|why|pairs) ]] && flags+=' --why'
         mapfile -t COMPREPLY < <(compgen -W "$flags" -- "$word")
         return
     fi
-    if [[ $command == check && " ${COMP_WORDS[*]:2:COMP_CWORD-2} " == *' --why '* ]]; then
+    if [[ " ${COMP_WORDS[*]:2:COMP_CWORD-2} " == *' --why '* ]]; then
         ((place--))
     fi
     case $command:$place in

@@ -17,7 +17,7 @@ complete -c sfq -n __fish_use_subcommand -a why -d 'Show where two geometries me
 complete -c sfq -n __fish_use_subcommand -a pairs -d 'Write the DE-9IM matrix of each pair of geometries in a file'
 complete -c sfq -n __fish_use_subcommand -a fault -d 'Explain a fault'
 complete -c sfq -n __fish_use_subcommand -a help -d 'Print help'
-complete -c sfq -n '__fish_seen_subcommand_from check' -l why -d 'Say what is wrong where a table has a fault'
+complete -c sfq -n '__fish_seen_subcommand_from run check relate why pairs' -l why -d 'Show where a fault is, and say what to do'
 complete -c sfq -n '__fish_seen_subcommand_from run check pairs' -F
 complete -c sfq -n '__fish_seen_subcommand_from relate why' -a '(__sfq_geometries)'
 complete -c sfq -n '__fish_seen_subcommand_from fault' -a "$codes"

@@ -1,4 +1,5 @@
 pub mod CountLemmas
+mod ExplanationLemmas
 pub mod FileLemmas
 mod NoteLemmas
 mod PathLemmas

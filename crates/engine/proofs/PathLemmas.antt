@@ -279,7 +279,7 @@ module _ {F G R : Type 0} (files : Opening G R) (paths : Opening F R) (under : G
     serves-order : (opener : G) (order : Order) (status : ℕ) (before after : E)
         → ServesOrder files remaining etaken efailures taken failures old new opener order status before after
         → ServesOrder paths remaining etaken efailures taken failures old new (under opener) order status before after
-    serves-order opener (orders.Run schema directory query) status before after served =
+    serves-order opener (orders.Run schema directory query why) status before after served =
         serves-more etaken efailures _ _ status before after
         (runs-query remaining taken failures old new opener (string_bytes schema) (string_bytes directory) (string_bytes query))
         served
@@ -291,22 +291,22 @@ module _ {F G R : Type 0} (files : Opening G R) (paths : Opening F R) (under : G
       serves-more etaken efailures _ _ status before served.0
           (explains-files served.0 after opener (string_bytes schema) (string_bytes directory)) served.1,
     )
-    serves-order opener (orders.Relate first second) status before after served =
+    serves-order opener (orders.Relate first second why) status before after served =
         serves-more etaken efailures _ _ status before after
         (over-texts remaining (λ one other end. RelateEnds one other end (taken old) (taken new) (failures old) (failures new))
         (new ≡ old) opener
         (string_bytes first) (string_bytes second)) served
-    serves-order opener (orders.Why first (Some second)) status before after served =
+    serves-order opener (orders.Why first (Some second) why) status before after served =
         serves-more etaken efailures _ _ status before after
         (over-texts remaining (ShowsCells taken failures old new) (new ≡ old) opener (string_bytes first) (string_bytes second))
         served
-    serves-order opener (orders.Why first None) status before after served =
+    serves-order opener (orders.Why first None why) status before after served =
         serves-more etaken efailures _ _ status before after
         (λ end. over-word role.Geometry (λ lent. refl) (ReadsGeometry remaining (codes "first")) opener (string_bytes first)
         (λ next text ending. ShowsVerdict taken failures old new text ending)
         (λ next text ending. ShowsVerdict taken failures old new text ending) end (new ≡ old)
         (λ next text shows. shows)) served
-    serves-order opener (orders.Pairs path) status before after served =
+    serves-order opener (orders.Pairs path why) status before after served =
         serves-more etaken efailures _ _ status before after
         (relates-file remaining taken failures old new opener (string_bytes path)) served
     serves-order opener (orders.Fault code) status before after served = served

@@ -280,17 +280,17 @@ module _ {F R E S : Type 0} (opens : Opening F R) (remaining : R → Option (Lis
 
   -- doing what an order says
   abbrev pub ServesOrder : F → Order → ℕ → E → E → Type 0
-  ServesOrder opener (orders.Run schema directory query) status before after =
+  ServesOrder opener (orders.Run schema directory query why) status before after =
       Serves etaken efailures (RunsQuery opens remaining taken failures old new opener (string_bytes schema) (string_bytes directory) (string_bytes query)) status before after
   ServesOrder opener (orders.Check schema directory why) status before after =
       ServesTables opener (string_bytes schema) (string_bytes directory) why status before after
-  ServesOrder opener (orders.Relate first second) status before after =
+  ServesOrder opener (orders.Relate first second why) status before after =
       Serves etaken efailures (RelatesWords opens remaining taken failures old new opener (string_bytes first) (string_bytes second)) status before after
-  ServesOrder opener (orders.Why first (Some second)) status before after =
+  ServesOrder opener (orders.Why first (Some second) why) status before after =
       Serves etaken efailures (ExplainsCells opens remaining taken failures old new opener (string_bytes first) (string_bytes second)) status before after
-  ServesOrder opener (orders.Why first None) status before after =
+  ServesOrder opener (orders.Why first None why) status before after =
       Serves etaken efailures (ExplainsValidity opens remaining taken failures old new opener (string_bytes first)) status before after
-  ServesOrder opener (orders.Pairs file) status before after =
+  ServesOrder opener (orders.Pairs file why) status before after =
       Serves etaken efailures (RelatesFile opens remaining taken failures old new opener (string_bytes file)) status before after
   ServesOrder opener (orders.Fault code) status before after =
       Serves etaken efailures (ExplainsFault taken failures old new (string_bytes code)) status before after

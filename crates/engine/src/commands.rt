@@ -37,7 +37,7 @@ type ColumnIndex = CurveTree;
 type RowIndex = RowTree;
 
 /// How many bytes of a schema's file are read: one more than a schema may have.
-const SCHEMA_BYTES: u64 = TEXT_LIMIT as u64 + 1;
+pub(crate) const SCHEMA_BYTES: u64 = TEXT_LIMIT as u64 + 1;
 
 /// Does what the order says. It writes the answer to `out` and the line of a failure to `err`. After a failed check with `why` it also
 /// writes the line of the reason, if it finds one, and after one that is done a line for each table that has a field with a line end.
@@ -77,6 +77,7 @@ pub fn serve_observed<
             schema,
             directory,
             query,
+            ..
         } => {
             let paths = Paths {
                 schema: schema.as_str(),
@@ -95,16 +96,16 @@ pub fn serve_observed<
             };
             serve_tables(alloc, &paths, *why, opener, out, err)
         }
-        Order::Relate { first, second } => {
+        Order::Relate { first, second, .. } => {
             serve_relate(alloc, first.as_str(), second.as_str(), opener, out, err)
         }
-        Order::Why { first, second } => match second {
+        Order::Why { first, second, .. } => match second {
             Some(second) => {
                 serve_witnesses(alloc, first.as_str(), second.as_str(), opener, out, err)
             }
             None => serve_verdict(alloc, first.as_str(), opener, out, err),
         },
-        Order::Pairs { file } => serve_pairs(alloc, file.as_str(), opener, out, err),
+        Order::Pairs { file, .. } => serve_pairs(alloc, file.as_str(), opener, out, err),
         Order::Fault { code } => serve_fault(code.as_str(), out, err),
     }
 }
@@ -277,7 +278,7 @@ fn serve_reasons<R: Read + Drop, F: FnMut(File<'_>) -> Option<R>, S: Sink, E: Si
 }
 
 /// Writes the line of the reason of a failure, if it is a table's fault and its reason is found.
-fn explain<R: Read + Drop, F: FnMut(File<'_>) -> Option<R>, E: Sink>(
+pub(crate) fn explain<R: Read + Drop, F: FnMut(File<'_>) -> Option<R>, E: Sink>(
     alloc: Global,
     schema: &Schema,
     directory: &str,
@@ -402,7 +403,7 @@ fn found_line_end<R: Read + Drop, F: FnMut(File<'_>) -> Option<R>>(
 }
 
 /// Opens the files of all tables, loads the tables, and writes their lines.
-fn check_over<'s, R: Read + Drop, F: FnMut(File<'_>) -> Option<R>, S: Sink>(
+pub(crate) fn check_over<'s, R: Read + Drop, F: FnMut(File<'_>) -> Option<R>, S: Sink>(
     alloc: Global,
     schema: &'s Schema,
     directory: &str,
@@ -449,7 +450,10 @@ fn put_counts<I: EnvelopeIndex + Drop, S: Sink>(
 }
 
 /// The bytes of a schema's file, up to one more than a schema may have: the reader of schemas refuses a longer one.
-fn schema_text<R: Read + Drop>(alloc: Global, file: R) -> Result<Vec<u8>, Failure<'static>>
+pub(crate) fn schema_text<R: Read + Drop>(
+    alloc: Global,
+    file: R,
+) -> Result<Vec<u8>, Failure<'static>>
     ensures text { IfOk result (λ text. IfSome (R.remaining file)
         (λ bytes. text.items ≡ take SCHEMA_BYTES bytes)) }
     ensures failure { IfErr result IsUnread }
@@ -463,7 +467,10 @@ fn schema_text<R: Read + Drop>(alloc: Global, file: R) -> Result<Vec<u8>, Failur
 }
 
 /// The schema in a file, or why there is none. None is for a file that can't be opened.
-fn schema_in<R: Read + Drop>(alloc: Global, file: Option<R>) -> Result<Schema, Failure<'static>>
+pub(crate) fn schema_in<R: Read + Drop>(
+    alloc: Global,
+    file: Option<R>,
+) -> Result<Schema, Failure<'static>>
     ensures { ReadsSchema R.remaining file result }
 {
     let Some(file) = file else {
@@ -487,7 +494,7 @@ fn schema_failure(fault: SchemaFault) -> Failure<'static>
 }
 
 /// Opens the files of all tables, in the schema's order.
-fn open_tables<'s, R: Read + Drop, F: FnMut(File<'_>) -> Option<R>>(
+pub(crate) fn open_tables<'s, R: Read + Drop, F: FnMut(File<'_>) -> Option<R>>(
     alloc: Global,
     schema: &'s Schema,
     directory: &str,

@@ -24,6 +24,7 @@ fn run_order(alloc: Global, query: &str) -> Result<Order, AllocError> {
         schema: String::from_str(alloc, "s")?,
         directory: String::from_str(alloc, "d")?,
         query: String::from_str(alloc, query)?,
+        why: false,
     })
 }
 
@@ -32,6 +33,7 @@ fn the_matrix_may_not_be_written(rt: HostRuntime) -> Result<(), Fail> {
     let order = Order::Relate {
         first: String::from_str(rt.alloc(), "POINT(1 1)")?,
         second: String::from_str(rt.alloc(), "POINT(1 1)")?,
+        why: false,
     };
     let mut out = StopSink::new(rt.alloc(), 2, 3);
     let mut err = MemorySink::new(rt.alloc());

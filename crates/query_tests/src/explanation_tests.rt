@@ -1,14 +1,14 @@
 //! Explanations of faults: the place that they show, and their sentence.
 
 use explanations::{
-    Names, explained, marked, nearest, query_explained, schema_explained, text_explained,
-    validity_explained,
+    Names, explained, file_explained, geometry_said, marked, nearest, path_shown, query_explained,
+    said_line, schema_explained, text_explained, validity_explained,
 };
-use geometry_model::{TextFault, ValidityFault};
+use geometry_model::{GeometryFault, TextFault, ValidityFault};
 use std::test::Fail;
 use streams::MemorySink;
 use table_model::faults::{QueryFault, SchemaFault};
-use text_commands::{File, explain_word, explain_words};
+use text_commands::{File, explain_pairs, explain_word, explain_words};
 
 const TABLES: [&[u8]; 2] = [b"building", b"parcel"];
 
@@ -110,4 +110,53 @@ fn one_word_is_explained(rt: HostRuntime) {
     let shown =
         b"  1 | POINT(1.5 2)\n    |       ^\nsfq: 1.5 isn't whole: scale or round the coordinates; sfq-import does\n";
     assert!(rt; err.bytes() == shown.as_slice());
+}
+
+#[test]
+fn of_a_long_path_the_end_is_shown(rt: HostRuntime) -> Result<(), Fail> {
+    let alloc = rt.alloc();
+    let path = b"a/b\x1b.csv";
+    assert_eq!(rt;
+        path_shown(alloc, path)?.as_slice(),
+        b"a/b\\x1b.csv".as_slice()
+    );
+    let mut long = Vec::new(alloc);
+    for _ in 0..50 {
+        long.extend_from_slice(b"ab/")?;
+    }
+    let shown = path_shown(alloc, long.as_slice())?;
+    assert!(rt; shown.len() == 102 && shown.as_slice().starts_with(b"../ab/"));
+    let line = file_explained(alloc, b"t.csv", " isn't there")?;
+    assert_eq!(rt; line.as_slice(), b"sfq: t.csv isn't there\n".as_slice());
+    Ok(())
+}
+
+#[test]
+fn a_sentence_comes_without_its_place(rt: HostRuntime) -> Result<(), Fail> {
+    let alloc = rt.alloc();
+    let text = b"POINT(10000001 0)";
+    let fault = GeometryFault::Text(TextFault::OutOfRange(6));
+    let said = geometry_said(alloc, text, fault)?;
+    let line = said_line(alloc, said.as_slice())?;
+    let shown =
+        b"sfq: 10000001 is past 10000000: sfq-import moves and scales coordinates to a grid\n";
+    assert_eq!(rt; line.as_slice(), shown.as_slice());
+    Ok(())
+}
+
+#[test]
+fn pairs_that_are_refused_are_noted(rt: HostRuntime) -> Result<(), Fail> {
+    let alloc = rt.alloc();
+    let mut text = Vec::from_slice(alloc, b"POINT(1 2),POINT(1 2)\n")?;
+    for _ in 0..101 {
+        text.extend_from_slice(b"POINT(1 2),POINT(1.5 2)\n")?;
+    }
+    let mut err = MemorySink::new(alloc);
+    explain_pairs(alloc, "p", |_: File<'_>| Some(text.as_slice()), &mut err);
+    let first =
+        b"sfq: record 2: second: 1.5 isn't whole: scale or round the coordinates; sfq-import does\n";
+    assert!(rt; err.bytes().starts_with(first));
+    let lines = err.bytes().iter().filter(|byte| **byte == b'\n').count();
+    assert_eq!(rt; lines, 100);
+    Ok(())
 }

@@ -1,7 +1,7 @@
 //! What the files that a command opens are, in their order.
 
 use command_line::Order;
-use engine::{File, Unobserved, serve_observed};
+use engine::{File, Unobserved, explain_order, serve_observed};
 use std::alloc::{AllocError, Global};
 use std::cell::Cell;
 use std::test::Fail;
@@ -47,6 +47,7 @@ fn a_run_opens_its_query_the_schema_and_each_table(rt: HostRuntime) -> Result<()
         schema: text(alloc, "s")?,
         directory: text(alloc, "d")?,
         query: text(alloc, "@q")?,
+        why: false,
     };
     assert!(rt; opened(alloc, &order)? == 312);
     Ok(())
@@ -71,6 +72,7 @@ fn relating_opens_geometries(rt: HostRuntime) -> Result<(), Fail> {
     let order = Order::Relate {
         first: text(alloc, "@a")?,
         second: text(alloc, "@-")?,
+        why: false,
     };
     assert!(rt; opened(alloc, &order)? == 44);
     Ok(())
@@ -81,7 +83,53 @@ fn pairs_are_one_file(rt: HostRuntime) -> Result<(), Fail> {
     let alloc = rt.alloc();
     let order = Order::Pairs {
         file: text(alloc, "-")?,
+        why: false,
     };
     assert!(rt; opened(alloc, &order)? == 5);
+    Ok(())
+}
+
+/// The files that explaining a run opens, which has ended with a status, and whether what is written then is this.
+fn explained(alloc: Global, order: &Order, status: u8, said: &str) -> Result<(u64, bool), Fail> {
+    let digits = Cell::new(0_u64);
+    let mut err = MemorySink::new(alloc);
+    let opener = |file: File<'_>| {
+        let (digit, text) = digit_and_text(file);
+        digits.set(digits.get().wrapping_mul(10).wrapping_add(digit));
+        match file {
+            File::Query(_) => Some(b"SELECT \xe4".as_slice()),
+            _ => Some(text),
+        }
+    };
+    explain_order(alloc, order, status, opener, &mut err);
+    Ok((digits.get(), err.bytes() == said.as_bytes()))
+}
+
+/// The order of a run over a query in a file.
+fn run_of_a_file(alloc: Global, why: bool) -> Result<Order, AllocError> {
+    Ok(Order::Run {
+        schema: text(alloc, "s")?,
+        directory: text(alloc, "d")?,
+        query: text(alloc, "@q")?,
+        why,
+    })
+}
+
+#[test]
+fn a_query_that_is_not_utf8_is_said_to_be_so(rt: HostRuntime) -> Result<(), Fail> {
+    let alloc = rt.alloc();
+    let order = run_of_a_file(alloc, true)?;
+    let said = "sfq: q isn't UTF-8: save it as UTF-8\n";
+    assert!(rt; explained(alloc, &order, 6, said)? == (3, true));
+    Ok(())
+}
+
+#[test]
+fn nothing_is_opened_unless_an_order_asks_why(rt: HostRuntime) -> Result<(), Fail> {
+    let alloc = rt.alloc();
+    let order = run_of_a_file(alloc, false)?;
+    assert!(rt; explained(alloc, &order, 6, "")? == (0, true));
+    let order = order.with_why();
+    assert!(rt; explained(alloc, &order, 7, "")? == (0, true));
     Ok(())
 }

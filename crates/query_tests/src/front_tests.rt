@@ -31,6 +31,7 @@ fn is_run_or_refused(alloc: Global, query: &str) -> Result<bool, Fail> {
         schema: String::from_str(alloc, "s")?,
         directory: String::from_str(alloc, "d")?,
         query: String::from_str(alloc, query)?,
+        why: false,
     };
     let mut out = MemorySink::new(alloc);
     let mut err = MemorySink::new(alloc);

@@ -77,6 +77,7 @@ fn run_order(alloc: Global, query: &str) -> Result<Order, AllocError> {
         schema: String::from_str(alloc, "s")?,
         directory: String::from_str(alloc, "d")?,
         query: String::from_str(alloc, query)?,
+        why: false,
     })
 }
 

@@ -2,7 +2,7 @@
 
 use crate::files::Files;
 use command_line::{Order, order};
-use engine::serve;
+use engine::{File, explain_order, serve};
 use std::alloc::{AllocError, Global};
 use streams::MemorySink;
 
@@ -43,6 +43,10 @@ fn output_of_order(alloc: Global, files: &Files, order: &Order) -> Result<Vec<u8
     let mut err = MemorySink::new(alloc);
     let opener = |path: &str| files.text_at(path);
     let status = serve(alloc, order, opener, &mut out, &mut err);
+    if status != 0 && order.asks_why() {
+        let again = |file: File<'_>| files.text_at(file.path());
+        explain_order(alloc, order, status, again, &mut err);
+    }
     let mut text = Vec::from_slice(alloc, out.bytes())?;
     if !err.bytes().is_empty() {
         text.extend_from_slice(b"! ")?;
@@ -68,6 +72,7 @@ fn order_of(alloc: Global, command: &str) -> Result<Order, AllocError> {
     if let Some(path) = command.strip_prefix("pairs ") {
         return Ok(Order::Pairs {
             file: String::from_str(alloc, path)?,
+            why: false,
         });
     }
     if let Some(code) = command.strip_prefix("fault ") {
@@ -86,11 +91,13 @@ fn order_of(alloc: Global, command: &str) -> Result<Order, AllocError> {
         Some((first, second)) => Ok(Order::Relate {
             first: String::from_str(alloc, first)?,
             second: String::from_str(alloc, second)?,
+            why: false,
         }),
         None => Ok(Order::Run {
             schema: String::from_str(alloc, SCHEMA)?,
             directory: String::from_str(alloc, DIRECTORY)?,
             query: String::from_str(alloc, command)?,
+            why: false,
         }),
     }
 }
@@ -101,10 +108,12 @@ fn explained_texts(alloc: Global, texts: &str) -> Result<Order, AllocError> {
         Some((first, second)) => Ok(Order::Why {
             first: String::from_str(alloc, first)?,
             second: Some(String::from_str(alloc, second)?),
+            why: false,
         }),
         None => Ok(Order::Why {
             first: String::from_str(alloc, texts)?,
             second: None,
+            why: false,
         }),
     }
 }

@@ -1,6 +1,7 @@
 //! What the commands read: files and standard input, with a bound on the texts of tables and pairs.
 
-use std::fs::{self, File};
+use engine::File;
+use std::fs;
 use std::io::{self, Read, Stdin};
 use streams::BoundedReader;
 
@@ -10,22 +11,25 @@ const STANDARD_INPUT: &str = "-";
 /// A file, or standard input.
 #[derive(Drop)]
 pub enum Input {
-    File(File),
+    File(fs::File),
     Standard(Stdin),
 }
 
 impl Input {
-    /// Opens the file at a path. None if it can't be opened.
-    pub fn of_file(rt: &HostRuntime, path: &str) -> Option<Input> {
-        Some(Input::File(fs::open(rt, path).ok()?))
-    }
-
-    /// Opens the file at a path, or standard input at the path `-`. None if it can't be opened.
-    pub fn of_word(rt: &HostRuntime, path: &str) -> Option<Input> {
-        if path == STANDARD_INPUT {
-            return Some(Input::Standard(rt.stdin()));
+    /// Opens a file of a command. A query, a geometry and pairs may come from standard input.
+    pub fn of(rt: &HostRuntime, file: File<'_>) -> io::Result<Input> {
+        if is_standard(file) {
+            return Ok(Input::Standard(rt.stdin()));
         }
-        Input::of_file(rt, path)
+        Ok(Input::File(fs::open(rt, file.path())?))
+    }
+}
+
+/// Whether a file of a command is standard input.
+pub fn is_standard(file: File<'_>) -> bool {
+    match file {
+        File::Query(path) | File::Geometry(path) | File::Pairs(path) => path == STANDARD_INPUT,
+        File::Schema(_) | File::Table(_) => false,
     }
 }
 

@@ -2,17 +2,25 @@
 //! SELECT gives; it relates geometries by their DE-9IM matrix; and it explains faults.
 #![tactic(auto)]
 
+mod coloured;
 mod inputs;
+mod openings;
 mod progress;
 
-use crate::inputs::{CommandReader, Input};
-use crate::progress::{Progress, Reported};
+use crate::coloured::{Coloured, is_wanted};
+use crate::openings::{OpenedTables, opened, opened_again};
+use crate::progress::{Cleared, Progress};
 use command_line::{Misuse, Order, order, read_words, texts_of};
-use engine::{Failure, File, failed, failed_words, flushed, serve_observed};
+use engine::{Failure, File, explain_order, failed, failed_words, flushed, serve_observed};
 use std::alloc::Global;
-use std::io::BufWriter;
+use std::cell::Cell;
+use std::env;
+use std::io::{BufWriter, Stderr};
 use std::process::ExitCode;
-use streams::{BoundedReader, Sink, StdSink};
+use streams::{Sink, StdSink};
+
+/// The status if memory ran out.
+const OUT_OF_MEMORY: u8 = 7;
 
 fn main(rt: HostRuntime) -> ExitCode {
     let progress = Progress::new(&rt);
@@ -22,7 +30,7 @@ fn main(rt: HostRuntime) -> ExitCode {
         Err(error) => return ExitCode::from(failed_words(&error, &mut err)),
     };
     let order = match read_order(rt.alloc(), &words) {
-        Ok(order) => order,
+        Ok(order) => asking(&rt, order),
         Err(misuse) => return ExitCode::from(failed_order(&rt, &misuse, &mut err)),
     };
     let buffer = match BufWriter::new(rt.alloc(), progress.before(rt.stdout())) {
@@ -30,41 +38,75 @@ fn main(rt: HostRuntime) -> ExitCode {
         Err(_) => return ExitCode::from(failed(&Failure::OutOfMemory, &mut err)),
     };
     let mut out = StdSink::new(buffer);
-    let mut search = progress.search();
-    let opener = |file: File<'_>| opened(&rt, &progress, file);
-    let status = serve_observed(rt.alloc(), &order, opener, &mut out, &mut err, &mut search);
+    let Served { status, is_said } = serve(&rt, &progress, &order, &mut out, &mut err);
+    if is_explained(status) && !is_said && !progress.is_broken() {
+        explain(&rt, &progress, &order, status);
+    }
     ExitCode::from(flushed(&mut out, status, &mut err))
 }
 
-/// The reader of a file that a command opens, or None if it can't be opened. A query, a geometry and pairs may come from
-/// standard input. What is CSV has a bound, and is shown while it is read.
-fn opened<'p>(
+/// How an order was served: the status, and whether it was said of a table that it can't be read again.
+#[derive(Clone, Copy)]
+struct Served {
+    status: u8,
+    is_said: bool,
+}
+
+/// Does what an order says. A table that is opened again, for a reason or a note, has to give the same bytes.
+fn serve<S: Sink, E: Sink>(
     rt: &HostRuntime,
-    progress: &'p Progress<'p>,
-    file: File<'_>,
-) -> Option<CommandReader<Reported<'p>>> {
-    match file {
-        File::Schema(path) => Some(text(progress, Input::of_file(rt, path)?)),
-        File::Query(path) | File::Geometry(path) => {
-            Some(text(progress, Input::of_word(rt, path)?))
+    progress: &Progress<'_>,
+    order: &Order,
+    out: &mut S,
+    err: &mut E,
+) -> Served {
+    let mut tables = OpenedTables::new(rt.alloc());
+    let mut again = explaining(rt, progress);
+    let mut search = progress.search();
+    let is_said = Cell::new(false);
+    let opener = |file: File<'_>| {
+        if !tables.has(rt.alloc(), file) {
+            return opened(rt, progress, file);
         }
-        File::Table(path) => Some(records(progress, path, Input::of_file(rt, path)?)),
-        File::Pairs(path) => Some(records(progress, path, Input::of_word(rt, path)?)),
+        let reader = opened_again(rt, progress, file, &mut again);
+        is_said.set(is_said.get() || reader.is_none());
+        reader
+    };
+    let status = serve_observed(rt.alloc(), order, opener, out, err, &mut search);
+    Served {
+        status,
+        is_said: is_said.get(),
     }
 }
 
-/// A reader of a text, of which a command reads only so much.
-fn text<'p>(progress: &'p Progress<'p>, input: Input) -> CommandReader<Reported<'p>> {
-    CommandReader::Text(progress.read(input))
+/// Writes what explains the fault of an order, if it asks for that. Files are opened once more.
+fn explain(rt: &HostRuntime, progress: &Progress<'_>, order: &Order, status: u8) {
+    let mut err = explaining(rt, progress);
+    let mut again = explaining(rt, progress);
+    let opener = |file: File<'_>| opened_again(rt, progress, file, &mut again);
+    explain_order(rt.alloc(), order, status, opener, &mut err);
 }
 
-/// A reader of CSV, which is reported.
-fn records<'p>(
+/// Standard error, for what explains a fault.
+fn explaining<'p>(
+    rt: &HostRuntime,
     progress: &'p Progress<'p>,
-    path: &str,
-    input: Input,
-) -> CommandReader<Reported<'p>> {
-    CommandReader::Records(BoundedReader::new(progress.load(path, input)))
+) -> StdSink<Coloured<Cleared<'p, Stderr>>> {
+    StdSink::new(Coloured::new(progress.before(rt.stderr()), is_wanted(rt)))
+}
+
+/// Whether something is said of a fault besides its line: there is one, and memory didn't run out.
+fn is_explained(status: u8) -> bool {
+    status != 0 && status != OUT_OF_MEMORY
+}
+
+/// The order of the words; where the environment asks to say more of a fault, the order does too: `SFQ_WHY` is there, and neither empty nor
+/// `0`.
+fn asking(rt: &HostRuntime, order: Order) -> Order {
+    match env::var(rt, "SFQ_WHY") {
+        Ok(asked) if asked.as_str() != "" && asked.as_str() != "0" => order.with_why(),
+        _ => order,
+    }
 }
 
 /// Prints `clap`'s text, and returns the status. Help that can't be written counts as an answer that can't.

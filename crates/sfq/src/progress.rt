@@ -37,6 +37,8 @@ pub struct Progress<'r> {
     applies: Cell<bool>,
     // Whether the output has begun on a terminal, so that no line is printed any more.
     is_over: Cell<bool>,
+    // Whether a write to standard output or standard error has failed.
+    is_broken: Cell<bool>,
 }
 
 impl<'r> Progress<'r> {
@@ -54,6 +56,7 @@ impl<'r> Progress<'r> {
             due: Cell::new(Duration::from_millis(PATIENCE_MILLISECONDS)),
             applies: Cell::new(false),
             is_over: Cell::new(false),
+            is_broken: Cell::new(false),
         }
     }
 
@@ -100,6 +103,11 @@ impl<'r> Progress<'r> {
             has_failed: false,
             progress: self,
         }
+    }
+
+    /// Whether a write to one of these streams has failed.
+    pub fn is_broken(&self) -> bool {
+        self.is_broken.get()
     }
 
     /// The name of the table whose file is at a path, where it is reported.
@@ -245,6 +253,9 @@ impl<W: Write> Write for Cleared<'_, W> {
         }
         let written = write_again(&mut self.stream, buffer);
         self.has_failed = written.is_err();
+        if self.has_failed {
+            self.progress.is_broken.set(true);
+        }
         written
     }
 

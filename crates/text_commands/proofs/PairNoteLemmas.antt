@@ -1,5 +1,6 @@
 -- What was read and noted of the pairs of a text so far.
-use Rattle.std.proofs.Common.{◌≡◌, ◌∙◌, ◌+◌, ◌++◌, ◌≤◌, inl, inr, ◌≢◌, ℕ, Bool, true, false, List, [], ◌∷◌, Option, Some, Result, Ok, Err}
+use Rattle.std.proofs.Common.{◌≡◌, ◌≢◌, ◌∙◌, ◌+◌, ◌++◌, ◌≤◌, inl, inr}
+use Rattle.std.proofs.Common.{ℕ, Bool, true, false, List, [], ◌∷◌, Option, Some, Result, Ok, Err}
 use Rattle.std.proofs.Common.{ap, arith, length, refl, sym, subst, append-nil, length-append}
 use Rattle.std.specs.Prelude.{slice_get}
 use Rattle.std.specs.Io.KnownBytes.{Appends}
@@ -126,7 +127,8 @@ broken_note : {R : Type 0} (remaining : R → Option (List ℕ)) (known : Option
     → IsNote (place + 1) fields line → AppendsFront middle new line → count ≤ 99 → between ≡ before → last ≡ one_more between
     → NotesPairs known old new before last
 unfolding passed
-broken_note remaining known reader after fields place count old middle new before between last line m takes note front few same more =
+broken_note remaining known reader after fields place count old middle new before between last line m takes note front few same
+    more =
     let p = passed remaining known reader after fields place count old middle m takes in
     let b = begun known p.read (λ text e. let g = p.begins text e in (g.0, g.2)) in
     let longer = length-append m.lines (line ∷ []) in
@@ -150,7 +152,8 @@ pub next_note : {R : Type 0} (remaining : R → Option (List ℕ)) (known : Opti
     → Midnotes remaining known reader place count old middle → Takes remaining reader after true fields
     → PutsNote (place + 1) fields (Ok is_noted) middle new between last → next ≡ counted count is_noted
     → Midnotes remaining known after (place + 1) next old new
-next_note remaining known reader after fields place count old middle new between last true next m takes (line, note, put, same) is =
+next_note remaining known reader after fields place count old middle new between last true next m takes
+    (line, note, put, same) is =
     subst (λ n. Midnotes remaining known after (place + 1) n old new) (sym is)
     (noted_more remaining known reader after fields place count old middle new line m takes note put)
 next_note remaining known reader after fields place count old middle new between last false next m takes (kept, same) is =
@@ -175,13 +178,16 @@ pub ended_note : {R : Type 0} (remaining : R → Option (List ℕ)) (known : Opt
     → Midnotes remaining known reader place count old middle → Takes remaining reader after true fields
     → PutsNote (place + 1) fields r middle new between last → count ≤ 99 → between ≡ before
     → NotesPairs known old new before last
-ended_note remaining known reader after fields place count old middle new before between last (Ok is_noted) m takes puts few same =
+ended_note remaining known reader after fields place count old middle new before between last (Ok is_noted) m takes puts few
+    same =
     let next = counted count is_noted in
     ended_notes remaining known after (place + 1) next old new before last
     (next_note remaining known reader after fields place count old middle new between last is_noted next m takes puts refl)
     (within count next is_noted few refl) (unfailed (place + 1) fields is_noted middle new between last puts ∙ same)
-ended_note remaining known reader after fields place count old middle new before between last (Err e) m takes (line, note, front, more) few same =
-    broken_note remaining known reader after fields place count old middle new before between last line m takes note front few same more
+ended_note remaining known reader after fields place count old middle new before between last (Err e) m takes
+    (line, note, front, more) few same =
+    broken_note remaining known reader after fields place count old middle new before between last line m takes note front few
+    same more
 
 -- at most 99 are noted if at most 100 are, and not 100
 pub below : (count : ℕ) → count ≤ 100 → count ≢ 100 → count ≤ 99

@@ -11,8 +11,8 @@ returns c =
     ap app_of_fields c.after_help-why.ensures ∙ ap app_of_fields c.about.ensures ∙ c.new.ensures.app in
     let first_is = word-added c.after_help-why.result c.in_ok-arg.field-0 c.first_word.result _ _ bare_is c.first_word.ensures.local
     c.first_word.ensures.rule c.in_ok-arg.ensures in
-    let second_is = word-added c.in_ok-arg.field-0 c.in_ok-arg-2.field-0 c.other_word.result _ _ first_is c.other_word.ensures.local
-    c.other_word.ensures.rule c.in_ok-arg-2.ensures in
+    let second_is = word-added c.in_ok-arg.field-0 c.in_ok-arg-2.field-0
+    c.other_word.result _ _ first_is c.other_word.ensures.local c.other_word.ensures.rule c.in_ok-arg-2.ensures in
     IfOk-weaker c.arg-3.result _ _
     (λ command added. word-added c.in_ok-arg-2.field-0 command c.why_flag.result _ _ second_is c.why_flag.ensures.local
     c.why_flag.ensures.rule added)

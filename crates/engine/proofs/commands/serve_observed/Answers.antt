@@ -40,7 +40,7 @@ returns-in-Some g c =
           (subst
           (λ second. ServesOrder (OpensFile g.F.FnMut) g.R.Read.remaining g.E.Sink.taken g.E.Sink.failures g.S.Sink.taken
           g.S.Sink.failures c.args.out.now c.serve_witnesses.new.out
-          c.args.opener (orders.Why c.in-Why.first second) c.serve_witnesses.result c.args.err.now c.serve_witnesses.new.err) (sym c.in-Some.is)
+          c.args.opener (orders.Why c.in-Why.first second c.in-Why.why) c.serve_witnesses.result c.args.err.now c.serve_witnesses.new.err) (sym c.in-Some.is)
           (subst
           (λ first. Serves g.E.Sink.taken g.E.Sink.failures (words first (string_bytes c.in-Some.second)) c.serve_witnesses.result c.args.err.now
           c.serve_witnesses.new.err) c.as_str-in-Some.ensures.value

@@ -9,6 +9,7 @@ returns g c = record {
     c.in-Some.file,
     c.opener.new.self,
     record { shown = c.args.path; shows = refl; called = c.in-Some.ensures },
-    c.note_all.ensures (g.R.Read.remaining c.in-Some.file) (λ text known. (records_in text, c.record_reader-records.ensures.gives text known, refl)),
+    c.note_all.ensures (g.R.Read.remaining c.in-Some.file)
+        (λ text known. (records_in text, c.record_reader-records.ensures.gives text known, refl)),
   );
 }

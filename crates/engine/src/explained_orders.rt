@@ -1,0 +1,378 @@
+//! What is written after the line of a fault, where more is asked for: files are opened once more for it.
+
+ghost use Rattle.std.specs.Prelude.{◌≡◌, ◌⊎◌, false, IfOk, IfSome};
+ghost use Rattle.command_line.specs.Orders.{asks_why};
+ghost use Rattle.engine.specs.Explanations.{ExplainsOrder, ExplainsQuery, ExplainsRun, ExplainsSchema, ExplainsTables, HasQueryFault, SaysEncoding, SaysOf, not_utf8};
+ghost use Rattle.explanations.specs.Faults.{query_place};
+ghost use Rattle.explanations.specs.Marks.{IsExplanation};
+ghost use Rattle.std.specs.String.{string_bytes};
+ghost use Rattle.text_commands.specs.Explanations.{MayExplainBoth};
+ghost use Rattle.text_commands.specs.Files.{OpensFile};
+ghost use Rattle.text_commands.specs.PairNotes.{NotesFile};
+
+use crate::commands::{SCHEMA_BYTES, check_over, explain, open_tables, schema_in, schema_text};
+use command_line::Order;
+use explanations::{Names, file_explained, query_explained, schema_explained};
+use feature_table::Schema;
+use spatial_sql::bind_to_tables;
+use sql_text::{read_query, read_schema};
+use std::alloc::{AllocError, Global};
+use std::io::Read;
+use streams::{MemorySink, Sink, put_all};
+use table_model::faults::QueryFault;
+use text_commands::{File, explain_pairs, explain_word, explain_words, query_text};
+
+/// What is said of a query's file that isn't UTF-8, after its path.
+const NOT_UTF8: &str = " isn't UTF-8: save it as UTF-8";
+
+/// Writes what explains the fault of an order that has ended with a status, after the line of that fault: the line of the text that has it
+/// and what to do. Nothing is written if the order doesn't ask why, if there is no such fault now, if a file can't be opened again, or if
+/// memory runs out. A table's fault under `check` is explained by `serve`.
+#[inline(never)]
+pub fn explain_order<R: Read + Drop, F: FnMut(File<'_>) -> Option<R>, E: Sink>(
+    alloc: Global,
+    order: &Order,
+    status: u8,
+    opener: F,
+    err: &mut E,
+)
+    requires { F.IsAlwaysCallable opener }
+    ensures explains { ExplainsOrder (OpensFile F.FnMut) R.remaining E.taken E.failures opener order.now err.old err.new }
+    ensures unasked { asks_why order.now ≡ false → err.new ≡ err.old }
+{
+    if order.asks_why() {
+        explain_asked(alloc, order, status, opener, err);
+    }
+}
+
+/// The same of an order that asks why.
+fn explain_asked<R: Read + Drop, F: FnMut(File<'_>) -> Option<R>, E: Sink>(
+    alloc: Global,
+    order: &Order,
+    status: u8,
+    opener: F,
+    err: &mut E,
+)
+    requires { F.IsAlwaysCallable opener }
+    ensures explains { ExplainsOrder (OpensFile F.FnMut) R.remaining E.taken E.failures opener order.now err.old err.new }
+{
+    match order {
+        Order::Run {
+            schema,
+            directory,
+            query,
+            ..
+        } => explain_run_of(alloc, schema, directory, query, status, opener, err),
+        Order::Check {
+            schema,
+            directory,
+            ..
+        } => explain_check(
+            alloc,
+            schema.as_str(),
+            directory.as_str(),
+            status,
+            opener,
+            err,
+        ),
+        Order::Relate { first, second, .. } => explain_both(alloc, first, second, opener, err),
+        Order::Why { first, second, .. } => match second {
+            Some(second) => explain_both(alloc, first, second, opener, err),
+            None => explain_word(alloc, first.as_str(), opener, err),
+        },
+        Order::Pairs { file, .. } => note_pairs(alloc, file.as_str(), status, opener, err),
+        Order::Fault { .. } => {}
+    }
+}
+
+/// What the words of `run` give: the paths of its schema and of its tables' folder, and its query.
+#[derive(Clone, Copy)]
+struct Places<'a> {
+    schema: &'a str,
+    directory: &'a str,
+    query: &'a str,
+}
+
+/// Explains the first fault of the texts that two words of `relate` or `why` give.
+fn explain_both<R: Read + Drop, F: FnMut(File<'_>) -> Option<R>, E: Sink>(
+    alloc: Global,
+    first: &String,
+    second: &String,
+    opener: F,
+    err: &mut E,
+)
+    requires { F.IsAlwaysCallable opener }
+    ensures { MayExplainBoth E.taken E.failures (OpensFile F.FnMut) R.remaining opener
+        (string_bytes first.now) (string_bytes second.now) err.old err.new }
+{
+    explain_words(alloc, first.as_str(), second.as_str(), opener, err)
+}
+
+/// Explains the fault of a run with these words, which has ended with a status.
+fn explain_run_of<R: Read + Drop, F: FnMut(File<'_>) -> Option<R>, E: Sink>(
+    alloc: Global,
+    schema: &String,
+    directory: &String,
+    query: &String,
+    status: u8,
+    opener: F,
+    err: &mut E,
+)
+    requires { F.IsAlwaysCallable opener }
+    ensures { ExplainsRun (OpensFile F.FnMut) R.remaining E.taken E.failures opener
+        (string_bytes schema.now) (string_bytes directory.now) (string_bytes query.now) err.old err.new }
+{
+    let places = Places {
+        schema: schema.as_str(),
+        directory: directory.as_str(),
+        query: query.as_str(),
+    };
+    explain_run(alloc, &places, status, opener, err)
+}
+
+/// Explains the fault of a run that has ended with a status.
+fn explain_run<R: Read + Drop, F: FnMut(File<'_>) -> Option<R>, E: Sink>(
+    alloc: Global,
+    places: &Places<'_>,
+    status: u8,
+    opener: F,
+    err: &mut E,
+)
+    requires { F.IsAlwaysCallable opener }
+    ensures { ExplainsRun (OpensFile F.FnMut) R.remaining E.taken E.failures opener
+        places.now.schema.now places.now.directory.now places.now.query.now err.old err.new }
+{
+    match status {
+        3 => explain_schema(alloc, places.schema, opener, err),
+        4 => explain_tables(alloc, places.schema, places.directory, opener, err),
+        5 => explain_query(alloc, places.schema, places.query, opener, err),
+        6 => explain_unread_run(alloc, places, opener, err),
+        _ => {}
+    }
+}
+
+/// Explains the fault of a check that has ended with a status, unless it is a table's.
+fn explain_check<R: Read + Drop, F: FnMut(File<'_>) -> Option<R>, E: Sink>(
+    alloc: Global,
+    schema: &str,
+    directory: &str,
+    status: u8,
+    opener: F,
+    err: &mut E,
+)
+    requires { F.IsAlwaysCallable opener }
+    ensures { (err.new ≡ err.old)
+        ⊎ ExplainsSchema (OpensFile F.FnMut) R.remaining E.taken E.failures opener schema.now err.old err.new }
+{
+    match status {
+        3 => explain_schema(alloc, schema, opener, err),
+        6 => open_again(alloc, schema, directory, opener),
+        _ => {}
+    }
+}
+
+/// Explains the first fault of a schema's text.
+fn explain_schema<R: Read + Drop, F: FnMut(File<'_>) -> Option<R>, E: Sink>(
+    alloc: Global,
+    path: &str,
+    mut opener: F,
+    err: &mut E,
+)
+    requires { F.IsAlwaysCallable opener }
+    ensures { (err.new ≡ err.old)
+        ⊎ ExplainsSchema (OpensFile F.FnMut) R.remaining E.taken E.failures opener path.now err.old err.new }
+{
+    let Some(file) = opener(File::Schema(path)) else {
+        return;
+    };
+    let Ok(text) = schema_text(alloc, file) else {
+        return;
+    };
+    let Err(fault) = read_schema(alloc, text.as_slice()) else {
+        return;
+    };
+    let Ok(explanation) = schema_explained(alloc, text.as_slice(), fault) else {
+        return;
+    };
+    let _ = put_all(err, explanation.as_slice());
+}
+
+/// Explains the first fault of the query that a word gives.
+fn explain_query<R: Read + Drop, F: FnMut(File<'_>) -> Option<R>, E: Sink>(
+    alloc: Global,
+    path: &str,
+    word: &str,
+    mut opener: F,
+    err: &mut E,
+)
+    requires { F.IsAlwaysCallable opener }
+    ensures { (err.new ≡ err.old)
+        ⊎ ExplainsQuery (OpensFile F.FnMut) R.remaining E.taken E.failures opener path.now word.now err.old err.new }
+{
+    let Ok(text) = query_text(alloc, word, &mut opener) else {
+        return;
+    };
+    let Ok(schema) = schema_in(alloc, opener(File::Schema(path))) else {
+        return;
+    };
+    let Some(fault) = query_fault(alloc, &schema, text.as_str()) else {
+        return;
+    };
+    let Ok(explanation) = explained_by_names(alloc, &schema, text.as_str(), fault) else {
+        return;
+    };
+    let _ = put_all(err, explanation.as_slice());
+}
+
+/// The first fault of a query over the tables of a schema, if it has one.
+fn query_fault(alloc: Global, schema: &Schema, text: &str) -> Option<QueryFault>
+    ensures { IfSome result (HasQueryFault schema.now text.now) }
+{
+    let query = match read_query(alloc, text) {
+        Ok(query) => query,
+        Err(fault) => return Some(fault),
+    };
+    match bind_to_tables(alloc, &query, schema.tables()) {
+        Ok(_) => None,
+        Err(fault) => Some(fault),
+    }
+}
+
+/// The explanation of a fault of a query, with the names of the tables of a schema and of their columns.
+fn explained_by_names(
+    alloc: Global,
+    schema: &Schema,
+    text: &str,
+    fault: QueryFault,
+) -> Result<Vec<u8>, AllocError>
+    ensures { IfOk result (λ e. IsExplanation text.now (query_place fault) e.items) }
+{
+    let mut tables: Vec<&[u8]> = Vec::new(alloc);
+    let mut columns: Vec<&[u8]> = Vec::new(alloc);
+    for table in schema.tables() {
+        tables.push(table.name.bytes())?;
+        for column in table.columns.as_slice() {
+            columns.push(column.name.bytes())?;
+        }
+    }
+    let names = Names {
+        tables: tables.as_slice(),
+        columns: columns.as_slice(),
+    };
+    query_explained(alloc, text.as_bytes(), fault, &names)
+}
+
+/// Explains the first fault of the tables of a schema, which are loaded again.
+fn explain_tables<R: Read + Drop, F: FnMut(File<'_>) -> Option<R>, E: Sink>(
+    alloc: Global,
+    path: &str,
+    directory: &str,
+    mut opener: F,
+    err: &mut E,
+)
+    requires { F.IsAlwaysCallable opener }
+    ensures { (err.new ≡ err.old)
+        ⊎ ExplainsTables (OpensFile F.FnMut) R.remaining E.taken E.failures opener path.now directory.now err.old err.new }
+{
+    let Ok(schema) = schema_in(alloc, opener(File::Schema(path))) else {
+        return;
+    };
+    let mut counts = MemorySink::new(alloc);
+    if let Err(failure) = check_over(alloc, &schema, directory, &mut opener, &mut counts) {
+        explain(alloc, &schema, directory, &failure, opener, err);
+    }
+}
+
+/// Says why a run couldn't open or read a file: its files are opened once more, in the order in which it opened them, so that the opener
+/// says of the first which can't be opened why. Of a query's file that isn't UTF-8 that is said here.
+fn explain_unread_run<R: Read + Drop, F: FnMut(File<'_>) -> Option<R>, E: Sink>(
+    alloc: Global,
+    places: &Places<'_>,
+    mut opener: F,
+    err: &mut E,
+)
+    requires { F.IsAlwaysCallable opener }
+    ensures { (err.new ≡ err.old) ⊎ SaysEncoding E.taken E.failures places.now.query.now err.old err.new }
+{
+    if explain_encoding(alloc, places.query, &mut opener, err) {
+        return;
+    }
+    open_again(alloc, places.schema, places.directory, opener);
+}
+
+/// Says of the file that a query's word names that it isn't UTF-8, and returns whether the word names one that can't be read as a query.
+fn explain_encoding<R: Read + Drop, F: FnMut(File<'_>) -> Option<R>, E: Sink>(
+    alloc: Global,
+    word: &str,
+    opener: &mut F,
+    err: &mut E,
+) -> bool
+    requires { F.IsAlwaysCallable opener.old }
+    ensures callable { F.IsAlwaysCallable opener.new }
+    ensures said { (err.new ≡ err.old) ⊎ SaysEncoding E.taken E.failures word.now err.old err.new }
+{
+    let Some(path) = word.strip_prefix("@") else {
+        return false;
+    };
+    let Some(file) = opener(File::Query(path)) else {
+        return true;
+    };
+    if is_text(alloc, file) {
+        return false;
+    }
+    say_encoding(alloc, path, err);
+    true
+}
+
+/// Whether the bytes of a file are UTF-8, as far as a query may be long. What can't be read counts as that.
+fn is_text<R: Read + Drop>(alloc: Global, file: R) -> bool {
+    let mut text = Vec::new(alloc);
+    file.take(SCHEMA_BYTES).read_to_end(&mut text).is_err()
+        || std::str::from_utf8(text.as_slice()).is_ok()
+}
+
+/// Writes that the file at a path isn't UTF-8.
+fn say_encoding<E: Sink>(alloc: Global, path: &str, err: &mut E)
+    ensures { (err.new ≡ err.old) ⊎ SaysOf E.taken E.failures path.now not_utf8 err.old err.new }
+{
+    let Ok(line) = file_explained(alloc, path.as_bytes(), NOT_UTF8) else {
+        return;
+    };
+    let _ = put_all(err, line.as_slice());
+}
+
+/// Opens the files of a schema and of its tables once more, up to the first that can't be.
+fn open_again<R: Read + Drop, F: FnMut(File<'_>) -> Option<R>>(
+    alloc: Global,
+    path: &str,
+    directory: &str,
+    mut opener: F,
+)
+    requires { F.IsAlwaysCallable opener }
+{
+    let Ok(schema) = schema_in(alloc, opener(File::Schema(path))) else {
+        return;
+    };
+    let _ = open_tables(alloc, &schema, directory, &mut opener);
+}
+
+/// Notes the pairs of a file that are refused, after a command that has ended with a status; where its file can't be opened or read, it is
+/// opened once more, so that the opener says why.
+fn note_pairs<R: Read + Drop, F: FnMut(File<'_>) -> Option<R>, E: Sink>(
+    alloc: Global,
+    path: &str,
+    status: u8,
+    mut opener: F,
+    err: &mut E,
+)
+    requires { F.IsAlwaysCallable opener }
+    ensures { NotesFile E.taken E.failures (OpensFile F.FnMut) R.remaining opener path.now err.old err.new }
+{
+    match status {
+        5 => explain_pairs(alloc, path, opener, err),
+        6 => {
+            let _ = opener(File::Pairs(path));
+        }
+        _ => {}
+    }
+}

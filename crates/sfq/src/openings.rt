@@ -1,0 +1,116 @@
+//! How the files of a command are opened: for the command, and once more to explain a fault.
+
+use crate::inputs::{CommandReader, Input, is_standard};
+use crate::progress::{Progress, Reported};
+use engine::File;
+use explanations::file_explained;
+use std::alloc::Global;
+use std::fs;
+use std::io::{Error, ErrorKind};
+use streams::{BoundedReader, Sink, put_all};
+
+/// The reader of a file that a command opens, or None if it can't be opened. A query, a geometry and pairs may come from
+/// standard input. What is CSV has a bound, and is shown while it is read.
+pub fn opened<'p>(
+    rt: &HostRuntime,
+    progress: &'p Progress<'p>,
+    file: File<'_>,
+) -> Option<CommandReader<Reported<'p>>> {
+    let input = Input::of(rt, file).ok()?;
+    Some(reader(progress, file, input))
+}
+
+/// The reader of a file that is opened once more, to explain a fault. If it can't be opened, or is a folder, or nothing that gives the same
+/// bytes again, that is written, and the result is None.
+pub fn opened_again<'p, E: Sink>(
+    rt: &HostRuntime,
+    progress: &'p Progress<'p>,
+    file: File<'_>,
+    err: &mut E,
+) -> Option<CommandReader<Reported<'p>>> {
+    match lasting_input(rt, file) {
+        Ok(input) => Some(reader(progress, file, input)),
+        Err(words) => {
+            if let Ok(line) = file_explained(rt.alloc(), file.path().as_bytes(), words) {
+                let _ = put_all(err, line.as_slice());
+            }
+            None
+        }
+    }
+}
+
+/// The reader of a file that was opened.
+fn reader<'p>(
+    progress: &'p Progress<'p>,
+    file: File<'_>,
+    input: Input,
+) -> CommandReader<Reported<'p>> {
+    match file {
+        File::Schema(_) | File::Query(_) | File::Geometry(_) => {
+            CommandReader::Text(progress.read(input))
+        }
+        File::Table(path) | File::Pairs(path) => {
+            CommandReader::Records(BoundedReader::new(progress.load(path, input)))
+        }
+    }
+}
+
+/// The input of a file that gives the same bytes once more; or what is said after its path where there is none. Nothing but a file is opened
+/// for it: a named pipe would wait for a writer.
+fn lasting_input(rt: &HostRuntime, file: File<'_>) -> Result<Input, &'static str> {
+    if is_standard(file) {
+        return Err(TWICE);
+    }
+    match fs::metadata(rt, file.path()) {
+        Ok(found) if found.is_dir() => Err(" is a folder"),
+        Ok(found) if !found.is_file() => Err(TWICE),
+        Ok(_) => match Input::of(rt, file) {
+            Ok(input) => Ok(input),
+            Err(error) => Err(reason(&error)),
+        },
+        Err(error) => Err(reason(&error)),
+    }
+}
+
+/// What is said of what can't be read twice.
+const TWICE: &str = " can't be read twice: save it as a file to see more";
+
+/// What is said of a file that can't be opened.
+fn reason(error: &Error) -> &'static str {
+    match error.kind() {
+        ErrorKind::NotFound => " isn't there",
+        ErrorKind::PermissionDenied => " may not be read by this user",
+        _ => " can't be opened",
+    }
+}
+
+/// The tables that a command has opened, by their paths.
+#[derive(Drop)]
+pub struct OpenedTables {
+    paths: Vec<String>,
+}
+
+impl OpenedTables {
+    /// None.
+    pub fn new(alloc: Global) -> OpenedTables {
+        OpenedTables {
+            paths: Vec::new(alloc),
+        }
+    }
+
+    /// Whether a file is a table that was opened before. It counts as opened from then on, unless memory runs out.
+    pub fn has(&mut self, alloc: Global, file: File<'_>) -> bool {
+        let File::Table(path) = file else {
+            return false;
+        };
+        for earlier in self.paths.iter() {
+            if earlier.as_str() == path {
+                return true;
+            }
+        }
+        if let Ok(path) = String::from_str(alloc, path) {
+            let _ = self.paths.push(path);
+        }
+        false
+    }
+}
