@@ -118,6 +118,21 @@ def run_within(words, folder, limit, most):
     return ran.stdout, ran.stderr, ran.returncode
 
 
+def count_within(words, folder, limit, most):
+    """The same of a run that writes too much to be kept: returns how many bytes it wrote, and its status."""
+    with subprocess.Popen(
+        [program(), *words],
+        cwd=folder,
+        env={},
+        stdin=subprocess.DEVNULL,
+        stdout=subprocess.PIPE,
+        stderr=subprocess.DEVNULL,
+        preexec_fn=lambda: resource.setrlimit(limit, (most, most)),
+    ) as ran:
+        written = sum(map(len, iter(lambda: ran.stdout.read(1 << 20), b"")))
+    return written, ran.returncode
+
+
 def read_page(path):
     kept = read(path)
     *counts, acted, descriptor, offset = PAGE.unpack_from(kept)

@@ -49,7 +49,7 @@ fn bytes_that_mean_something_are_quoted(rt: HostRuntime) -> Result<(), Fail> {
     Ok(())
 }
 
-/// Puts the fields of a record one by one.
+/// Writes a record field by field.
 fn put_fields(
     alloc: Global,
     fields: &[&[u8]],
@@ -62,7 +62,7 @@ fn put_fields(
     writer.end(alloc, sink)
 }
 
-/// A record is the same field by field, also where its line is written before it ends.
+/// A record that is given field by field has the same text, also where its line is written before it ends.
 #[test]
 fn records_are_put_by_fields(rt: HostRuntime) -> Result<(), Fail> {
     let long = long_field(rt.alloc())?;
@@ -79,6 +79,6 @@ fn records_are_put_by_fields(rt: HostRuntime) -> Result<(), Fail> {
     }
     assert_eq!(rt; sink.bytes().len(), 140_018);
     assert!(rt; sink.bytes().ends_with(b"x,,\"a,b\"\n\"\"\n,\"\"\"\"\n"));
-    assert!(rt; sink.bytes()[69_999..70_002] == b"x\nx".as_slice());
+    assert!(rt; matches!(sink.bytes().get(70_000), Some(&b'\n')));
     Ok(())
 }

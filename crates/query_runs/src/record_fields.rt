@@ -1,19 +1,23 @@
-//! The records of an answer, made in memory.
+//! The records of an answer: the header, made in memory, and those of rows, which are written field by field.
 
-ghost use Rattle.std.specs.Prelude.{◌≡◌, ◌∷◌, ◌++◌, [], ◌<◌, IfOk, OnErr, OnOk, codes};
+ghost use Rattle.std.specs.Prelude.{◌≡◌, ◌++◌, IfOk, OnOk, codes};
 ghost use Rattle.std.specs.Fmt.{signed_decimal};
-ghost use Rattle.csv.specs.Records.{fields_of, partial_of};
+ghost use Rattle.csv.specs.Records.{fields_of};
 ghost use Rattle.geometry_model.specs.CanonicalText.{canonical_text};
+ghost use Rattle.streams.specs.RecordWriters.{IsReady, PutsField};
 ghost use Rattle.table_model.specs.AnswerTexts.{column_name, column_header, field_text, function_text, header, item_header, item_text, record_of, reference_header};
 ghost use Rattle.table_model.specs.GeometryColumns.{geometry_writing};
 ghost use Rattle.feature_table.specs.Cells.{shown};
 ghost use Rattle.query_runs.specs.AnswerFields.{dimension_text, emptiness_text};
+ghost use Rattle.query_runs.specs.Puts.{PutsText};
+ghost use Rattle.query_runs.specs.RecordTexts.{record_text};
 
 use csv::ByteRecord;
 use feature_table::{Field, Geometry, Row, TableDef};
 use itoa::Buffer;
 use spatial_sql::{Bound, dimension, field_at, printed};
 use std::alloc::{AllocError, Global};
+use streams::{PutFault, RecordWriter, Sink};
 use table_model::conditions::{ColumnPlace, Item, Reference};
 
 /// The header record of a query's answer. It fails only when memory runs out.
@@ -32,38 +36,24 @@ pub fn header_record(
     Ok(fields)
 }
 
-/// Replaces the fields of a record by those of the query's items at these rows, one for each reference of the query. It
-/// fails only when memory runs out, and then leaves the record empty.
-pub fn row_record(
+/// Writes the record of the query's items at these rows, one for each reference of the query: all of it at Ok, and perhaps a
+/// beginning of it if the sink fails or memory runs out. At Ok the writer is ready for the next record.
+pub fn put_row<S: Sink>(
     alloc: Global,
-    fields: &mut ByteRecord,
     query: &Bound,
     rows: &[Row<'_>],
-) -> Result<(), AllocError>
-    ensures ok { OnOk result (fields_of fields.new ≡ record_of geometry_writing query.now rows.now) }
-    ensures refused { OnErr result (fields_of fields.new ≡ []) }
+    writer: &mut RecordWriter,
+    sink: &mut S,
+) -> Result<(), PutFault>
+    requires { IsReady writer.old }
+    ensures ready { OnOk result (IsReady writer.new) }
+    ensures puts { PutsText result (record_text (record_of geometry_writing query.now rows.now))
+        (S.taken sink.old) (S.taken sink.new) (S.failures sink.old) (S.failures sink.new) }
 {
-    let filled = fill(alloc, fields, query, rows);
-    if filled.is_err() {
-        fields.clear();
-    }
-    filled
-}
-
-/// Replaces the fields of a record by those of the query's items at these rows. If memory runs out, it has some of them.
-fn fill(
-    alloc: Global,
-    fields: &mut ByteRecord,
-    query: &Bound,
-    rows: &[Row<'_>],
-) -> Result<(), AllocError>
-    ensures { OnOk result (fields_of fields.new ≡ record_of geometry_writing query.now rows.now) }
-{
-    fields.clear();
     for item in query.items.as_slice() {
-        push_item(alloc, fields, item, rows)?;
+        put_item(alloc, item, rows, writer, sink)?;
     }
-    Ok(())
+    writer.end(alloc, sink)
 }
 
 /// The header of an item.
@@ -161,101 +151,117 @@ fn column_name(definitions: &[TableDef], table: usize, column: usize) -> &[u8]
 }
 
 /// Adds the field of an item.
-fn push_item(
+fn put_item<S: Sink>(
     alloc: Global,
-    fields: &mut ByteRecord,
     item: &Item<ColumnPlace>,
     rows: &[Row<'_>],
-) -> Result<(), AllocError>
-    requires { partial_of fields.old ≡ [] }
-    ensures fields { OnOk result
-        (fields_of fields.new ≡ fields_of fields.old ++ item_text geometry_writing rows.now item.now ∷ []) }
-    ensures partial { OnOk result (partial_of fields.new ≡ []) }
+    writer: &mut RecordWriter,
+    sink: &mut S,
+) -> Result<(), PutFault>
+    ensures { PutsField result (item_text geometry_writing rows.now item.now) writer.old writer.new
+        (S.taken sink.old) (S.taken sink.new) (S.failures sink.old) (S.failures sink.new) }
 {
     match item {
-        Item::Column(place) => push_field(alloc, fields, field_at(rows, *place)),
-        Item::AsText(place) => push_text(alloc, fields, field_at(rows, *place)),
-        Item::Dimension(place) => push_dimension(fields, field_at(rows, *place)),
-        Item::IsEmpty(place) => push_emptiness(fields, field_at(rows, *place)),
+        Item::Column(place) => put_column(alloc, field_at(rows, *place), writer, sink),
+        Item::AsText(place) => put_text(alloc, field_at(rows, *place), writer, sink),
+        Item::Dimension(place) => put_dimension(alloc, field_at(rows, *place), writer, sink),
+        Item::IsEmpty(place) => put_emptiness(alloc, field_at(rows, *place), writer, sink),
     }
 }
 
-/// Adds the text of a field.
-fn push_field(alloc: Global, fields: &mut ByteRecord, field: Field<'_>) -> Result<(), AllocError>
-    requires { partial_of fields.old ≡ [] }
-    ensures fields { OnOk result
-        (fields_of fields.new ≡ fields_of fields.old ++ field_text geometry_writing (shown field.entry) ∷ []) }
-    ensures partial { OnOk result (partial_of fields.new ≡ []) }
+/// Adds the text of a field of a row.
+fn put_column<S: Sink>(
+    alloc: Global,
+    field: Field<'_>,
+    writer: &mut RecordWriter,
+    sink: &mut S,
+) -> Result<(), PutFault>
+    ensures { PutsField result (field_text geometry_writing (shown field.entry)) writer.old writer.new
+        (S.taken sink.old) (S.taken sink.new) (S.failures sink.old) (S.failures sink.new) }
 {
     match field {
-        Field::Null => fields.push_field(b""),
-        Field::Int(number) => push_number(fields, number),
-        Field::Text(text) => fields.push_field(text.as_bytes()),
-        Field::Geom(geometry) => push_geometry(alloc, fields, geometry),
+        Field::Null => writer.put_field(alloc, b"", sink),
+        Field::Int(number) => put_number(alloc, number, writer, sink),
+        Field::Text(text) => writer.put_field(alloc, text.as_bytes(), sink),
+        Field::Geom(geometry) => put_geometry(alloc, geometry, writer, sink),
     }
 }
 
 /// Adds ST_AsText of a field.
-fn push_text(alloc: Global, fields: &mut ByteRecord, field: Field<'_>) -> Result<(), AllocError>
-    requires { partial_of fields.old ≡ [] }
-    ensures fields { OnOk result (fields_of fields.new
-        ≡ fields_of fields.old ++ function_text canonical_text (shown field.entry) ∷ []) }
-    ensures partial { OnOk result (partial_of fields.new ≡ []) }
+fn put_text<S: Sink>(
+    alloc: Global,
+    field: Field<'_>,
+    writer: &mut RecordWriter,
+    sink: &mut S,
+) -> Result<(), PutFault>
+    ensures { PutsField result (function_text canonical_text (shown field.entry)) writer.old writer.new
+        (S.taken sink.old) (S.taken sink.new) (S.failures sink.old) (S.failures sink.new) }
 {
     match field {
-        Field::Geom(geometry) => push_geometry(alloc, fields, geometry),
-        Field::Null | Field::Int(_) | Field::Text(_) => fields.push_field(b""),
+        Field::Geom(geometry) => put_geometry(alloc, geometry, writer, sink),
+        Field::Null | Field::Int(_) | Field::Text(_) => writer.put_field(alloc, b"", sink),
     }
 }
 
 /// Adds ST_Dimension of a field.
-fn push_dimension(fields: &mut ByteRecord, field: Field<'_>) -> Result<(), AllocError>
-    requires { partial_of fields.old ≡ [] }
-    ensures fields { OnOk result (fields_of fields.new
-        ≡ fields_of fields.old ++ function_text dimension_text (shown field.entry) ∷ []) }
-    ensures partial { OnOk result (partial_of fields.new ≡ []) }
+fn put_dimension<S: Sink>(
+    alloc: Global,
+    field: Field<'_>,
+    writer: &mut RecordWriter,
+    sink: &mut S,
+) -> Result<(), PutFault>
+    ensures { PutsField result (function_text dimension_text (shown field.entry)) writer.old writer.new
+        (S.taken sink.old) (S.taken sink.new) (S.failures sink.old) (S.failures sink.new) }
 {
     match field {
-        Field::Geom(geometry) => push_number(fields, dimension(geometry.kind())),
-        Field::Null | Field::Int(_) | Field::Text(_) => fields.push_field(b""),
+        Field::Geom(geometry) => put_number(alloc, dimension(geometry.kind()), writer, sink),
+        Field::Null | Field::Int(_) | Field::Text(_) => writer.put_field(alloc, b"", sink),
     }
 }
 
 /// Adds ST_IsEmpty of a field.
-fn push_emptiness(fields: &mut ByteRecord, field: Field<'_>) -> Result<(), AllocError>
-    requires { partial_of fields.old ≡ [] }
-    ensures fields { OnOk result (fields_of fields.new
-        ≡ fields_of fields.old ++ function_text emptiness_text (shown field.entry) ∷ []) }
-    ensures partial { OnOk result (partial_of fields.new ≡ []) }
+fn put_emptiness<S: Sink>(
+    alloc: Global,
+    field: Field<'_>,
+    writer: &mut RecordWriter,
+    sink: &mut S,
+) -> Result<(), PutFault>
+    ensures { PutsField result (function_text emptiness_text (shown field.entry)) writer.old writer.new
+        (S.taken sink.old) (S.taken sink.new) (S.failures sink.old) (S.failures sink.new) }
 {
     match field {
-        Field::Geom(geometry) => fields.push_field(if geometry.is_empty() { b"1" } else { b"0" }),
-        Field::Null | Field::Int(_) | Field::Text(_) => fields.push_field(b""),
+        Field::Geom(geometry) => {
+            let digit = if geometry.is_empty() { b"1" } else { b"0" };
+            writer.put_field(alloc, digit, sink)
+        }
+        Field::Null | Field::Int(_) | Field::Text(_) => writer.put_field(alloc, b"", sink),
     }
 }
 
 /// Adds a number.
-fn push_number(fields: &mut ByteRecord, number: i64) -> Result<(), AllocError>
-    requires { partial_of fields.old ≡ [] }
-    ensures fields { OnOk result
-        (fields_of fields.new ≡ fields_of fields.old ++ signed_decimal number ∷ []) }
-    ensures partial { OnOk result (partial_of fields.new ≡ []) }
+fn put_number<S: Sink>(
+    alloc: Global,
+    number: i64,
+    writer: &mut RecordWriter,
+    sink: &mut S,
+) -> Result<(), PutFault>
+    ensures { PutsField result (signed_decimal number) writer.old writer.new
+        (S.taken sink.old) (S.taken sink.new) (S.failures sink.old) (S.failures sink.new) }
 {
     let mut buffer = Buffer::new();
-    fields.push_field(buffer.format(number).as_bytes())
+    writer.put_field(alloc, buffer.format(number).as_bytes(), sink)
 }
 
 /// Adds the canonical text of a geometry.
-fn push_geometry(
+fn put_geometry<S: Sink>(
     alloc: Global,
-    fields: &mut ByteRecord,
     geometry: &Geometry,
-) -> Result<(), AllocError>
-    requires { partial_of fields.old ≡ [] }
-    ensures fields { OnOk result
-        (fields_of fields.new ≡ fields_of fields.old ++ canonical_text geometry.now ∷ []) }
-    ensures partial { OnOk result (partial_of fields.new ≡ []) }
+    writer: &mut RecordWriter,
+    sink: &mut S,
+) -> Result<(), PutFault>
+    ensures { PutsField result (canonical_text geometry.now) writer.old writer.new
+        (S.taken sink.old) (S.taken sink.new) (S.failures sink.old) (S.failures sink.new) }
 {
     let text = printed(alloc, geometry)?;
-    fields.push_field(text.bytes())
+    writer.put_field(alloc, text.bytes(), sink)
 }

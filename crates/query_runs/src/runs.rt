@@ -21,7 +21,7 @@ ghost use Rattle.table_model.specs.QueryReading.{query_of};
 ghost use Rattle.table_model.specs.RunOutcomes.{ByEveryMatrix, kept_count};
 ghost use Rattle.table_model.specs.Work as spec;
 
-use crate::{header_record, row_record};
+use crate::{header_record, put_row};
 use csv::ByteRecord;
 use executor::{RowPair, Rows, Work};
 use explain::{analyze, explain};
@@ -318,40 +318,42 @@ fn put_records<I: EnvelopeIndex + Drop, S: Sink, O: RowObserver>(
         (S.taken sink.old) (S.taken sink.new) (S.failures sink.old) (S.failures sink.new)) }
     ensures work { ByEveryMatrix (λ matrix. OnOk result (rows.new.work ≡ work_at_end matrix rows.old)) }
 {
-    let mut fields = ByteRecord::new(alloc);
     while let Some(row) = rows.next_observed(observer) {
         let pair = row?;
-        pair_record(alloc, database, query, pair, &mut fields)?;
-        writer.put(alloc, &fields, sink)?;
+        put_pair(alloc, database, query, pair, writer, sink)?;
     }
     Ok(())
 }
 
-/// Replaces the fields of a record by those of a pair of rows.
-fn pair_record<I: EnvelopeIndex + Drop>(
+/// Writes the record of a pair of rows.
+fn put_pair<I: EnvelopeIndex + Drop, S: Sink>(
     alloc: Global,
     database: &Database<'_, I>,
     query: &Bound,
     pair: RowPair,
-    fields: &mut ByteRecord,
-) -> Result<(), AllocError>
+    writer: &mut RecordWriter,
+    sink: &mut S,
+) -> Result<(), PutFault>
+    requires writer { IsReady writer.old }
     requires references { HasReferences database.now.definitions query.now.references }
     requires place { IsPlace (referenced database.now.tables query.now.references) pair }
-    ensures { OnOk result (fields_of fields.new
-        ≡ record_of geometry_writing query.now
-        (pair_rows (referenced database.now.tables query.now.references) pair)) }
+    ensures ready { OnOk result (IsReady writer.new) }
+    ensures puts { PutsText result (record_text (record_of geometry_writing query.now
+        (pair_rows (referenced database.now.tables query.now.references) pair)))
+        (S.taken sink.old) (S.taken sink.new) (S.failures sink.old) (S.failures sink.new) }
 {
     let references = query.references.as_slice();
     let table = database.table(references[0].table);
     match pair.second {
-        None => row_record(alloc, fields, query, &[table.row(pair.first)]),
+        None => put_row(alloc, query, &[table.row(pair.first)], writer, sink),
         Some(second) => {
             let other = database.table(references[1].table);
-            row_record(
+            put_row(
                 alloc,
-                fields,
                 query,
                 &[table.row(pair.first), other.row(second)],
+                writer,
+                sink,
             )
         }
     }

@@ -6,11 +6,12 @@ use de9im::Work;
 use engine::{Unobserved, run_observed};
 use feature_table::{Database, Records, Row, Schema, next_record, order_by_key};
 use planner::choose_by_counts;
-use query_runs::{header_record, row_record};
+use query_runs::{header_record, put_row};
 use rtree::RTree;
 use spatial_sql::{Bound, Query, bind_to_tables, passes, read_query, read_schema};
 use std::alloc::{AllocError, Global};
 use std::test::Fail;
+use streams::{PutFault, RecordWriter};
 use table_model::plans::Plan;
 use wkt::MemorySink;
 
@@ -36,16 +37,22 @@ fn records_and_rows(rt: HostRuntime) -> Result<(), Fail> {
     Ok(())
 }
 
-/// The fields of a row of a bound query, and whether it passes the filters of a plan.
+/// The record of a row of a bound query, and whether it passes the filters of a plan.
 fn returned(
     alloc: Global,
     bound: &Bound,
     plan: &Plan,
     row: Row<'_>,
-) -> Result<(ByteRecord, bool), AllocError> {
+) -> Result<(MemorySink, bool), PutFault> {
     let rows = [row];
-    let mut record = ByteRecord::new(alloc);
-    row_record(alloc, &mut record, bound, &rows)?;
+    let mut record = MemorySink::new(alloc);
+    put_row(
+        alloc,
+        bound,
+        &rows,
+        &mut RecordWriter::new(alloc),
+        &mut record,
+    )?;
     let mut work = Work::new();
     let filters = plan.filters.as_slice();
     let passed = passes(alloc, bound.conjuncts.as_slice(), filters, &rows, &mut work)?;
@@ -63,12 +70,14 @@ fn are_returned(
         return Err(Fail::from("no table"));
     }
     let table = database.table(0);
-    for (place, id, passed) in &[(3, "4", true), (4, "5", false)] {
+    for (place, id, passed) in &[(3, "4\n", true), (4, "5\n", false)] {
         if *place >= table.rows() {
             return Err(Fail::from("no row"));
         }
-        let (record, found) = returned(alloc, bound, plan, table.row(*place))?;
-        if field_of(&record, 0) != id.as_bytes() || found != *passed {
+        let Ok((record, found)) = returned(alloc, bound, plan, table.row(*place)) else {
+            return Err(Fail::from("out of memory"));
+        };
+        if record.bytes() != id.as_bytes() || found != *passed {
             return Ok(false);
         }
     }

@@ -1,5 +1,6 @@
 -- How the line of a record grows, by its fields and by their bytes.
-use Rattle.std.proofs.Common.{◌≡◌, ◌∙◌, ◌<◌, ◌+◌, ◌++◌, ◌∷◌, [], ℕ, Bool, List, true, false, Result, Ok, Err, OnOk, length, take, get_or, refl, sym, ap, arith, append_assoc, append-nil, length-append}
+use Rattle.std.proofs.Common.{◌≡◌, ◌∙◌, ◌<◌, ◌+◌, ◌++◌, ◌∷◌, [], ℕ, Bool, List, true, false, Result, Ok, Err, OnOk}
+use Rattle.std.proofs.Common.{length, take, get_or, refl, sym, ap, arith, append_assoc, append-nil, length-append}
 use Rattle.std.specs.Prelude.{◌==◌, Some, None, not, if◌then◌else◌}
 use Rattle.std.specs.List.{list_any}
 use Rattle.std.proofs.lemmas.Bool.{ne_eqb}
@@ -51,12 +52,13 @@ separated i = go (i == 0)
     go false = refl
 
 -- one more field
-pub field-added : (fields : List (List ℕ)) (i : ℕ) (field before with_comma after : List ℕ) → i < length fields → Some field ≡ field_at fields i
-    → before ≡ row_body default_writer (take i fields) → with_comma ≡ before ++ separator (not (i == 0))
+pub field-added : (fields : List (List ℕ)) (i : ℕ) (field before with_comma after : List ℕ)
+    → i < length fields → Some field ≡ field_at fields i → before ≡ row_body default_writer (take i fields) → with_comma ≡ before ++ separator (not (i == 0))
     → after ≡ with_comma ++ field_text default_writer field → after ≡ row_body default_writer (take (i + 1) fields)
 field-added fields i field before with_comma after lt is so_far comma added =
     let same : get_or fields i [] ≡ field = field-get fields i field (sym is) in
-    added ∙ ap (λ t. t ++ field_text default_writer field) (comma ∙ ap (λ s. before ++ s) (separated i) ∙ ap (λ t. t ++ next_sep default_writer i) so_far)
+    added ∙ ap (λ t. t ++ field_text default_writer field)
+    (comma ∙ ap (λ s. before ++ s) (separated i) ∙ ap (λ t. t ++ next_sep default_writer i) so_far)
     ∙ append_assoc _ (next_sep default_writer i) (field_text default_writer field)
     ∙ ap (λ f. row_body default_writer (take i fields) ++ (next_sep default_writer i ++ field_text default_writer f)) (sym same)
     ∙ sym (row-step default_writer fields i lt)
@@ -77,7 +79,8 @@ blank-empty (field ∷ next ∷ rest) =
     sym (ne_eqb _ 0 (λ z. omega (arith, z, size)))
 
 -- so what ends a record's text depends on whether its fields show a byte
-pub ending : (fields : List (List ℕ)) → row_text default_writer fields ≡ row_body default_writer fields ++ line_end (not (length (row_body default_writer fields) == 0))
+pub ending : (fields : List (List ℕ)) → row_text default_writer fields
+    ≡ row_body default_writer fields ++ line_end (not (length (row_body default_writer fields) == 0))
 ending fields =
     ap (λ b. row_body default_writer fields ++ ((if b then 34 ∷ 34 ∷ [] else []) ++ 10 ∷ [])) (blank-empty fields)
     ∙ ap (λ t. row_body default_writer fields ++ t) (go (length (row_body default_writer fields) == 0))
@@ -87,7 +90,7 @@ ending fields =
     go false = refl
 
 -- a line that ends after a record's fields
-pub line-ended : {A E : Type 0} (r : Result A E) (fields : List (List ℕ)) (body line : List ℕ) → body ≡ row_body default_writer fields
-    → OnOk r (line ≡ body ++ line_end (not (length body == 0))) → OnOk r (line ≡ row_text default_writer fields)
+pub line-ended : {A E : Type 0} (r : Result A E) (fields : List (List ℕ)) (body line : List ℕ)
+    → body ≡ row_body default_writer fields → OnOk r (line ≡ body ++ line_end (not (length body == 0))) → OnOk r (line ≡ row_text default_writer fields)
 line-ended (Ok a) fields body line is ended = ended ∙ ap (λ b. b ++ line_end (not (length b == 0))) is ∙ sym (ending fields)
 line-ended (Err e) fields body line is ended = tt

@@ -6,7 +6,8 @@ use Rattle.streams.proofs.record_writer.RecordWriter.put_field.Goals as goal
 
 pub returns-in_err-push_text : goal.returns-in_err-push_text
 returns-in_err-push_text g c =
-    field-refused c.from_residual.result put.Memory c.args.field.now c.args.self.now c.push_text.new.self _ _ _ _ c.from_residual.ensures.1
+    field-refused c.from_residual.result put.Memory c.args.field.now c.args.self.now c.push_text.new.self _ _ _ _
+    c.from_residual.ensures.1
     (λ fields start held. holds-begun c.args.self.now fields c.args.field.now start _ held) refl
 
 pub returns-in_err-write_long : goal.returns-in_err-write_long

@@ -1,14 +1,15 @@
 -- The tables of the references are those of the pair's places.
-use Rattle.std.proofs.Common.{◌≡◌, ◌∷◌, [], OnOk, ap, subst, sym, ◌∙◌}
+use Rattle.std.proofs.Common.{◌∷◌, [], ap, subst, sym, ◌∙◌}
 use Rattle.std.specs.Prelude.{option_to_list}
-use Rattle.csv.specs.Records.{fields_of}
 use Rattle.table_model.specs.AnswerTexts.{record_of}
 use Rattle.table_model.specs.GeometryColumns.{geometry_writing}
 use Rattle.table_model.specs.Meanings.{referenced}
 use Rattle.table_model.specs.Places.{AreThere, rows_at}
 use Rattle.executor.specs.Pairs.{IsPlace}
+use Rattle.query_runs.specs.RecordTexts.{record_text}
+use Rattle.query_runs.proofs.PutLemmas.{put-same}
 use Rattle.query_runs.proofs.PairLemmas.{first-there, one-row, second-there, two-rows}
-use Rattle.query_runs.proofs.runs.pair_record.Goals as goal
+use Rattle.query_runs.proofs.runs.put_pair.Goals as goal
 
 pub row-requires : goal.row-requires
 row-requires g c =
@@ -29,26 +30,26 @@ row-requires-in-Some-2 g c =
     second-there tables c.as_slice-references.result.now c.index-references-1.result c.table-other.result.now c.args.pair.first c.in-Some.second
     (subst (λ o. AreThere (referenced tables c.as_slice-references.result.now) (c.args.pair.first ∷ option_to_list o)) c.in-Some.is there) c.table-other.ensures
 
-pub returns-in-None : goal.returns-in-None
-returns-in-None g c =
+pub returns-in-None-clause-puts : goal.returns-in-None-clause-puts
+returns-in-None-clause-puts g c =
     let tables = c.args.database.now.tables in
     let there = subst (λ rs. IsPlace (referenced tables rs) c.args.pair) (sym c.as_slice-references.ensures) c.requires.place in
-    subst (λ rows. OnOk c.row_record.result (fields_of c.row_record.new.fields ≡ record_of geometry_writing c.args.query.now rows))
+    put-same c.put_row.result _ _ _ _ _ _ (ap (λ rows. record_text (record_of geometry_writing c.args.query.now rows))
     (one-row tables c.as_slice-references.result.now c.index-references-0.result c.table-table.result.now c.args.pair.first c.row.result
     (subst (λ o. AreThere (referenced tables c.as_slice-references.result.now) (c.args.pair.first ∷ option_to_list o)) c.in-None.is there) c.table-table.ensures c.row.ensures
     ∙ ap (λ rs. rows_at (referenced tables rs) (c.args.pair.first ∷ [])) c.as_slice-references.ensures
-    ∙ ap (λ o. rows_at (referenced tables c.args.query.now.references) (c.args.pair.first ∷ option_to_list o)) (sym c.in-None.is))
-    c.row_record.ensures.ok
+    ∙ ap (λ o. rows_at (referenced tables c.args.query.now.references) (c.args.pair.first ∷ option_to_list o)) (sym c.in-None.is)))
+    c.put_row.ensures.puts
 
-pub returns-in-Some : goal.returns-in-Some
-returns-in-Some g c =
+pub returns-in-Some-clause-puts : goal.returns-in-Some-clause-puts
+returns-in-Some-clause-puts g c =
     let tables = c.args.database.now.tables in
     let there = subst (λ rs. IsPlace (referenced tables rs) c.args.pair) (sym c.as_slice-references.ensures) c.requires.place in
-    subst (λ rows. OnOk c.row_record-in-Some.result (fields_of c.row_record-in-Some.new.fields ≡ record_of geometry_writing c.args.query.now rows))
+    put-same c.put_row-in-Some.result _ _ _ _ _ _ (ap (λ rows. record_text (record_of geometry_writing c.args.query.now rows))
     (two-rows tables c.as_slice-references.result.now c.index-references-0.result c.index-references-1.result c.table-table.result.now c.table-other.result.now
     c.args.pair.first c.in-Some.second c.row-in-Some.result c.row-in-Some-2.result
     (subst (λ o. AreThere (referenced tables c.as_slice-references.result.now) (c.args.pair.first ∷ option_to_list o)) c.in-Some.is there)
     c.table-table.ensures c.row-in-Some.ensures c.table-other.ensures c.row-in-Some-2.ensures
     ∙ ap (λ rs. rows_at (referenced tables rs) (c.args.pair.first ∷ c.in-Some.second ∷ [])) c.as_slice-references.ensures
-    ∙ ap (λ o. rows_at (referenced tables c.args.query.now.references) (c.args.pair.first ∷ option_to_list o)) (sym c.in-Some.is))
-    c.row_record-in-Some.ensures.ok
+    ∙ ap (λ o. rows_at (referenced tables c.args.query.now.references) (c.args.pair.first ∷ option_to_list o)) (sym c.in-Some.is)))
+    c.put_row-in-Some.ensures.puts
