@@ -176,9 +176,12 @@ class Completions(unittest.TestCase):
     def test_bash(self):
         self.assertEqual(self.complete("sfq", "r"), ["run", "relate"])
         self.assertEqual(self.complete("sfq", "help", "c"), ["check"])
-        self.assertEqual(self.complete("sfq", "run", "-"), ["-h", "--help"])
+        self.assertEqual(self.complete("sfq", "run", "-"), ["-h", "--help", "--why"])
         self.assertIn("POLYGON(", self.complete("sfq", "relate", "P"))
         self.assertIn("POLYGON(", self.complete("sfq", "why", "POINT(1 1)", "P"))
+        self.assertIn("POLYGON(", self.complete("sfq", "why", "--why", "POINT(1 1)", "P"))
+        self.assertEqual(self.complete("sfq", "run", "--why", "s", "d", "S"), ["SELECT"])
+        self.assertEqual(self.complete("sfq", "fault", "--w"), [])
         self.assertEqual(sorted(self.complete("sfq", "fault", "")), sorted(codes()))
         self.assertEqual(self.complete("sfq", "fault", "L1"), ["L1", "L10", "L11"])
         with tempfile.TemporaryDirectory() as room:
@@ -230,7 +233,7 @@ class Completions(unittest.TestCase):
     def test_fish(self):
         for line, wanted in (
             ("sfq r", ["relate", "run"]), ("sfq relate ", GEOMETRIES), ("sfq why P", ["POINT(", "POLYGON("]), ("sfq fault ", codes()),
-            ("sfq fault W", ["W1", "W2", "W3", "W4"]), ("sfq help wh", ["why"]), ("sfq-tiles --r", ["--rows"]), ("sfq-scale ru", ["run"]), ("sfq-scale run --se", ["--send"]),
+            ("sfq fault W", ["W1", "W2", "W3", "W4"]), ("sfq pairs --w", ["--why"]), ("sfq help wh", ["why"]), ("sfq-tiles --r", ["--rows"]), ("sfq-scale ru", ["run"]), ("sfq-scale run --se", ["--send"]),
             ("sfq-import --invalid ", ["leave-out", "mend", "stop"]), ("sfq-export --w", ["--wgs84"]), ("sfq-schema --v", ["--version"]),
         ):
             script = f"source '{ROOT}/packaging/completions/{line.partition(' ')[0]}.fish'; complete -C '{line}'"
