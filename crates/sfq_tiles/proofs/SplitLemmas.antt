@@ -1,11 +1,12 @@
 -- How splitting ends, and parts that are named and written one after another.
-use Rattle.std.proofs.Common.{◌≡◌, ◌≢◌, ◌∙◌, ◌+◌, ◌<◌, ◌⊎◌, ap, inl, inr, ℕ, List, [], ◌∷◌, ◌++◌, Option, None, Some, OnOk, IfErr}
-use Rattle.std.proofs.Common.{Result, Ok, Err}
+use Rattle.std.proofs.Common.{◌≡◌, ◌≢◌, ◌∙◌, ◌+◌, ◌<◌, ◌⊎◌, ap, inl, inr, ℕ, List, [], ◌∷◌, ◌++◌, Option, None, Some, OnOk, IfErr, IfSome}
+use Rattle.std.proofs.Common.{◌≤◌, Bool, true, false, Result, Ok, Err}
 use Rattle.std.proofs.Common.{get_or, length, map, refl, subst, sym, take}
 use denote.Ref.{Bor}
 use Rattle.std.specs.Prelude.{IsErrAnd, drop, slice_get, unwrap_or}
+use Rattle.std.specs.Str.Parse.{IsNumeral, digits_value, without_leading_plus}
 use Rattle.std.proofs.lemmas.List.{map-append, take_more}
-use Rattle.std.proofs.lemmas.Option.{unwrap_or-slice_get}
+use Rattle.std.proofs.lemmas.Option.{slice_get_read, unwrap_or-slice_get}
 use Rattle.failures.specs.declared.failure.Failure.TheVariants as f
 use Rattle.feature_table.specs.GeometryFields.{ShapeValue, reading}
 use Rattle.feature_table.specs.Outcomes.{IsFailure}
@@ -14,7 +15,7 @@ use Rattle.geometry_model.specs.Envelopes.{Envelope}
 use Rattle.sfq_tiles.specs.Checks.{Files, HasFault, IsCheckEnding, IsChecked, IsOpenEnding, IsRead, ReadsSchema, schema_failure}
 use Rattle.sfq_tiles.specs.Checks.{table_path}
 use Rattle.sfq_tiles.specs.Endings.{copy_ending, ending_of}
-use Rattle.sfq_tiles.specs.Splits.{AreAllWritten, End, IsEarly, IsLate, IsWritten, Returns}
+use Rattle.sfq_tiles.specs.Splits.{AreAllWritten, End, IsEarly, IsLate, IsNumberOf, IsOfPart, IsWritten, Returns}
 use Rattle.sfq_tiles.specs.Words.{AreNamed, IsNamed}
 use Rattle.sfq_tiles.specs.declared.endings.Ending.{Ending}
 use Rattle.sfq_tiles.specs.declared.endings.Ending.TheVariants as e
@@ -90,13 +91,13 @@ module _ (files : Files) (directory : List ℕ) (table : TableDef ShapeValue) (n
   key_fault_is fault h = fault_is fault (h.0, h.1, λ other. fails reading table h.0 fault (h.2 other))
 
   -- a file that can't be opened
-  pub unopened : (ending : Ending) → IsOpenEnding name ending → IsLate files directory ending
+  pub unopened : (ending : Ending) → IsOpenEnding name ending → IsLate files directory (λ t. t ≡ table) ending
   unopened (e.Mistaken said) h = absurd h
   unopened e.Unwritable h = tt
   unopened (e.Failed (f.Schema x)) h = absurd h
   unopened (e.Failed f.SchemaUnreadable) h = absurd h
   unopened (e.Failed (f.Load shown x)) h = absurd h
-  unopened (e.Failed (f.Unreadable shown)) h = (table, h ∙ same)
+  unopened (e.Failed (f.Unreadable shown)) h = (table, refl, h ∙ same)
   unopened (e.Failed (f.Query x)) h = absurd h
   unopened (e.Failed (f.Refused word x)) h = absurd h
   unopened (e.Failed f.PairsRefused) h = absurd h
@@ -125,11 +126,54 @@ module _ (files : Files) (directory : List ℕ) (table : TableDef ShapeValue) (n
   -- a fault of a second pass
   pub copy_fails : (shown : Bor (List ℕ)) → shown.now ≡ table.name → (before after : ℕ) (fault : CopyFault)
       → IsCopyFault (IsTableFault known table.columns) before after fault
-      → IsLate files directory (copy_ending shown fault)
+      → IsLate files directory (λ t. t ≡ table) (copy_ending shown fault)
   copy_fails shown is before after copy.Sink h = tt
-  copy_fails shown is before after (copy.Load fault) h = (table, is, of_header fault h.1)
+  copy_fails shown is before after (copy.Load fault) h = (table, refl, is, of_header fault h.1)
+
+-- an ending of one of some tables is of one of more
+pub late_of : (P Q : TableDef ShapeValue → Type 0) (files : Files) (directory : List ℕ) (ending : Ending)
+    → ((table : TableDef ShapeValue) → P table → Q table) → IsLate files directory P ending → IsLate files directory Q ending
+late_of P Q files directory (e.Mistaken said) follows h = h
+late_of P Q files directory e.Unwritable follows h = tt
+late_of P Q files directory (e.Failed (f.Schema x)) follows h = (h.0, follows h.0 h.1, h.2)
+late_of P Q files directory (e.Failed f.SchemaUnreadable) follows h = (h.0, follows h.0 h.1, h.2)
+late_of P Q files directory (e.Failed (f.Load shown x)) follows h = (h.0, follows h.0 h.1, h.2)
+late_of P Q files directory (e.Failed (f.Unreadable shown)) follows h = (h.0, follows h.0 h.1, h.2)
+late_of P Q files directory (e.Failed (f.Query x)) follows h = (h.0, follows h.0 h.1, h.2)
+late_of P Q files directory (e.Failed (f.Refused word x)) follows h = (h.0, follows h.0 h.1, h.2)
+late_of P Q files directory (e.Failed f.PairsRefused) follows h = (h.0, follows h.0 h.1, h.2)
+late_of P Q files directory (e.Failed f.UnknownCode) follows h = (h.0, follows h.0 h.1, h.2)
+late_of P Q files directory (e.Failed f.WriteFailed) follows h = (h.0, follows h.0 h.1, h.2)
+late_of P Q files directory (e.Failed f.OutOfMemory) follows h = tt
+
+-- the table of a part at a place is that of some part
+pub of_part : (parts : List NamedPart) (place : ℕ) (part : NamedPart) → place < length parts → part ≡ get_or parts place part
+    → (table : TableDef ShapeValue) → table ≡ part.table.now → IsOfPart parts table
+of_part parts place part within item table same = (place, part, slice_get_read parts (length parts) place part refl within item, same)
 
 -- ---- early endings
+
+-- where it is known that nothing is there, nothing is found
+pub something_there : (known : Option Bool) (found : Bool) → IfSome known (λ b. found ≡ b) → found ≡ true → known ≢ Some false
+something_there None found is yes = λ free. cc free
+something_there (Some true) found is yes = λ free. cc free
+something_there (Some false) found is yes = λ free. cc (sym is ∙ yes)
+
+pub nothing_there : (known : Option Bool) (found : Bool) → IfSome known (λ b. found ≡ b) → found ≡ false → known ≢ Some true
+nothing_there None found is no = λ taken. cc taken
+nothing_there (Some true) found is no = λ taken. cc (sym is ∙ no)
+nothing_there (Some false) found is no = λ taken. cc taken
+
+-- a word that isn't a number of rows
+pub no_rows : (word : List ℕ)
+    → ¬ (IsNumeral 10 (without_leading_plus word) × (1 ≤ digits_value 10 (without_leading_plus word))
+    × (digits_value 10 (without_leading_plus word) ≤ 100000))
+    → (rows : ℕ) → IsNumberOf word rows → ⊥
+no_rows word none rows is = none (is.0, subst (λ n. 1 ≤ n) is.3 is.1, subst (λ n. n ≤ 100000) is.3 is.2)
+
+pub said_ending : (mistake : Mistake) → mistake ≢ m.Memory → (said : Bor (List ℕ)) × (ending_of mistake ≡ e.Mistaken said)
+said_ending m.Memory other = absurd (other refl)
+said_ending (m.Said text) other = (text, refl)
 
 module _ (files : Files) (directory : List ℕ) (definitions : SpatialSchema) where
   pub mistaken_early : (mistake : Mistake) → IsEarly files directory definitions (ending_of mistake)
@@ -139,7 +183,7 @@ module _ (files : Files) (directory : List ℕ) (definitions : SpatialSchema) wh
   pub unchecked_early : (ending : Ending) → IsCheckEnding files directory definitions ending
       → IsEarly files directory definitions ending
   unchecked_early (e.Mistaken said) h = tt
-  unchecked_early e.Unwritable h = tt
+  unchecked_early e.Unwritable h = h
   unchecked_early (e.Failed failure) h = h
 
 -- ---- parts

@@ -1,5 +1,7 @@
 -- What splitting does: by the words of the command line, the schema and the tables, what is written, or how it ends.
-use Rattle.std.specs.Prelude.{◌≡◌, ◌≤◌, ◌⊎◌, ◌++◌, ⊤, ℕ, Bool, List, [], ◌∷◌, Option, Some, None, Result, Ok, Err, if◌then◌else◌, is_some, map, string_bytes, MatchResult}
+use Rattle.std.specs.Prelude.{◌≡◌, ◌≢◌, ◌≤◌, ◌⊎◌, ◌++◌, ⊤, ℕ, Bool, true, false, List, [], ◌∷◌, Option, Some, None, Result, Ok, Err}
+use Rattle.std.specs.Prelude.{if◌then◌else◌, is_some, map, slice_get, string_bytes, MatchResult}
+use denote.Ref.{Bor}
 use Rattle.std.specs.List.{list_any}
 use Rattle.std.specs.Io.KnownBytes.{Appends}
 use Rattle.std.specs.Str.Parse.{IsNumeral, digits_value, without_leading_plus}
@@ -12,6 +14,7 @@ use Rattle.geometry_model.specs.Envelopes.{Envelope}
 use Rattle.sfq_tiles.specs.Checks.{AreChecked, Files, IsCheckEnding, IsTableEnding, ReadsSchema, table_path}
 use Rattle.sfq_tiles.specs.Endings.{ending_line, ending_of, ending_status}
 use Rattle.sfq_tiles.specs.Lists.{stretches_list, tiles_text}
+use Rattle.sfq_tiles.specs.MadeTables.{AreMade}
 use Rattle.sfq_tiles.specs.SchemaTexts.{text_of}
 use Rattle.sfq_tiles.specs.Words.{AreNamed}
 use Rattle.sfq_tiles.specs.declared.endings.Ending.{Ending}
@@ -22,7 +25,9 @@ use Rattle.sfq_tiles.specs.declared.parts.NamedPart.{NamedPart}
 use Rattle.sfq_tiles.specs.declared.words.Words.{Words}
 use Rattle.streams.specs.Sinks.{AppendsFront}
 use Rattle.table_laws.specs.Cells.{CutsGrid}
+use Rattle.table_model.specs.GeometryColumns.{shape_named}
 use Rattle.table_model.specs.Loading.{Record}
+use Rattle.table_model.specs.SchemaGrammar.{IsSchema}
 use Rattle.table_model.specs.SpatialTables.{SpatialSchema}
 use Rattle.table_model.specs.declared.definitions.TableDef.{TableDef}
 use Rattle.tiles.specs.Copies.{AreRecordsOfTable, AreWritten, size_of, stretches_of, tiles_of}
@@ -50,6 +55,14 @@ tables_of boxes rows part records = tables_by boxes rows part records part.colum
 -- whether some part has tiles
 abbrev pub has_tiles : List NamedPart → Bool
 has_tiles parts = list_any (λ part. is_some part.column) parts
+
+-- the schema of the parts is one, of exactly their tables
+abbrev pub HasSchema : List NamedPart → Type 0
+HasSchema parts = (tables : List (TableDef ShapeValue)) × IsSchema shape_named (text_of parts) tables × AreMade parts tables
+
+-- a table is that of some part
+abbrev pub IsOfPart : List NamedPart → TableDef ShapeValue → Type 0
+IsOfPart parts table = (place : ℕ) × (part : NamedPart) × (slice_get parts place ≡ Some part) × (table ≡ part.table.now)
 
 -- the list of the parts that were written
 abbrev pub list_of : List NamedPart → List Envelope → List Written → List ℕ
@@ -97,18 +110,19 @@ module _ {O T : Type 0} (begins_tiles begins_stretches : O → List ℕ → T �
 abbrev pub End : Type 0
 End = Result (Unit {0}) Ending
 
--- why it ends before anything is made: a word is wrong, memory ran out, something is there already, or not all tables are checked
+-- why it ends before anything is made: a word is wrong, memory ran out, or not all tables are checked
 abbrev pub IsEarly : Files → List ℕ → SpatialSchema → Ending → Type 0
 IsEarly files directory definitions (e.Mistaken said) = ⊤
-IsEarly files directory definitions e.Unwritable = ⊤
 IsEarly files directory definitions ending = IsCheckEnding files directory definitions ending
 
--- why it ends after all tables were checked: a file can't be written, memory ran out, or a table can't be read again as it was
-abbrev pub IsLate : Files → List ℕ → Ending → Type 0
-IsLate files directory (e.Mistaken said) = ⊥
-IsLate files directory e.Unwritable = ⊤
-IsLate files directory (e.Failed f.OutOfMemory) = ⊤
-IsLate files directory (e.Failed failure) = (table : TableDef ShapeValue) × IsTableEnding files directory table (e.Failed failure)
+-- why it ends after all tables were checked: a file can't be written, memory ran out, or one of these tables can't be read again as
+-- it was
+abbrev pub IsLate : Files → List ℕ → (TableDef ShapeValue → Type 0) → Ending → Type 0
+IsLate files directory IsOne (e.Mistaken said) = ⊥
+IsLate files directory IsOne e.Unwritable = ⊤
+IsLate files directory IsOne (e.Failed f.OutOfMemory) = ⊤
+IsLate files directory IsOne (e.Failed failure) =
+    (table : TableDef ShapeValue) × IsOne table × IsTableEnding files directory table (e.Failed failure)
 
 -- the status of an end
 abbrev pub status_of : End → ℕ
@@ -125,8 +139,8 @@ abbrev pub IsNumberOf : List ℕ → ℕ → Type 0
 IsNumberOf word rows =
     IsNumeral 10 (without_leading_plus word) × (1 ≤ rows) × (rows ≤ 100000) × (rows ≡ digits_value 10 (without_leading_plus word))
 
--- where parts are written and listed, before and after
-module _ {O T S : Type 0} (begins_tiles begins_stretches : O → List ℕ → T → Type 0) (takes : O → T → O → Type 0) (texts : T → Texts)
+-- where parts are written and listed, before and after; `there`: whether something is there already, where that is known
+module _ {O T S : Type 0} (there : O → Option Bool) (begins_tiles begins_stretches : O → List ℕ → T → Type 0) (takes : O → T → O → Type 0) (texts : T → Texts)
     (makes : O → List ℕ → O → Type 0) (taken : S → Option (List ℕ)) (failures : S → ℕ) (old new : O) (out_old out_new : S) where
   -- parts are written and listed; or the list isn't written whole; or nothing is listed, as a file can't be written, a table can't be read
   -- again as it was, or memory ran out
@@ -136,17 +150,20 @@ module _ {O T S : Type 0} (begins_tiles begins_stretches : O → List ℕ → T 
       (λ list. Appends (taken out_old) (taken out_new) list × (failures out_new ≡ failures out_old)) old new)
       ⊎ ((end ≡ Err (e.Failed f.WriteFailed)) × ArePut begins_tiles begins_stretches takes texts makes files directory boxes rows text parts
       (λ list. AppendsFront (taken out_old) (taken out_new) list × (failures out_new ≡ one_more (failures out_old))) old new)
-      ⊎ ((ending : Ending) × (end ≡ Err ending) × (out_new ≡ out_old) × IsLate files directory ending)
+      ⊎ ((ending : Ending) × (end ≡ Err ending) × (out_new ≡ out_old) × IsLate files directory (IsOfPart parts) ending)
 
   -- it ends so, and nothing is made or listed
   abbrev pub EndsBefore : End → Ending → Type 0
   EndsBefore end ending = (end ≡ Err ending) × (new ≡ old) × (out_new ≡ out_old)
 
-  -- splitting into some parts: all tables are checked, and then they are written by one cut; or it ends before anything is made
+  -- splitting into some parts: all tables are checked, and then they are written by one cut, where nothing is yet, with a schema that is
+  -- read as their tables; or it ends before anything is made
   abbrev pub SplitsParts : Files → List ℕ → ℕ → SpatialSchema → List NamedPart → End → Type 0
   SplitsParts files directory rows definitions parts end =
       ((ending : Ending) × EndsBefore end ending × IsEarly files directory definitions ending)
-      ⊎ (AreChecked files directory definitions × (boxes : List Envelope) × CutsGrid boxes × WritesParts files directory boxes rows (text_of parts) parts end)
+      ⊎ (EndsBefore end e.Unwritable × (there old ≢ Some false))
+      ⊎ ((there old ≢ Some true) × AreChecked files directory definitions × HasSchema parts
+      × (boxes : List Envelope) × CutsGrid boxes × WritesParts files directory boxes rows (text_of parts) parts end)
 
   -- splitting the tables of a schema into the parts that words name; or a word is wrong, or memory ran out
   abbrev pub SplitsTables : Files → List ℕ → List (List ℕ) → ℕ → SpatialSchema → End → Type 0
@@ -163,7 +180,7 @@ module _ {O T S : Type 0} (begins_tiles begins_stretches : O → List ℕ → T 
   -- splitting by the words of the command line; or the number of rows is wrong
   abbrev pub SplitsWords : Files → Words → End → Type 0
   SplitsWords files words end =
-      ((mistake : Mistake) × EndsBefore end (ending_of mistake))
+      ((said : Bor (List ℕ)) × EndsBefore end (e.Mistaken said) × ((rows : ℕ) → IsNumberOf words.rows.now rows → ⊥))
       ⊎ ((rows : ℕ) × IsNumberOf words.rows.now rows
       × SplitsFiles files words.schema.now words.directory.now (map (λ word. word.now) words.parts.items) rows end)
 

@@ -235,6 +235,8 @@ impl<'r, 'w> HostDirectory<'r, 'w> {
 impl<'r, 'w> Targets for HostDirectory<'r, 'w> {
     type Texts = CellFiles<'r, 'w>;
 
+    ghost there = { λ _. None };
+
     ghost makes = { λ _ _ _. Unit {0} };
 
     ghost begins_tiles = { λ _ _ _. Unit {0} };

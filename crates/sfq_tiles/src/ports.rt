@@ -1,6 +1,6 @@
 //! What splitting reads and writes. Its caller hands both over, so that its contract can speak of their bytes.
 
-ghost use Rattle.std.specs.Prelude.{◌≡◌, ℕ, List, Option, IfSome, OnOk, IfOk};
+ghost use Rattle.std.specs.Prelude.{◌≡◌, ℕ, Bool, List, Option, IfSome, OnOk, IfOk};
 
 use std::alloc::AllocError;
 use std::io::Read;
@@ -25,6 +25,8 @@ pub trait Targets {
     /// The texts of a part.
     type Texts: CellTexts + Drop;
 
+    /// Whether something is there already; None where nobody knows it.
+    ghost there: { Self → Option Bool };
     /// The directory was made, with a schema of this text.
     ghost makes: { Self → List ℕ → Self → Type 0 };
     /// These are the texts of the tiles of the part of this name, to which nothing was added yet.
@@ -35,7 +37,8 @@ pub trait Targets {
     ghost takes: { Self → Self.Texts → Self → Type 0 };
 
     /// Whether something is there already.
-    fn is_there(&self) -> bool;
+    fn is_there(&self) -> bool
+        ensures { IfSome (there self.now) (λ known. result ≡ known) };
 
     /// Makes the directory with a schema.
     fn make(&mut self, schema: &[u8]) -> Result<(), SinkFault>

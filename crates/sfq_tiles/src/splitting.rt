@@ -4,7 +4,7 @@ ghost use Rattle.std.specs.Prelude.{◌≡◌, ℕ, IfErr, IfOk, List, OnErr, On
 ghost use Rattle.std.specs.Io.KnownBytes.{Appends};
 ghost use Rattle.geometry_model.specs.Envelopes.{Envelope};
 ghost use Rattle.sfq_tiles.specs.Endings as spec;
-ghost use Rattle.sfq_tiles.specs.Splits.{AreAllWritten, IsLate, IsWritten, Returns, SplitsFiles, SplitsParts, SplitsTables, SplitsWords, WritesParts, has_tiles, list_of};
+ghost use Rattle.sfq_tiles.specs.Splits.{AreAllWritten, IsLate, IsOfPart, IsWritten, Returns, SplitsFiles, SplitsParts, SplitsTables, SplitsWords, WritesParts, has_tiles, list_of};
 ghost use Rattle.streams.specs.Sinks.{AppendsFront, CountsFailure};
 ghost use Rattle.table_laws.specs.Cells.{CutsGrid};
 
@@ -34,7 +34,7 @@ pub fn split<I: Sources, O: Targets, S: Sink, E: Sink>(
     err: &mut E,
 ) -> u8
     ensures splits { Returns E.taken E.failures
-        (SplitsWords O.begins_tiles O.begins_stretches O.takes O.Texts.texts O.makes S.taken S.failures
+        (SplitsWords O.there O.begins_tiles O.begins_stretches O.takes O.Texts.texts O.makes S.taken S.failures
         targets.old targets.new out.old out.new (I.bytes sources.now) words.now) result err.old err.new }
 {
     match read_rows(words.rows) {
@@ -54,7 +54,7 @@ fn split_files<I: Sources, O: Targets, S: Sink, E: Sink>(
     err: &mut E,
 ) -> u8
     ensures { Returns E.taken E.failures
-        (SplitsFiles O.begins_tiles O.begins_stretches O.takes O.Texts.texts O.makes S.taken S.failures
+        (SplitsFiles O.there O.begins_tiles O.begins_stretches O.takes O.Texts.texts O.makes S.taken S.failures
         targets.old targets.new out.old out.new (I.bytes sources.now) words.now.schema.now words.now.directory.now
         (map (λ word. word.now) words.now.parts.items) rows) result err.old err.new }
 {
@@ -76,7 +76,7 @@ fn split_schema<I: Sources, O: Targets, S: Sink, E: Sink>(
     err: &mut E,
 ) -> u8
     ensures { Returns E.taken E.failures
-        (SplitsTables O.begins_tiles O.begins_stretches O.takes O.Texts.texts O.makes S.taken S.failures
+        (SplitsTables O.there O.begins_tiles O.begins_stretches O.takes O.Texts.texts O.makes S.taken S.failures
         targets.old targets.new out.old out.new (I.bytes sources.now) words.now.directory.now
         (map (λ word. word.now) words.now.parts.items) rows schema.now) result err.old err.new }
 {
@@ -96,7 +96,7 @@ fn split_tables<'w, 's, I: Sources, O: Targets, S: Sink>(
     targets: &mut O,
     out: &mut S,
 ) -> Result<(), Ending<'s>>
-    ensures { SplitsTables O.begins_tiles O.begins_stretches O.takes O.Texts.texts O.makes S.taken S.failures
+    ensures { SplitsTables O.there O.begins_tiles O.begins_stretches O.takes O.Texts.texts O.makes S.taken S.failures
         targets.old targets.new out.old out.new (I.bytes sources.now) words.now.directory.now
         (map (λ word. word.now) words.now.parts.items) rows schema.entry.now result }
 {
@@ -124,7 +124,7 @@ fn split_parts<'w, 's, I: Sources, O: Targets, S: Sink>(
     targets: &mut O,
     out: &mut S,
 ) -> Result<(), Ending<'s>>
-    ensures { SplitsParts O.begins_tiles O.begins_stretches O.takes O.Texts.texts O.makes S.taken S.failures
+    ensures { SplitsParts O.there O.begins_tiles O.begins_stretches O.takes O.Texts.texts O.makes S.taken S.failures
         targets.old targets.new out.old out.new (I.bytes sources.now) directory.now rows schema.entry.now parts.entry.now result }
 {
     let text = schema_text(alloc, parts)?;
@@ -158,7 +158,7 @@ fn write_all<'w, 's, I: Sources, O: Targets, S: Sink>(
     targets: &mut O,
     out: &mut S,
 ) -> Result<(), Ending<'s>>
-    ensures { WritesParts O.begins_tiles O.begins_stretches O.takes O.Texts.texts O.makes S.taken S.failures
+    ensures { WritesParts O.there O.begins_tiles O.begins_stretches O.takes O.Texts.texts O.makes S.taken S.failures
         targets.old targets.new out.old out.new (I.bytes sources.now) directory.now cells.now rows text.now parts.entry.now result }
 {
     make(targets, text)?;
@@ -220,7 +220,7 @@ fn write_parts<'w, 's, I: Sources, O: Targets>(
 ) -> Result<Vec<Written<'w>>, Ending<'s>>
     ensures written { IfOk result (λ written. AreAllWritten O.begins_tiles O.begins_stretches O.takes O.Texts.texts
         (I.bytes sources.now) directory.now cells.now rows parts.entry.now written.items targets.old targets.new) }
-    ensures ending { IfErr result (IsLate (I.bytes sources.now) directory.now) }
+    ensures ending { IfErr result (IsLate (I.bytes sources.now) directory.now (IsOfPart parts.entry.now)) }
 {
     let mut written = Vec::new(alloc);
     for named in parts {
@@ -277,7 +277,7 @@ fn write_part<'w, 's, I: Sources, O: Targets>(
 ) -> Result<Vec<usize>, Ending<'s>>
     ensures written { IfOk result (λ counts. IsWritten O.begins_tiles O.begins_stretches O.takes O.Texts.texts
         (I.bytes sources.now) directory.now cells.now rows named.entry.now counts.items targets.old targets.new) }
-    ensures ending { IfErr result (IsLate (I.bytes sources.now) directory.now) }
+    ensures ending { IfErr result (IsLate (I.bytes sources.now) directory.now (λ table. table ≡ named.entry.now.table.now)) }
 {
     match named.column {
         Some(column) => tiles_of(alloc, directory, named, column, cells, sources, targets),
@@ -298,7 +298,7 @@ fn stretches_of<'w, 's, I: Sources, O: Targets>(
     ensures written { IfOk result (λ counts. (boxes : List Envelope)
         → IsWritten O.begins_tiles O.begins_stretches O.takes O.Texts.texts
         (I.bytes sources.now) directory.now boxes rows named.entry.now counts.items targets.old targets.new) }
-    ensures ending { IfErr result (IsLate (I.bytes sources.now) directory.now) }
+    ensures ending { IfErr result (IsLate (I.bytes sources.now) directory.now (λ table. table ≡ named.entry.now.table.now)) }
 {
     let name = named.table.name.as_str();
     let part = Part {
@@ -330,7 +330,7 @@ fn tiles_of<'w, 's, I: Sources, O: Targets>(
     ensures written { IfOk result (λ counts. (rows : ℕ)
         → IsWritten O.begins_tiles O.begins_stretches O.takes O.Texts.texts
         (I.bytes sources.now) directory.now cells.now rows named.entry.now counts.items targets.old targets.new) }
-    ensures ending { IfErr result (IsLate (I.bytes sources.now) directory.now) }
+    ensures ending { IfErr result (IsLate (I.bytes sources.now) directory.now (λ table. table ≡ named.entry.now.table.now)) }
 {
     let name = named.table.name.as_str();
     let part = Part {

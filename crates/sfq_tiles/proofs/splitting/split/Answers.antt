@@ -1,5 +1,6 @@
 -- The number of rows is read first.
-use Rattle.std.proofs.Common.{◌≤◌, Err, ap, inl, inr, refl, subst, sym}
+use Rattle.std.proofs.Common.{◌≤◌, ◌∙◌, Err, ap, inl, inr, refl, subst, sym}
+use Rattle.sfq_tiles.proofs.SplitLemmas.{no_rows, said_ending}
 use Rattle.sfq_tiles.proofs.splitting.split.Goals as goal
 
 pub returns-in-Ok : goal.returns-in-Ok
@@ -18,9 +19,15 @@ returns-in-Ok g c =
     }
 
 pub returns : goal.returns
-returns g c = record {
-  end = Err c.from.result;
-  ends = inl (c.in-Err.mistake, ap Err c.from.ensures, refl, refl);
-  returned = c.ended.ensures.status;
-  reported = c.ended.ensures.line;
-}
+returns g c =
+    let said = said_ending c.in-Err.mistake c.in-Err.ensures.said in
+    record {
+      end = Err c.from.result;
+      ends = inl (
+        said.0,
+        (ap Err (c.from.ensures ∙ said.1), refl, refl),
+        no_rows c.args.words.now.rows.now c.in-Err.ensures.number,
+      );
+      returned = c.ended.ensures.status;
+      reported = c.ended.ensures.line;
+    }

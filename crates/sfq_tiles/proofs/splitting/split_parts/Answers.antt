@@ -3,7 +3,9 @@ use Rattle.std.proofs.Common.{◌∙◌, inl, inr, refl, subst}
 use Rattle.sfq_tiles.specs.Endings.{ending_of, memory_ending}
 use Rattle.sfq_tiles.specs.Splits.{WritesParts}
 use Rattle.sfq_tiles.specs.declared.endings.Ending.TheVariants as e
-use Rattle.sfq_tiles.proofs.SplitLemmas.{is_ending, mistaken_early, unchecked_early}
+use Rattle.sfq_tiles.proofs.SplitLemmas.{is_ending, mistaken_early, nothing_there, something_there, unchecked_early}
+use Rattle.table_model.specs.GeometryColumns.{shape_named}
+use Rattle.table_model.specs.SchemaGrammar.{IsSchema}
 use Rattle.sfq_tiles.proofs.splitting.split_parts.Goals as goal
 
 pub returns-in_err-text : goal.returns-in_err-text
@@ -17,7 +19,8 @@ returns-in_err-text g c =
     )
 
 pub returns-then-is_there : goal.returns-then-is_there
-returns-then-is_there g c = inl (e.Unwritable, (refl, refl, refl), tt)
+returns-then-is_there g c =
+    inr (inl ((refl, refl, refl), something_there _ c.is_there.result c.is_there.ensures c.then-is_there.is))
 
 pub returns-in_err-samplers : goal.returns-in_err-samplers
 returns-in_err-samplers g c =
@@ -40,14 +43,16 @@ returns-in_err-cells g c =
 pub returns : goal.returns
 returns g c =
     let text = c.as_str.ensures.value ∙ c.in_ok-text.ensures.text in
-    inr (
+    let made = c.in_ok-text.ensures.tables in
+    inr (inr (
+      nothing_there _ c.is_there.result c.is_there.ensures c.else-is_there.is,
       c.in_ok-samplers.ensures.checked,
+      (made.0, subst (λ t. IsSchema shape_named t made.0) c.in_ok-text.ensures.text made.1, made.2),
       _,
       c.in_ok-cells.ensures,
       subst
-          (λ t. WritesParts g.O.Targets.begins_tiles g.O.Targets.begins_stretches g.O.Targets.takes g.O.Texts.CellTexts.texts
-          g.O.Targets.makes g.S.Sink.taken g.S.Sink.failures _ _ _ _
-          (g.I.Sources.bytes c.args.sources.now) c.args.directory.now _ c.args.rows t
-          c.args.parts.now c.write_all.result)
+          (λ t. WritesParts g.O.Targets.there g.O.Targets.begins_tiles g.O.Targets.begins_stretches g.O.Targets.takes
+          g.O.Texts.CellTexts.texts g.O.Targets.makes g.S.Sink.taken g.S.Sink.failures _ _ _ _
+          (g.I.Sources.bytes c.args.sources.now) c.args.directory.now _ c.args.rows t c.args.parts.now c.write_all.result)
           text c.write_all.ensures,
-    )
+    ))

@@ -1,7 +1,7 @@
 -- The schema is made, the parts are written, and the list comes last.
 use Rattle.std.proofs.Common.{inl, inr, refl, subst, sym}
 use Rattle.std.specs.Io.KnownBytes.{Appends}
-use Rattle.sfq_tiles.specs.Splits.{IsLate, list_of}
+use Rattle.sfq_tiles.specs.Splits.{IsLate, IsOfPart, list_of}
 use Rattle.sfq_tiles.specs.declared.endings.Ending.TheVariants as e
 use Rattle.sfq_tiles.proofs.SplitLemmas.{is_ending}
 use Rattle.streams.specs.Sinks.{AppendsFront}
@@ -15,7 +15,7 @@ returns-in_err-make g c =
       ending,
       is_ending c.from_residual.result ending c.from_residual.ensures.1,
       refl,
-      subst (IsLate files c.args.directory.now) (sym c.in_err-make.ensures.ending) tt,
+      subst (IsLate files c.args.directory.now (IsOfPart c.args.parts.now)) (sym c.in_err-make.ensures.ending) tt,
     ))
 
 pub returns-in_err-written : goal.returns-in_err-written
