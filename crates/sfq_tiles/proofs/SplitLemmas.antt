@@ -1,6 +1,6 @@
 -- How splitting ends, and parts that are named and written one after another.
-use Rattle.std.proofs.Common.{◌≡◌, ◌≢◌, ◌∙◌, ◌+◌, ◌<◌, ◌⊎◌, ap, inl, inr, ℕ, List, [], ◌∷◌, ◌++◌, Option, None, Some, OnOk, IfErr, IfSome}
-use Rattle.std.proofs.Common.{◌≤◌, Bool, true, false, Result, Ok, Err}
+use Rattle.std.proofs.Common.{◌≡◌, ◌≢◌, ◌∙◌, ◌+◌, ◌<◌, ◌⊎◌, ap, inl, inr, ℕ, List, [], ◌∷◌, ◌++◌, Option, None, Some, OnOk, IfErr}
+use Rattle.std.proofs.Common.{◌≤◌, Result, Ok, Err}
 use Rattle.std.proofs.Common.{get_or, length, map, refl, subst, sym, take}
 use denote.Ref.{Bor}
 use Rattle.std.specs.Prelude.{IsErrAnd, drop, slice_get, unwrap_or}
@@ -12,9 +12,10 @@ use Rattle.feature_table.specs.GeometryFields.{ShapeValue, reading}
 use Rattle.feature_table.specs.Outcomes.{IsFailure}
 use Rattle.feature_table.specs.Tables.{AreRecordsOf, records_in}
 use Rattle.geometry_model.specs.Envelopes.{Envelope}
-use Rattle.sfq_tiles.specs.Checks.{Files, HasFault, IsCheckEnding, IsChecked, IsOpenEnding, IsRead, ReadsSchema, schema_failure}
-use Rattle.sfq_tiles.specs.Checks.{table_path}
+use Rattle.sfq_tiles.specs.Checks.{Files, HasTableFault, IsCheckEnding, IsChecked, IsOpenEnding, IsRead, ReadsSchema}
+use Rattle.sfq_tiles.specs.Checks.{schema_failure, table_path}
 use Rattle.sfq_tiles.specs.Endings.{copy_ending, ending_of}
+use Rattle.sfq_tiles.specs.SchemaTexts.{IsRefused, text_of}
 use Rattle.sfq_tiles.specs.Splits.{AreAllWritten, End, IsEarly, IsLate, IsNumberOf, IsOfPart, IsWritten, Returns}
 use Rattle.sfq_tiles.specs.Words.{AreNamed, IsNamed}
 use Rattle.sfq_tiles.specs.declared.endings.Ending.{Ending}
@@ -82,12 +83,12 @@ module _ (files : Files) (directory : List ℕ) (table : TableDef ShapeValue) (n
   -- the fault that is found
   pub fault_is : (fault : LoadFault)
       → ((records : List Record) × AreRecordsOf known records × (¬ (IsFailure fault) → checked reading table records ≡ Err fault))
-      → HasFault files directory table fault
+      → HasTableFault files directory table fault
   fault_is fault h = (h.0, subst (λ k. AreRecordsOf k h.0) path h.1, h.2)
 
   pub key_fault_is : (fault : LoadFault)
       → ((records : List Record) × AreRecordsOf known records × Counts (Err fault) (keys_of_table reading table records))
-      → HasFault files directory table fault
+      → HasTableFault files directory table fault
   key_fault_is fault h = fault_is fault (h.0, h.1, λ other. fails reading table h.0 fault (h.2 other))
 
   -- a file that can't be opened
@@ -119,7 +120,7 @@ module _ (files : Files) (directory : List ℕ) (table : TableDef ShapeValue) (n
   some_records None = ([], tt)
   some_records (Some text) = (records_in text, refl)
 
-  of_header : (fault : LoadFault) → IsTableFault known table.columns fault → HasFault files directory table fault
+  of_header : (fault : LoadFault) → IsTableFault known table.columns fault → HasTableFault files directory table fault
   of_header fault (inl failed) = let some = some_records known in fault_is fault (some.0, some.1, λ other. absurd (other failed))
   of_header fault (inr (records, are, is)) = fault_is fault (records, are, λ other. header_fails records fault is)
 
@@ -149,20 +150,10 @@ late_of P Q files directory (e.Failed f.OutOfMemory) follows h = tt
 -- the table of a part at a place is that of some part
 pub of_part : (parts : List NamedPart) (place : ℕ) (part : NamedPart) → place < length parts → part ≡ get_or parts place part
     → (table : TableDef ShapeValue) → table ≡ part.table.now → IsOfPart parts table
-of_part parts place part within item table same = (place, part, slice_get_read parts (length parts) place part refl within item, same)
+of_part parts place part within item table same =
+    (place, part, slice_get_read parts (length parts) place part refl within item, same)
 
 -- ---- early endings
-
--- where it is known that nothing is there, nothing is found
-pub something_there : (known : Option Bool) (found : Bool) → IfSome known (λ b. found ≡ b) → found ≡ true → known ≢ Some false
-something_there None found is yes = λ free. cc free
-something_there (Some true) found is yes = λ free. cc free
-something_there (Some false) found is yes = λ free. cc (sym is ∙ yes)
-
-pub nothing_there : (known : Option Bool) (found : Bool) → IfSome known (λ b. found ≡ b) → found ≡ false → known ≢ Some true
-nothing_there None found is no = λ taken. cc taken
-nothing_there (Some true) found is no = λ taken. cc (sym is ∙ no)
-nothing_there (Some false) found is no = λ taken. cc taken
 
 -- a word that isn't a number of rows
 pub no_rows : (word : List ℕ)
@@ -176,15 +167,21 @@ said_ending m.Memory other = absurd (other refl)
 said_ending (m.Said text) other = (text, refl)
 
 module _ (files : Files) (directory : List ℕ) (definitions : SpatialSchema) where
-  pub mistaken_early : (mistake : Mistake) → IsEarly files directory definitions (ending_of mistake)
-  mistaken_early m.Memory = inl refl
-  mistaken_early (m.Said text) = tt
+  never_said : (said : Bor (List ℕ)) → IsCheckEnding files directory definitions (e.Mistaken said) → ⊥
+  never_said said (inl is) = cc is
+  never_said said (inr (inl unopened)) = unopened.ends
+  never_said said (inr (inr refused)) = refused.ends
 
-  pub unchecked_early : (ending : Ending) → IsCheckEnding files directory definitions ending
-      → IsEarly files directory definitions ending
-  unchecked_early (e.Mistaken said) h = tt
-  unchecked_early e.Unwritable h = h
-  unchecked_early (e.Failed failure) h = h
+  pub mistaken_early : (parts : List NamedPart) (mistake : Mistake) → IsRefused parts (text_of parts) mistake
+      → IsEarly files directory definitions parts (ending_of mistake)
+  mistaken_early parts m.Memory refused = inl refl
+  mistaken_early parts (m.Said text) refused = λ made. refused (λ is. cc is) made.0 made.1 made.2
+
+  pub unchecked_early : (parts : List NamedPart) (ending : Ending) → IsCheckEnding files directory definitions ending
+      → IsEarly files directory definitions parts ending
+  unchecked_early parts (e.Mistaken said) h = absurd (never_said said h)
+  unchecked_early parts e.Unwritable h = h
+  unchecked_early parts (e.Failed failure) h = h
 
 -- ---- parts
 

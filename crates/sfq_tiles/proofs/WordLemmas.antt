@@ -48,7 +48,8 @@ pub listed_more : (table : TableDef ShapeValue) (names : List (Bor (List ℕ))) 
     → now ≡ filter (λ place. (place == table.key) || list_any (λ name. is_called name.now (slice_get table.columns place)) names)
     (range_with_len 0 (n + 1))
 listed_more table names n was now copied before is more =
-    let p : ℕ → Bool = λ place. (place == table.key) || list_any (λ name. is_called name.now (slice_get table.columns place)) names in
+    let p : ℕ → Bool =
+    λ place. (place == table.key) || list_any (λ name. is_called name.now (slice_get table.columns place)) names in
     more ∙ ap (λ t. t ++ cond copied (n ∷ []) []) before
     ∙ ap (λ b. filter p (range_with_len 0 n) ++ cond b (n ∷ []) []) is ∙ sym (filter-append p (range_with_len 0 n) (n ∷ []))
     ∙ ap (filter p) (sym (one_more_number n))

@@ -67,8 +67,8 @@ abbrev pub AreChecked : Files → List ℕ → SpatialSchema → Type 0
 AreChecked files directory definitions = (place : ℕ) → place < length definitions → IsCheckedAt files directory definitions place
 
 -- a table has this fault; or reading failed, or memory ran out
-abbrev pub HasFault : Files → List ℕ → TableDef ShapeValue → LoadFault → Type 0
-HasFault files directory table fault =
+abbrev pub HasTableFault : Files → List ℕ → TableDef ShapeValue → LoadFault → Type 0
+HasTableFault files directory table fault =
     (records : List Record) × AreRecordsOf (files (table_path directory table.name)) records × (¬ (IsFailure fault) → checked reading table records ≡ Err fault)
 
 -- the ending where the file of the table of this name can't be opened, or memory ran out
@@ -79,7 +79,7 @@ IsOpenEnding name ending = ⊥
 
 -- the ending where a table isn't read, or has a fault
 abbrev pub IsTableEnding : Files → List ℕ → TableDef ShapeValue → Ending → Type 0
-IsTableEnding files directory table (e.Failed (f.Load shown fault)) = (shown.now ≡ table.name) × HasFault files directory table fault
+IsTableEnding files directory table (e.Failed (f.Load shown fault)) = (shown.now ≡ table.name) × HasTableFault files directory table fault
 IsTableEnding files directory table ending = IsOpenEnding table.name ending
 
 -- the file of some table can't be opened, or memory ran out

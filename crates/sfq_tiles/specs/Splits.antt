@@ -1,6 +1,6 @@
 -- What splitting does: by the words of the command line, the schema and the tables, what is written, or how it ends.
-use Rattle.std.specs.Prelude.{◌≡◌, ◌≢◌, ◌≤◌, ◌⊎◌, ◌++◌, ⊤, ℕ, Bool, true, false, List, [], ◌∷◌, Option, Some, None, Result, Ok, Err}
-use Rattle.std.specs.Prelude.{if◌then◌else◌, is_some, map, slice_get, string_bytes, MatchResult}
+use Rattle.std.specs.Prelude.{◌≡◌, ◌≤◌, ◌⊎◌, ◌++◌, ⊤, ℕ, Bool, true, false, List, [], ◌∷◌, Option, Some, None, Result, Ok, Err}
+use Rattle.std.specs.Prelude.{IfSome, if◌then◌else◌, is_some, map, slice_get, string_bytes, MatchResult}
 use denote.Ref.{Bor}
 use Rattle.std.specs.List.{list_any}
 use Rattle.std.specs.Io.KnownBytes.{Appends}
@@ -110,10 +110,10 @@ module _ {O T : Type 0} (begins_tiles begins_stretches : O → List ℕ → T �
 abbrev pub End : Type 0
 End = Result (Unit {0}) Ending
 
--- why it ends before anything is made: a word is wrong, memory ran out, or not all tables are checked
-abbrev pub IsEarly : Files → List ℕ → SpatialSchema → Ending → Type 0
-IsEarly files directory definitions (e.Mistaken said) = ⊤
-IsEarly files directory definitions ending = IsCheckEnding files directory definitions ending
+-- why it ends before anything is made: no schema has the tables of the parts, memory ran out, or not all tables are checked
+abbrev pub IsEarly : Files → List ℕ → SpatialSchema → List NamedPart → Ending → Type 0
+IsEarly files directory definitions parts (e.Mistaken said) = HasSchema parts → ⊥
+IsEarly files directory definitions parts ending = IsCheckEnding files directory definitions ending
 
 -- why it ends after all tables were checked: a file can't be written, memory ran out, or one of these tables can't be read again as
 -- it was
@@ -124,10 +124,14 @@ IsLate files directory IsOne (e.Failed f.OutOfMemory) = ⊤
 IsLate files directory IsOne (e.Failed failure) =
     (table : TableDef ShapeValue) × IsOne table × IsTableEnding files directory table (e.Failed failure)
 
+-- whether something is there already, as far as that is known
+abbrev pub IsFound : Option Bool → Bool → Type 0
+IsFound known found = IfSome known (λ is_there. found ≡ is_there)
+
 -- the status of an end
-abbrev pub status_of : End → ℕ
-status_of (Ok done) = 0
-status_of (Err ending) = ending_status ending
+abbrev pub end_status : End → ℕ
+end_status (Ok done) = 0
+end_status (Err ending) = ending_status ending
 
 -- what is written to standard error: nothing where splitting is done, else the line of the ending, or a beginning of it
 abbrev pub Reports : {E : Type 0} → (E → Option (List ℕ)) → (E → ℕ) → End → E → E → Type 0
@@ -160,9 +164,9 @@ module _ {O T S : Type 0} (there : O → Option Bool) (begins_tiles begins_stret
   -- read as their tables; or it ends before anything is made
   abbrev pub SplitsParts : Files → List ℕ → ℕ → SpatialSchema → List NamedPart → End → Type 0
   SplitsParts files directory rows definitions parts end =
-      ((ending : Ending) × EndsBefore end ending × IsEarly files directory definitions ending)
-      ⊎ (EndsBefore end e.Unwritable × (there old ≢ Some false))
-      ⊎ ((there old ≢ Some true) × AreChecked files directory definitions × HasSchema parts
+      ((ending : Ending) × EndsBefore end ending × IsEarly files directory definitions parts ending)
+      ⊎ (EndsBefore end e.Unwritable × IsFound (there old) true)
+      ⊎ (IsFound (there old) false × AreChecked files directory definitions × HasSchema parts
       × (boxes : List Envelope) × CutsGrid boxes × WritesParts files directory boxes rows (text_of parts) parts end)
 
   -- splitting the tables of a schema into the parts that words name; or a word is wrong, or memory ran out
@@ -188,5 +192,5 @@ module _ {O T S : Type 0} (there : O → Option Bool) (begins_tiles begins_stret
 pub record Returns {E : Type 0} (taken : E → Option (List ℕ)) (failures : E → ℕ) (Ends : End → Type 0) (status : ℕ) (old new : E) : Type 0 where
   pub end : End
   pub ends : Ends end
-  pub returned : status ≡ status_of end
+  pub returned : status ≡ end_status end
   pub reported : Reports taken failures end old new

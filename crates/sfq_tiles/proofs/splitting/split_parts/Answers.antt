@@ -1,9 +1,9 @@
 -- Nothing is made before all tables are checked.
 use Rattle.std.proofs.Common.{◌∙◌, inl, inr, refl, subst}
 use Rattle.sfq_tiles.specs.Endings.{ending_of, memory_ending}
-use Rattle.sfq_tiles.specs.Splits.{WritesParts}
+use Rattle.sfq_tiles.specs.Splits.{IsFound, WritesParts}
 use Rattle.sfq_tiles.specs.declared.endings.Ending.TheVariants as e
-use Rattle.sfq_tiles.proofs.SplitLemmas.{is_ending, mistaken_early, nothing_there, something_there, unchecked_early}
+use Rattle.sfq_tiles.proofs.SplitLemmas.{is_ending, mistaken_early, unchecked_early}
 use Rattle.table_model.specs.GeometryColumns.{shape_named}
 use Rattle.table_model.specs.SchemaGrammar.{IsSchema}
 use Rattle.sfq_tiles.proofs.splitting.split_parts.Goals as goal
@@ -15,12 +15,12 @@ returns-in_err-text g c =
     inl (
       ending_of mistake,
       (is_ending c.from_residual.result (ending_of mistake) c.from_residual.ensures.1, refl, refl),
-      mistaken_early files c.args.directory.now c.args.schema.now mistake,
+      mistaken_early files c.args.directory.now c.args.schema.now c.args.parts.now mistake c.in_err-text.ensures.refused,
     )
 
 pub returns-then-is_there : goal.returns-then-is_there
 returns-then-is_there g c =
-    inr (inl ((refl, refl, refl), something_there _ c.is_there.result c.is_there.ensures c.then-is_there.is))
+    inr (inl ((refl, refl, refl), subst (IsFound (g.O.Targets.there c.args.targets.now)) c.then-is_there.is c.is_there.ensures))
 
 pub returns-in_err-samplers : goal.returns-in_err-samplers
 returns-in_err-samplers g c =
@@ -29,7 +29,7 @@ returns-in_err-samplers g c =
     inl (
       ending,
       (is_ending c.from_residual-in_err-samplers.result ending c.from_residual-in_err-samplers.ensures.1, refl, refl),
-      unchecked_early files c.args.directory.now c.args.schema.now ending c.in_err-samplers.ensures.ending,
+      unchecked_early files c.args.directory.now c.args.schema.now c.args.parts.now ending c.in_err-samplers.ensures.ending,
     )
 
 pub returns-in_err-cells : goal.returns-in_err-cells
@@ -45,7 +45,7 @@ returns g c =
     let text = c.as_str.ensures.value ∙ c.in_ok-text.ensures.text in
     let made = c.in_ok-text.ensures.tables in
     inr (inr (
-      nothing_there _ c.is_there.result c.is_there.ensures c.else-is_there.is,
+      subst (IsFound (g.O.Targets.there c.args.targets.now)) c.else-is_there.is c.is_there.ensures,
       c.in_ok-samplers.ensures.checked,
       (made.0, subst (λ t. IsSchema shape_named t made.0) c.in_ok-text.ensures.text made.1, made.2),
       _,

@@ -8,7 +8,8 @@ pub returns-in_err-reader-clause-ending : goal.returns-in_err-reader-clause-endi
 returns-in_err-reader-clause-ending g c =
     let files = g.I.Sources.bytes c.args.sources.now in
     let table = c.args.named.now.table.now in
-    failed_with (IsLate files c.args.directory.now (λ t. t ≡ table)) c.from_residual.result c.in_err-reader.field-0.0 c.from_residual.ensures.1
+    failed_with (IsLate files c.args.directory.now (λ t. t ≡ table)) c.from_residual.result c.in_err-reader.field-0.0
+    c.from_residual.ensures.1
     (unopened files c.args.directory.now table c.as_str-name.result.now _ c.as_str-name.ensures refl c.in_err-reader.field-0.0
     c.in_err-reader.ensures.ending)
 
