@@ -223,12 +223,16 @@ impl Sources for HostFiles<'_> {
 pub struct HostDirectory<'r, 'w> {
     rt: &'r HostRuntime,
     out: &'w str,
+    // The path of its schema.
+    schema: String,
 }
 
 impl<'r, 'w> HostDirectory<'r, 'w> {
     /// The directory at a path.
-    pub fn new(rt: &'r HostRuntime, out: &'w str) -> HostDirectory<'r, 'w> {
-        HostDirectory { rt, out }
+    pub fn new(rt: &'r HostRuntime, out: &'w str) -> Result<HostDirectory<'r, 'w>, AllocError> {
+        let mut schema = String::from_str(rt.alloc(), out)?;
+        schema.push_str("/schema.sql")?;
+        Ok(HostDirectory { rt, out, schema })
     }
 }
 
@@ -253,9 +257,7 @@ impl<'r, 'w> Targets for HostDirectory<'r, 'w> {
         if fs::create_dir(self.rt, self.out).is_err() {
             return Err(SinkFault);
         }
-        let mut path = String::from_str(self.rt.alloc(), self.out).map_err(|_| SinkFault)?;
-        path.push_str("/schema.sql").map_err(|_| SinkFault)?;
-        let Ok(mut file) = fs::create(self.rt, path.as_str()) else {
+        let Ok(mut file) = fs::create(self.rt, self.schema.as_str()) else {
             return Err(SinkFault);
         };
         write_whole(&mut file, schema)

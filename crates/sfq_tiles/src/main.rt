@@ -50,7 +50,9 @@ fn run_words<E: Sink>(rt: &HostRuntime, words: &Words<'_>, err: &mut E) -> u8 {
     };
     let mut out = StdSink::new(buffer);
     let sources = HostFiles::new(rt);
-    let mut targets = HostDirectory::new(rt, words.out);
+    let Ok(mut targets) = HostDirectory::new(rt, words.out) else {
+        return failed(&Failure::OutOfMemory, err);
+    };
     let status = split(rt.alloc(), words, &sources, &mut targets, &mut out, err);
     flushed(&mut out, status, err)
 }
