@@ -7,16 +7,18 @@ use Rattle.std.specs.Prelude.{IsErrAnd, drop, slice_get, unwrap_or}
 use Rattle.std.specs.Str.Parse.{IsNumeral, digits_value, without_leading_plus}
 use Rattle.std.proofs.lemmas.List.{map-append, take_more}
 use Rattle.std.proofs.lemmas.Option.{slice_get_read, unwrap_or-slice_get}
+use Rattle.basics.proofs.Numbers.{earlier_or_last}
 use Rattle.failures.specs.declared.failure.Failure.TheVariants as f
 use Rattle.feature_table.specs.GeometryFields.{ShapeValue, reading}
 use Rattle.feature_table.specs.Outcomes.{IsFailure}
 use Rattle.feature_table.specs.Tables.{AreRecordsOf, records_in}
 use Rattle.geometry_model.specs.Envelopes.{Envelope}
-use Rattle.sfq_tiles.specs.Checks.{Files, HasTableFault, IsCheckEnding, IsChecked, IsOpenEnding, IsRead, ReadsSchema}
+use Rattle.sfq_tiles.specs.Checks.{Files, HasTableFault, IsCheckEnding, IsChecked, IsCheckedAt, IsOpenEnding, IsRead, ReadsSchema}
 use Rattle.sfq_tiles.specs.Checks.{schema_failure, table_path}
 use Rattle.sfq_tiles.specs.Endings.{copy_ending, ending_of}
 use Rattle.sfq_tiles.specs.SchemaTexts.{IsRefused, text_of}
-use Rattle.sfq_tiles.specs.Splits.{AreAllWritten, End, IsEarly, IsLate, IsNumberOf, IsOfPart, IsWritten, Returns}
+use Rattle.sfq_tiles.specs.Splits.{AreAllWritten, Begins, End, IsEarly, IsLate, IsNumberOf, IsOfPart, IsWritten, Returns}
+use Rattle.sfq_tiles.specs.Splits.{header_by, tables_by}
 use Rattle.sfq_tiles.specs.Words.{AreNamed, IsNamed}
 use Rattle.sfq_tiles.specs.declared.endings.Ending.{Ending}
 use Rattle.sfq_tiles.specs.declared.endings.Ending.TheVariants as e
@@ -34,7 +36,8 @@ use Rattle.table_model.specs.declared.definitions.TableDef.{TableDef}
 use Rattle.table_model.specs.declared.faults.LoadFault.{LoadFault}
 use Rattle.tiles.proofs.CheckLemmas.{fails}
 use Rattle.tiles.specs.Checks.{checked, keys_of_table, record_keys}
-use Rattle.tiles.specs.Copies.{header_of}
+use Rattle.tiles.specs.Copies.{AreRecordsOfTable, AreWritten, header_of, size_of, stretches_of}
+use Rattle.tiles.specs.RecordLines.{names_of}
 use Rattle.tiles.specs.Faults.{IsCopyFault, IsTableFault}
 use Rattle.tiles.specs.Passes.{Counts}
 use Rattle.tiles.specs.Texts.{Texts}
@@ -129,7 +132,7 @@ module _ (files : Files) (directory : List ℕ) (table : TableDef ShapeValue) (n
       → IsCopyFault (IsTableFault known table.columns) before after fault
       → IsLate files directory (λ t. t ≡ table) (copy_ending shown fault)
   copy_fails shown is before after copy.Sink h = tt
-  copy_fails shown is before after (copy.Load fault) h = (table, refl, is, of_header fault h.1)
+  copy_fails shown is before after (copy.Load fault) h = (table, refl, (is, of_header fault h.1))
 
 -- an ending of one of some tables is of one of more
 pub late_of : (P Q : TableDef ShapeValue → Type 0) (files : Files) (directory : List ℕ) (ending : Ending)
@@ -154,6 +157,16 @@ of_part parts place part within item table same =
     (place, part, slice_get_read parts (length parts) place part refl within item, same)
 
 -- ---- early endings
+
+-- one table more is checked
+pub checked_more : (files : Files) (directory : List ℕ) (definitions : SpatialSchema) (place : ℕ)
+    → ((earlier : ℕ) → earlier < place → IsCheckedAt files directory definitions earlier) → IsCheckedAt files directory definitions place
+    → (earlier : ℕ) → earlier < place + 1 → IsCheckedAt files directory definitions earlier
+checked_more files directory definitions place before is earlier within = by (earlier_or_last earlier place within)
+  where
+    by : (earlier < place) ⊎ (earlier ≡ place) → IsCheckedAt files directory definitions earlier
+    by (inl less) = before earlier less
+    by (inr same) = subst (IsCheckedAt files directory definitions) (sym same) is
 
 -- a word that isn't a number of rows
 pub no_rows : (word : List ℕ)
@@ -195,15 +208,15 @@ named_snoc definitions (v ∷ words) [] word part before is = absurd before
 named_snoc definitions (v ∷ words) (p ∷ parts) word part before is =
     (before.0, named_snoc definitions words parts word part before.1 is)
 
-pub named_more : (definitions : SpatialSchema) (words : List (Bor (List ℕ))) (i : ℕ) (word : Bor (List ℕ))
+pub named_more : (definitions : SpatialSchema) (words : List (Bor (List ℕ))) (i : ℕ) (word d : Bor (List ℕ))
     (parts now : List NamedPart) (part : NamedPart)
-    → i < length words → word ≡ get_or words i word → AreNamed definitions (map (λ w. w.now) (take i words)) parts
+    → i < length words → word ≡ get_or words i d → AreNamed definitions (map (λ w. w.now) (take i words)) parts
     → IsNamed definitions word.now part
     → now ≡ parts ++ part ∷ [] → AreNamed definitions (map (λ w. w.now) (take (i + 1) words)) now
-named_more definitions words i word parts now part within item before is pushed =
+named_more definitions words i word d parts now part within item before is pushed =
     let shown : Bor (List ℕ) → List ℕ = λ w. w.now in
     let list : take (i + 1) words ≡ take i words ++ word ∷ [] =
-    take_more words i word within ∙ ap (λ w. take i words ++ w ∷ []) (sym item) in
+    take_more words i d within ∙ ap (λ w. take i words ++ w ∷ []) (sym item) in
     let texts : map shown (take (i + 1) words) ≡ map shown (take i words) ++ word.now ∷ [] =
     ap (map shown) list ∙ map-append shown (take i words) (word ∷ []) in
     subst (λ ps. AreNamed definitions (map shown (take (i + 1) words)) ps) (sym pushed)
@@ -212,6 +225,30 @@ named_more definitions words i word parts now part within item before is pushed 
 
 module _ {O T : Type 0} (tiles stretches : O → List ℕ → T → Type 0) (takes : O → T → O → Type 0) (texts : T → Texts)
     (files : Files) (directory : List ℕ) (boxes : List Envelope) (rows : ℕ) where
+  -- the stretches of a part without a column of tiles
+  pub stretches_written : (part : NamedPart) → part.column ≡ None → (known : Option (List ℕ)) (name : List ℕ) → name ≡ part.table.now.name
+      → known ≡ files (table_path directory name) → (columns : List ℕ) → columns ≡ part.columns.items → (counts : List ℕ) (old new : O)
+      (begun filled : T) → stretches old part.name.now begun
+      → ((records : List Record) × AreRecordsOfTable known part.table.now.columns records
+      × AreWritten (texts begun) (texts filled) (names_of part.table.now.columns columns)
+      (stretches_of (size_of rows) part.table.now.columns columns records) counts)
+      → takes old filled new → IsWritten tiles stretches takes texts files directory boxes rows part counts old new
+  stretches_written part none known name same read columns are counts old new begun filled begins h taken = record {
+    records = h.0;
+    are_of =
+        subst (λ k. AreRecordsOfTable k part.table.now.columns h.0) (read ∙ ap (λ n. files (table_path directory n)) same) h.1;
+    begun = begun;
+    filled = filled;
+    begins = subst (λ c. Begins tiles stretches takes texts old part.name.now c begun) (sym none) begins;
+    gets =
+        subst (λ c. AreWritten (texts begun) (texts filled) (header_by part c) (tables_by boxes rows part h.0 c) counts) (sym none)
+        (subst
+        (λ cs. AreWritten (texts begun) (texts filled) (names_of part.table.now.columns cs)
+        (stretches_of (size_of rows) part.table.now.columns cs h.0) counts)
+        are h.2);
+    taken = taken;
+  }
+
   -- after some parts one more is written
   written_snoc : (parts : List NamedPart) (written : List Written) (old mid new : O) (part : NamedPart) (w : Written)
       → AreAllWritten tiles stretches takes texts files directory boxes rows parts written old mid → w.name.now ≡ part.name.now

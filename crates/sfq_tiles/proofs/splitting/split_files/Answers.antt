@@ -13,8 +13,8 @@ returns-in-Ok g c =
       reported = h.reported;
     }
 
-pub returns : goal.returns
-returns g c = record {
+pub returns-in-Err : goal.returns-in-Err
+returns-in-Err g c = record {
   end = Err (e.Failed c.in-Err.failure);
   ends = record { schema = Err c.in-Err.failure; read = c.in-Err.ensures; rest = (refl, refl, refl) };
   returned = c.ended.ensures.status;

@@ -20,7 +20,7 @@ returns-in_err-text g c =
 
 pub returns-then-is_there : goal.returns-then-is_there
 returns-then-is_there g c =
-    inr (inl ((refl, refl, refl), subst (IsFound (g.O.Targets.there c.args.targets.now)) c.then-is_there.is c.is_there.ensures))
+    inr (inl ((refl, refl, refl), subst (IsFound (g.O.Targets.there c.args.targets.now)) c.if-is_there.true c.is_there.ensures))
 
 pub returns-in_err-samplers : goal.returns-in_err-samplers
 returns-in_err-samplers g c =
@@ -45,7 +45,7 @@ returns g c =
     let text = c.as_str.ensures.value ∙ c.in_ok-text.ensures.text in
     let made = c.in_ok-text.ensures.tables in
     inr (inr (
-      subst (IsFound (g.O.Targets.there c.args.targets.now)) c.else-is_there.is c.is_there.ensures,
+      subst (IsFound (g.O.Targets.there c.args.targets.now)) c.if-is_there.false c.is_there.ensures,
       c.in_ok-samplers.ensures.checked,
       (made.0, subst (λ t. IsSchema shape_named t made.0) c.in_ok-text.ensures.text made.1, made.2),
       _,

@@ -8,7 +8,7 @@ use Rattle.sfq_tiles.proofs.splitting.split_tables.Goals as goal
 pub returns-in_err-parts : goal.returns-in_err-parts
 returns-in_err-parts g c =
     let mistake = c.in_err-parts.field-0.0 in
-    inl (mistake, is_ending c.from_residual.result (ending_of mistake) c.from_residual.ensures.1, refl, refl)
+    inl (mistake, (is_ending c.from_residual.result (ending_of mistake) c.from_residual.ensures.1, refl, refl))
 
 pub returns : goal.returns
 returns g c =

@@ -47,8 +47,8 @@ returns-in-Ok g c =
       },
     )
 
-pub returns-in-Err : goal.returns-in-Err
-returns-in-Err g c =
+pub returns : goal.returns
+returns g c =
     let old = g.S.Sink.taken c.args.out.now in
     let new = g.S.Sink.taken c.list_parts.new.out in
     inr (inl (
