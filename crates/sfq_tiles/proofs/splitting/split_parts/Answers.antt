@@ -48,11 +48,12 @@ returns g c =
       subst (IsFound (g.O.Targets.there c.args.targets.now)) c.if-is_there.false c.is_there.ensures,
       c.in_ok-samplers.ensures.checked,
       (made.0, subst (λ t. IsSchema shape_named t made.0) c.in_ok-text.ensures.text made.1, made.2),
-      _,
+      c.in_ok-cells.cells,
       c.in_ok-cells.ensures,
       subst
           (λ t. WritesParts g.O.Targets.there g.O.Targets.begins_tiles g.O.Targets.begins_stretches g.O.Targets.takes
-          g.O.Texts.CellTexts.texts g.O.Targets.makes g.S.Sink.taken g.S.Sink.failures _ _ _ _
-          (g.I.Sources.bytes c.args.sources.now) c.args.directory.now _ c.args.rows t c.args.parts.now c.write_all.result)
+          g.O.Texts.CellTexts.texts g.O.Targets.makes g.S.Sink.taken g.S.Sink.failures
+          c.args.targets.now c.write_all.new.targets c.args.out.now c.write_all.new.out
+          (g.I.Sources.bytes c.args.sources.now) c.args.directory.now c.in_ok-cells.cells c.args.rows t c.args.parts.now c.write_all.result)
           text c.write_all.ensures,
     ))
