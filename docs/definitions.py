@@ -13,10 +13,13 @@ One name has one meaning: a name that two files define is on no page twice.
 import pathlib
 import re
 import sys
+import textwrap
 
 HERE = pathlib.Path(__file__).resolve().parent
 CRATES = HERE.parent / "crates"
 DEFINITION = re.compile(r"^(?:abbrev |unfoldable )?pub (?:data |record |abbrev )?([^\s:({]+)")
+# One in a module, whose names it shares.
+WITHIN = re.compile(r"^  (?:(?:abbrev |unfoldable )pub |pub record )([^\s:({]+)")
 STANDARD = re.compile(r"\s*\(((?:06-10[34]r4|SQL|clause|this project's choice)[^()]*(?:\([^()]*\)[^()]*)*)\)$")
 CHOICE = "this project's choice"
 
@@ -193,6 +196,12 @@ TILES = [
      "The schema that is written is read again as exactly the tables of the parts.",
      [("sfq_tiles", "MadeTables", "IsMade"),
       ("sfq_tiles", "Lists", "")]),
+    ("What splitting does",
+     "`split` reads the words, the schema and all tables, and then writes the parts of one cut; or it ends early.",
+     [("sfq_tiles", "Words", "before after is_called IsOfGeometries is_listed"),
+      ("sfq_tiles", "Checks", "IsUnread Files IsCheckedAt IsOpenEnding"),
+      ("sfq_tiles", "Splits", "header_by tables_by Begins End IsOfPart EndsBefore SplitsFiles"),
+      ("sfq_tiles", "Endings", "memory_ending copy_ending")]),
 ]
 SHOWN = ["IsPoint", "side", "on", "IsInterior", "IsBoundary", "IsExterior", "HasTriangle", "HasDimension", "common",
          "IsMatrix", "GivesMatrix", "crosses", "holds", "IsValid", "Spells", "IsQuery", "and_of", "related", "truth_by_parts",
@@ -200,7 +209,7 @@ SHOWN = ["IsPoint", "side", "on", "IsInterior", "IsBoundary", "IsExterior", "Has
          "HoldsStretch", "IsFacePoint", "IsOff", "IsShownBy", "ShowsAll", "IsMeeting", "IsClashOf", "IsMeetingOf",
          "IsPlaceOf", "IsVerdictOn", "HasMatrix", "HasRelation", "covers", "covered_by", "contains_properly",
          "text_fault_in_numbers", "validity_fault_in_numbers", "fault_in_numbers", "IsMade", "IsTaken", "fits", "LiesAt", "bounds_of", "IsSpelled",
-         "CutsGrid", "IsMedian", "IsCutAtMedians", "TiledAnswersAreMeant", "AreMade", "ok", "first_refused", "second_refused", "out_of_memory", "unknown", "too_small", "none_there"]
+          "CutsGrid", "IsMedian", "IsCutAtMedians", "TiledAnswersAreMeant", "AreMade", "IsWritten", "SplitsParts", "Returns", "ok", "first_refused", "second_refused", "out_of_memory", "unknown", "too_small", "none_there"]
 # Names that the crates of definitions have twice, on one page, each with its file beside it.
 TWICE = ["takes", "ReturnsFirst"]
 HEAD = """# Definitions
@@ -260,10 +269,10 @@ def entries(path):
     for number, line in enumerate(lines):
         if line.startswith("-- ----"):
             comment = []
-        elif line.startswith("-- "):
-            comment.append(line[3:])
+        elif re.match("(?:  )?-- ", line):
+            comment.append(line.lstrip()[3:])
         else:
-            match = DEFINITION.match(line)
+            match = DEFINITION.match(line) or WITHIN.match(line)
             if match and comment:
                 words = re.sub(r"\s*\(profile[^()]*\)$", "", " ".join(comment))
                 clause = STANDARD.search(words)
@@ -271,7 +280,7 @@ def entries(path):
                 end = number
                 while end < len(lines) and lines[end].strip():
                     end += 1
-                text = "\n".join(lines[number:end])
+                text = textwrap.dedent("\n".join(lines[number:end]))
                 found.append((match.group(1), words, clause.group(1) if clause else "", text))
             if line.strip() and not line.startswith("infix"):
                 comment = []

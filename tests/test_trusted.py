@@ -20,13 +20,14 @@ REACHED = {
     "library": "library_calls/specs/Refusals library_calls/specs/Arrays library_calls/specs/Relations geometry_model/specs/Crossings"
     " geometry_model/specs/Dimensions witnesses/specs/Shown matrix_laws/specs/Witnessing wkt/specs/KeptGeometries",
     "tiles": "table_laws/specs/Cells table_laws/specs/Tiles table_laws/specs/TileLaws table_laws/specs/StretchLaws tiles/specs/Copies"
-    " sfq_tiles/specs/MadeTables table_model/specs/Loading table_model/specs/Meanings",
+    " sfq_tiles/specs/Splits sfq_tiles/specs/Checks sfq_tiles/specs/Words sfq_tiles/specs/MadeTables table_model/specs/Loading"
+    " table_model/specs/Meanings table_model/specs/SchemaReading",
 }
 # The sources whose clauses begin a chain, and types that are in their models.
 SOURCES = {
     "headline": "query_runs/src/runs geometry_model/src/shapes table_model/src/values failures/src/run_fault",
     "library": "sfq_c/src/text_calls sfq_c/src/kept_calls validity/src/valid_geometry library_calls/src/faults",
-    "tiles": "tiles/src/copying tiles/src/stretching sfq_tiles/src/definitions",
+    "tiles": "sfq_tiles/src/splitting sfq_tiles/src/ports sfq_tiles/src/parts sfq_tiles/src/words tiles/src/texts failures/src/failure",
 }
 NAMES = dict(zip(("headline", "library", "tiles"), trusted.CHAINS))
 

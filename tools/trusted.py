@@ -4,7 +4,6 @@ import re
 import shutil
 
 import closure
-import proved_page
 import repository
 
 CHAIN = re.compile(r"^#+ .*\bchain\b.*$", re.I | re.M)
@@ -15,6 +14,8 @@ MODELS = ("geometry_model", "table_model")
 # The crates of the programs that users run, and that of the library's calls.
 PROGRAMS = ("sfq", "sfq_tiles")
 LIBRARY = "sfq_c"
+# The one call by which the program of tiles does what its words ask for: its crate, its type, its name.
+TILES = ("sfq_tiles", "", "split")
 
 
 def copy_sources(root: str, room: str) -> None:
@@ -29,10 +30,6 @@ def page(name: str, root: str) -> str:
     """Returns the text of a document, or nothing where there is none."""
     path = f"{root}/docs/{name}.md"
     return closure.read(path) if os.path.isfile(path) else ""
-
-
-def below(crate: str, crates: dict[str, list[str]]) -> list[str]:
-    return [it for it in [crate, *crates.get(crate, [])] if it in crates]
 
 
 def add_laws(made: closure.Closure, text: str) -> None:
@@ -68,21 +65,19 @@ def of_library(root: str) -> closure.Closure:
 
 
 def of_tiles(root: str) -> closure.Closure:
-    """Returns what the calls and laws that docs/SCALE.md lists reach, of sfq-tiles and of what it is made of."""
-    made, text = closure.Closure(root), page("SCALE", root)
-    crates = below("sfq_tiles", made.crates)
-    named = {name for names, _ in proved_page.rows_of(text) for name in names}
+    """Returns what the contract of the call that sfq-tiles makes reaches, and the laws that docs/SCALE.md names, of what it writes."""
+    made = closure.Closure(root)
     for it in made.functions():
-        if it.crate in crates and it.is_marked and (f"{it.owner}::{it.name}" if it.owner else it.name) in named:
+        if (it.crate, it.owner, it.name) == TILES and it.is_marked:
             made.add_item(it)
-    add_laws(made, text)
+    add_laws(made, page("SCALE", root))
     return made
 
 
 CHAINS = {
     "the headline, by the chain of docs/PROVED.md": of_headline,
     "the C library, by the calls of sfq_c": of_library,
-    "sfq-tiles, by the calls and laws of docs/SCALE.md": of_tiles,
+    "sfq-tiles, by the call split and the laws of docs/SCALE.md": of_tiles,
 }
 
 

@@ -1,4 +1,6 @@
 mod FileLemmas
 mod ListLemmas
 mod PlaceLemmas
+mod SplitLemmas
 mod TextLemmas
+mod WordLemmas

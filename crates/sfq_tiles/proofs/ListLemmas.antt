@@ -3,20 +3,18 @@ use Rattle.std.proofs.Common.{◌≡◌, ◌<◌, ◌-◌, ℕ, ℤ, zero, suc, 
 use Rattle.std.specs.Fmt.{signed_decimal}
 use Rattle.std.specs.List.{concat, flat_map, range_with_len}
 use Rattle.std.specs.Io.KnownBytes.{Appends}
-use Rattle.std.proofs.lemmas.List.{map-id}
 use Rattle.std.proofs.lemmas.List.Concat.{flat_map-append}
-use Rattle.std.proofs.lemmas.List.FromFn.{map-range_with_len_more}
 use Rattle.streams.specs.Sinks.{AppendsFront}
 use Rattle.streams.proofs.SinkLemmas.{Appends-then, AppendsFront-more, AppendsFront-then}
 use Rattle.geometry_model.specs.Envelopes.{Envelope}
 use Rattle.table_laws.specs.Cells.{Cell}
+use Rattle.sfq_tiles.proofs.WordLemmas.{one_more_number}
 use Rattle.sfq_tiles.specs.Lists.{sides_text, span_text, stretch_line}
 
 -- the text of one number more
 pub one_more : (f : ℕ → List ℕ) (n : ℕ) → flat_map f (range_with_len 0 (n + 1)) ≡ flat_map f (range_with_len 0 n) ++ f n
 one_more f n =
-    ap (flat_map f) (sym (map-id (range_with_len 0 (n + 1))) ∙ map-range_with_len_more (λ x. x) 0 n n (omega arith) ∙ ap (λ t. t ++ n ∷ []) (map-id (range_with_len 0 n)))
-    ∙ flat_map-append f (range_with_len 0 n) (n ∷ [])
+    ap (flat_map f) (one_more_number n) ∙ flat_map-append f (range_with_len 0 n) (n ∷ [])
     ∙ ap (λ t. flat_map f (range_with_len 0 n) ++ t) (append-nil (f n))
 
 -- the texts up to a number, that one among them

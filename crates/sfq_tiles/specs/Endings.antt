@@ -1,11 +1,14 @@
 -- Why the program ends early: what it prints then, and its status.
 use Rattle.std.specs.Prelude.{◌++◌, ℕ, List, codes}
+use denote.Ref.{Bor}
 use Rattle.failures.specs.Failures.{failure_line, failure_status}
 use Rattle.failures.specs.declared.failure.Failure.TheVariants as failed
 use Rattle.sfq_tiles.specs.declared.endings.Ending.{Ending}
 use Rattle.sfq_tiles.specs.declared.endings.Ending.TheVariants as e
 use Rattle.sfq_tiles.specs.declared.parts.Mistake.{Mistake}
 use Rattle.sfq_tiles.specs.declared.parts.Mistake.TheVariants as m
+use Rattle.tiles.specs.declared.faults.CopyFault.{CopyFault}
+use Rattle.tiles.specs.declared.faults.CopyFault.TheVariants as copy
 
 -- the ending where memory ran out
 abbrev pub memory_ending : Ending
@@ -31,3 +34,8 @@ abbrev pub ending_status : Ending → ℕ
 ending_status (e.Failed failure) = failure_status failure
 ending_status (e.Mistaken text) = 2
 ending_status e.Unwritable = 6
+
+-- the ending of a fault of a second pass over the table of a name
+abbrev pub copy_ending : Bor (List ℕ) → CopyFault → Ending
+copy_ending name (copy.Load fault) = e.Failed (failed.Load name fault)
+copy_ending name copy.Sink = e.Unwritable

@@ -1,4 +1,7 @@
+pub mod Checks
 pub mod Endings
 pub mod Lists
 pub mod MadeTables
 pub mod SchemaTexts
+pub mod Splits
+pub mod Words

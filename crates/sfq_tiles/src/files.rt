@@ -4,11 +4,12 @@ ghost use Rattle.std.specs.Prelude.{◌≡◌, None, OnErr, OnOk};
 ghost use Rattle.std.specs.Io.KnownBytes.{Appends};
 ghost use Rattle.streams.specs.Sinks.{AppendsFront};
 
+use crate::ports::{Sources, Targets};
 use itoa::Buffer;
 use std::alloc::{AllocError, Global};
-use std::fs::{self, OpenOptions};
+use std::fs::{self, File, OpenOptions};
 use std::io::Write;
-use streams::{SinkFault, write_again};
+use streams::{BoundedReader, PatientReader, SinkFault, write_again};
 use tiles::CellTexts;
 
 /// How many bytes of a file are kept before they are written.
@@ -20,8 +21,8 @@ pub struct CellFiles<'r, 'w> {
     rt: &'r HostRuntime,
     out: &'w str,
     // What the folders' names begin with, before the number.
-    folder: &'w str,
-    name: &'w str,
+    folder: String,
+    name: String,
     // The number of the first folder.
     first: usize,
     buffers: Vec<Vec<u8>>,
@@ -33,31 +34,39 @@ pub struct CellFiles<'r, 'w> {
 
 impl<'r, 'w> CellFiles<'r, 'w> {
     /// The files of the tiles of a part.
-    pub fn of_tiles(rt: &'r HostRuntime, out: &'w str, name: &'w str) -> CellFiles<'r, 'w> {
-        CellFiles {
+    fn of_tiles(
+        rt: &'r HostRuntime,
+        out: &'w str,
+        name: &str,
+    ) -> Result<CellFiles<'r, 'w>, AllocError> {
+        Ok(CellFiles {
             rt,
             out,
-            folder: "tile",
-            name,
+            folder: String::from_str(rt.alloc(), "tile")?,
+            name: String::from_str(rt.alloc(), name)?,
             first: 0,
             buffers: Vec::new(rt.alloc()),
             is_sequence: false,
             failures: 0,
-        }
+        })
     }
 
     /// The files of the stretches of a part.
-    pub fn of_stretches(rt: &'r HostRuntime, out: &'w str, name: &'w str) -> CellFiles<'r, 'w> {
-        CellFiles {
+    fn of_stretches(
+        rt: &'r HostRuntime,
+        out: &'w str,
+        name: &str,
+    ) -> Result<CellFiles<'r, 'w>, AllocError> {
+        Ok(CellFiles {
             rt,
             out,
-            folder: name,
-            name,
+            folder: String::from_str(rt.alloc(), name)?,
+            name: String::from_str(rt.alloc(), name)?,
             first: 1,
             buffers: Vec::new(rt.alloc()),
             is_sequence: true,
             failures: 0,
-        }
+        })
     }
 
     /// The path of a folder.
@@ -66,7 +75,7 @@ impl<'r, 'w> CellFiles<'r, 'w> {
         let number = digits.format(cell.saturating_add(self.first));
         let mut path = String::from_str(self.rt.alloc(), self.out)?;
         path.push_str("/")?;
-        path.push_str(self.folder)?;
+        path.push_str(self.folder.as_str())?;
         path.push_str("-")?;
         path.push_str(number)?;
         Ok(path)
@@ -76,7 +85,7 @@ impl<'r, 'w> CellFiles<'r, 'w> {
     fn append(&self, cell: usize, bytes: &[u8]) -> Result<(), SinkFault> {
         let mut path = self.folder_path(cell).map_err(|_| SinkFault)?;
         path.push_str("/").map_err(|_| SinkFault)?;
-        path.push_str(self.name).map_err(|_| SinkFault)?;
+        path.push_str(self.name.as_str()).map_err(|_| SinkFault)?;
         path.push_str(".csv").map_err(|_| SinkFault)?;
         let mut options = OpenOptions::new();
         options.append(true).create(true);
@@ -150,7 +159,7 @@ impl<'r, 'w> CellFiles<'r, 'w> {
     }
 
     /// Writes all that is kept.
-    pub fn finish(&mut self) -> Result<(), SinkFault> {
+    fn finish(&mut self) -> Result<(), SinkFault> {
         for cell in 0..self.buffers.len() {
             self.write_out(cell)?;
         }
@@ -177,6 +186,94 @@ impl CellTexts for CellFiles<'_, '_> {
             return Err(SinkFault);
         }
         Ok(())
+    }
+}
+
+/// A reader of a file.
+pub type FileReader = BoundedReader<PatientReader<File>>;
+
+/// The files of the machine.
+#[derive(Drop)]
+pub struct HostFiles<'r> {
+    rt: &'r HostRuntime,
+}
+
+impl<'r> HostFiles<'r> {
+    /// The files of the machine.
+    pub fn new(rt: &'r HostRuntime) -> HostFiles<'r> {
+        HostFiles { rt }
+    }
+}
+
+impl Sources for HostFiles<'_> {
+    type Reader = FileReader;
+
+    ghost bytes = { λ _ _. None };
+
+    fn open(&self, path: &str) -> Option<FileReader> {
+        match fs::open(self.rt, path) {
+            Ok(file) => Some(BoundedReader::new(PatientReader::new(file))),
+            Err(_) => None,
+        }
+    }
+}
+
+/// A directory of the machine, which is made.
+#[derive(Drop)]
+pub struct HostDirectory<'r, 'w> {
+    rt: &'r HostRuntime,
+    out: &'w str,
+    // The path of its schema.
+    schema: String,
+}
+
+impl<'r, 'w> HostDirectory<'r, 'w> {
+    /// The directory at a path.
+    pub fn new(rt: &'r HostRuntime, out: &'w str) -> Result<HostDirectory<'r, 'w>, AllocError> {
+        let mut schema = String::from_str(rt.alloc(), out)?;
+        schema.push_str("/schema.sql")?;
+        Ok(HostDirectory { rt, out, schema })
+    }
+}
+
+impl<'r, 'w> Targets for HostDirectory<'r, 'w> {
+    type Texts = CellFiles<'r, 'w>;
+
+    ghost there = { λ _. None };
+
+    ghost makes = { λ _ _ _. Unit {0} };
+
+    ghost begins_tiles = { λ _ _ _. Unit {0} };
+
+    ghost begins_stretches = { λ _ _ _. Unit {0} };
+
+    ghost takes = { λ _ _ _. Unit {0} };
+
+    fn is_there(&self) -> bool {
+        fs::symlink_metadata(self.rt, self.out).is_ok()
+    }
+
+    fn make(&mut self, schema: &[u8]) -> Result<(), SinkFault> {
+        if fs::create_dir(self.rt, self.out).is_err() {
+            return Err(SinkFault);
+        }
+        let Ok(mut file) = fs::create(self.rt, self.schema.as_str()) else {
+            return Err(SinkFault);
+        };
+        write_whole(&mut file, schema)
+    }
+
+    fn tiles(&self, part: &str) -> Result<CellFiles<'r, 'w>, AllocError> {
+        CellFiles::of_tiles(self.rt, self.out, part)
+    }
+
+    fn stretches(&self, part: &str) -> Result<CellFiles<'r, 'w>, AllocError> {
+        CellFiles::of_stretches(self.rt, self.out, part)
+    }
+
+    fn finish(&mut self, texts: CellFiles<'r, 'w>) -> Result<(), SinkFault> {
+        let mut texts = texts;
+        texts.finish()
     }
 }
 

@@ -1,17 +1,20 @@
 //! What the program reads: the schema, and the tables, each of which is checked.
 
-ghost use Rattle.std.specs.Prelude.{◌∷◌, ◌<◌, [], IsTrue, length};
+ghost use Rattle.std.specs.Prelude.{◌≡◌, ◌∷◌, ◌<◌, [], IfErr, IfOk, IsTrue, OnOk, Some, length, slice_get, string_bytes};
+ghost use Rattle.sfq_tiles.specs.Checks.{AreChecked, IsCheckEnding, IsChecked, IsCheckedAt, IsOpenEnding, IsRead, IsTableEnding, IsUnopened, IsUnread, ReadsSchema};
+ghost use Rattle.sfq_tiles.specs.Checks as spec;
+ghost use Rattle.feature_table.specs.GeometryFields.{ShapeValue};
 ghost use Rattle.table_model.specs.Definitions.{lawful};
+ghost use Rattle.table_model.specs.declared.definitions.TableDef.{TableDef};
 
 use crate::endings::Ending;
 use crate::parts::NamedPart;
+use crate::ports::Sources;
 use failures::Failure;
 use feature_table::{Geometry, Schema, TableDef};
 use sql_text::read_schema;
 use std::alloc::{AllocError, Global};
-use std::fs::{self, File};
 use std::io::{ErrorKind, Read};
-use streams::{BoundedReader, PatientReader};
 use table_model::faults::SchemaFault;
 use table_model::tokens::TEXT_LIMIT;
 use table_model::values::Value;
@@ -20,53 +23,71 @@ use tiles::{PlainRecords, RowWatcher, Sampler, check_records, find_fault};
 /// How many bytes of a schema's file are read: one more than a schema may have.
 const SCHEMA_BYTES: u64 = TEXT_LIMIT as u64 + 1;
 
-/// A reader of a table's file.
-pub type TableReader = BoundedReader<PatientReader<File>>;
-
-/// The schema in a file.
-pub fn schema_at(rt: &HostRuntime, path: &str) -> Result<Schema, Failure<'static>> {
-    let Ok(file) = fs::open(rt, path) else {
-        return Err(Failure::SchemaUnreadable);
-    };
-    let mut text = Vec::new(rt.alloc());
-    match PatientReader::new(file)
-        .take(SCHEMA_BYTES)
-        .read_to_end(&mut text)
-    {
-        Ok(_) => {}
-        Err(error) if error.kind() == ErrorKind::OutOfMemory => return Err(Failure::OutOfMemory),
-        Err(_) => return Err(Failure::SchemaUnreadable),
-    }
-    match read_schema(rt.alloc(), text.as_slice()) {
-        Ok(schema) => Ok(schema),
-        Err(SchemaFault::OutOfMemory) => Err(Failure::OutOfMemory),
-        Err(fault) => Err(Failure::Schema(fault)),
+/// The bytes of a schema's file, up to one more than a schema may have: the reader of schemas refuses a longer one.
+fn schema_text<R: Read + Drop>(alloc: Global, file: R) -> Result<Vec<u8>, Failure<'static>>
+    ensures text { IfOk result (λ text. IsRead (R.remaining file) text.items) }
+    ensures failure { IfErr result IsUnread }
+{
+    let mut text = Vec::new(alloc);
+    match file.take(SCHEMA_BYTES).read_to_end(&mut text) {
+        Ok(_) => Ok(text),
+        Err(error) if error.kind() == ErrorKind::OutOfMemory => Err(Failure::OutOfMemory),
+        Err(_) => Err(Failure::SchemaUnreadable),
     }
 }
 
-/// Opens the file of a table. None if it can't be opened.
-fn open_table(
-    rt: &HostRuntime,
-    directory: &str,
-    name: &str,
-) -> Result<Option<TableReader>, AllocError> {
-    let mut path = String::from_str(rt.alloc(), directory)?;
+/// The schema in a file.
+pub fn schema_at<I: Sources>(
+    alloc: Global,
+    sources: &I,
+    path: &str,
+) -> Result<Schema, Failure<'static>>
+    ensures { ReadsSchema (I.bytes sources.now path.now) result }
+{
+    let Some(file) = sources.open(path) else {
+        return Err(Failure::SchemaUnreadable);
+    };
+    let text = schema_text(alloc, file)?;
+    match read_schema(alloc, text.as_slice()) {
+        Ok(schema) => Ok(schema),
+        Err(fault) => Err(schema_failure(fault)),
+    }
+}
+
+/// The failure of a schema's fault.
+fn schema_failure(fault: SchemaFault) -> Failure<'static>
+    ensures { result ≡ spec.schema_failure fault }
+{
+    match fault {
+        SchemaFault::OutOfMemory => Failure::OutOfMemory,
+        _ => Failure::Schema(fault),
+    }
+}
+
+/// The path of a table's file.
+fn table_path(alloc: Global, directory: &str, name: &str) -> Result<String, AllocError>
+    ensures { IfOk result (λ path. string_bytes path ≡ spec.table_path directory.now name.now) }
+{
+    let mut path = String::from_str(alloc, directory)?;
     path.push_str("/")?;
     path.push_str(name)?;
     path.push_str(".csv")?;
-    match fs::open(rt, path.as_str()) {
-        Ok(file) => Ok(Some(BoundedReader::new(PatientReader::new(file)))),
-        Err(_) => Ok(None),
-    }
+    Ok(path)
 }
 
 /// Opens the file of a table, which has to be readable.
-pub fn opened<'s>(
-    rt: &HostRuntime,
+pub fn opened<'s, I: Sources>(
+    alloc: Global,
+    sources: &I,
     directory: &str,
     name: &'s str,
-) -> Result<TableReader, Ending<'s>> {
-    match open_table(rt, directory, name)? {
+) -> Result<I::Reader, Ending<'s>>
+    ensures bytes { IfOk result (λ reader. I.Reader.remaining reader
+        ≡ I.bytes sources.now (spec.table_path directory.now name.now)) }
+    ensures ending { IfErr result (IsOpenEnding name.now) }
+{
+    let path = table_path(alloc, directory, name)?;
+    match sources.open(path.as_str()) {
         Some(reader) => Ok(reader),
         None => Err(Ending::Failed(Failure::Unreadable(name))),
     }
@@ -97,43 +118,63 @@ impl RowWatcher for TableSamplers<'_> {
     }
 }
 
-/// Checks a table. Where two of its keys may be equal, its file is read again to look which.
-fn check_table<'s>(
-    rt: &HostRuntime,
+/// Looks for the fault of a table, two of whose keys may be equal.
+fn look_again<'s, I: Sources>(
+    alloc: Global,
+    sources: &I,
     directory: &str,
     table: &'s TableDef,
-    reader: TableReader,
-    watcher: &mut TableSamplers<'_>,
 ) -> Result<(), Ending<'s>>
     requires { IsTrue (lawful (table.now ∷ [])) }
+    ensures checked { OnOk result (IsChecked (I.bytes sources.now) directory.now table.now) }
+    ensures ending { IfErr result (IsTableEnding (I.bytes sources.now) directory.now table.now) }
 {
     let name = table.name.as_str();
-    let mut records = PlainRecords::new(rt.alloc(), reader);
-    let found = match check_records(rt.alloc(), table, &mut records, watcher) {
-        Ok(Some(rows)) => Ok(rows),
-        Ok(None) => {
-            let mut again = PlainRecords::new(rt.alloc(), opened(rt, directory, name)?);
-            find_fault(rt.alloc(), table, &mut again)
-        }
-        Err(fault) => Err(fault),
-    };
-    match found {
+    let reader = opened(alloc, sources, directory, name)?;
+    let mut records = PlainRecords::new(alloc, reader);
+    match find_fault(alloc, table, &mut records) {
         Ok(_) => Ok(()),
         Err(fault) => Err(Ending::Failed(Failure::Load(name, fault))),
     }
 }
 
-/// Opens the files of all tables.
-fn open_tables<'s>(
-    rt: &HostRuntime,
+/// Checks a table. Where two of its keys may be equal, its file is read again to look which.
+fn check_table<'s, I: Sources>(
+    alloc: Global,
+    sources: &I,
+    directory: &str,
+    table: &'s TableDef,
+    watcher: &mut TableSamplers<'_>,
+) -> Result<(), Ending<'s>>
+    requires { IsTrue (lawful (table.now ∷ [])) }
+    ensures checked { OnOk result (IsChecked (I.bytes sources.now) directory.now table.now) }
+    ensures ending { IfErr result (IsTableEnding (I.bytes sources.now) directory.now table.now) }
+{
+    let name = table.name.as_str();
+    let reader = opened(alloc, sources, directory, name)?;
+    let mut records = PlainRecords::new(alloc, reader);
+    match check_records(alloc, table, &mut records, watcher) {
+        Ok(rows) => match rows {
+            Some(_) => Ok(()),
+            None => look_again(alloc, sources, directory, table),
+        },
+        Err(fault) => Err(Ending::Failed(Failure::Load(name, fault))),
+    }
+}
+
+/// Opens the file of each table once.
+fn open_tables<'s, I: Sources>(
+    alloc: Global,
+    sources: &I,
     directory: &str,
     schema: &'s Schema,
-) -> Result<Vec<TableReader>, Ending<'s>> {
-    let mut readers = Vec::new(rt.alloc());
+) -> Result<(), Ending<'s>>
+    ensures { IfErr result (IsUnopened schema.entry.now) }
+{
     for table in schema.tables() {
-        readers.push(opened(rt, directory, table.name.as_str())?)?;
+        opened(alloc, sources, directory, table.name.as_str())?;
     }
-    Ok(readers)
+    Ok(())
 }
 
 /// A sampler for each part of tiles, which has seen nothing.
@@ -154,41 +195,66 @@ fn part_samplers(
 }
 
 /// Checks the table at a place of the schema, whose rows the samplers of its parts see.
-fn check_place<'s>(
-    rt: &HostRuntime,
+fn check_place<'s, I: Sources>(
+    alloc: Global,
+    sources: &I,
     directory: &str,
     schema: &'s Schema,
     place: usize,
-    reader: TableReader,
     samplers: &mut Vec<PartSampler>,
 ) -> Result<(), Ending<'s>>
     requires { place < length schema.now }
+    ensures checked { OnOk result (IsCheckedAt (I.bytes sources.now) directory.now schema.entry.now place) }
+    ensures ending { IfErr result (λ ending. (table : TableDef ShapeValue)
+        × (slice_get schema.entry.now place ≡ Some table)
+        × IsTableEnding (I.bytes sources.now) directory.now table ending) }
 {
     let mut watcher = TableSamplers {
         table: place,
         samplers,
     };
-    check_table(rt, directory, schema.table(place), reader, &mut watcher)
+    check_table(alloc, sources, directory, schema.table(place), &mut watcher)
 }
 
-/// Checks every table of the schema, in its order, once the files of all are open; returns a sampler for each part of tiles.
-pub fn check_tables<'s>(
-    rt: &HostRuntime,
+/// Checks every table of the schema, in its order, once the files of all can be opened.
+fn check_places<'s, I: Sources>(
+    alloc: Global,
+    sources: &I,
     directory: &str,
     schema: &'s Schema,
-    parts: &[NamedPart<'_, '_>],
-) -> Result<Vec<Sampler>, Ending<'s>> {
-    let mut samplers = part_samplers(rt.alloc(), parts)?;
-    let mut readers = open_tables(rt, directory, schema)?.into_iter();
+    samplers: &mut Vec<PartSampler>,
+) -> Result<(), Ending<'s>>
+    ensures checked { OnOk result (AreChecked (I.bytes sources.now) directory.now schema.entry.now) }
+    ensures ending { IfErr result (IsCheckEnding (I.bytes sources.now) directory.now schema.entry.now) }
+{
+    open_tables(alloc, sources, directory, schema)?;
     for place in 0..schema.tables().len() {
-        let Some(reader) = readers.next() else {
-            return Err(Ending::Failed(Failure::OutOfMemory));
-        };
-        check_place(rt, directory, schema, place, reader, &mut samplers)?;
+        check_place(alloc, sources, directory, schema, place, samplers)?;
     }
-    let mut filled = Vec::new(rt.alloc());
+    Ok(())
+}
+
+/// The samplers of parts alone.
+fn filled(alloc: Global, samplers: Vec<PartSampler>) -> Result<Vec<Sampler>, AllocError> {
+    let mut filled = Vec::new(alloc);
     for it in samplers {
         filled.push(it.sampler)?;
     }
     Ok(filled)
+}
+
+/// Checks every table of the schema; returns a sampler for each part of tiles, which has seen the rows of its table.
+pub fn check_tables<'s, I: Sources>(
+    alloc: Global,
+    sources: &I,
+    directory: &str,
+    schema: &'s Schema,
+    parts: &[NamedPart<'_, '_>],
+) -> Result<Vec<Sampler>, Ending<'s>>
+    ensures checked { OnOk result (AreChecked (I.bytes sources.now) directory.now schema.entry.now) }
+    ensures ending { IfErr result (IsCheckEnding (I.bytes sources.now) directory.now schema.entry.now) }
+{
+    let mut samplers = part_samplers(alloc, parts)?;
+    check_places(alloc, sources, directory, schema, &mut samplers)?;
+    Ok(filled(alloc, samplers)?)
 }

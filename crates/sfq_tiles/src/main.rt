@@ -8,9 +8,11 @@ mod inputs;
 mod listing;
 mod made_tables;
 mod parts;
+mod ports;
 mod splitting;
 mod words;
 
+use crate::files::{HostDirectory, HostFiles};
 use crate::splitting::split;
 use crate::words::{Words, words_of};
 use clap::Error;
@@ -47,7 +49,11 @@ fn run_words<E: Sink>(rt: &HostRuntime, words: &Words<'_>, err: &mut E) -> u8 {
         return failed(&Failure::OutOfMemory, err);
     };
     let mut out = StdSink::new(buffer);
-    let status = split(rt, words, &mut out, err);
+    let sources = HostFiles::new(rt);
+    let Ok(mut targets) = HostDirectory::new(rt, words.out) else {
+        return failed(&Failure::OutOfMemory, err);
+    };
+    let status = split(rt.alloc(), words, &sources, &mut targets, &mut out, err);
     flushed(&mut out, status, err)
 }
 

@@ -1,10 +1,14 @@
 //! The parts that the words name, and the tables and columns that they mean.
 
+ghost use Rattle.sfq_tiles.specs.Words.{AreNamed, ByColumn, HasNames, IsNamed, IsOfGeometries, after, before, copied_places, is_called};
 ghost use Rattle.sfq_tiles.specs.declared.parts.Mistake.TheVariants as mistake;
-ghost use Rattle.std.specs.Prelude.{◌≢◌, ◌≤◌, IfErr, OkIff};
+ghost use Rattle.std.specs.Prelude.{◌≡◌, ◌≢◌, ◌==◌, ◌++◌, ◌∷◌, ◌||◌, ◌<◌, ◌≤◌, [], if◌then◌else◌, IfErr, IfOk, IfSome, OkIff, OnOk, Some, filter, length, map, option_map, slice_get, true};
+ghost use Rattle.std.specs.List.{list_any, range_with_len, slice_split};
+ghost use Rattle.table_model.specs.Texts.{same_name};
 ghost use Rattle.std.specs.Str.Parse.{IsNumeral, digits_value, without_leading_plus};
 
 use feature_table::{ColumnType, Schema, TableDef};
+use sqlite_items::{self as items};
 use std::alloc::{AllocError, AllocFailed, Global};
 use table_model::definitions::COLUMN_LIMIT;
 use table_model::texts::same_name;
@@ -73,10 +77,22 @@ pub fn read_rows(word: &str) -> Result<usize, Mistake>
     }
 }
 
+/// Whether the column at a place of a table has a name.
+fn is_called(table: &TableDef, place: usize, name: &str) -> bool
+    ensures { result ≡ is_called name.now (slice_get table.now.columns place) }
+{
+    match items::at(table.columns.as_slice(), place) {
+        Some(column) => same_name(column.name.bytes(), name.as_bytes()),
+        None => false,
+    }
+}
+
 /// The place of the column of this name.
-fn column_named(table: &TableDef, name: &str) -> Result<usize, Mistake> {
-    for (place, column) in table.columns.as_slice().iter().enumerate() {
-        if same_name(column.name.bytes(), name.as_bytes()) {
+fn column_named(table: &TableDef, name: &str) -> Result<usize, Mistake>
+    ensures { IfOk result (λ place. is_called name.now (slice_get table.now.columns place) ≡ true) }
+{
+    for place in 0..table.columns.as_slice().len() {
+        if is_called(table, place, name) {
             return Ok(place);
         }
     }
@@ -84,40 +100,152 @@ fn column_named(table: &TableDef, name: &str) -> Result<usize, Mistake> {
 }
 
 /// The place of the table of this name.
-fn table_named(schema: &Schema, name: &str) -> Result<usize, Mistake> {
-    for (place, table) in schema.tables().iter().enumerate() {
-        if same_name(table.name.bytes(), name.as_bytes()) {
+fn table_named(schema: &Schema, name: &str) -> Result<usize, Mistake>
+    ensures within { IfOk result (λ place. place < length schema.now) }
+    ensures called { IfOk result (λ place. IfSome (slice_get schema.now place)
+        (λ table. same_name table.name name.now ≡ true)) }
+{
+    for place in 0..schema.tables().len() {
+        if same_name(schema.table(place).name.bytes(), name.as_bytes()) {
             return Ok(place);
         }
     }
     Err(Mistake::Said("a part names a table that the schema doesn't have"))
 }
 
-/// The place of the column of this name, which has to be one of geometries.
-fn geometry_column(table: &TableDef, name: &str) -> Result<usize, Mistake> {
-    let place = column_named(table, name)?;
-    match table.columns.as_slice().get(place) {
-        Some(column) if matches!(column.column_type, ColumnType::Geometry(_)) => Ok(place),
-        _ => Err(Mistake::Said("tiles need a column of geometries")),
+/// Whether the column at a place of a table is one of geometries.
+fn is_of_geometries(table: &TableDef, place: usize) -> bool
+    ensures { result ≡ true → IsOfGeometries (slice_get table.now.columns place) }
+{
+    match items::at(table.columns.as_slice(), place) {
+        Some(column) => match &column.column_type {
+            ColumnType::Geometry(_) => true,
+            ColumnType::Integer | ColumnType::Text => false,
+        },
+        None => false,
     }
 }
 
-/// Whether a list of names, with commas between them, has this name.
-fn is_listed(list: &str, name: &[u8]) -> bool {
-    for listed in list.split(',') {
-        if same_name(listed.as_bytes(), name) {
+/// The place of the column by which tiles are cut, of this name, which has to be one of geometries.
+fn tile_column(table: &TableDef, name: Option<&str>) -> Result<Option<usize>, Mistake>
+    ensures { IfOk result (ByColumn table.now (option_map (λ name. name.now) name.entry)) }
+{
+    match name {
+        None => Ok(None),
+        Some(name) => {
+            let place = column_named(table, name)?;
+            if !is_of_geometries(table, place) {
+                return Err(Mistake::Said("tiles need a column of geometries"));
+            }
+            Ok(Some(place))
+        }
+    }
+}
+
+/// The names in a list, with commas between them.
+fn names_in<'a>(alloc: Global, list: &'a str) -> Result<Vec<&'a str>, AllocError>
+    ensures { IfOk result (λ names. map (λ name. name.now) names.items ≡ slice_split (λ b. b == 44) list.now) }
+{
+    list.split(',').collect(alloc)
+}
+
+/// Refuses names that no column of the table has.
+fn check_names(table: &TableDef, names: &[&str]) -> Result<(), Mistake> {
+    for name in names {
+        column_named(table, name)?;
+    }
+    Ok(())
+}
+
+/// The names in a list, with commas between them, each of which a column of the table has.
+fn known_names<'a>(alloc: Global, table: &TableDef, list: &'a str) -> Result<Vec<&'a str>, Mistake>
+    ensures { IfOk result (λ names. map (λ name. name.now) names.items ≡ slice_split (λ b. b == 44) list.now) }
+{
+    let names = names_in(alloc, list)?;
+    check_names(table, names.as_slice())?;
+    Ok(names)
+}
+
+/// Whether the column at a place of a table has one of these names.
+fn is_listed(table: &TableDef, names: &[&str], place: usize) -> bool
+    ensures { result ≡ list_any (λ name. is_called name.now (slice_get table.now.columns place)) names.now }
+{
+    for name in names {
+        if is_called(table, place, name) {
             return true;
         }
     }
     false
 }
 
-/// Refuses a list with a name that no column of the table has.
-fn check_list(table: &TableDef, list: &str) -> Result<(), Mistake> {
-    for name in list.split(',') {
-        column_named(table, name)?;
+/// Whether the column at a place of a table is copied where these are listed.
+fn is_copied(table: &TableDef, names: &[&str], place: usize) -> bool
+    ensures { result ≡ ((place == table.now.key)
+        || list_any (λ name. is_called name.now (slice_get table.now.columns place)) names.now) }
+{
+    place == table.key || is_listed(table, names, place)
+}
+
+/// Adds a place, if it is copied.
+fn push_if(columns: &mut Vec<usize>, place: usize, is_copied: bool) -> Result<(), AllocError>
+    ensures { OnOk result (columns.new.items ≡ columns.old.items ++ (if is_copied then place ∷ [] else [])) }
+{
+    if is_copied {
+        columns.push(place)?;
     }
     Ok(())
+}
+
+/// The places of the columns that these names list and of the key, among the first columns.
+fn listed_places(
+    alloc: Global,
+    table: &TableDef,
+    names: &[&str],
+    count: usize,
+) -> Result<Vec<usize>, AllocError>
+    ensures { IfOk result (λ columns. columns.items ≡ filter (λ place. (place == table.now.key)
+        || list_any (λ name. is_called name.now (slice_get table.now.columns place)) names.now) (range_with_len 0 count)) }
+{
+    let mut columns = Vec::new(alloc);
+    for place in 0..count {
+        push_if(&mut columns, place, is_copied(table, names, place))?;
+    }
+    Ok(columns)
+}
+
+/// How many columns a table has.
+fn column_count(table: &TableDef) -> usize
+    ensures { result ≡ length table.now.columns }
+{
+    table.columns.as_slice().len()
+}
+
+/// The places of the columns that a list names and of the key, in the order of the schema.
+fn listed_columns(alloc: Global, table: &TableDef, list: &str) -> Result<Vec<usize>, Mistake>
+    ensures { IfOk result (λ columns. columns.items ≡ copied_places table.now (Some list.now)) }
+{
+    let names = known_names(alloc, table, list)?;
+    let columns = listed_places(alloc, table, names.as_slice(), column_count(table))?;
+    Ok(columns)
+}
+
+/// The places of all columns.
+fn all_columns(alloc: Global, count: usize) -> Result<Vec<usize>, AllocError>
+    ensures { IfOk result (λ columns. columns.items ≡ range_with_len 0 count) }
+{
+    let mut columns = Vec::new(alloc);
+    for place in 0..count {
+        columns.push(place)?;
+    }
+    Ok(columns)
+}
+
+/// The same of all columns of a table.
+fn every_column(alloc: Global, table: &TableDef) -> Result<Vec<usize>, Mistake>
+    ensures { IfOk result (λ columns. columns.items ≡ range_with_len 0 (length table.now.columns)) }
+{
+    let columns = all_columns(alloc, column_count(table))?;
+    Ok(columns)
 }
 
 /// The places of the columns that are copied: of those that a list names and of the key, in the order of the schema; without
@@ -126,21 +254,26 @@ fn copied_columns(
     alloc: Global,
     table: &TableDef,
     list: Option<&str>,
-) -> Result<Vec<usize>, Mistake> {
-    if let Some(list) = list {
-        check_list(table, list)?;
+) -> Result<Vec<usize>, Mistake>
+    ensures { IfOk result (λ columns. columns.items
+        ≡ copied_places table.now (option_map (λ list. list.now) list.entry)) }
+{
+    match list {
+        Some(list) => listed_columns(alloc, table, list),
+        None => every_column(alloc, table),
     }
-    let mut columns = Vec::new(alloc);
-    for (place, column) in table.columns.as_slice().iter().enumerate() {
-        let is_copied = match list {
-            Some(list) => place == table.key || is_listed(list, column.name.bytes()),
-            None => true,
-        };
-        if is_copied {
-            columns.push(place)?;
-        }
+}
+
+/// A text up to the first such character, and what comes after it, if it is there.
+fn parted(text: &str, separator: char) -> (&str, Option<&str>)
+    requires { separator < 128 }
+    ensures front { result.0.now ≡ before separator text.now }
+    ensures rest { option_map (λ rest. rest.now) result.1 ≡ after separator text.now }
+{
+    match text.split_once(separator) {
+        Some((front, rest)) => (front, Some(rest)),
+        None => (text, None),
     }
-    Ok(columns)
 }
 
 /// The names in the word of a part.
@@ -153,16 +286,14 @@ struct PartWord<'a> {
 }
 
 /// Takes the word of a part apart: NAME=TABLE[.COLUMN][:COLUMN,..].
-fn part_word(word: &str) -> Option<PartWord<'_>> {
-    let (name, rest) = word.split_once('=')?;
-    let (place, list) = match rest.split_once(':') {
-        Some((place, list)) => (place, Some(list)),
-        None => (rest, None),
-    };
-    let (table, column) = match place.split_once('.') {
-        Some((table, column)) => (table, Some(column)),
-        None => (place, None),
-    };
+fn part_word(word: &str) -> Option<PartWord<'_>>
+    ensures { IfSome result (λ names. HasNames word.now names.name.now names.table.now
+        (option_map (λ column. column.now) names.column) (option_map (λ list. list.now) names.list)) }
+{
+    let (name, rest) = parted(word, '=');
+    let rest = rest?;
+    let (place, list) = parted(rest, ':');
+    let (table, column) = parted(place, '.');
     Some(PartWord {
         name,
         table,
@@ -205,21 +336,18 @@ fn read_part<'w, 's>(
     alloc: Global,
     schema: &'s Schema,
     word: &'w str,
-) -> Result<NamedPart<'w, 's>, Mistake> {
+) -> Result<NamedPart<'w, 's>, Mistake>
+    ensures { IfOk result (IsNamed schema.entry.now word.now) }
+{
     let Some(names) = part_word(word) else {
         return Err(Mistake::Said(
             "--part takes NAME=TABLE, NAME=TABLE.COLUMN, and perhaps :COLUMN,.. after it",
         ));
     };
     let place = table_named(schema, names.table)?;
-    let Some(table) = schema.tables().get(place) else {
-        return Err(Mistake::Said("a part names a table that the schema doesn't have"));
-    };
-    let column = match names.column {
-        Some(column) => Some(geometry_column(table, column)?),
-        None => None,
-    };
-    let columns = copied_columns(alloc, table, names.list)?;
+    let definition = schema.table(place);
+    let column = tile_column(definition, names.column)?;
+    let columns = copied_columns(alloc, definition, names.list)?;
     if column.is_some() && columns.len().saturating_add(2) > COLUMN_LIMIT {
         return Err(Mistake::Said(
             "a table of tiles has at most 32 columns with the two marks: name fewer of them after a colon",
@@ -230,12 +358,12 @@ fn read_part<'w, 's>(
     } else {
         ("", "")
     };
-    let west = mark_name(alloc, table, columns.as_slice(), west)?;
-    let south = mark_name(alloc, table, columns.as_slice(), south)?;
+    let west = mark_name(alloc, definition, columns.as_slice(), west)?;
+    let south = mark_name(alloc, definition, columns.as_slice(), south)?;
     Ok(NamedPart {
         name: names.name,
         place,
-        table,
+        table: definition,
         column,
         columns,
         west,
@@ -267,7 +395,9 @@ pub fn read_parts<'w, 's>(
     alloc: Global,
     schema: &'s Schema,
     words: &[&'w str],
-) -> Result<Vec<NamedPart<'w, 's>>, Mistake> {
+) -> Result<Vec<NamedPart<'w, 's>>, Mistake>
+    ensures { IfOk result (λ parts. AreNamed schema.entry.now (map (λ word. word.now) words.now) parts.items) }
+{
     let mut parts: Vec<NamedPart<'w, 's>> = Vec::new(alloc);
     for word in words {
         let part = read_part(alloc, schema, word)?;

@@ -1,64 +1,172 @@
 //! What the program does: it reads the schema, checks every table, and writes the parts.
 
-ghost use Rattle.std.specs.Prelude.{IfOk};
+ghost use Rattle.std.specs.Prelude.{◌≡◌, ℕ, IfErr, IfOk, List, OnErr, OnOk, map};
+ghost use Rattle.std.specs.Io.KnownBytes.{Appends};
+ghost use Rattle.geometry_model.specs.Envelopes.{Envelope};
+ghost use Rattle.sfq_tiles.specs.Endings as spec;
+ghost use Rattle.sfq_tiles.specs.Splits.{AreAllWritten, IsLate, IsOfPart, IsWritten, Returns, SplitsFiles, SplitsParts, SplitsTables, SplitsWords, WritesParts, has_tiles, list_of};
+ghost use Rattle.streams.specs.Sinks.{AppendsFront, CountsFailure};
 ghost use Rattle.table_laws.specs.Cells.{CutsGrid};
 
 use crate::definitions::schema_text;
 use crate::endings::{Ending, ended};
-use crate::files::{CellFiles, write_whole};
 use crate::inputs::{check_tables, opened, schema_at};
 use crate::listing::{Written, list_stretches, list_tiles};
 use crate::parts::{NamedPart, read_parts, read_rows};
+use crate::ports::{Sources, Targets};
 use crate::words::Words;
 use failures::Failure;
-use feature_table::{Schema, TableDef};
+use feature_table::Schema;
 use std::alloc::{AllocError, Global};
-use std::fs;
-use streams::Sink;
+use streams::{Sink, SinkFault};
 use tiles::{Cells, CopyFault, Part, PlainRecords, Sampler, write_stretches, write_tiles};
 
-/// Splits the tables that the words name, and returns the status.
-pub fn split<S: Sink, E: Sink>(
-    rt: &HostRuntime,
+/// Splits the tables that the words name into parts, and returns the status. The schema and the tables are read from `sources`, each
+/// table twice, and nothing is made before all tables of the schema are checked. Then the schema of the parts, and of each part its
+/// tiles by one cut or its stretches, are written to `targets`, and listed in `out`. Where it ends early, `err` has the line of the
+/// ending.
+pub fn split<I: Sources, O: Targets, S: Sink, E: Sink>(
+    alloc: Global,
     words: &Words<'_>,
+    sources: &I,
+    targets: &mut O,
     out: &mut S,
     err: &mut E,
-) -> u8 {
-    let rows = match read_rows(words.rows) {
-        Ok(rows) => rows,
-        Err(mistake) => return ended(&Ending::from(mistake), err),
-    };
-    let schema = match schema_at(rt, words.schema) {
-        Ok(schema) => schema,
-        Err(failure) => return ended(&Ending::Failed(failure), err),
-    };
-    match split_tables(rt, words, &schema, rows, out) {
+) -> u8
+    ensures splits { Returns E.taken E.failures
+        (SplitsWords O.there O.begins_tiles O.begins_stretches O.takes O.Texts.texts O.makes S.taken S.failures
+        targets.old targets.new out.old out.new (I.bytes sources.now) words.now) result err.old err.new }
+{
+    match read_rows(words.rows) {
+        Ok(rows) => split_files(alloc, words, rows, sources, targets, out, err),
+        Err(mistake) => ended(&Ending::from(mistake), err),
+    }
+}
+
+/// Splits the tables of the schema's file.
+fn split_files<I: Sources, O: Targets, S: Sink, E: Sink>(
+    alloc: Global,
+    words: &Words<'_>,
+    rows: usize,
+    sources: &I,
+    targets: &mut O,
+    out: &mut S,
+    err: &mut E,
+) -> u8
+    ensures { Returns E.taken E.failures
+        (SplitsFiles O.there O.begins_tiles O.begins_stretches O.takes O.Texts.texts O.makes S.taken S.failures
+        targets.old targets.new out.old out.new (I.bytes sources.now) words.now.schema.now words.now.directory.now
+        (map (λ word. word.now) words.now.parts.items) rows) result err.old err.new }
+{
+    match schema_at(alloc, sources, words.schema) {
+        Ok(schema) => split_schema(alloc, words, rows, &schema, sources, targets, out, err),
+        Err(failure) => ended(&Ending::Failed(failure), err),
+    }
+}
+
+/// Splits the tables of a schema, and prints the line of an ending.
+fn split_schema<I: Sources, O: Targets, S: Sink, E: Sink>(
+    alloc: Global,
+    words: &Words<'_>,
+    rows: usize,
+    schema: &Schema,
+    sources: &I,
+    targets: &mut O,
+    out: &mut S,
+    err: &mut E,
+) -> u8
+    ensures { Returns E.taken E.failures
+        (SplitsTables O.there O.begins_tiles O.begins_stretches O.takes O.Texts.texts O.makes S.taken S.failures
+        targets.old targets.new out.old out.new (I.bytes sources.now) words.now.directory.now
+        (map (λ word. word.now) words.now.parts.items) rows schema.now) result err.old err.new }
+{
+    match split_tables(alloc, words, schema, rows, sources, targets, out) {
         Ok(()) => 0,
         Err(ending) => ended(&ending, err),
     }
 }
 
-/// Splits the tables of a schema, and lists what was made. Nothing is made before every table is checked.
-fn split_tables<'w, 's, S: Sink>(
-    rt: &HostRuntime,
+/// Splits the tables of a schema into the parts that the words name.
+fn split_tables<'w, 's, I: Sources, O: Targets, S: Sink>(
+    alloc: Global,
     words: &Words<'w>,
     schema: &'s Schema,
     rows: usize,
+    sources: &I,
+    targets: &mut O,
     out: &mut S,
-) -> Result<(), Ending<'s>> {
-    let alloc = rt.alloc();
+) -> Result<(), Ending<'s>>
+    ensures { SplitsTables O.there O.begins_tiles O.begins_stretches O.takes O.Texts.texts O.makes S.taken S.failures
+        targets.old targets.new out.old out.new (I.bytes sources.now) words.now.directory.now
+        (map (λ word. word.now) words.now.parts.items) rows schema.entry.now result }
+{
     let parts = read_parts(alloc, schema, words.parts.as_slice())?;
-    let text = schema_text(alloc, parts.as_slice())?;
-    if fs::symlink_metadata(rt, words.out).is_ok() {
+    split_parts(
+        alloc,
+        words.directory,
+        schema,
+        parts.as_slice(),
+        rows,
+        sources,
+        targets,
+        out,
+    )
+}
+
+/// Checks all tables of a schema, and writes the parts.
+fn split_parts<'w, 's, I: Sources, O: Targets, S: Sink>(
+    alloc: Global,
+    directory: &str,
+    schema: &'s Schema,
+    parts: &[NamedPart<'w, 's>],
+    rows: usize,
+    sources: &I,
+    targets: &mut O,
+    out: &mut S,
+) -> Result<(), Ending<'s>>
+    ensures { SplitsParts O.there O.begins_tiles O.begins_stretches O.takes O.Texts.texts O.makes S.taken S.failures
+        targets.old targets.new out.old out.new (I.bytes sources.now) directory.now rows schema.entry.now parts.entry.now result }
+{
+    let text = schema_text(alloc, parts)?;
+    if targets.is_there() {
         return Err(Ending::Unwritable);
     }
-    let samplers = check_tables(rt, words.directory, schema, parts.as_slice())?;
-    make_folder(rt, words.out, text.as_str())?;
-    if samplers.is_empty() {
-        return split_in_stretches(rt, words, parts.as_slice(), rows, out);
-    }
+    let samplers = check_tables(alloc, sources, directory, schema, parts)?;
     let cells = cut(alloc, samplers, rows)?;
-    split_in_tiles(rt, words, parts.as_slice(), &cells, out)
+    write_all(
+        alloc,
+        directory,
+        text.as_str(),
+        parts,
+        rows,
+        &cells,
+        sources,
+        targets,
+        out,
+    )
+}
+
+/// Writes the schema and the parts, and lists them.
+fn write_all<'w, 's, I: Sources, O: Targets, S: Sink>(
+    alloc: Global,
+    directory: &str,
+    text: &str,
+    parts: &[NamedPart<'w, 's>],
+    rows: usize,
+    cells: &Cells,
+    sources: &I,
+    targets: &mut O,
+    out: &mut S,
+) -> Result<(), Ending<'s>>
+    ensures { WritesParts O.there O.begins_tiles O.begins_stretches O.takes O.Texts.texts O.makes S.taken S.failures
+        targets.old targets.new out.old out.new (I.bytes sources.now) directory.now cells.now rows text.now parts.entry.now result }
+{
+    make(targets, text)?;
+    let written = write_parts(alloc, directory, parts, rows, cells, sources, targets)?;
+    match list_parts(parts, written.as_slice(), cells, out) {
+        Ok(()) => Ok(()),
+        Err(_) => Err(Ending::Failed(Failure::WriteFailed)),
+    }
 }
 
 /// The cells for the corners that samplers kept: each stands for at most so many rows, as far as the sample shows.
@@ -80,134 +188,175 @@ fn cut(alloc: Global, samplers: Vec<Sampler>, rows: usize) -> Result<Cells, Allo
 }
 
 /// Makes the directory with the schema of the parts.
-fn make_folder(rt: &HostRuntime, out: &str, text: &str) -> Result<(), Ending<'static>> {
-    if fs::create_dir(rt, out).is_err() {
-        return Err(Ending::Unwritable);
-    }
-    let mut path = String::from_str(rt.alloc(), out)?;
-    path.push_str("/schema.sql")?;
-    let Ok(mut file) = fs::create(rt, path.as_str()) else {
-        return Err(Ending::Unwritable);
-    };
-    match write_whole(&mut file, text.as_bytes()) {
+fn make<O: Targets>(targets: &mut O, text: &str) -> Result<(), Ending<'static>>
+    ensures made { OnOk result (O.makes targets.old text.now targets.new) }
+    ensures ending { IfErr result (λ ending. ending ≡ Ending.Unwritable) }
+{
+    match targets.make(text.as_bytes()) {
         Ok(()) => Ok(()),
         Err(_) => Err(Ending::Unwritable),
     }
 }
 
 /// The ending of a second pass over a table.
-fn copy_ending(name: &str, fault: CopyFault) -> Ending<'_> {
+fn copy_ending(name: &str, fault: CopyFault) -> Ending<'_>
+    ensures { result ≡ spec.copy_ending name.entry fault }
+{
     match fault {
         CopyFault::Load(fault) => Ending::Failed(Failure::Load(name, fault)),
         CopyFault::Sink => Ending::Unwritable,
     }
 }
 
-/// Writes the stretches of parts, and lists them.
-fn split_in_stretches<'w, 's, S: Sink>(
-    rt: &HostRuntime,
-    words: &Words<'w>,
+/// Writes the tiles or the stretches of parts, and returns how many rows each has.
+fn write_parts<'w, 's, I: Sources, O: Targets>(
+    alloc: Global,
+    directory: &str,
     parts: &[NamedPart<'w, 's>],
     rows: usize,
-    out: &mut S,
-) -> Result<(), Ending<'s>> {
-    let mut written = Vec::new(rt.alloc());
+    cells: &Cells,
+    sources: &I,
+    targets: &mut O,
+) -> Result<Vec<Written<'w>>, Ending<'s>>
+    ensures written { IfOk result (λ written. AreAllWritten O.begins_tiles O.begins_stretches O.takes O.Texts.texts
+        (I.bytes sources.now) directory.now cells.now rows parts.entry.now written.items targets.old targets.new) }
+    ensures ending { IfErr result (IsLate (I.bytes sources.now) directory.now (IsOfPart parts.entry.now)) }
+{
+    let mut written = Vec::new(alloc);
     for named in parts {
-        let counts = stretches_of(rt, words, named, rows)?;
+        let counts = write_part(alloc, directory, named, rows, cells, sources, targets)?;
         written.push(Written {
             name: named.name,
             counts,
         })?;
     }
-    match list_stretches(written.as_slice(), out) {
-        Ok(()) => Ok(()),
-        Err(_) => Err(Ending::Failed(Failure::WriteFailed)),
+    Ok(written)
+}
+
+/// Lists the parts that were written.
+fn list_parts<S: Sink>(
+    parts: &[NamedPart<'_, '_>],
+    written: &[Written<'_>],
+    cells: &Cells,
+    out: &mut S,
+) -> Result<(), SinkFault>
+    ensures ok { OnOk result (Appends (S.taken out.old) (S.taken out.new)
+        (list_of parts.now cells.now written.now)) }
+    ensures front { OnErr result (AppendsFront (S.taken out.old) (S.taken out.new)
+        (list_of parts.now cells.now written.now)) }
+    ensures failures { CountsFailure (S.failures out.old) (S.failures out.new) result }
+{
+    if has_tiles(parts) {
+        list_tiles(written, cells, out)
+    } else {
+        list_stretches(written, out)
     }
 }
 
-/// What is copied of a table, and the names of its marks.
-fn part_of<'p>(
-    table: &'p TableDef,
-    columns: &'p [usize],
-    west: &'p str,
-    south: &'p str,
-) -> Part<'p> {
-    Part {
-        table,
-        columns,
-        marks: [west, south],
+/// Whether some part has tiles.
+fn has_tiles(parts: &[NamedPart<'_, '_>]) -> bool
+    ensures { result ≡ has_tiles parts.now }
+{
+    for part in parts {
+        if part.column.is_some() {
+            return true;
+        }
+    }
+    false
+}
+
+/// Writes the tiles of a part, or its stretches, and returns how many rows each has.
+fn write_part<'w, 's, I: Sources, O: Targets>(
+    alloc: Global,
+    directory: &str,
+    named: &NamedPart<'w, 's>,
+    rows: usize,
+    cells: &Cells,
+    sources: &I,
+    targets: &mut O,
+) -> Result<Vec<usize>, Ending<'s>>
+    ensures written { IfOk result (λ counts. IsWritten O.begins_tiles O.begins_stretches O.takes O.Texts.texts
+        (I.bytes sources.now) directory.now cells.now rows named.entry.now counts.items targets.old targets.new) }
+    ensures ending { IfErr result (IsLate (I.bytes sources.now) directory.now (λ table. table ≡ named.entry.now.table.now)) }
+{
+    match named.column {
+        Some(column) => tiles_of(alloc, directory, named, column, cells, sources, targets),
+        None => stretches_of(alloc, directory, named, rows, sources, targets),
     }
 }
 
 /// Writes the stretches of a part, and returns how many rows each has.
-fn stretches_of<'w, 's>(
-    rt: &HostRuntime,
-    words: &Words<'w>,
+fn stretches_of<'w, 's, I: Sources, O: Targets>(
+    alloc: Global,
+    directory: &str,
     named: &NamedPart<'w, 's>,
     rows: usize,
-) -> Result<Vec<usize>, Ending<'s>> {
+    sources: &I,
+    targets: &mut O,
+) -> Result<Vec<usize>, Ending<'s>>
+    requires { named.now.column ≡ None }
+    ensures written { IfOk result (λ counts. (boxes : List Envelope)
+        → IsWritten O.begins_tiles O.begins_stretches O.takes O.Texts.texts
+        (I.bytes sources.now) directory.now boxes rows named.entry.now counts.items targets.old targets.new) }
+    ensures ending { IfErr result (IsLate (I.bytes sources.now) directory.now (λ table. table ≡ named.entry.now.table.now)) }
+{
     let name = named.table.name.as_str();
-    let part = part_of(named.table, named.columns.as_slice(), "", "");
-    let mut records = PlainRecords::new(rt.alloc(), opened(rt, words.directory, name)?);
-    let mut files = CellFiles::of_stretches(rt, words.out, named.name);
-    let counts = match write_stretches(rt.alloc(), &part, rows, &mut records, &mut files) {
+    let part = Part {
+        table: named.table,
+        columns: named.columns.as_slice(),
+        marks: ["", ""],
+    };
+    let reader = opened(alloc, sources, directory, name)?;
+    let mut records = PlainRecords::new(alloc, reader);
+    let mut texts = targets.stretches(named.name)?;
+    let counts = match write_stretches(alloc, &part, rows, &mut records, &mut texts) {
         Ok(counts) => counts,
         Err(fault) => return Err(copy_ending(name, fault)),
     };
-    match files.finish() {
-        Ok(()) => Ok(counts),
-        Err(_) => Err(Ending::Unwritable),
-    }
-}
-
-/// Writes the tiles of parts, and lists them.
-fn split_in_tiles<'w, 's, S: Sink>(
-    rt: &HostRuntime,
-    words: &Words<'w>,
-    parts: &[NamedPart<'w, 's>],
-    cells: &Cells,
-    out: &mut S,
-) -> Result<(), Ending<'s>> {
-    let mut written = Vec::new(rt.alloc());
-    for named in parts {
-        if let Some(column) = named.column {
-            let counts = tiles_of(rt, words, named, column, cells)?;
-            written.push(Written {
-                name: named.name,
-                counts,
-            })?;
-        }
-    }
-    match list_tiles(written.as_slice(), cells, out) {
-        Ok(()) => Ok(()),
-        Err(_) => Err(Ending::Failed(Failure::WriteFailed)),
-    }
+    finish(targets, texts)?;
+    Ok(counts)
 }
 
 /// Writes the tiles of a part, by a column, and returns how many rows each has.
-fn tiles_of<'w, 's>(
-    rt: &HostRuntime,
-    words: &Words<'w>,
+fn tiles_of<'w, 's, I: Sources, O: Targets>(
+    alloc: Global,
+    directory: &str,
     named: &NamedPart<'w, 's>,
     column: usize,
     cells: &Cells,
-) -> Result<Vec<usize>, Ending<'s>> {
+    sources: &I,
+    targets: &mut O,
+) -> Result<Vec<usize>, Ending<'s>>
+    requires { named.now.column ≡ Some column }
+    ensures written { IfOk result (λ counts. (rows : ℕ)
+        → IsWritten O.begins_tiles O.begins_stretches O.takes O.Texts.texts
+        (I.bytes sources.now) directory.now cells.now rows named.entry.now counts.items targets.old targets.new) }
+    ensures ending { IfErr result (IsLate (I.bytes sources.now) directory.now (λ table. table ≡ named.entry.now.table.now)) }
+{
     let name = named.table.name.as_str();
-    let columns = named.columns.as_slice();
-    let part = part_of(
-        named.table,
-        columns,
-        named.west.as_str(),
-        named.south.as_str(),
-    );
-    let mut records = PlainRecords::new(rt.alloc(), opened(rt, words.directory, name)?);
-    let mut files = CellFiles::of_tiles(rt, words.out, named.name);
-    let counts = match write_tiles(rt.alloc(), &part, column, cells, &mut records, &mut files) {
+    let part = Part {
+        table: named.table,
+        columns: named.columns.as_slice(),
+        marks: [named.west.as_str(), named.south.as_str()],
+    };
+    let reader = opened(alloc, sources, directory, name)?;
+    let mut records = PlainRecords::new(alloc, reader);
+    let mut texts = targets.tiles(named.name)?;
+    let counts = match write_tiles(alloc, &part, column, cells, &mut records, &mut texts) {
         Ok(counts) => counts,
         Err(fault) => return Err(copy_ending(name, fault)),
     };
-    match files.finish() {
-        Ok(()) => Ok(counts),
+    finish(targets, texts)?;
+    Ok(counts)
+}
+
+/// Writes what is left of the texts of a part.
+fn finish<O: Targets>(targets: &mut O, texts: O::Texts) -> Result<(), Ending<'static>>
+    ensures taken { OnOk result (O.takes targets.old texts targets.new) }
+    ensures ending { IfErr result (λ ending. ending ≡ Ending.Unwritable) }
+{
+    match targets.finish(texts) {
+        Ok(()) => Ok(()),
         Err(_) => Err(Ending::Unwritable),
     }
 }
