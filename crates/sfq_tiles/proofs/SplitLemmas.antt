@@ -160,7 +160,8 @@ of_part parts place part within item table same =
 
 -- one table more is checked
 pub checked_more : (files : Files) (directory : List ℕ) (definitions : SpatialSchema) (place : ℕ)
-    → ((earlier : ℕ) → earlier < place → IsCheckedAt files directory definitions earlier) → IsCheckedAt files directory definitions place
+    → ((earlier : ℕ) → earlier < place → IsCheckedAt files directory definitions earlier)
+    → IsCheckedAt files directory definitions place
     → (earlier : ℕ) → earlier < place + 1 → IsCheckedAt files directory definitions earlier
 checked_more files directory definitions place before is earlier within = by (earlier_or_last earlier place within)
   where
@@ -226,8 +227,9 @@ named_more definitions words i word d parts now part within item before is pushe
 module _ {O T : Type 0} (tiles stretches : O → List ℕ → T → Type 0) (takes : O → T → O → Type 0) (texts : T → Texts)
     (files : Files) (directory : List ℕ) (boxes : List Envelope) (rows : ℕ) where
   -- the stretches of a part without a column of tiles
-  pub stretches_written : (part : NamedPart) → part.column ≡ None → (known : Option (List ℕ)) (name : List ℕ) → name ≡ part.table.now.name
-      → known ≡ files (table_path directory name) → (columns : List ℕ) → columns ≡ part.columns.items → (counts : List ℕ) (old new : O)
+  pub stretches_written : (part : NamedPart) → part.column ≡ None → (known : Option (List ℕ)) (name : List ℕ)
+      → name ≡ part.table.now.name → known ≡ files (table_path directory name)
+      → (columns : List ℕ) → columns ≡ part.columns.items → (counts : List ℕ) (old new : O)
       (begun filled : T) → stretches old part.name.now begun
       → ((records : List Record) × AreRecordsOfTable known part.table.now.columns records
       × AreWritten (texts begun) (texts filled) (names_of part.table.now.columns columns)
@@ -241,7 +243,8 @@ module _ {O T : Type 0} (tiles stretches : O → List ℕ → T → Type 0) (tak
     filled = filled;
     begins = subst (λ c. Begins tiles stretches takes texts old part.name.now c begun) (sym none) begins;
     gets =
-        subst (λ c. AreWritten (texts begun) (texts filled) (header_by part c) (tables_by boxes rows part h.0 c) counts) (sym none)
+        subst (λ c. AreWritten (texts begun) (texts filled) (header_by part c) (tables_by boxes rows part h.0 c) counts)
+        (sym none)
         (subst
         (λ cs. AreWritten (texts begun) (texts filled) (names_of part.table.now.columns cs)
         (stretches_of (size_of rows) part.table.now.columns cs h.0) counts)

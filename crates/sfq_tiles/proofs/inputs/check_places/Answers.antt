@@ -13,5 +13,6 @@ returns-in_err-check_place-clause-ending g c =
 
 pub loop-place-preserved : goal.loop-place-preserved
 loop-place-preserved g c =
-    checked_more (g.I.Sources.bytes c.args.sources.now) c.args.directory.now c.args.schema.now c.loop-place.place c.loop-place.invariant
+    checked_more (g.I.Sources.bytes c.args.sources.now) c.args.directory.now c.args.schema.now c.loop-place.place
+    c.loop-place.invariant
     c.in_ok-check_place.ensures.checked

@@ -54,6 +54,7 @@ returns g c =
           (λ t. WritesParts g.O.Targets.there g.O.Targets.begins_tiles g.O.Targets.begins_stretches g.O.Targets.takes
           g.O.Texts.CellTexts.texts g.O.Targets.makes g.S.Sink.taken g.S.Sink.failures
           c.args.targets.now c.write_all.new.targets c.args.out.now c.write_all.new.out
-          (g.I.Sources.bytes c.args.sources.now) c.args.directory.now c.in_ok-cells.cells c.args.rows t c.args.parts.now c.write_all.result)
+          (g.I.Sources.bytes c.args.sources.now) c.args.directory.now c.in_ok-cells.cells c.args.rows t c.args.parts.now
+          c.write_all.result)
           text c.write_all.ensures,
     ))

@@ -24,6 +24,8 @@ returns-in-Err-clause-ending g c =
 pub returns-clause-written : goal.returns-clause-written
 returns-clause-written g c =
     λ boxes. stretches_written g.O.Targets.begins_tiles g.O.Targets.begins_stretches g.O.Targets.takes g.O.Texts.CellTexts.texts
-    (g.I.Sources.bytes c.args.sources.now) c.args.directory.now boxes c.args.rows c.args.named.now c.requires _ _ c.as_str-name.ensures
-    c.in_ok-reader.ensures.bytes _ c.as_slice.ensures.value _ _ _ _ _ c.in_ok-texts.ensures (c.in-Ok.ensures.stretches _ c.new.ensures.all)
+    (g.I.Sources.bytes c.args.sources.now) c.args.directory.now boxes c.args.rows c.args.named.now c.requires _ _
+    c.as_str-name.ensures
+    c.in_ok-reader.ensures.bytes _ c.as_slice.ensures.value _ _ _ _ _ c.in_ok-texts.ensures
+    (c.in-Ok.ensures.stretches _ c.new.ensures.all)
     c.in_ok-finish.ensures.taken
