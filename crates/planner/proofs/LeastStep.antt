@@ -1,6 +1,6 @@
 -- The first element of least number, when one element more is looked at.
 use Rattle.std.specs.Prelude.{◌≡◌, refl, ℕ, ◌<◌, ◌≤◌, Bool, true, false, cond, nat_le, List, [], ◌∷◌, ◌++◌, All, Option, Some, None, IsSome}
-use Rattle.std.proofs.Common.{arith, ap, ◌∙◌, sym, leb-true, leb-false}
+use Rattle.std.proofs.Common.{arith, ap, ◌∙◌, leb-true, leb-false}
 use Rattle.std.proofs.lemmas.List.{append_assoc}
 use Rattle.std.proofs.lemmas.List.Elements.{All-nil, All-cons, All-append, All-weaker}
 use Rattle.table_model.specs.Plans.{first_of_least}

@@ -1,5 +1,5 @@
 -- The first of least cost, when accesses are taken into account one after another.
-use Rattle.std.specs.Prelude.{◌≡◌, refl, ℕ, ◌<◌, ◌≤◌, ◌+◌, Bool, true, false, cond, nat_le, List, [], ◌∷◌, ◌++◌, flat_map, get_or, length, map, take, Option, Some, None, IsSome}
+use Rattle.std.specs.Prelude.{◌≡◌, refl, ℕ, ◌<◌, ◌≤◌, ◌+◌, true, false, cond, nat_le, List, [], ◌∷◌, ◌++◌, flat_map, get_or, length, map, take, Option, Some, None, IsSome}
 use Rattle.std.specs.Option.{option_map}
 use Rattle.std.proofs.Common.{arith, ap, ◌∙◌, append_assoc, sym, subst}
 use Rattle.std.proofs.lemmas.List.{append-nil, map-append, take_more}

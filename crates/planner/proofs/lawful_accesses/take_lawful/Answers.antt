@@ -1,5 +1,5 @@
 use Rattle.std.specs.Option.{option_copied, option_to_list}
-use Rattle.std.proofs.Common.{◌∷◌, [], ◌∙◌, OnOk, ap, subst, sym}
+use Rattle.std.proofs.Common.{◌∷◌, ◌∙◌, OnOk, ap, subst, sym}
 use Rattle.std.proofs.lemmas.Result.{on_ok_weaker}
 use Rattle.planner.proofs.Taken.{some_taken_is, takes_twice}
 use Rattle.planner.specs.Nestings.{Takes}
