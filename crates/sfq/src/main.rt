@@ -53,9 +53,9 @@ struct Served {
 }
 
 /// Does what an order says. A table that is opened again, for a reason or a note, has to give the same bytes.
-fn serve<S: Sink, E: Sink>(
+fn serve<'p, S: Sink, E: Sink>(
     rt: &HostRuntime,
-    progress: &Progress<'_>,
+    progress: &'p Progress<'p>,
     order: &Order,
     out: &mut S,
     err: &mut E,
@@ -80,7 +80,7 @@ fn serve<S: Sink, E: Sink>(
 }
 
 /// Writes what explains the fault of an order, if it asks for that. Files are opened once more.
-fn explain(rt: &HostRuntime, progress: &Progress<'_>, order: &Order, status: u8) {
+fn explain<'p>(rt: &HostRuntime, progress: &'p Progress<'p>, order: &Order, status: u8) {
     let mut err = explaining(rt, progress);
     let mut again = explaining(rt, progress);
     let opener = |file: File<'_>| opened_again(rt, progress, file, &mut again);
