@@ -80,7 +80,9 @@ pub none_at_step : (boxes : List EdgeBox) (edges : List Edge) (e : Edge) (place 
 none_at_step boxes edges e place next found s h k = stepped boxes edges e place next found s ∙ ap₂ (λ (a b : Bool). a || b) h k
 
 -- the edges from a place to the end, cut out as a run, show the same as the edges from there on
-pub uncovered_is : (edges : List Edge) (n m : ℕ) (e : Edge) (run : List Edge) → n ≡ m → m ≤ length edges → run ≡ slice_range edges n (length edges) → list_any (overlap_on_one_line e) run ≡ list_any (overlap_on_one_line e) (drop m edges)
+pub uncovered_is : (edges : List Edge) (n m : ℕ) (e : Edge) (run : List Edge) → n ≡ m → m ≤ length edges
+    → run ≡ slice_range edges n (length edges)
+    → list_any (overlap_on_one_line e) run ≡ list_any (overlap_on_one_line e) (drop m edges)
 uncovered_is edges n m e run same h is = ap (list_any (overlap_on_one_line e)) (is ∙ ap (λ k. slice_range edges k (length edges)) same ∙ rest_is edges m h)
 
 -- one found among the edges from a place to the end is one of all edges

@@ -149,7 +149,8 @@ at_common c e f own touching x hx k l = go (same_point x (point_at c)) refl
     go true s = s
     go false s = absurd (let clash : true ≡ false = sym (other s) ∙ not-true (share_other c e f) parts.1 in cc)
 
-touching_alike : (e f : Edge) → touch e f ≡ true → (x y : Point) → IsPoint x → IsPoint y → on e x ≡ true → on f x ≡ true → on e y ≡ true → on f y ≡ true → same_point x y ≡ true
+touching_alike : (e f : Edge) → touch e f ≡ true → (x y : Point) → IsPoint x → IsPoint y
+    → on e x ≡ true → on f x ≡ true → on e y ≡ true → on f y ≡ true → same_point x y ≡ true
 touching_alike e f touching x y hx hy kx lx ky ly = go (or_cases (touch_at e.start e f) (touch_at e.end e f) touching)
   where
     at : (c : Position) → IsEnd c e → touch_at c e f ≡ true → same_point x y ≡ true
