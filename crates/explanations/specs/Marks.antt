@@ -39,9 +39,19 @@ two_lines number before after =
     number ++ codes " | " ++ before ++ after ++ codes "\n"
     ++ replicate (length number) 32 ++ codes " | " ++ replicate (characters before) 32 ++ codes "^\n"
 
+-- one line: a number, a bar and a text in two parts
+abbrev pub one_line : List ℕ → List ℕ → List ℕ → List ℕ
+one_line number before after = number ++ codes " | " ++ before ++ after ++ codes "\n"
+
+-- the lines with a caret or without
+abbrev pub shown_lines : Bool → List ℕ → List ℕ → List ℕ → List ℕ
+shown_lines true number before after = two_lines number before after
+shown_lines false number before after = one_line number before after
+
 -- the two lines show the line of a place: with the line's number, and with the caret below the byte at the place. They show the line from
--- one place of the text to another, with dots where it goes on; white space at its end is left out
-pub record IsMarkAt (text : List ℕ) (place : ℕ) (lines : List ℕ) : Type 0 where
+-- one place of the text to another, with dots where it goes on; white space at its end is left out. Without a caret it
+-- is the first of the two
+pub record IsMarkAt (has_caret : Bool) (text : List ℕ) (place : ℕ) (lines : List ℕ) : Type 0 where
   pub start : ℕ
   pub end : ℕ
   pub line : IsLine text place start end
@@ -52,16 +62,19 @@ pub record IsMarkAt (text : List ℕ) (place : ℕ) (lines : List ℕ) : Type 0 
   pub to_within : (place ≤ to) × (to ≤ last) × (last ≤ end)
   pub white : IsWhite text last end
   pub utf8 : Bool
-  pub is : lines ≡ two_lines (numbered (line_number text place))
+  pub is : lines ≡ shown_lines has_caret (numbered (line_number text place))
       (dots (nat_lt start from) ++ shown utf8 (drop from (take place text)))
       (shown utf8 (drop place (take to text)) ++ dots (nat_lt to last))
 
 -- the same, but a place in the white space at a text's end, or past it, is shown as that where this white space begins
-pub record IsMark (text : List ℕ) (place : ℕ) (lines : List ℕ) : Type 0 where
+pub record IsShown (has_caret : Bool) (text : List ℕ) (place : ℕ) (lines : List ℕ) : Type 0 where
   pub end : ℕ
   pub within : end ≤ length text
   pub white : IsWhite text end (length text)
-  pub marks : IsMarkAt text (min place end) lines
+  pub marks : IsMarkAt has_caret text (min place end) lines
+
+abbrev pub IsMark : List ℕ → ℕ → List ℕ → Type 0
+IsMark text place lines = IsShown true text place lines
 
 -- a path is shown from one of its bytes on, with dots if that isn't the first
 pub record IsPath (path shown_path : List ℕ) : Type 0 where

@@ -9,7 +9,7 @@ use geometry_model::{TextFault, ValidityFault};
 use std::alloc::{AllocError, Global};
 
 /// The types of geometries.
-const TYPES: [&[u8]; 6] = [
+pub(crate) const TYPES: [&[u8]; 6] = [
     b"POINT",
     b"MULTIPOINT",
     b"LINESTRING",
@@ -162,7 +162,7 @@ fn other_form(written: &[u8]) -> Option<&'static str> {
 }
 
 /// Whether a word looks like the hexadecimal digits of well-known binary.
-fn is_binary(name: &[u8]) -> bool {
+pub(crate) fn is_binary(name: &[u8]) -> bool {
     let begins = front(name, 2);
     name.len() >= 10 && (is(begins, "00") || is(begins, "01")) && name.iter().all(is_hex)
 }
@@ -243,7 +243,7 @@ fn numbers(text: &[u8]) -> usize {
 }
 
 /// How many parentheses are open at a text's end.
-fn opened(text: &[u8]) -> usize {
+pub(crate) fn opened(text: &[u8]) -> usize {
     let mut count: usize = 0;
     for byte in text {
         if *byte == b'(' {

@@ -2,7 +2,7 @@
 
 ghost use Rattle.std.specs.Prelude.{◌≡◌, ◌≤◌, ◌++◌, IfOk, OnOk, length, replicate, take, drop};
 ghost use Rattle.std.specs.Char.Escape.{escape_ascii};
-ghost use Rattle.explanations.specs.Marks.{IsMark, IsMarkAt, IsPath, dots, two_lines};
+ghost use Rattle.explanations.specs.Marks.{IsMark, IsMarkAt, IsPath, IsShown, dots, shown_lines};
 ghost use Rattle.explanations.specs.Marks as spec;
 
 use crate::lines::{line_of, trimmed_end};
@@ -34,14 +34,31 @@ pub fn path_shown(alloc: Global, path: &[u8]) -> Result<Vec<u8>, AllocError>
 pub fn marked(alloc: Global, text: &[u8], place: usize) -> Result<Vec<u8>, AllocError>
     ensures { IfOk result (λ lines. IsMark text.now place lines.items) }
 {
+    shown_place(alloc, text, place, true)
+}
+
+/// The same two lines of a place, or the first of them alone, without the caret. At Err memory ran out.
+pub(crate) fn shown_place(
+    alloc: Global,
+    text: &[u8],
+    place: usize,
+    has_caret: bool,
+) -> Result<Vec<u8>, AllocError>
+    ensures { IfOk result (λ lines. IsShown has_caret text.now place lines.items) }
+{
     let end = trimmed_end(text, 0, text.len());
-    marked_within(alloc, text, place.min(end))
+    marked_within(alloc, text, place.min(end), has_caret)
 }
 
 /// The same of a place within the text.
-fn marked_within(alloc: Global, text: &[u8], place: usize) -> Result<Vec<u8>, AllocError>
+fn marked_within(
+    alloc: Global,
+    text: &[u8],
+    place: usize,
+    has_caret: bool,
+) -> Result<Vec<u8>, AllocError>
     requires { place ≤ length text.now }
-    ensures { IfOk result (λ lines. IsMarkAt text.now place lines.items) }
+    ensures { IfOk result (λ lines. IsMarkAt has_caret text.now place lines.items) }
 {
     let line = line_of(text, place);
     let last = trimmed_end(text, place, line.end);
@@ -58,6 +75,7 @@ fn marked_within(alloc: Global, text: &[u8], place: usize) -> Result<Vec<u8>, Al
         number.as_slice(),
         before.as_slice(),
         after.as_slice(),
+        has_caret,
     )
 }
 
@@ -102,7 +120,7 @@ fn back_shown(alloc: Global, bytes: &[u8], utf8: bool, is_cut: bool) -> Result<V
 }
 
 /// Whether a line is shown in UTF-8: it is UTF-8, and each of its characters is seen, and none obeyed by terminals.
-fn is_plain(line: &[u8]) -> bool {
+pub(crate) fn is_plain(line: &[u8]) -> bool {
     match std::str::from_utf8(line) {
         Ok(text) => !text.chars().any(is_hidden),
         Err(_) => false,
@@ -185,7 +203,7 @@ fn begins_character(byte: u8) -> bool
 }
 
 /// Adds bytes, as they are shown.
-fn push_shown(text: &mut Vec<u8>, bytes: &[u8], utf8: bool) -> Result<(), AllocError>
+pub(crate) fn push_shown(text: &mut Vec<u8>, bytes: &[u8], utf8: bool) -> Result<(), AllocError>
     ensures { OnOk result (text.new.items ≡ text.old.items ++ spec.shown utf8 bytes.now) }
 {
     for byte in bytes {
@@ -239,20 +257,24 @@ fn push_blanks(text: &mut Vec<u8>, count: usize) -> Result<(), AllocError>
     Ok(())
 }
 
-/// The two lines of a text in two parts, with the caret below the place where the second begins.
+/// The lines of a text in two parts, with a caret below the place where the second begins, or without one.
 fn laid_out(
     alloc: Global,
     number: &[u8],
     before: &[u8],
     after: &[u8],
+    has_caret: bool,
 ) -> Result<Vec<u8>, AllocError>
-    ensures { IfOk result (λ lines. lines.items ≡ two_lines number.now before.now after.now) }
+    ensures { IfOk result (λ lines. lines.items ≡ shown_lines has_caret number.now before.now after.now) }
 {
     let mut lines = Vec::from_slice(alloc, number)?;
     lines.extend_from_slice(b" | ")?;
     lines.extend_from_slice(before)?;
     lines.extend_from_slice(after)?;
     lines.extend_from_slice(b"\n")?;
+    if !has_caret {
+        return Ok(lines);
+    }
     push_blanks(&mut lines, number.len())?;
     lines.extend_from_slice(b" | ")?;
     push_blanks(&mut lines, characters(before))?;

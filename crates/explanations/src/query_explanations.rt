@@ -38,7 +38,7 @@ pub fn query_explained(
 }
 
 /// The place of a fault of a query.
-fn place_of(fault: QueryFault) -> Option<usize>
+pub(crate) fn place_of(fault: QueryFault) -> Option<usize>
     ensures { result ≡ query_place fault }
 {
     match fault {
@@ -58,7 +58,7 @@ fn place_of(fault: QueryFault) -> Option<usize>
 }
 
 /// The sentence of a fault of a query.
-fn query_sentence(
+pub(crate) fn query_sentence(
     alloc: Global,
     text: &[u8],
     fault: QueryFault,
@@ -123,7 +123,7 @@ fn unknown_table(alloc: Global, found: &[u8], names: &Names<'_>) -> Result<Vec<u
 }
 
 /// A sentence that proposes a name of a list, or lists the names.
-fn proposed(
+pub(crate) fn proposed(
     alloc: Global,
     parts: &[&[u8]],
     close: Option<usize>,

@@ -8,6 +8,7 @@ use crate::parts::{
     character, first, front, is, joined, place_in, rest, said_of, shown, word, worded, worded_with,
 };
 use crate::query_words::{BEFORE, FUNCTIONS, HERE, OWN_FUNCTIONS, OWN_WORDS, STATEMENTS};
+use crate::token_lists::{back, kind_of, written};
 use sql_text::lex::{lex, same_kind};
 use std::alloc::{AllocError, Global};
 use table_model::tokens::{Token, TokenKind};
@@ -36,31 +37,6 @@ pub(crate) fn token_at(tokens: &[Token<'_>], at: usize) -> Option<usize>
         }
     }
     None
-}
-
-/// The text of a token, from its first byte on: that of a string begins with its quote.
-fn written<'t>(tokens: &[Token<'t>], place: usize) -> &'t [u8] {
-    if place < tokens.len() {
-        return tokens[place].text.bytes();
-    }
-    &[]
-}
-
-/// The kind of a token; that of the end past the last.
-fn kind_of(tokens: &[Token<'_>], place: usize) -> TokenKind {
-    if place < tokens.len() {
-        return tokens[place].kind;
-    }
-    TokenKind::End
-}
-
-/// The place so many before another; past every list, if there is none.
-fn back(place: usize, count: usize) -> usize {
-    if count <= place {
-        place - count
-    } else {
-        usize::MAX
-    }
 }
 
 /// The tokens around one.
@@ -98,6 +74,9 @@ pub(crate) fn syntax_sentence(
     }
     if same_kind(near.kind, TokenKind::Word) && is(near.next, "(") {
         return function_sentence(alloc, &near);
+    }
+    if let Some((function, sentence)) = call_sentence(tokens, place) {
+        return worded(alloc, "", function, sentence);
     }
     if let Some(sentence) = value_sentence(tokens, place, &near) {
         return joined(alloc, &[sentence.as_bytes()]);
@@ -282,6 +261,51 @@ fn count_sentence(near: &Around<'_>) -> &'static str {
         "COUNT(*) comes alone: nothing else is selected beside it"
     } else {
         "COUNT takes * alone: write COUNT(*), with WHERE and IS NOT NULL if that is meant"
+    }
+}
+
+/// The place of the word before the parenthesis that is open at a token, and how many commas are between them; past every list, if none is.
+fn enclosing(tokens: &[Token<'_>], place: usize) -> (usize, usize) {
+    let mut depth: usize = 0;
+    let mut commas: usize = 0;
+    for count in 1..place.saturating_add(1) {
+        let at = back(place, count);
+        let kind = kind_of(tokens, at);
+        if same_kind(kind, TokenKind::RightParenthesis) {
+            depth = depth.saturating_add(1);
+        } else if same_kind(kind, TokenKind::Comma) && depth == 0 {
+            commas = commas.saturating_add(1);
+        } else if same_kind(kind, TokenKind::LeftParenthesis) {
+            if depth == 0 {
+                return (back(at, 1), commas);
+            }
+            depth = depth.saturating_sub(1);
+        }
+    }
+    (usize::MAX, 0)
+}
+
+/// What is said of a function of the language with too few or too many arguments, after its name.
+fn call_sentence<'t>(tokens: &[Token<'t>], place: usize) -> Option<(&'t [u8], &'static str)> {
+    let (called, commas) = enclosing(tokens, place);
+    let function = written(tokens, called);
+    let number = place_in(&OWN_FUNCTIONS, function)?;
+    let here = kind_of(tokens, place);
+    let ends = same_kind(here, TokenKind::RightParenthesis);
+    let goes_on = same_kind(here, TokenKind::Comma);
+    if number < 8 && ends && commas == 0 {
+        Some((function, " takes two geometries, with a comma between them"))
+    } else if number < 8 && goes_on && commas >= 1 {
+        Some((function, " takes two geometries: leave the rest out"))
+    } else if number == 8 && (ends || (commas == 2 && !goes_on)) {
+        Some((
+            function,
+            " takes two geometries and a pattern, as 'T*F**F***'",
+        ))
+    } else if 9 <= number && number < 12 && goes_on {
+        Some((function, " takes one geometry: leave the rest out"))
+    } else {
+        None
     }
 }
 

@@ -22,6 +22,8 @@ mod row_tests;
 #[cfg(test)]
 mod step_tests;
 #[cfg(test)]
+mod table_explanation_tests;
+#[cfg(test)]
 mod table_tests;
 #[cfg(test)]
 mod tables;

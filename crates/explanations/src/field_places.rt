@@ -1,0 +1,282 @@
+//! Where the records and the fields of a CSV text begin.
+
+ghost use Rattle.std.specs.Prelude.{◌≡◌, ◌<◌, ◌≤◌, ◌+◌, ◌++◌, IfSome, length, take};
+ghost use Rattle.csv.specs.Machine.{in_field, start_field, start_record};
+ghost use Rattle.csv.specs.declared.parser.State.TheVariants as st;
+ghost use Rattle.csv.specs.Reading.{default_config};
+ghost use Rattle.explanations.specs.Fields.{IsFieldPlace, IsRecordEnd};
+ghost use Rattle.explanations.specs.Fields as spec;
+
+/// Where the reading of a CSV text is.
+#[derive(Clone, Copy, Debug, PartialEq, Eq)]
+pub(crate) enum Reading {
+    /// Where a record begins, or a blank line.
+    RecordStart,
+    /// After a carriage return that ended a record.
+    AfterReturn,
+    /// Where a field begins, after a comma.
+    FieldStart,
+    /// In a field, outside quotes.
+    Plain,
+    /// In quotes.
+    Quoted,
+    /// After a quote in quotes: it ends them, or is the first of two that mean one.
+    QuoteEnd,
+}
+
+/// Where the reading of a CSV text is, how many records it has ended, and how many fields of the record that it is in.
+#[derive(Clone, Copy, Debug)]
+pub(crate) struct Cursor {
+    pub(crate) reading: Reading,
+    pub(crate) records: usize,
+    pub(crate) fields: usize,
+}
+
+impl Cursor {
+    /// Before the first byte of a text.
+    pub(crate) fn new() -> Cursor
+        ensures { spec.cursor result ≡ spec.first_cursor }
+    {
+        Cursor {
+            reading: Reading::RecordStart,
+            records: 0,
+            fields: 0,
+        }
+    }
+
+    /// After one byte more.
+    pub(crate) fn after(self, byte: u8) -> Cursor
+        requires few { (self.records < spec.most) × (self.fields < spec.most) }
+        ensures { spec.cursor result ≡ spec.moved (spec.cursor self) byte }
+    {
+        match self.reading {
+            Reading::RecordStart => self.at_record_start(byte),
+            Reading::AfterReturn => self.after_return(byte),
+            Reading::FieldStart => self.at_field_start(byte),
+            Reading::Plain => self.in_field(byte),
+            Reading::Quoted => self.in_quotes(byte),
+            Reading::QuoteEnd => self.after_quote(byte),
+        }
+    }
+
+    /// The same, reading on in this way.
+    fn on(self, reading: Reading) -> Cursor
+        ensures { spec.cursor result ≡ (spec.state_of reading, self.records, self.fields) }
+    {
+        Cursor { reading, ..self }
+    }
+
+    /// Where the next record may begin.
+    fn at_next_record(self, reading: Reading) -> Cursor
+        requires { self.records < spec.most }
+        ensures { spec.cursor result ≡ (spec.state_of reading, self.records + 1, 0) }
+    {
+        Cursor {
+            reading,
+            records: self.records + 1,
+            fields: 0,
+        }
+    }
+
+    /// After a byte outside quotes.
+    fn in_field(self, byte: u8) -> Cursor
+        requires few { (self.records < spec.most) × (self.fields < spec.most) }
+        ensures { spec.cursor result ≡ spec.after_step (in_field default_config byte) (spec.cursor self) }
+    {
+        if byte == b',' {
+            return Cursor {
+                reading: Reading::FieldStart,
+                records: self.records,
+                fields: self.fields + 1,
+            };
+        }
+        if byte == b'\r' {
+            return self.at_next_record(Reading::AfterReturn);
+        }
+        if byte == b'\n' {
+            return self.at_next_record(Reading::RecordStart);
+        }
+        self.on(Reading::Plain)
+    }
+
+    /// After a byte where a field begins.
+    fn at_field_start(self, byte: u8) -> Cursor
+        requires few { (self.records < spec.most) × (self.fields < spec.most) }
+        ensures { spec.cursor result ≡ spec.after_step (start_field default_config byte) (spec.cursor self) }
+    {
+        if byte == b'"' {
+            return self.on(Reading::Quoted);
+        }
+        self.in_field(byte)
+    }
+
+    /// After a byte where a record may begin.
+    fn at_record_start(self, byte: u8) -> Cursor
+        requires few { (self.records < spec.most) × (self.fields < spec.most) }
+        ensures { spec.cursor result ≡ spec.after_step (start_record default_config byte) (spec.cursor self) }
+    {
+        if byte == b'\r' || byte == b'\n' {
+            return self.on(Reading::RecordStart);
+        }
+        self.at_field_start(byte)
+    }
+
+    /// After a byte behind the carriage return of a record's end.
+    fn after_return(self, byte: u8) -> Cursor
+        requires few { (self.records < spec.most) × (self.fields < spec.most) }
+        requires returned { spec.state_of self.reading ≡ st.AfterCr }
+        ensures { spec.cursor result ≡ spec.moved (spec.cursor self) byte }
+    {
+        if byte == b'\n' {
+            return self.on(Reading::RecordStart);
+        }
+        self.at_record_start(byte)
+    }
+
+    /// After a byte in quotes.
+    fn in_quotes(self, byte: u8) -> Cursor
+        requires { spec.state_of self.reading ≡ st.InQuoted }
+        ensures { spec.cursor result ≡ spec.moved (spec.cursor self) byte }
+    {
+        if byte == b'"' {
+            return self.on(Reading::QuoteEnd);
+        }
+        self
+    }
+
+    /// After a byte behind a quote in quotes.
+    fn after_quote(self, byte: u8) -> Cursor
+        requires few { (self.records < spec.most) × (self.fields < spec.most) }
+        requires quote { spec.state_of self.reading ≡ st.AfterQuote }
+        ensures { spec.cursor result ≡ spec.moved (spec.cursor self) byte }
+    {
+        if byte == b'"' {
+            return self.on(Reading::Quoted);
+        }
+        self.in_field(byte)
+    }
+
+    /// Whether this byte begins a field.
+    fn begins(self, byte: u8) -> bool
+        ensures { result ≡ spec.begins_field (spec.state_of self.reading) byte }
+    {
+        match self.reading {
+            Reading::FieldStart => true,
+            Reading::RecordStart | Reading::AfterReturn => !(byte == b'\r' || byte == b'\n'),
+            Reading::Plain | Reading::Quoted | Reading::QuoteEnd => false,
+        }
+    }
+
+    /// Whether a field begins here, even if no byte is behind.
+    fn is_field_start(self) -> bool
+        ensures { result ≡ spec.is_field_start (spec.state_of self.reading) }
+    {
+        match self.reading {
+            Reading::FieldStart => true,
+            Reading::RecordStart
+            | Reading::AfterReturn
+            | Reading::Plain
+            | Reading::Quoted
+            | Reading::QuoteEnd => false,
+        }
+    }
+
+    /// Whether this byte ends the record.
+    fn ends(self, byte: u8) -> bool
+        ensures { result ≡ spec.ends_record (spec.state_of self.reading) byte }
+    {
+        match self.reading {
+            Reading::FieldStart | Reading::Plain | Reading::QuoteEnd => {
+                byte == b'\r' || byte == b'\n'
+            }
+            Reading::RecordStart | Reading::AfterReturn | Reading::Quoted => false,
+        }
+    }
+}
+
+/// The text after a byte order mark, if it begins with one.
+pub(crate) fn after_mark(text: &[u8]) -> &[u8]
+    ensures value { result.now ≡ spec.without_mark text.now }
+    ensures within { length result.now ≤ length text.now }
+{
+    if text.len() >= 3 && text[0] == 0xef && text[1] == 0xbb && text[2] == 0xbf {
+        return &text[3..];
+    }
+    text
+}
+
+/// The cursor after one byte more of a text.
+#[tactic(auto, using(crate::proofs::FieldLemmas::read_on))]
+fn read_more(body: &[u8], at: usize, cursor: Cursor) -> Cursor
+    requires within { at < length body.now }
+    requires before { spec.cursor cursor ≡ spec.read (take at body.now) }
+    requires few { (cursor.records ≤ at) × (cursor.fields ≤ at) }
+    ensures after { spec.cursor result ≡ spec.read (take (at + 1) body.now) }
+    ensures few { (result.records ≤ at + 1) × (result.fields ≤ at + 1) }
+{
+    cursor.after(body[at])
+}
+
+/// The place where a field of a record begins, each counted from 0; the header is record 0.
+pub(crate) fn field_place(body: &[u8], number: usize, field: usize) -> Option<usize>
+    ensures place { IfSome result (IsFieldPlace body.now number field) }
+    ensures within { IfSome result (λ place. place ≤ length body.now) }
+{
+    let mut cursor = Cursor::new();
+    for at in 0..body.len() {
+        if cursor.records == number && cursor.fields == field && cursor.begins(body[at]) {
+            return Some(at);
+        }
+        cursor = read_more(body, at, cursor);
+    }
+    if cursor.records == number && cursor.fields == field && cursor.is_field_start() {
+        return Some(body.len());
+    }
+    None
+}
+
+/// The place where a record ends: that of the byte that ends it, or the text's end.
+pub(crate) fn record_end(body: &[u8], number: usize) -> Option<usize>
+    ensures place { IfSome result (IsRecordEnd body.now number) }
+    ensures within { IfSome result (λ place. place ≤ length body.now) }
+{
+    let mut cursor = Cursor::new();
+    for at in 0..body.len() {
+        if cursor.records == number && cursor.ends(body[at]) {
+            return Some(at);
+        }
+        cursor = read_more(body, at, cursor);
+    }
+    if cursor.records == number {
+        return Some(body.len());
+    }
+    None
+}
+
+/// The most bytes of a field, its quotes counted.
+const FIELD_BYTES: usize = 1 << 20;
+
+/// The first field that has more bytes than a field may have: the number of its record, and its own in it.
+pub(crate) fn long_field(body: &[u8]) -> Option<(usize, usize)> {
+    let mut cursor = Cursor::new();
+    let mut from = 0;
+    for at in 0..body.len() {
+        if cursor.begins(body[at]) {
+            from = at;
+        }
+        cursor = cursor.after(body[at]);
+        if at.saturating_sub(from) >= FIELD_BYTES {
+            return Some((cursor.records, cursor.fields));
+        }
+    }
+    None
+}
+
+/// Whether a text ends in quotes that aren't closed, in this record.
+pub(crate) fn ends_in_quotes(body: &[u8], number: usize) -> bool {
+    let mut cursor = Cursor::new();
+    for at in 0..body.len() {
+        cursor = cursor.after(body[at]);
+    }
+    cursor.records == number && cursor.reading == Reading::Quoted
+}

@@ -1,0 +1,452 @@
+//! Notes on queries that are accepted and mean something else than most readers think.
+
+ghost use Rattle.std.specs.Prelude.{◌≡◌, IfOk};
+ghost use Rattle.explanations.specs.Notes.{AddsNote, AreNotes, IsNote, IsNoteAt};
+ghost use Rattle.explanations.specs.Notes as spec;
+
+use crate::marks::marked;
+use crate::named_tables::{
+    Named, arguments, byte_of, column_at, found_column, function_at, named_tables, type_at,
+};
+use crate::parts::{first, is, joined, shown};
+use crate::query_words::OWN_FUNCTIONS;
+use crate::token_lists::{back, kind_of, written};
+use itoa::Buffer;
+use sql_text::Schema;
+use sql_text::lex::{lex, same_kind};
+use std::alloc::{AllocError, Global};
+use table_model::tokens::{Token, TokenKind};
+
+/// How many pairs of rows two tables may have that no condition joins, without a note.
+const PAIRS: usize = 1_000_000;
+
+/// A note: the byte of the query that it speaks of, and its sentence.
+#[derive(Drop)]
+struct Note {
+    at: usize,
+    sentence: Vec<u8>,
+}
+
+/// Notes on an accepted query over the tables of a schema, of which these are the numbers of rows, in the schema's order: an alias that
+/// others take for a word of JOIN, a comparison of texts that are digits, one with NULL, a predicate that never holds for the types of
+/// its columns, and two tables with more than 1,000,000 pairs of rows that no condition joins. Of each note there are the two lines that
+/// show its place, and a sentence; the first two are taken. At Err memory ran out (which notes: this project's choice).
+pub fn query_notes(
+    alloc: Global,
+    text: &[u8],
+    schema: &Schema,
+    rows: &[usize],
+) -> Result<Vec<u8>, AllocError>
+    ensures { IfOk result (λ notes. AreNotes text.now notes.items) }
+{
+    let (first, second) = found_notes(alloc, text, schema, rows)?;
+    let notes = noted(alloc, text, first)?;
+    with_note(alloc, text, notes, second)
+}
+
+/// These lines, and those of a note behind them.
+fn with_note(
+    alloc: Global,
+    text: &[u8],
+    before: Vec<u8>,
+    note: Option<Note>,
+) -> Result<Vec<u8>, AllocError>
+    ensures { IfOk result (λ notes. AddsNote text.now before.items notes.items) }
+{
+    let more = noted(alloc, text, note)?;
+    let mut notes = before;
+    notes.extend_from_slice(more.as_slice())?;
+    Ok(notes)
+}
+
+/// The lines of a note; none, if there is none.
+fn noted(alloc: Global, text: &[u8], note: Option<Note>) -> Result<Vec<u8>, AllocError>
+    ensures { IfOk result (λ lines. IsNote text.now lines.items) }
+{
+    match note {
+        None => Ok(Vec::new(alloc)),
+        Some(note) => lines_of_note(alloc, text, note.at, note.sentence.as_slice()),
+    }
+}
+
+/// The two lines that show a place, and the line of a note.
+fn lines_of_note(
+    alloc: Global,
+    text: &[u8],
+    at: usize,
+    sentence: &[u8],
+) -> Result<Vec<u8>, AllocError>
+    ensures { IfOk result (λ lines. IsNoteAt text.now at lines.items) }
+{
+    let mut lines = marked(alloc, text, at)?;
+    let line = note_line(alloc, sentence)?;
+    lines.extend_from_slice(line.as_slice())?;
+    Ok(lines)
+}
+
+/// The line of a note.
+fn note_line(alloc: Global, sentence: &[u8]) -> Result<Vec<u8>, AllocError>
+    ensures { IfOk result (λ line. line.items ≡ spec.noted sentence.now) }
+{
+    let mut line = Vec::from_slice(alloc, b"sfq: note: ")?;
+    line.extend_from_slice(sentence)?;
+    line.extend_from_slice(b"\n")?;
+    Ok(line)
+}
+
+/// The first two notes, in the order of the query.
+fn found_notes(
+    alloc: Global,
+    text: &[u8],
+    schema: &Schema,
+    rows: &[usize],
+) -> Result<(Option<Note>, Option<Note>), AllocError> {
+    let list = lex(alloc, text, true)?;
+    let tokens = list.as_slice();
+    let tables = named_tables(alloc, tokens, schema)?;
+    let mut found: Option<Note> = None;
+    for place in 0..tokens.len() {
+        if let Some(note) = note_at(alloc, tokens, place, tables.as_slice(), rows)? {
+            if found.is_some() {
+                return Ok((found, Some(note)));
+            }
+            found = Some(note);
+        }
+    }
+    Ok((found, None))
+}
+
+/// The note on the token at a place.
+fn note_at(
+    alloc: Global,
+    tokens: &[Token<'_>],
+    place: usize,
+    tables: &[Named<'_, '_>],
+    rows: &[usize],
+) -> Result<Option<Note>, AllocError> {
+    if let Some(sentence) = alias_sentence(alloc, tokens, place, tables)? {
+        return note_of(byte_of(tokens, place), sentence);
+    }
+    if let Some(sentence) = pairs_sentence(alloc, tokens, place, tables, rows)? {
+        return note_of(byte_of(tokens, place), sentence);
+    }
+    if let Some(function) = function_at(tokens, place)
+        && function < 10
+        && let Some(sentence) = never_sentence(alloc, tokens, place, tables, function)?
+    {
+        return note_of(byte_of(tokens, place), sentence);
+    }
+    if is_order(kind_of(tokens, place))
+        && let Some(text) = digits_beside(tokens, place)
+    {
+        let sentence = text_sentence(alloc, written(tokens, text))?;
+        return note_of(byte_of(tokens, text), sentence);
+    }
+    if compares(kind_of(tokens, place)) && is_null_beside(tokens, place) {
+        let sentence = joined(alloc, &[null_words(kind_of(tokens, place)).as_bytes()])?;
+        return note_of(byte_of(tokens, operand_before(tokens, place)), sentence);
+    }
+    Ok(None)
+}
+
+/// A note of this sentence.
+fn note_of(at: usize, sentence: Vec<u8>) -> Result<Option<Note>, AllocError> {
+    Ok(Some(Note { at, sentence }))
+}
+
+// ---- aliases
+
+/// The sentence of an alias that is a word of JOIN elsewhere, and comes before JOIN.
+fn alias_sentence(
+    alloc: Global,
+    tokens: &[Token<'_>],
+    place: usize,
+    tables: &[Named<'_, '_>],
+) -> Result<Option<Vec<u8>>, AllocError> {
+    let alias = written(tokens, place);
+    let next = place.saturating_add(1);
+    let Some(words) = join_words(alias) else {
+        return Ok(None);
+    };
+    if !same_kind(kind_of(tokens, next), TokenKind::Join) {
+        return Ok(None);
+    }
+    for table in tables {
+        if table.alias == Some(place) {
+            let alias = shown(alloc, alias)?;
+            let name = shown(alloc, table.table)?;
+            return Ok(Some(joined(
+                alloc,
+                &[
+                    alias.as_slice(),
+                    b" is an alias of ",
+                    name.as_slice(),
+                    words.as_bytes(),
+                ],
+            )?));
+        }
+    }
+    Ok(None)
+}
+
+/// What is said of an alias that is a word of JOIN elsewhere.
+fn join_words(alias: &[u8]) -> Option<&'static str> {
+    if is(alias, "LEFT") || is(alias, "RIGHT") || is(alias, "FULL") || is(alias, "OUTER") {
+        Some(" here: JOIN gives the rows that have a partner")
+    } else if is(alias, "NATURAL") {
+        Some(" here: the rows are those for which ON holds")
+    } else {
+        None
+    }
+}
+
+// ---- pairs
+
+/// The sentence of two tables that no condition joins, at the name of the second, where they have many pairs of rows.
+fn pairs_sentence(
+    alloc: Global,
+    tokens: &[Token<'_>],
+    place: usize,
+    tables: &[Named<'_, '_>],
+    rows: &[usize],
+) -> Result<Option<Vec<u8>>, AllocError> {
+    if tables.len() != 2 || tables[1].at != byte_of(tokens, place) {
+        return Ok(None);
+    }
+    let (left, right) = (tables[0], tables[1]);
+    if left.place >= rows.len() || right.place >= rows.len() || are_joined(tokens, tables) {
+        return Ok(None);
+    }
+    let (many, more) = (rows[left.place], rows[right.place]);
+    if many.saturating_mul(more) <= PAIRS {
+        return Ok(None);
+    }
+    let first = shown(alloc, left.name)?;
+    let second = shown(alloc, right.name)?;
+    let mut number = Buffer::new();
+    let mut other = Buffer::new();
+    Ok(Some(joined(
+        alloc,
+        &[
+            b"no condition joins ",
+            first.as_slice(),
+            b" and ",
+            second.as_slice(),
+            b": each of ",
+            number.format(many).as_bytes(),
+            b" rows meets each of ",
+            other.format(more).as_bytes(),
+        ],
+    )?))
+}
+
+/// Whether one comparison or predicate has columns of both tables: it is between two words of conditions.
+fn are_joined(tokens: &[Token<'_>], tables: &[Named<'_, '_>]) -> bool {
+    let mut inside = false;
+    let mut left = false;
+    let mut right = false;
+    for place in 0..tokens.len() {
+        let kind = tokens[place].kind;
+        let begins = same_kind(kind, TokenKind::Where) || same_kind(kind, TokenKind::On);
+        inside = inside || begins;
+        if begins || same_kind(kind, TokenKind::And) || same_kind(kind, TokenKind::Or) {
+            left = false;
+            right = false;
+        }
+        if inside
+            && !same_kind(kind_of(tokens, back(place, 1)), TokenKind::Point)
+            && let Some(column) = column_at(tokens, place)
+            && let Some((table, _)) = found_column(tables, column)
+        {
+            left = left || table == 0;
+            right = right || table == 1;
+        }
+        if left && right {
+            return true;
+        }
+    }
+    false
+}
+
+// ---- predicates
+
+/// The sentence of a predicate that never holds for the types of its arguments.
+fn never_sentence(
+    alloc: Global,
+    tokens: &[Token<'_>],
+    place: usize,
+    tables: &[Named<'_, '_>],
+    function: usize,
+) -> Result<Option<Vec<u8>>, AllocError> {
+    let (left, right) = arguments(tokens, place);
+    let Some(left) = type_at(tokens, left, tables) else {
+        return Ok(None);
+    };
+    let Some(right) = type_at(tokens, right, tables) else {
+        return Ok(None);
+    };
+    if !never_holds(function, left, right) {
+        return Ok(None);
+    }
+    let name = shown(alloc, written(tokens, place))?;
+    Ok(Some(joined(
+        alloc,
+        &[
+            name.as_slice(),
+            b" never holds of a ",
+            left,
+            b" and a ",
+            right,
+        ],
+    )?))
+}
+
+/// The dimension of the geometries of a type.
+fn dimension(name: &[u8]) -> u8 {
+    if is(name, "POINT") || is(name, "MULTIPOINT") {
+        0
+    } else if is(name, "LINESTRING") || is(name, "MULTILINESTRING") {
+        1
+    } else {
+        2
+    }
+}
+
+/// Whether a predicate, by its place in the list of functions, never holds of two geometries of these types.
+fn never_holds(function: usize, left: &[u8], right: &[u8]) -> bool {
+    let (one, two) = (dimension(left), dimension(right));
+    let has_point = is(left, "POINT") || is(right, "POINT");
+    if function >= 14 {
+        false
+    } else if is(OWN_FUNCTIONS[function], "ST_Touches") {
+        one == 0 && two == 0
+    } else if is(OWN_FUNCTIONS[function], "ST_Crosses") {
+        has_point || (one == two && one != 1)
+    } else if is(OWN_FUNCTIONS[function], "ST_Overlaps") {
+        has_point || one != two
+    } else if is(OWN_FUNCTIONS[function], "ST_Contains") {
+        one < two
+    } else if is(OWN_FUNCTIONS[function], "ST_Within") {
+        one > two
+    } else {
+        false
+    }
+}
+
+// ---- comparisons
+
+/// Whether a token compares by order.
+fn is_order(kind: TokenKind) -> bool {
+    same_kind(kind, TokenKind::Less)
+        || same_kind(kind, TokenKind::LessOrEqual)
+        || same_kind(kind, TokenKind::Greater)
+        || same_kind(kind, TokenKind::GreaterOrEqual)
+}
+
+/// Whether a token compares.
+fn compares(kind: TokenKind) -> bool {
+    is_order(kind) || same_kind(kind, TokenKind::Equal) || same_kind(kind, TokenKind::NotEqual)
+}
+
+/// The place of a string of digits beside the sign at a place.
+fn digits_beside(tokens: &[Token<'_>], place: usize) -> Option<usize> {
+    let next = place.saturating_add(1);
+    let before = back(place, 1);
+    if same_kind(kind_of(tokens, next), TokenKind::Text) && is_number(written(tokens, next)) {
+        Some(next)
+    } else if same_kind(kind_of(tokens, before), TokenKind::Text)
+        && is_number(written(tokens, before))
+    {
+        Some(before)
+    } else {
+        None
+    }
+}
+
+/// Whether a text is digits, at least one.
+fn is_number(text: &[u8]) -> bool {
+    !text.is_empty() && text.iter().all(|byte| byte.is_ascii_digit())
+}
+
+/// The sentence of a text of digits that is compared by order, with a number that comes elsewhere than its value does.
+fn text_sentence(alloc: Global, text: &[u8]) -> Result<Vec<u8>, AllocError> {
+    let name = shown(alloc, text)?;
+    let mut sentence = joined(
+        alloc,
+        &[
+            b"'",
+            name.as_slice(),
+            b"' is a text, and texts are compared byte by byte",
+        ],
+    )?;
+    let Some(words) = order_words(text) else {
+        return Ok(sentence);
+    };
+    sentence.extend_from_slice(words.as_bytes())?;
+    sentence.extend_from_slice(name.as_slice())?;
+    sentence.extend_from_slice(b"'")?;
+    Ok(sentence)
+}
+
+/// Which number comes elsewhere than its value does, beside a text of digits.
+fn order_words(text: &[u8]) -> Option<&'static str> {
+    let begins = first(text);
+    if begins == b'0' || text.len() > 18 {
+        None
+    } else if text.len() > 1 && begins < b'9' {
+        Some(": '9' comes after '")
+    } else if text.len() == 1 && begins > b'1' {
+        Some(": '10' comes before '")
+    } else {
+        None
+    }
+}
+
+/// Whether NULL is beside the sign at a place.
+fn is_null_beside(tokens: &[Token<'_>], place: usize) -> bool {
+    same_kind(kind_of(tokens, place.saturating_add(1)), TokenKind::Null)
+        || same_kind(kind_of(tokens, back(place, 1)), TokenKind::Null)
+}
+
+/// What is said of a comparison with NULL.
+fn null_words(kind: TokenKind) -> &'static str {
+    if same_kind(kind, TokenKind::NotEqual) {
+        "a comparison with NULL never holds: write IS NOT NULL"
+    } else {
+        "a comparison with NULL never holds: write IS NULL"
+    }
+}
+
+/// The place of the first token of the operand before the sign at a place.
+fn operand_before(tokens: &[Token<'_>], place: usize) -> usize {
+    let before = back(place, 1);
+    if same_kind(kind_of(tokens, before), TokenKind::RightParenthesis) {
+        return call_before(tokens, before);
+    }
+    if same_kind(kind_of(tokens, back(place, 2)), TokenKind::Point)
+        || same_kind(kind_of(tokens, back(place, 2)), TokenKind::Minus)
+    {
+        if same_kind(kind_of(tokens, back(place, 2)), TokenKind::Minus) {
+            return back(place, 2);
+        }
+        return back(place, 3);
+    }
+    before
+}
+
+/// The place of the word of the call that ends at a place.
+fn call_before(tokens: &[Token<'_>], place: usize) -> usize {
+    let mut depth: usize = 0;
+    for count in 1..place.saturating_add(1) {
+        let kind = kind_of(tokens, back(place, count));
+        if same_kind(kind, TokenKind::RightParenthesis) {
+            depth = depth.saturating_add(1);
+        } else if same_kind(kind, TokenKind::LeftParenthesis) {
+            if depth == 0 {
+                return back(place, count.saturating_add(1));
+            }
+            depth = depth.saturating_sub(1);
+        }
+    }
+    place
+}

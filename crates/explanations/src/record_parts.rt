@@ -1,0 +1,115 @@
+//! The fields of a record of a CSV text, as they are written, and what they mean.
+
+use crate::field_places::{Reading, field_place, record_end};
+use crate::parts::{first, front, last, rest};
+use std::alloc::{AllocError, Global};
+
+/// A record, as it is written, without what ends it; nothing, if it isn't there. The header is record 0.
+pub(crate) fn record_at(body: &[u8], number: usize) -> &[u8] {
+    match field_place(body, number, 0) {
+        Some(from) => match record_end(body, number) {
+            Some(to) => rest(front(body, to), from),
+            None => &[],
+        },
+        None => &[],
+    }
+}
+
+/// Whether a byte ends a field.
+fn ends_field(reading: Reading, byte: u8) -> bool {
+    reading != Reading::Quoted && byte == b','
+}
+
+/// How a field is read on after a byte of it.
+fn within_field(reading: Reading, byte: u8) -> Reading {
+    match reading {
+        Reading::FieldStart | Reading::QuoteEnd if byte == b'"' => Reading::Quoted,
+        Reading::Quoted if byte == b'"' => Reading::QuoteEnd,
+        Reading::Quoted => Reading::Quoted,
+        _ => Reading::Plain,
+    }
+}
+
+/// The place in a record where the field ends that begins at another.
+fn field_end(record: &[u8], from: usize) -> usize {
+    let mut reading = Reading::FieldStart;
+    for at in from..record.len() {
+        if ends_field(reading, record[at]) {
+            return at;
+        }
+        reading = within_field(reading, record[at]);
+    }
+    record.len()
+}
+
+/// The fields of a record, as they are written, but at most so many.
+pub(crate) fn fields_of<'t>(
+    alloc: Global,
+    record: &'t [u8],
+    most: usize,
+) -> Result<Vec<&'t [u8]>, AllocError> {
+    let mut fields = Vec::new(alloc);
+    let mut from = 0;
+    for _ in 0..most {
+        let end = field_end(record, from);
+        fields.push(rest(front(record, end), from))?;
+        if end >= record.len() {
+            return Ok(fields);
+        }
+        from = end.saturating_add(1);
+    }
+    Ok(fields)
+}
+
+/// How many fields a record has.
+pub(crate) fn field_count(record: &[u8]) -> usize {
+    let mut count: usize = 1;
+    let mut reading = Reading::FieldStart;
+    for byte in record {
+        if ends_field(reading, *byte) {
+            count = count.saturating_add(1);
+            reading = Reading::FieldStart;
+        } else {
+            reading = within_field(reading, *byte);
+        }
+    }
+    count
+}
+
+/// A field without its quotes, each doubled quote being one.
+pub(crate) fn unquoted(alloc: Global, field: &[u8]) -> Result<Vec<u8>, AllocError> {
+    if first(field) != b'"' {
+        return Vec::from_slice(alloc, field);
+    }
+    let mut text = Vec::new(alloc);
+    let mut reading = Reading::FieldStart;
+    for byte in field {
+        let is_mark = *byte == b'"' && reading != Reading::QuoteEnd && reading != Reading::Plain;
+        if !is_mark {
+            text.push(*byte)?;
+        }
+        reading = within_field(reading, *byte);
+    }
+    Ok(text)
+}
+
+/// The name that a field of a header is: what is between its quotes, if it has some.
+pub(crate) fn name_of(field: &[u8]) -> &[u8] {
+    if first(field) == b'"' && last(field) == b'"' && field.len() >= 2 {
+        return rest(front(field, field.len() - 1), 1);
+    }
+    field
+}
+
+/// The field that a text begins with, up to the comma or the end of a line behind it.
+pub(crate) fn field_from(text: &[u8]) -> &[u8] {
+    let mut reading = Reading::FieldStart;
+    for (at, byte) in text.iter().enumerate() {
+        let ends_line = *byte == b'\r' || *byte == b'\n';
+        if ends_field(reading, *byte) || (ends_line && reading != Reading::Quoted) {
+            return front(text, at);
+        }
+        reading = within_field(reading, *byte);
+    }
+    text
+}
