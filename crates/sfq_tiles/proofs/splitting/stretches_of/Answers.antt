@@ -19,7 +19,7 @@ returns-in-Err-clause-ending g c =
     let table = c.args.named.now.table.now in
     subst (IsLate files c.args.directory.now (λ t. t ≡ table)) (sym c.copy_ending.ensures)
     (copy_fails files c.args.directory.now table c.as_str-name.result.now _ c.as_str-name.ensures c.in_ok-reader.ensures.bytes
-    c.as_str-name.result c.as_str-name.ensures _ _ c.in-Err.fault (c.in-Err.ensures.fault _ c.new.ensures.all))
+    c.as_str-name.result c.as_str-name.ensures _ _ c.in-Err.fault (c.in-Err.ensures.fault _ c.new-records.ensures.all))
 
 pub returns-clause-written : goal.returns-clause-written
 returns-clause-written g c =
@@ -27,5 +27,5 @@ returns-clause-written g c =
     (g.I.Sources.bytes c.args.sources.now) c.args.directory.now boxes c.args.rows c.args.named.now c.requires _ _
     c.as_str-name.ensures
     c.in_ok-reader.ensures.bytes _ c.as_slice.ensures.value _ _ _ _ _ c.in_ok-texts.ensures
-    (c.in-Ok.ensures.stretches _ c.new.ensures.all)
+    (c.in-Ok.ensures.stretches _ c.new-records.ensures.all)
     c.in_ok-finish.ensures.taken

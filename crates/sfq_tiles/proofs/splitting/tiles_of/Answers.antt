@@ -19,4 +19,4 @@ returns-in-Err-clause-ending g c =
     let table = c.args.named.now.table.now in
     subst (IsLate files c.args.directory.now (λ t. t ≡ table)) (sym c.copy_ending.ensures)
     (copy_fails files c.args.directory.now table c.as_str-name.result.now _ c.as_str-name.ensures c.in_ok-reader.ensures.bytes
-    c.as_str-name.result c.as_str-name.ensures _ _ c.in-Err.fault (c.in-Err.ensures.fault _ c.new.ensures.all))
+    c.as_str-name.result c.as_str-name.ensures _ _ c.in-Err.fault (c.in-Err.ensures.fault _ c.new-records.ensures.all))
