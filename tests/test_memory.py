@@ -14,8 +14,8 @@ from faults import deep, sweeps
 
 # The greatest memory of a run, as the README says it: these bytes, and so many for each byte of the tables, for each byte of
 # the longest field that is written, and for each pair of rows that a join finds before it sorts them; under LIMIT n for at most
-# 2n pairs. A join of hundreds of predicates takes so much more.
-BASE, EACH_BYTE, EACH_WRITTEN, EACH_PAIR, PREDICATES = 8 << 20, 64, 6, 48, 96 << 20
+# 2n pairs.
+BASE, EACH_BYTE, EACH_WRITTEN, EACH_PAIR = 8 << 20, 64, 6, 48
 # Of `pairs` for each byte of the longest record, and of `why` for each point where edges meet.
 EACH_READ, EACH_MEETING = 4, 2048
 
@@ -131,7 +131,7 @@ class Queries(WithFolder):
         both = one.format("p") + one.format("q")
         query = head + both * ((QUERY_BYTES - len(head)) // len(both))
         self.assertGreater(query.count("ST_Equals"), 1200)
-        self.assertEqual(self.query(query, BASE + EACH_BYTE * size + PREDICATES), (b"t.id\n1\n", b"", 0))
+        self.assertEqual(self.query(query, BASE + EACH_BYTE * size), (b"t.id\n1\n", b"", 0))
 
     def comb(self, teeth, upright):
         """A line with so many long teeth, which go up, or to the right."""
@@ -246,9 +246,9 @@ class Readme(unittest.TestCase):
         return re.findall(r"\b(\d[\d,]*) (MiB|KiB|bytes|for each byte)", row[1])
 
     def test_it_has_these_numbers(self):
-        of_runs = [("8", "MiB"), ("64", "bytes"), ("6", "for each byte"), ("48", "bytes"), ("96", "MiB")]
+        of_runs = [("8", "MiB"), ("64", "bytes"), ("6", "for each byte"), ("48", "bytes")]
         self.assertEqual(self.numbers_of("memory of `run` and `check`"), of_runs)
-        self.assertEqual([8 << 20, 64, 6, 48, 96 << 20], [BASE, EACH_BYTE, EACH_WRITTEN, EACH_PAIR, PREDICATES])
+        self.assertEqual([8 << 20, 64, 6, 48], [BASE, EACH_BYTE, EACH_WRITTEN, EACH_PAIR])
         of_others = [("8", "MiB"), ("4", "bytes"), ("2", "KiB")]
         self.assertEqual(self.numbers_of("memory besides"), of_others)
         self.assertEqual([4, 2 << 10], [EACH_READ, EACH_MEETING])
