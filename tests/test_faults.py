@@ -13,9 +13,11 @@ from faults import measures, sweeps
 FEW, ALL = 60, sys.maxsize
 ERRORS = ("EIO", "ENOSPC", "EPIPE", "EAGAIN")
 # What the program calls of the C library: what the sweeps fail, and what no answer depends on. No other call can start a
-# program, open a connection, write a file or read the environment.
+# program, open a connection or write a file. The environment is read for what says whether faults are explained, and in colour; what
+# kind a file has is asked where it is opened once more for that.
 SWEPT = {"malloc", "calloc", "realloc", "read", "write", "open", "open64", "openat", "openat64", "fstat", "fstat64"}
 HARMLESS = {"free", "close", "isatty", "clock_gettime", "memcpy", "memmove", "memset", "memcmp", "bcmp", "strlen"}
+HARMLESS |= {"environ", "getenv", "statx"}
 # What the toolchain's start of a program calls; __write is for a processor that lacks an instruction.
 OF_EACH_PROGRAM = {"__errno_location", "__libc_start_main", "__cxa_finalize", "__sysv_signal", "signal"}
 OF_EACH_PROGRAM |= {"__write", "__x86_get_cpuid_feature_leaf"}

@@ -15,7 +15,7 @@ LINES = {
     6: rf"schema unreadable|{NAME} (?:L11|unreadable)",
 }
 LINES = {status: re.compile(f"sfq: (?:{lines})\n".encode()) for status, lines in LINES.items()}
-# The second line that `check --why` may add, by the code of the first.
+# The second line that `--why` may add of a table, by the code of the first.
 REASONS = {
     "L1": rf"column {NAME} isn't in the header",
     "L2": rf"column {NAME} is in the header more than once",
@@ -30,6 +30,9 @@ REASONS = {
 REASONS = {code: re.compile(f"sfq: (?:{text})\n".encode(), re.DOTALL) for code, text in REASONS.items()}
 # The lines that `check --why` may write of tables that load.
 NOTES = re.compile(rf"(?:sfq: note: {NAME} (?:header|record \d+): field \d+ holds a line end\n)+".encode())
+# What `--why` may add of other faults: the line of a text and a caret below it, and sentences.
+EXPLANATION = re.compile(rb"(?: *\d+ \|[^\n]*\n *\| *\^\n)?(?:sfq: [^\n]*\n)*")
+MOST_LINES, MOST_COLUMNS = 8, 200
 MISUSE, REFUSED = 2, 5
 # The statuses of faults of each command.
 STATUSES = {b"run": (3, 4, 5, 6), b"check": (3, 4, 6), b"relate": (5, 6), b"why": (5, 6), b"pairs": (4, 5, 6), b"fault": (2,)}
@@ -71,16 +74,23 @@ def fault_status(line):
     return next((status for status, form in LINES.items() if form.fullmatch(line)), None)
 
 
+def is_explanation(text):
+    """Whether the text is what `--why` may add to the line of a fault: few lines, none of them long."""
+    lines = text.decode("utf-8", "replace").splitlines()
+    return EXPLANATION.fullmatch(text) is not None and len(lines) <= MOST_LINES and all(len(it) <= MOST_COLUMNS for it in lines)
+
+
 def without_reason(err, words):
-    """Returns standard error without what `check --why` may add: the second line of a fault, or notes of tables that load."""
-    if words[:1] != [b"check"] or b"--why" not in words:
+    """Returns standard error without what `--why` may add: lines behind that of a fault, or notes of tables that load."""
+    if not err or b"--why" not in words:
         return err
-    if NOTES.fullmatch(err):
+    if words[:1] == [b"check"] and NOTES.fullmatch(err):
         return b""
     first, _, rest = err.partition(b"\n")
     code = re.match(rb"sfq: \w+ (L\d+)", first)
     reason = REASONS.get(code[1].decode()) if code else None
-    return first + b"\n" if reason and reason.fullmatch(rest) else err
+    is_added = reason.fullmatch(rest) if reason else is_explanation(rest)
+    return first + b"\n" if is_added else err
 
 
 def wrong_outcome(ran, words):
