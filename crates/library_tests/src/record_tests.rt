@@ -3,7 +3,7 @@
 use csv::ByteRecord;
 use std::alloc::{AllocError, Global};
 use std::test::Fail;
-use streams::{MemorySink, PutFault, RecordWriter};
+use streams::{MemorySink, RecordWriter};
 
 /// A record of two fields.
 fn record(alloc: Global, first: &[u8], second: &[u8]) -> Result<ByteRecord, AllocError> {
@@ -46,39 +46,5 @@ fn bytes_that_mean_something_are_quoted(rt: HostRuntime) -> Result<(), Fail> {
     assert!(rt; writer.put(rt.alloc(), &third, &mut sink).is_ok());
     let lines = b"\"a\nb\",\"c\rd\"\n\"\"\"e\"\" f\",\n\"\"\n";
     assert_eq!(rt; sink.bytes(), lines.as_slice());
-    Ok(())
-}
-
-/// Writes a record field by field.
-fn put_fields(
-    alloc: Global,
-    fields: &[&[u8]],
-    writer: &mut RecordWriter,
-    sink: &mut MemorySink,
-) -> Result<(), PutFault> {
-    for field in fields {
-        writer.put_field(alloc, field, sink)?;
-    }
-    writer.end(alloc, sink)
-}
-
-/// A record that is given field by field has the same text, also where its line is written before it ends.
-#[test]
-fn records_are_put_by_fields(rt: HostRuntime) -> Result<(), Fail> {
-    let long = long_field(rt.alloc())?;
-    let (empty, comma, quote) = (b"".as_slice(), b"a,b".as_slice(), b"\"".as_slice());
-    let mut writer = RecordWriter::new(rt.alloc());
-    let mut sink = MemorySink::new(rt.alloc());
-    for fields in &[
-        &[long.as_slice()].as_slice(),
-        &[long.as_slice(), empty, comma].as_slice(),
-        &[empty].as_slice(),
-        &[empty, quote].as_slice(),
-    ] {
-        assert!(rt; put_fields(rt.alloc(), fields, &mut writer, &mut sink).is_ok());
-    }
-    assert_eq!(rt; sink.bytes().len(), 140_018);
-    assert!(rt; sink.bytes().ends_with(b"x,,\"a,b\"\n\"\"\n,\"\"\"\"\n"));
-    assert!(rt; matches!(sink.bytes().get(70_000), Some(&b'\n')));
     Ok(())
 }
