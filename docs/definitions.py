@@ -61,7 +61,9 @@ PAGE = [
       (G, "CheckedTexts", "valid_or tested")]),
     ("Tokens and schemas",
      "A schema is a list of lawful tables. A relation for each rule of its grammar, and the faults S5, S2, S4 and S3.",
-     [(T, "Tokens", "same_kind is_in_line kind_in word_kind symbol_of_one symbol closing string_to string"
+     [(T, "Texts", "+same_name"),
+      (T, "Phrases", "+IsToken IsWord IsOptional IsParts"),
+      (T, "Tokens", "same_kind is_in_line kind_in word_kind symbol_of_one symbol closing string_to string"
        " front text_of at_front tokens_from text_place IsSlice"),
       (T, "SchemaGrammar", "IsNamed IsMark Marked key_places ReturnsSchema IsNotNull IsPrimaryKey"),
       (T, "Definitions", "is_integer column_names"),
@@ -91,7 +93,9 @@ PAGE = [
        " geometry_binding"),
       (T, "Loading", "GeometryReader and_then unless each is_space_or_tab trimmed number_in place_in"
        " field_under first_fault whole_number double_from insert_by_key keyed_rows rows_of filled_value is_number values_of"),
-      (T, "Databases", "at_table fits_type fits_columns loaded_tables")]),
+      (T, "Databases", "at_table fits_type fits_columns loaded_tables"),
+      ("feature_table", "Records", "+records_in"),
+      ("feature_table", "Tables", "+AreRecordsOf EachRecordsOf EarlierLoad")]),
     ("Truth and meaning",
      "Truth has three values. The meaning of a query is the rows of the product of its tables at which ON"
      " and WHERE are true.",
@@ -107,6 +111,7 @@ PAGE = [
        " answer_work query_work loaded_work work_outcome IsReached RefusesTable none_reached Counts IsOfTables"
        " PutsFront ReturnsQuery CountsQuery"),
       (T, "Outcomes", ""),
+      ("streams", "Sinks", "+AppendsFront"),
       (T, "FaultLines", "memory_text")]),
     ("Plans and work",
      "Only EXPLAIN and EXPLAIN ANALYZE show these. The rows of an answer don't depend on them.",
@@ -131,6 +136,19 @@ WHY = [
       ("witnesses", "Places", "+IsClashOf IsMeetingOf"),
       ("witnesses", "FaultPlaces", "IsMeetingWithOne MeetsOne"),
       ("witnesses", "Verdicts", "IsFirstFaultIn")]),
+    ("Which one is shown",
+     "Where several show a cell or a fault, the first is shown: of a cell by the ascending order of the cut points and"
+     " pieces of both geometries, of a fault by that of rings and edges.",
+     [("geometry_model", "CutPoints", "+cut_points"),
+      ("geometry_model", "Pieces", "+Piece pieces sample"),
+      ("geometry_model", "Labels", "+below above SideLabels side_labels Labels edges_of_both cuts_of_both is_pair is_side_pair labels"),
+      ("side_labels", "Noding", "+pieces_of_both"),
+      ("geometry_laws", "CoverLaws", "+IsStraightOver IsLower"),
+      ("geometry_laws", "FaceLaws", "+IsOnTheWayUp IsOnTheWayDown SeesUp SeesDown"),
+      ("witnesses", "FarPoints", "+Reaches"),
+      ("witnesses", "FirstWitnesses", ""),
+      ("witnesses", "Places", "+ClashesWith IsFirstClashWith IsFirstClash MeetsWith IsFirstMeetingWith IsFirstMeeting"),
+      ("witnesses", "FirstPlaces", "")]),
     ("The lines that are written",
      "Nine lines of witnesses, or one of a verdict. A coordinate is a fraction in least form.",
      [("witnesses", "PointTexts", "piece_text"),
@@ -149,7 +167,8 @@ LIBRARY = [
       ("library_calls", "ArrayLaws", "")]),
     ("Kept geometries",
      "What calls return of geometries that the caller keeps, and what is owned of them.",
-     [("library_calls", "Kept", "position"),
+     [("geometry_model", "Envelopes", "overlap meets"),
+      ("library_calls", "Kept", "position"),
       ("library_calls", "Numbers", ""),
       ("library_calls", "Meeting", ""),
       ("library_calls", "Keeping", "")]),
@@ -207,7 +226,7 @@ SHOWN = ["IsPoint", "side", "on", "IsInterior", "IsBoundary", "IsExterior", "Has
          "IsMatrix", "GivesMatrix", "crosses", "holds", "IsValid", "Spells", "IsQuery", "and_of", "related", "truth_by_parts",
          "truth", "search_condition", "filtered", "meaning", "answer", "outcome", "ByEveryMatrix", "RunsOver", "in_order",
          "HoldsStretch", "IsFacePoint", "IsOff", "IsShownBy", "ShowsAll", "IsMeeting", "IsClashOf", "IsMeetingOf",
-         "IsPlaceOf", "IsVerdictOn", "HasMatrix", "HasRelation", "covers", "covered_by", "contains_properly",
+         "IsPlaceOf", "IsVerdictOn", "IsFirstWitness", "IsFirstPlaceOf", "HasMatrix", "HasRelation", "covers", "covered_by", "contains_properly",
          "text_fault_in_numbers", "validity_fault_in_numbers", "fault_in_numbers", "IsMade", "IsTaken", "fits", "LiesAt", "bounds_of", "IsSpelled",
           "CutsGrid", "IsMedian", "IsCutAtMedians", "TiledAnswersAreMeant", "AreMade", "IsWritten", "SplitsParts", "Returns", "ok", "first_refused", "second_refused", "out_of_memory", "unknown", "too_small", "none_there"]
 # Names that the crates of definitions have twice, on one page, each with its file beside it.

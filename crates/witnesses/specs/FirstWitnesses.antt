@@ -14,13 +14,15 @@ use Rattle.witnesses.specs.declared.heights.Side.TheVariants.{Upper, Lower}
 use Rattle.witnesses.specs.declared.witness.Witness.{Witness}
 use Rattle.witnesses.specs.declared.witness.Witness.TheVariants as kinds
 
--- the number of the first piece that has this pair of parts on a side, of the first that has it, and of the first cut point that has it
+-- the number of the first piece that has this pair of parts on a side
 abbrev pub first_side : Geometry → Location → Geometry → Location → Option ℕ
 first_side a l b k = position (is_side_pair l k) (labels a b).of_sides
 
+-- the number of the first piece that has this pair of parts
 abbrev pub first_piece : Geometry → Location → Geometry → Location → Option ℕ
 first_piece a l b k = position (is_pair l k) (labels a b).of_pieces
 
+-- the number of the first cut point that has this pair of parts
 abbrev pub first_point : Geometry → Location → Geometry → Location → Option ℕ
 first_point a l b k = position (is_pair l k) (labels a b).of_points
 
