@@ -220,6 +220,14 @@ class Clauses(unittest.TestCase):
         self.differs("definition changed", ["words/specs/Words.word_count: words = length words -> words = length w"],
                      [("crates/words/specs/Words.antt", "= length words", "= length w")])
 
+    def test_definitions_in_a_module(self):
+        path = "crates/words/specs/Words.antt"
+        more = "\nmodule _ (old new : ℕ)\n    (most : ℕ) where\n  -- no more than there were\n  abbrev pub Keeps : Type 0\n  Keeps = new ≡ old\n"
+        old = {**OLD, path: OLD[path] + more}
+        self.differs("definition changed", ["words/specs/Words.Keeps: = new ≡ old -> = new ≡ most"], [(path, "new ≡ old", "new ≡ most")], old)
+        self.differs("definition changed", ["words/specs/Words.Keeps: ( old new : ℕ ) -> ( new old : ℕ )"], [(path, "old new : ℕ", "new old : ℕ")], old)
+        self.differs("definition gone", ["words/specs/Words.Keeps"], [(path, more, "")], old)
+
     def test_comments_of_definitions(self):
         path = "crates/words/specs/Words.antt"
         comparison = self.compared(OLD, {**OLD, path: OLD[path].replace("-- how many", "-- how many there are")})

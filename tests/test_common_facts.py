@@ -85,6 +85,16 @@ class Parsing(unittest.TestCase):
         self.assertEqual((less.name, less.statement), ("less", " (lt : ℕ → Bool) → (n : ℕ) → lt n ≡ true"))
         self.assertEqual((after.name, after.statement, after.lines[-1]), ("after", "ℕ", "after = 3"))
 
+    def test_a_module_whose_head_has_two_lines(self):
+        text = (f"{HEAD}\nmodule _ {{T : Type 0}}\n    (lt : ℕ → Bool) where\n  -- inside\n  abbrev pub Less : ℕ → Type 0\n  Less n =\n"
+                "      lt n ≡ true\n\n  pub record IsLess (n : ℕ) : Type 0 where\n    pub less : Less n\n\nafter : ℕ\nafter = 3\n")
+        less, record, after = antt.File(text).declarations
+        self.assertEqual((less.name, less.kind, less.is_public), ("Less", "definition", True))
+        self.assertEqual((less.telescope, less.statement), (" {T : Type 0} (lt : ℕ → Bool)", " {T : Type 0} (lt : ℕ → Bool) → ℕ → Type 0"))
+        self.assertEqual(less.lines, ["abbrev pub Less : ℕ → Type 0", "Less n =", "    lt n ≡ true"])
+        self.assertEqual((record.name, record.kind, record.lines[-1]), ("IsLess", "record", "  pub less : Less n"))
+        self.assertEqual((after.name, after.telescope), ("after", ""))
+
     def test_imports(self):
         text = "use A.B.{one, two as three}\nuse A.C as other\npub use A.D.{\n  four,\n  five as six,\n}\n\nfact : one ≡ four\nfact = refl\n"
         file = antt.File(text)

@@ -19,6 +19,8 @@ class Declaration:
     def __init__(self, name: str, is_public: bool, kind: str, statement: str, line: int) -> None:
         self.name, self.is_public, self.kind, self.statement, self.line = name, is_public, kind, statement, line
         self.lines: list[str] = []
+        # What the modules that it is in are over.
+        self.telescope = ""
 
     def text(self) -> str:
         return "\n".join(self.lines)
@@ -44,15 +46,25 @@ class File:
     def read(self, text: str) -> None:
         current: Optional[Declaration] = None
         modules: list[tuple[int, str]] = []
-        inside, use = False, ""
-        for number, whole in enumerate(text.split("\n"), 1):
+        inside, use, head = False, "", ""
+        lines = text.split("\n")
+        for number, whole in enumerate(lines, 1):
             indent = len(whole) - len(whole.lstrip(" "))
             while modules and whole.strip() and indent < modules[-1][0]:
                 modules.pop()
                 current = None
             own = modules[-1][0] if modules else 0
             line = whole[own:]
-            if use or re.match(r"(?:pub )?use ", line):
+            if head or line.startswith("module "):
+                # The head of a module may have several lines, and what is in it any indent.
+                head, current = f"{head} {line.strip()}".strip(), None
+                if head.endswith(" where"):
+                    telescope = re.match(r"module \S+(.*) where$", head)
+                    within = next((it for it in lines[number:] if it.strip()), "")
+                    shared = modules[-1][1] if modules else ""
+                    modules.append((len(within) - len(within.lstrip(" ")), shared + (telescope[1] if telescope else "")))
+                    head = ""
+            elif use or re.match(r"(?:pub )?use ", line):
                 # The names of a long import are on lines of their own.
                 use, current = f"{use} {line.strip()}".strip(), None
                 if "{" not in use or "}" in use:
@@ -69,13 +81,10 @@ class File:
                 inside = False
             elif re.match(r"(?:pub )?(?:mod|infix\w?) ", line):
                 current = None
-            elif line.startswith("module "):
-                telescope = re.match(r"module \S+(.*) where$", line)
-                modules.append((own + 4, (modules[-1][1] if modules else "") + (telescope[1] if telescope else "")))
-                current = None
             else:
                 current, inside = self.read_line(line, number, current, modules[-1][1] if modules else "")
                 if current:
+                    current.telescope = modules[-1][1] if modules else ""
                     current.lines.append(line)
 
     def read_line(

@@ -312,7 +312,8 @@ class Comparison:
                     self.add("new definition", f"{'/'.join(file)}.{it.name}")
 
     def text_of(self, words: Words, file: FileKey, its: antt.File, declaration: antt.Declaration) -> str:
-        return words.form(declaration.text(), {**antt.parts_of(its.imports), **its.imports}, its.modules, file)
+        text = f"{declaration.telescope} {declaration.text()}"
+        return words.form(text, {**antt.parts_of(its.imports), **its.imports}, its.modules, file)
 
     def lines(self) -> list[str]:
         shown = [f"{what}: {it}" for what in WRONG + REPORTED for it in sorted(self.found[what])]
