@@ -221,6 +221,12 @@ TILES = [
       ("sfq_tiles", "Checks", "IsUnread Files IsCheckedAt IsOpenEnding"),
       ("sfq_tiles", "Splits", "header_by tables_by Begins End IsOfPart EndsBefore SplitsFiles"),
       ("sfq_tiles", "Endings", "memory_ending copy_ending")]),
+    ("Columns, texts and lines",
+     "What is copied of a table and of a query over it, what the text of a cell gets, and what is written of a failure.",
+     [("table_laws", "ColumnLaws", "+fields_in narrowed place_among moved moved_condition condition_columns item_column IsNarrowed IsNarrow"),
+      ("tiles", "TileRows", "+IsOfGeometries"),
+      ("tiles", "Texts", "+Texts Grow"),
+      ("failures", "Failures", "+failure_text failure_line failure_status")]),
 ]
 SHOWN = ["IsPoint", "side", "on", "IsInterior", "IsBoundary", "IsExterior", "HasTriangle", "HasDimension", "common",
          "IsMatrix", "GivesMatrix", "crosses", "holds", "IsValid", "Spells", "IsQuery", "and_of", "related", "truth_by_parts",

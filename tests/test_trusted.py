@@ -1,5 +1,6 @@
-"""./build --trusted: the sum of each file that a chain of definitions reaches, and no other, changes what it prints."""
+"""./build --trusted: the sum of each file that a chain of definitions reaches, and no other, changes what it prints; pages have them."""
 import os
+import re
 import shutil
 import subprocess
 import sys
@@ -8,6 +9,7 @@ import unittest
 
 from support import ROOT, read, write
 
+import believed
 import closure
 import repository
 import trusted
@@ -113,11 +115,51 @@ class Trusted(unittest.TestCase):
         if repository.is_built():
             self.assertIn(f"    {repository.sum_of_file(repository.PROGRAM)}  the program sfq", lines)
 
+    def test_the_readme_names_the_libraries_of_the_kit(self):
+        said = re.search(r"the contracts of the kit's ([^.]*)\.", read(f"{ROOT}/README.md"))[1]
+        self.assertEqual(sorted(re.findall(r"`(\w+)`", said)), trusted.kit_libraries())
+
     def test_the_sum_over_all_is_that_of_the_lines_of_sha256sum(self):
         of = list(self.before[NAMES["library"]])
         ran = subprocess.run(["sha256sum", *of], cwd=self.root, capture_output=True, check=True)
         again = subprocess.run(["sha256sum"], input=ran.stdout, capture_output=True, check=True).stdout.decode()
         self.assertEqual(again.split()[0], self.totals(self.before)[NAMES["library"]])
+
+
+class Pages(unittest.TestCase):
+    """What the clauses of calls come down to is on a page, or in a file that has its definition there."""
+
+    # Files that no page has, by why nobody has to read them.
+    LEFT_OUT = {
+        "a law ties these functions to the relations of a page": "geometry_model/TextReading table_model/Parsers table_model/SchemaReading"
+        " table_model/Binding table_model/Statements sfq_tiles/SchemaTexts wkt/TextFaults",
+        "these are of plans, which only EXPLAIN and its work show": "table_model/Candidates table_model/Places",
+        "these name types": "table_model/Queries table_model/SpatialTables feature_table/GeometryFields fraction/Fractions",
+        "rows of the pages say in words what these are": "basics/Counts feature_table/Outcomes failures/Ends",
+    }
+    CALLS = {
+        "the headline": ["run"],
+        "why": ["find_witnesses", "place_of", "verdict_of", "put_witnesses", "put_reason", "put_verdict"],
+        "sfq-tiles": ["split"],
+    }
+
+    def missing(self, items, pages):
+        named = {f"{crate}/{file}" for crate, file, _ in believed.reached(items) if (crate, file) not in pages}
+        return named - {it for files in self.LEFT_OUT.values() for it in files.split()}
+
+    def test_what_clauses_come_down_to_is_on_a_page(self):
+        pages = believed.files_of_pages()
+        exports = [it for it in closure.Closure().functions() if it.crate == trusted.LIBRARY and 'extern "C"' in it.signature]
+        for name, items in {**{name: believed.calls(*names) for name, names in self.CALLS.items()}, "the library": exports}.items():
+            self.assertGreaterEqual(len(items), len(self.CALLS.get(name, range(15))), name)
+            self.assertGreater(len(believed.reached(items)), 200, name)
+            self.assertEqual(self.missing(items, pages), set(), name)
+
+    def test_a_file_that_no_page_has_is_found(self):
+        pages = believed.files_of_pages()
+        for name, gone in (("the headline", ("geometry_model", "FirstFaults")), ("why", ("witnesses", "FirstPlaces")), ("sfq-tiles", ("tiles", "Copies"))):
+            self.assertIn(gone, pages)
+            self.assertEqual(self.missing(believed.calls(*self.CALLS[name]), pages - {gone}), {"/".join(gone)})
 
 
 if __name__ == "__main__":
