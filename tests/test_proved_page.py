@@ -120,7 +120,9 @@ class Page(unittest.TestCase):
         functions, _ = proved_page.all_functions()
         crates = list(repository.read_crates())
         page = proved_page.read(f"{ROOT}/docs/PROVED.md")
-        self.assertEqual(proved_page.wrong_rows(page, functions, crates), [])
+        for path in proved_page.PAGES:
+            self.assertEqual(proved_page.wrong_rows(proved_page.read(path), functions, crates), [])
+            self.assertIn("with a star", proved_page.read(path))
         self.assertGreater(page.count("`\\*"), 25)
         for old, new, wrong in [
             ("| `run`\\*", "| `run`", "run has a requires and no star"),

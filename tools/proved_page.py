@@ -4,8 +4,8 @@ status 1 if something is.
 
 usage: python3 tools/proved_page.py
 
-Each clause of the pages' tables has to be one of the call beside it, and each theorem a function. In PROVED each call has to be of
-a crate that is named above its table, and has a star exactly if it has a `requires`. The list of tests has to have each public
+Each clause of the pages' tables has to be one of the call beside it, and each theorem a function. Each call has to be of a crate
+that is named above its table, and has a star exactly if it has a `requires`. The list of tests has to have each public
 function that may run out of memory, and each test has to call the functions that are listed with it. What other places say of the
 headline has to be the README's, word for word.
 """
@@ -352,7 +352,7 @@ def wrong_tests(names: Iterable[str], triples: list[Triple], texts: dict[str, st
 def main() -> int:
     functions, public = all_functions()
     found = wrong_clauses(text_of_pages(), functions) + wrong_tests(needed(public), listed(read(LIST)), sources(), functions)
-    found += wrong_rows(read(PAGES[0]), functions, list(repository.read_crates()))
+    found += [it for page in PAGES for it in wrong_rows(read(page), functions, list(repository.read_crates()))]
     readme = read(f"{repository.ROOT}/README.md")
     found += wrong_headlines(places_of_headlines(), readme)
     found += wrong_sentences({**places_of_headlines(), "README.md": readme, "docs/PROVED.md": read(PAGES[0])})
