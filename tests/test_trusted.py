@@ -11,7 +11,9 @@ from support import ROOT, read, write
 
 import believed
 import closure
+import library
 import repository
+import tiles
 import trusted
 
 # Some of what each chain has to reach, by the definitions that its clauses come down to.
@@ -111,9 +113,14 @@ class Trusted(unittest.TestCase):
             at = lines.index(f"  {name}:")
             self.assertEqual(lines[at + 1 : at + 1 + len(sums)], [f"    {one}  {path}" for one, path in sums])
             self.assertEqual(lines[at + 1 + len(sums)], f"    {closure.total(sums)}  all {len(sums)} files")
-        self.assertIn("What follows from it:", lines)
-        if repository.is_built():
-            self.assertIn(f"    {repository.sum_of_file(repository.PROGRAM)}  the program sfq", lines)
+        follows = lines[lines.index("What follows from it:") + 1 :]
+        self.assertEqual(len(follows), len(trusted.MAKES) + 1)
+        for path, is_there, shown, command in (
+            (repository.PROGRAM, repository.is_built, "the program sfq", "./build"), (tiles.PROGRAM, tiles.is_made, "the program sfq-tiles", "./build --tiles"),
+            (library.SHARED, library.is_made, "the library libsfq.so.0", "./build --library"),
+        ):
+            is_made = os.path.isfile(path) and is_there()
+            self.assertIn(f"    {repository.sum_of_file(path)}  {shown}" if is_made else f"    {command} makes {shown}, which isn't there", follows)
 
     def test_the_readme_names_the_libraries_of_the_kit(self):
         said = re.search(r"the contracts of the kit's ([^.]*)\.", read(f"{ROOT}/README.md"))[1]
@@ -154,6 +161,13 @@ class Pages(unittest.TestCase):
             self.assertGreaterEqual(len(items), len(self.CALLS.get(name, range(15))), name)
             self.assertGreater(len(believed.reached(items)), 200, name)
             self.assertEqual(self.missing(items, pages), set(), name)
+
+    def test_each_chain_has_the_files_of_what_its_clauses_come_down_to(self):
+        exports = [it for it in closure.Closure().functions() if it.crate == trusted.LIBRARY and 'extern "C"' in it.signature]
+        for name, items in (("headline", believed.calls("run")), ("library", exports), ("tiles", believed.calls("split"))):
+            chain = {path for _, path in trusted.CHAINS[NAMES[name]](ROOT).sums()}
+            files = {f"crates/{crate}/specs/{file}.antt" for crate, file, _ in believed.reached(items)}
+            self.assertEqual((files - chain, len(files) > 30), (set(), True), name)
 
     def test_a_file_that_no_page_has_is_found(self):
         pages = believed.files_of_pages()

@@ -14,6 +14,8 @@ MODELS = ("geometry_model", "table_model")
 # The crates of the programs that users run, and that of the library's calls.
 PROGRAMS = ("sfq", "sfq_tiles")
 LIBRARY = "sfq_c"
+# What is made of each, and by what command.
+MAKES = {"sfq": ("sfq", "./build"), "sfq_tiles": ("sfq-tiles", "./build --tiles"), "sfq_c": ("libsfq.so.0", "./build --library")}
 # The one call by which the program of tiles does what its words ask for: its crate, its type, its name.
 TILES = ("sfq_tiles", "", "split")
 
@@ -94,6 +96,10 @@ def kit_libraries(root: str = repository.ROOT) -> list[str]:
     return sorted(used)
 
 
+def what_is(name: str) -> str:
+    return f"the {'library' if name.startswith('lib') else 'program'} {name}"
+
+
 def show(kit: str, programs: dict[str, str], root: str = repository.ROOT) -> None:
     """Prints the trusted base. `programs` are the SHA-256 of what was made, by their names."""
     print("\nWhat you trust:")
@@ -109,5 +115,8 @@ def show(kit: str, programs: dict[str, str], root: str = repository.ROOT) -> Non
             print(f"    {closure.total(sums)}  all {len(sums)} files")
     print("What follows from it:")
     for name, total in programs.items():
-        print(f"    {total}  the {'library' if name.startswith('lib') else 'program'} {name}")
+        print(f"    {total}  {what_is(name)}")
+    for crate, (name, command) in MAKES.items():
+        if crate in repository.read_crates(root) and name not in programs:
+            print(f"    {command} makes {what_is(name)}, which isn't there")
     print()
