@@ -136,9 +136,9 @@ WHY = [
       ("witnesses", "Places", "+IsClashOf IsMeetingOf"),
       ("witnesses", "FaultPlaces", "IsMeetingWithOne MeetsOne"),
       ("witnesses", "Verdicts", "IsFirstFaultIn")]),
-    ("Which one is shown",
-     "Where several show a cell or a fault, the first is shown: of a cell by the ascending order of the cut points and"
-     " pieces of both geometries, of a fault by that of rings and edges.",
+    ("Which is the first",
+     "Of several witnesses of a cell `find_witnesses` returns the first, by the ascending order of the cut points and pieces of both"
+     " geometries, and of several places of a fault `place_of`, by the order of rings and edges.",
      [("geometry_model", "CutPoints", "+cut_points"),
       ("geometry_model", "Pieces", "+Piece pieces sample"),
       ("geometry_model", "Labels", "+below above SideLabels side_labels Labels edges_of_both cuts_of_both is_pair is_side_pair labels"),

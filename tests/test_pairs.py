@@ -73,6 +73,20 @@ class Pairs(unittest.TestCase):
         child.stderr.close()
 
     @needs_build
+    def test_lines_come_before_the_input_ends(self):
+        # More records than a buffer holds, whose lines a pipe holds. The rest comes once a line was read.
+        some = 4000
+        child = subprocess.Popen([sweeps.program(), "pairs", "-"], stdin=subprocess.PIPE, stdout=subprocess.PIPE)
+        ends = threading.Timer(sweeps.PATIENCE, child.kill)
+        ends.start()
+        child.stdin.write(RECORD * some)
+        child.stdin.flush()
+        first = child.stdout.readline()
+        rest, _ = child.communicate(RECORD)
+        ends.cancel()
+        self.assertEqual((first + rest, child.returncode), (LINE * (some + 1), 0))
+
+    @needs_build
     def test_a_record_without_two_fields_ends_the_run(self):
         for record in (b"POINT(1 1)\n", b"POINT(1 1),POINT(1 1),POINT(1 1)\n", b"LINESTRING(0 0,1 1)\n"[:-1] + b",POINT(1 1)\n"):
             with self.subTest(record=record):

@@ -286,6 +286,9 @@ NOT_SO = [
     (r"the work counts each matrix that a caller", "two calls hand a matrix on without a count"),
     (r"[Tt]he splitting (?:is|are) proved|each part and the splitting are proved", "what each call of it writes is"),
     (r"has it at that place", "the byte of W1 is only tested"),
+    (r"writes the lines of find_witnesses", "that they are of the first witnesses is no clause of a command"),
+    (r"\bsfq-tiles are proved", "what split writes is, and not what the files hold"),
+    (r"without end is refused with L11, once[^.]* too long\.", "one of short records is L10"),
 ]
 
 
@@ -320,7 +323,7 @@ def wrong_headlines(texts: dict[str, str], readme: str) -> list[str]:
 
 def places_of_headlines() -> dict[str, str]:
     """Returns the texts for users, without the README and PROVED, whose chain takes the headline apart."""
-    kinds = ("docs/*.md", "packaging/**/*", "bindings/**/*.html", "bindings/**/*.py", "bindings/**/*.[ch]", "examples/**/*.md", "bench/*.md")
+    kinds = ("docs/*.md", "SECURITY.md", "packaging/**/*", "bindings/**/*.html", "bindings/**/*.py", "bindings/**/*.[ch]", "examples/**/*.md", "bench/*.md")
     paths = {it for kind in kinds for it in glob.glob(f"{repository.ROOT}/{kind}", recursive=True) if os.path.isfile(it)}
     left_out = (f"{repository.ROOT}/docs/PROVED.md",)
     texts = (it for it in sorted(paths) if it not in left_out and "/out/" not in it)
