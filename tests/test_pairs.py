@@ -76,13 +76,15 @@ class Pairs(unittest.TestCase):
     def test_lines_come_before_the_input_ends(self):
         # More records than a buffer holds, whose lines a pipe holds. The rest comes once a line was read.
         some = 4000
-        child = subprocess.Popen([sweeps.program(), "pairs", "-"], stdin=subprocess.PIPE, stdout=subprocess.PIPE)
-        ends = threading.Timer(sweeps.PATIENCE, child.kill)
-        ends.start()
-        child.stdin.write(RECORD * some)
-        child.stdin.flush()
-        first = child.stdout.readline()
-        rest, _ = child.communicate(RECORD)
+        with subprocess.Popen([sweeps.program(), "pairs", "-"], stdin=subprocess.PIPE, stdout=subprocess.PIPE) as child:
+            ends = threading.Timer(sweeps.PATIENCE, child.kill)
+            ends.start()
+            child.stdin.write(RECORD * some)
+            child.stdin.flush()
+            first = child.stdout.readline()
+            child.stdin.write(RECORD)
+            child.stdin.close()
+            rest = child.stdout.read()
         ends.cancel()
         self.assertEqual((first + rest, child.returncode), (LINE * (some + 1), 0))
 
