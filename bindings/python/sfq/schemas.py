@@ -9,15 +9,16 @@ from __future__ import annotations
 
 import argparse
 import csv
+import functools
 import os
 import re
 import sys
 from typing import Iterator, NamedTuple, Optional
 
-from . import __version__, _tables, _texts
+from . import __version__, _endings, _tables, _texts
+from ._endings import DATA, DONE, Stopped
 from ._progress import Progress
 
-DONE, USAGE, DATA, FILES, MEMORY = 0, 2, 4, 6, 7
 NAME = "sfq-schema"
 NAME_OF = re.compile(r"[A-Za-z_][A-Za-z0-9_]*")
 WHOLE = re.compile(r" *[+-]?[0-9]+ *")
@@ -30,17 +31,7 @@ SURROGATE = re.compile("[\udc80-\udcff]")
 PART = re.compile(r"\.0*[1-9]|[0-9][eE]")
 
 
-class Stopped(Exception):
-    """Why there is no proposal, and with which status."""
-
-    def __init__(self, text: str, status: int) -> None:
-        super().__init__(text)
-        self.status = status
-
-
-def say(text: str) -> None:
-    """Prints a line on standard error."""
-    print(f"{NAME}: {text}", file=sys.stderr, flush=True)
+say = functools.partial(_endings.say, NAME)
 
 
 def counted(number: int, noun: str) -> str:
@@ -258,25 +249,19 @@ def parser() -> argparse.ArgumentParser:
     return found
 
 
+def run(folder: str) -> int:
+    """Writes the proposal for a folder, and returns the status."""
+    csv.field_size_limit(sys.maxsize)
+    text, status = proposed(folder)
+    sys.stdout.write(text)
+    sys.stdout.flush()
+    return status
+
+
 def main(words: Optional[list[str]] = None) -> int:
     """Runs the command, and returns its status."""
     options = parser().parse_args(words)
-    csv.field_size_limit(sys.maxsize)
-    try:
-        text, status = proposed(options.folder)
-        sys.stdout.write(text)
-        sys.stdout.flush()
-        return status
-    except Stopped as error:
-        said, status = str(error), error.status
-    except MemoryError:
-        said, status = "out of memory", MEMORY
-    except OSError as error:
-        said, status = str(error), FILES
-    except KeyboardInterrupt:
-        said, status = "interrupted", 130
-    say(said)
-    return status
+    return _endings.ended(NAME, lambda: run(options.folder))
 
 
 if __name__ == "__main__":
