@@ -240,7 +240,8 @@ class Endings(unittest.TestCase):
     def test_each(self):
         for error, status, said in (
             (_endings.Stopped("no record was kept", 4), 4, "no record was kept"), (MemoryError(), 7, "out of memory"),
-            (FileNotFoundError(2, "No such file or directory", "a"), 6, "[Errno 2] No such file or directory: 'a'"), (KeyboardInterrupt(), 130, "interrupted"),
+            (FileNotFoundError(2, "No such file or directory", "a"), 6, "a: No such file or directory"),
+            (OSError("record 3: GDAL can't read it"), 6, "record 3: GDAL can't read it"), (KeyboardInterrupt(), 130, "interrupted"),
         ):
             self.assertEqual(self.ending(error), (status, f"it: {said}\n"))
 

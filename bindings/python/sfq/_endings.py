@@ -21,6 +21,13 @@ def say(name: str, text: str) -> None:
     print(f"{name}: {text}", file=sys.stderr, flush=True)
 
 
+def reason(error: Exception) -> str:
+    """Returns what an exception says: of a file that can't be opened its path, and the system's reason."""
+    if isinstance(error, OSError) and error.filename and error.strerror:
+        return f"{error.filename}: {error.strerror}"
+    return str(error)
+
+
 def ended(name: str, run: Callable[[], int], of_files: tuple[type[Exception], ...] = (OSError,)) -> int:
     """Runs a command, and returns its status. Where it ends early a line says why. `of_files` is what files raise."""
     try:
@@ -30,7 +37,7 @@ def ended(name: str, run: Callable[[], int], of_files: tuple[type[Exception], ..
     except MemoryError:
         text, status = "out of memory", MEMORY
     except of_files as error:
-        text, status = str(error), FILES
+        text, status = reason(error), FILES
     except KeyboardInterrupt:
         text, status = "interrupted", INTERRUPTED
     say(name, text)
