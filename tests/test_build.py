@@ -1,4 +1,5 @@
 """./build, with a stand-in for `rt`: the order of the checks, going on after a break, installing, packages."""
+import glob
 import gzip
 import hashlib
 import os
@@ -582,15 +583,16 @@ class Packages(WithBuild):
         self.assertEqual([it for it in found if "licen" not in it and "copyright" not in it], [])
 
     @needs("dpkg", "dpkg-deb")
-    def test_what_help_and_faults_name_is_in_the_packages(self):
+    def test_what_help_and_sentences_name_is_in_the_packages(self):
         made = self.make(self.checkout.root)
         folder = f"{self.checkout.room}/unpacked"
         subprocess.run(["dpkg-deb", "-x", next(it for name, it in made.items() if name.endswith(".deb")), folder], check=True)
         with tarfile.open(next(it for name, it in made.items() if name.endswith(".tar.gz"))) as archive:
             listed = {it.partition("/share/doc/sfq/")[2] for it in archive.getnames()}
-        source = read(f"{ROOT}/crates/command_line/src/command_words.rt")
-        names = set(re.findall(r"(?:examples|docs)/[\w./-]*\w", source))
-        self.assertIn("docs/FAULTS.md", names)
+        shown = ["crates/command_line/src/command_words.rt", "crates/explanations/src/*.rt", "bindings/python/sfq*/*.py"]
+        sources = [read(it) for pattern in shown for it in sorted(glob.glob(f"{ROOT}/{pattern}"))]
+        names = {it for text in sources for it in re.findall(r"(?:examples|docs)/[\w./-]*\w", text)}
+        self.assertLessEqual({"docs/FAULTS.md", "docs/LIBRARY.md", "docs/SCALE.md"}, names)
         for it in sorted(names):
             self.assertTrue(os.path.exists(f"{folder}/usr/share/doc/sfq/{it}"), it)
             self.assertTrue(any(each == it or each.startswith(f"{it}/") for each in listed), it)

@@ -1,4 +1,5 @@
 """What tools/counts.py counts of a small repository, and what it finds past its bounds."""
+import subprocess
 import tempfile
 import unittest
 
@@ -86,6 +87,20 @@ class Counts(unittest.TestCase):
         lines = "".join(f"crate_{it}:\n" for it in range(counts.MOST_CRATES - 2))
         _, found = self.counted({"crates.txt": REPOSITORY["crates.txt"] + lines})
         self.assertEqual([it[:2] for it in found], [("crates.txt", 1)])
+
+    @support.needs("git", "git")
+    def test_entries_of_the_root(self):
+        with tempfile.TemporaryDirectory(prefix="sfq-counts-") as name:
+            support.write_all(name, {**REPOSITORY, ".gitignore": "out/\n", "out/made": "\n"})
+            self.assertIsNone(counts.root_entries(name))
+            for words in (["init", "-q"], ["add", "-A"]):
+                subprocess.run(["git", "-C", name, *words], check=True)
+            self.assertEqual(counts.root_entries(name), 4)
+            self.assertEqual(counts.count(name)[1], [])
+            more = {f"{it}": "\n" for it in range(counts.MOST_ENTRIES - 3)}
+            support.write_all(name, more)
+            subprocess.run(["git", "-C", name, "add", "-A"], check=True)
+            self.assertEqual([it[2] for it in counts.count(name)[1]], [f"{counts.MOST_ENTRIES + 1} tracked entries of the root, of at most {counts.MOST_ENTRIES}"])
 
     def test_bounds_that_can_be_switched_on(self):
         edits = {f"crates/low/must-fail/{it}.edit": "\n" for it in range(counts.MOST_EDITS)}

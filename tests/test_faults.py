@@ -13,11 +13,10 @@ from faults import measures, sweeps
 FEW, ALL = 60, sys.maxsize
 ERRORS = ("EIO", "ENOSPC", "EPIPE", "EAGAIN")
 # What the program calls of the C library: what the sweeps fail, and what no answer depends on. No other call can start a
-# program, open a connection or write a file. The environment is read for what says whether faults are explained, and in colour; what
-# kind a file has is asked where it is opened once more for that.
-SWEPT = {"malloc", "calloc", "realloc", "read", "write", "open", "open64", "openat", "openat64", "fstat", "fstat64"}
+# program, open a connection or write a file. The environment is read for what says whether faults are explained, and in colour.
+SWEPT = {"malloc", "calloc", "realloc", "read", "write", "open", "open64", "openat", "openat64", "fstat", "fstat64", "statx"}
 HARMLESS = {"free", "close", "isatty", "clock_gettime", "memcpy", "memmove", "memset", "memcmp", "bcmp", "strlen"}
-HARMLESS |= {"environ", "getenv", "statx"}
+HARMLESS |= {"environ", "getenv"}
 # What the toolchain's start of a program calls; __write is for a processor that lacks an instruction.
 OF_EACH_PROGRAM = {"__errno_location", "__libc_start_main", "__cxa_finalize", "__sysv_signal", "signal"}
 OF_EACH_PROGRAM |= {"__write", "__x86_get_cpuid_feature_leaf"}
@@ -62,6 +61,13 @@ class Sweep:
     @needs("gcc", "cc")
     def test_each_fstat_failing(self):
         self.sweep("fstat", [(it, 1) for it in ERRORS])
+
+    @needs_build
+    @needs("gcc", "cc")
+    def test_each_statx_failing(self):
+        """What kind a file has is asked where it is opened once more, to explain a fault."""
+        self.assertGreater(sweeps.whole("check --why").counts["statx"], 0)
+        self.sweep("statx", [(it, times) for it in (*ERRORS, "EACCES") for times in (1, 0)])
 
     @needs_build
     @needs("gcc", "cc")

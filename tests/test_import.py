@@ -28,7 +28,7 @@ import pairs as drawing
 import postgresql_server
 import repository
 import sfq
-from sfq import _checking, _grid, _reading, _tables, _wkb, exports, imports
+from sfq import _checking, _endings, _grid, _reading, _tables, _wkb, exports, imports
 
 # Positions of one polygon whose own reason to be refused is in the key.
 REFUSED = {
@@ -222,6 +222,38 @@ class Texts(unittest.TestCase):
                     status = it.code
             self.assertEqual(status, 2)
             self.assertIn(said, errors.getvalue())
+
+
+class Endings(unittest.TestCase):
+    """How the commands end: each status has its line, and a mistake in the program none."""
+
+    def ending(self, error, of_files=(OSError,)):
+        """Returns the status of a command that ends by this exception, and what it says."""
+
+        def run():
+            raise error
+
+        said = io.StringIO()
+        with contextlib.redirect_stderr(said):
+            return _endings.ended("it", run, of_files), said.getvalue()
+
+    def test_each(self):
+        for error, status, said in (
+            (_endings.Stopped("no record was kept", 4), 4, "no record was kept"), (MemoryError(), 7, "out of memory"),
+            (FileNotFoundError(2, "No such file or directory", "a"), 6, "a: No such file or directory"),
+            (OSError("record 3: GDAL can't read it"), 6, "record 3: GDAL can't read it"), (KeyboardInterrupt(), 130, "interrupted"),
+        ):
+            self.assertEqual(self.ending(error), (status, f"it: {said}\n"))
+
+    def test_what_files_raise_besides(self):
+        self.assertEqual(self.ending(csv.Error("line"), (OSError, csv.Error)), (6, "it: line\n"))
+        with self.assertRaises(csv.Error):
+            self.ending(csv.Error("line"))
+
+    def test_one_that_is_done(self):
+        said = io.StringIO()
+        with contextlib.redirect_stderr(said):
+            self.assertEqual((_endings.ended("it", lambda: 4), said.getvalue()), (4, ""))
 
 
 class Installation(unittest.TestCase):

@@ -162,7 +162,7 @@ class AnswersUnproved(WithCheckout):
         os.close(theirs)
         shown = os.read(ours, 1 << 16)
         self.assertEqual((ran.stdout, ran.returncode), (b"FF", 0))
-        self.assertIn(b"\rsfq: making an unproved build, about a minute: 2 s\x1b[K", shown)
+        self.assertIn(b"\rsfq: making an unproved build, one to two minutes: 2 s\x1b[K", shown)
         # The line is gone before the answer.
         self.assertTrue(shown.endswith(b"\r\x1b[K" + NOTICE.replace(b"\n", b"\r\n")), shown)
 

@@ -64,6 +64,12 @@ class Guesses(unittest.TestCase):
             else:
                 self.assertIn("sfq-schema: DIR/t.csv: no column has a whole number of its own in each record", self.refused(text))
 
+    def test_zeros_in_front_are_said(self):
+        self.columns("id,code,size\n1,01067,0\n2,7,-5\n3,-007,10\n")
+        out = proposed(self.room)[0]
+        self.assertIn("-- 3 whole numbers, none empty, 2 with a 0 in front, which TEXT keeps\n", out)
+        self.assertEqual(out.count("in front"), 1)
+
     def test_coordinates_that_are_not_whole_are_said(self):
         self.columns('id,geom\n1,POINT(1.5 2)\n')
         self.assertIn("a coordinate isn't whole, so sfq-import has to bring them to a grid", proposed(self.room)[0])
@@ -80,7 +86,7 @@ class Guesses(unittest.TestCase):
         write(f"{self.room}/t.csv", "\ufeffid,no.,select,a,A,größe\n1,2,3,4,5,6\n")
         write(f"{self.room}/2.csv", "id\n1\n")
         out, err, status = proposed(self.room)
-        self.assertEqual((re.findall(r"^  (\w+)", out, re.M), status), (["id"], 0))
+        self.assertEqual((re.findall(r"^  (\w+)", out, re.M), status), (["id"], 4))
         for it in ("'no.'", "'select'", "column a is left out: the header has it more than once", "'größe'", "2.csv is left out: '2' isn't a name"):
             self.assertIn(it, err)
 

@@ -8,13 +8,16 @@ It ends with status 1 if a count is past its bound, or if tools/walks.txt names 
 import glob
 import os
 import re
+import shutil
 import statistics
+import subprocess
 import sys
+from typing import Optional
 
 import proved_page
 import repository
 
-MOST_CRATES = 46
+MOST_CRATES, MOST_ENTRIES = 46, 22
 # Whether what is past these is a finding of ./lint; else they are printed as the aim.
 EDITS_ARE_BOUNDED, MOST_EDITS, MOST_CRATES_WITH_EDITS = True, 120, 20
 LINES_ARE_BOUNDED, MOST_LINES = False, 146_500
@@ -81,6 +84,14 @@ def lines_below(folder: str) -> int:
     return total
 
 
+def root_entries(root: str) -> Optional[int]:
+    """Returns how many entries of the root are tracked, those that begin with a dot among them; None where git has none of it."""
+    if not os.path.exists(f"{root}/.git") or not shutil.which("git"):
+        return None
+    ran = subprocess.run(["git", "-C", root, "ls-files", "-z"], capture_output=True, text=True)
+    return len({it.partition("/")[0] for it in ran.stdout.split("\0") if it}) or None
+
+
 def checked_walks(text: str, functions: set[str]) -> tuple[list[repository.Row], list[repository.Finding]]:
     """Returns rows of counts, and findings as triples, of the walks of a text over the names of all functions."""
     walks, wrong = walks_in(text)
@@ -113,6 +124,11 @@ def count(root: str = repository.ROOT) -> tuple[list[repository.Row], list[repos
          f" {MOST_EDITS} in {MOST_CRATES_WITH_EDITS}"),
     ]
     found: list[repository.Finding] = []
+    entries = root_entries(root)
+    if entries:
+        rows.append(("tracked entries of the root", entries, f"at most {MOST_ENTRIES}"))
+    if entries and entries > MOST_ENTRIES:
+        found.append(("README.md", 1, f"{entries} tracked entries of the root, of at most {MOST_ENTRIES}"))
     if len(crates) > MOST_CRATES:
         found.append(("crates.txt", 1, f"{len(crates)} crates of at most {MOST_CRATES}"))
     if LINES_ARE_BOUNDED and lines > MOST_LINES:

@@ -121,7 +121,7 @@ LISTS = [
     Place(
         "bindings/python/sfq/_wkb.py", r"^WORDS = ", r'(\d): "(\w+)"', [(str(at), it.upper()) for at, it in enumerate(NUMBERED, 1)], r"\}\n"
     ),
-    Place("bindings/python/sfq_scale/words.py", r"^RESERVED = ", r"\b([a-z]+)\b(?=[ \"])", [it.lower() for it in RESERVED], r"\.split"),
+    Place("bindings/python/sfq/_tables.py", r"^RESERVED = ", r'"(\w+)"', [it.lower() for it in RESERVED], r"\}\n"),
     Place(
         "bindings/sqlite/sfq0.c", r'^ +\{ "ST_Equals"', r'"(\w+)", 2, relation, (\w+)',
         list(zip(SQL_RELATIONS, CONSTANTS)), r"\n\};",
@@ -161,6 +161,11 @@ LISTS = [
     Place("crates/geometry_model/specs/WellKnownText.antt", r"^TaggedText", r'\((\w+) \w+\) = Word \(codes "(\w+)"\)', TYPED, in_any_order=True),
     Place("crates/geometry_model/specs/CanonicalText.antt", r"^canonical_text \(", r'\((\w+) .*?tagged_text \(codes "(\w+)"\)', TYPED, in_any_order=True),
     Place("crates/geometry_model/specs/TextReading.antt", r"^typed at name", r'codes "(\w+)"\) then .*pure \((\w+) ', list(SHAPES.items())),
+    Place("crates/explanations/src/geometry_sentences.rt", r"^pub\(crate\) const TYPES", r'b"(\w+)"', SHAPE_WORDS, r"\n\];"),
+    Place("crates/explanations/src/query_sentences.rt", r"^fn is_type", r'is\(here, "(\w+)"\)', SHAPE_WORDS, r"\n\}", True),
+    Place("crates/explanations/src/query_words.rt", r"^pub\(crate\) const OWN_FUNCTIONS", r'b"(\w+)"', [*FUNCTIONS, "COUNT"], r"\n\];", True),
+    Place("crates/explanations/src/schema_explanations.rt", r"isn't a type here: there are ", r"\b([A-Z]{3,})\b", COLUMN_WORDS, r'"', True),
+    Place("crates/explanations/src/schema_explanations.rt", r"^const TYPES", r'b"(\w+)"', COLUMN_WORDS, r"\n\];", True),
     Place("crates/record_reasons/specs/ReasonTexts.antt", r"^type_word", r'shapes\.(\w+) = codes "(\w+)"', TYPED),
     Place("crates/sfq_tiles/specs/SchemaTexts.antt", r"^shape_text", r'shapes\.(\w+)\) = codes "(\w+)"', TYPED),
     Place("tests/fuzz/outcomes.py", r"^ALWAYS = ", r'"(ST_\w+)"', PREDICATES, r"\)\n\n", True),

@@ -35,7 +35,7 @@ def described(name: str) -> list[bindings.File]:
 
 def documents() -> list[bindings.File]:
     """Returns the documents for users, their pictures, and the examples, which lie under the prefix as in the repository."""
-    found = ["CHANGELOG.md", *(f"docs/{it}.md" for it in ("DATA", "FAULTS", "SCALE"))]
+    found = ["CHANGELOG.md", *(f"docs/{it}.md" for it in ("DATA", "FAULTS", "LIBRARY", "SCALE"))]
     found += [f"docs/pictures/{it}.svg" for it in ("cells", "scale", "why-not-simple")]
     for at, folders, names in os.walk(f"{repository.ROOT}/examples"):
         folders[:] = sorted(it for it in folders if not it.startswith(("_", ".")))

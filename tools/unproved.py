@@ -212,7 +212,7 @@ def run_rt(words: list[str], room: str, waiting: Callable[[float], None]) -> tup
 
 def show_waiting(seconds: float) -> None:
     if sys.stderr.isatty():
-        print(f"\rsfq: making an unproved build, about a minute: {seconds:.0f} s\x1b[K", end="", file=sys.stderr, flush=True)
+        print(f"\rsfq: making an unproved build, one to two minutes: {seconds:.0f} s\x1b[K", end="", file=sys.stderr, flush=True)
 
 
 def clear_waiting() -> None:

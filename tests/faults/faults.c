@@ -2,7 +2,7 @@
  *
  * It counts the program's calls of each kind, and acts on some of them, as environment variables say:
  *
- *   FAULT_CALL     growth (malloc, calloc, realloc), read, write, open or fstat
+ *   FAULT_CALL     growth (malloc, calloc, realloc), read, write, open, fstat or statx
  *   FAULT_AT       the number of the first call that it acts on, counted from 1; 0: on none
  *   FAULT_TIMES    how many calls it acts on, one after another; 0: all from there on
  *   FAULT_HOW      the name of an errno, as EIO: the call fails with it and does nothing else;
@@ -27,7 +27,7 @@
 #include <sys/stat.h>
 #include <unistd.h>
 
-enum kind { GROWTH, READ, WRITE, OPEN, FSTAT, KINDS };
+enum kind { GROWTH, READ, WRITE, OPEN, FSTAT, STATX, KINDS };
 enum how { PASS, FAIL, BYTE };
 
 struct page {
@@ -38,7 +38,7 @@ struct page {
     char path[3072];         /* the file's path: as it was to be opened, else as the system has it */
 };
 
-static const char *const KIND_NAMES[KINDS] = {"growth", "read", "write", "open", "fstat"};
+static const char *const KIND_NAMES[KINDS] = {"growth", "read", "write", "open", "fstat", "statx"};
 static const struct {
     const char *name;
     int number;
@@ -58,6 +58,7 @@ static ssize_t (*real_read)(int, void *, size_t);
 static ssize_t (*real_write)(int, const void *, size_t);
 static int (*real_openat)(int, const char *, int, ...);
 static int (*real_fstat)(int, struct stat *);
+static int (*real_statx)(int, const char *, int, unsigned, struct statx *);
 extern void *__libc_malloc(size_t), *__libc_calloc(size_t, size_t), *__libc_realloc(void *, size_t);
 
 static void misuse(const char *name, const char *value) {
@@ -94,6 +95,7 @@ __attribute__((constructor)) static void begin(void) {
     real_write = (ssize_t(*)(int, const void *, size_t))dlsym(RTLD_NEXT, "write");
     real_openat = (int (*)(int, const char *, int, ...))dlsym(RTLD_NEXT, "openat");
     real_fstat = (int (*)(int, struct stat *))dlsym(RTLD_NEXT, "fstat");
+    real_statx = (int (*)(int, const char *, int, unsigned, struct statx *))dlsym(RTLD_NEXT, "statx");
     const char *call = getenv("FAULT_CALL");
     for (int i = 0; call && i < KINDS; i++)
         if (!strcmp(call, KIND_NAMES[i])) wanted = i;
@@ -208,4 +210,8 @@ int fstat(int file, struct stat *about) {
 
 int fstat64(int file, struct stat64 *about) {
     return fstat(file, (struct stat *)about);
+}
+
+int statx(int folder, const char *path, int flags, unsigned asked, struct statx *about) {
+    return count(STATX, -1, path) == FAIL ? -1 : real_statx(folder, path, flags, asked, about);
 }

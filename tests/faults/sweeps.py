@@ -15,7 +15,7 @@ import repository
 
 FOLDER = os.path.dirname(os.path.realpath(__file__))
 # The kinds of calls that the library counts, in the order of its page.
-CALLS = ("growth", "read", "write", "open", "fstat")
+CALLS = ("growth", "read", "write", "open", "fstat", "statx")
 PAGE_BYTES, PAGE = 4096, struct.Struct(f"={len(CALLS)}QQqq")
 # How long a run may take before it counts as hanging, in seconds. It takes some milliseconds.
 PATIENCE = 120
@@ -277,11 +277,11 @@ def without_openings(ran):
 
 def is_allowed(fault, ran, well, reads_again=False):
     """Whether a run under a fault did what it may do, where `well` is the run without one."""
-    if reads_again and fault.call == "open":
+    if reads_again and fault.call in ("open", "statx"):
         ran = without_openings(ran)
     if ran.acted == 0 or fault.how in ("byte", "EINTR"):
         return ran.said() == well.said()
-    if reads_again and fault.call in ("growth", "read", "open") and says_less(ran, well):
+    if reads_again and fault.call in ("growth", "read", "open", "statx") and says_less(ran, well):
         return True
     if not beginning_of(ran.out, well.out):
         return False

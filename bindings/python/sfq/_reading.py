@@ -64,7 +64,7 @@ class Source:
         try:
             self.file = gdal.OpenEx(path, gdal.OF_VECTOR | gdal.OF_READONLY)
         except RuntimeError as error:
-            raise OSError(without_secrets(f"{path}: {error}")) from None
+            raise OSError(without_secrets(f"{path}: {str(error).removeprefix(f'{path}: ')}")) from None
 
     def layers(self, names: list[str]) -> list[Layer]:
         """Returns the layers of these names, in their order, or all. KeyError for a name that the source doesn't have."""

@@ -17,22 +17,14 @@ import tempfile
 from typing import IO, Any, Callable, Iterator, NamedTuple, Optional, TextIO
 from xml.sax.saxutils import escape
 
-from . import __version__, _grid, _reading, _texts
+from . import __version__, _endings, _grid, _reading, _texts
+from ._endings import DATA, DONE, MISSING, USAGE, Stopped
 
-DONE, MISSING, USAGE, DATA, FILES, MEMORY = 0, 1, 2, 4, 6, 7
 NAME = "sfq-export"
 GEOMETRIC = {"GEOMETRY", *(it.upper() for it in _texts.TYPES)}
 # Functions whose values are whole numbers.
 COUNTS = ("COUNT(", "ST_DIMENSION(", "ST_ISEMPTY(")
 SIZE, MARGIN, COLOUR = 480, 24, "#2a6fb0"
-
-
-class Stopped(Exception):
-    """Why an export ends early, and with which status."""
-
-    def __init__(self, text: str, status: int) -> None:
-        super().__init__(text)
-        self.status = status
 
 
 class Known(NamedTuple):
@@ -351,6 +343,17 @@ def run(options: argparse.Namespace) -> None:
         svg.drop()
 
 
+def run_words(options: argparse.Namespace) -> int:
+    """Does an export, and returns its status. Stopped also where GDAL isn't there, or the answer isn't UTF-8."""
+    try:
+        run(options)
+    except _reading.Missing as error:
+        raise Stopped(str(error), MISSING) from None
+    except UnicodeDecodeError as error:
+        raise Stopped(f"the answer isn't UTF-8: {error}", DATA) from None
+    return DONE
+
+
 def main(words: Optional[list[str]] = None) -> int:
     """Runs the command, and returns its status."""
     options = parser().parse_args(words)
@@ -358,23 +361,7 @@ def main(words: Optional[list[str]] = None) -> int:
         parser().error("one of --to and --svg is needed")
     if options.to and not options.to.lower().endswith((".geojson", ".json")):
         parser().error(f"--to writes GeoJSON alone: name it {options.to}.geojson, and let ogr2ogr make other formats of it")
-    try:
-        run(options)
-        return DONE
-    except Stopped as error:
-        text, status = str(error), error.status
-    except _reading.Missing as error:
-        text, status = str(error), MISSING
-    except UnicodeDecodeError as error:
-        text, status = f"the answer isn't UTF-8: {error}", DATA
-    except MemoryError:
-        text, status = "out of memory", MEMORY
-    except (OSError, RuntimeError, csv.Error) as error:
-        text, status = str(error), FILES
-    except KeyboardInterrupt:
-        text, status = "interrupted", 130
-    print(f"{NAME}: {text}", file=sys.stderr, flush=True)
-    return status
+    return _endings.ended(NAME, lambda: run_words(options), (OSError, RuntimeError, csv.Error))
 
 
 if __name__ == "__main__":

@@ -10,6 +10,7 @@ from __future__ import annotations
 
 import argparse
 import csv
+import functools
 import json
 import os
 import re
@@ -19,24 +20,18 @@ import tempfile
 from collections import Counter
 from typing import Any, Callable, NamedTuple, Optional
 
-from . import __version__, _checking, _grid, _reading, _tables, _wkb
+from . import __version__, _checking, _endings, _grid, _reading, _tables, _wkb
+from ._endings import DATA, DONE, MISSING, USAGE, Stopped
 from ._faults import MEANINGS, LibraryError
 from ._progress import Progress
 
-DONE, MISSING, USAGE, DATA, FILES, MEMORY = 0, 1, 2, 4, 6, 7
 NAME = "sfq-import"
 # How much is checked at a time: records, and characters of their geometries.
 BATCH, BATCH_SIZE = 2_000, 1_000_000
 # How often a geometry is mended, since what is mended is rounded again.
 TIMES = 3
 
-
-class Stopped(Exception):
-    """Why an import ends early, and with which status."""
-
-    def __init__(self, text: str, status: int) -> None:
-        super().__init__(text)
-        self.status = status
+say = functools.partial(_endings.say, NAME)
 
 
 class NotAscending(Exception):
@@ -45,11 +40,6 @@ class NotAscending(Exception):
 
 class Refused(Exception):
     """Why a record isn't taken."""
-
-
-def say(text: str) -> None:
-    """Prints a line on standard error."""
-    print(f"{NAME}: {text}", file=sys.stderr, flush=True)
 
 
 class Record:
@@ -559,26 +549,21 @@ def run(options: argparse.Namespace, grid: _grid.Grid) -> None:
         raise Stopped(f"no record was kept: {why}; --allow-empty takes that", DATA)
 
 
+def run_words(options: argparse.Namespace, grid: _grid.Grid) -> int:
+    """Does an import, and returns its status. Stopped also where what it needs isn't there."""
+    try:
+        run(options, grid)
+    except (_reading.Missing, LibraryError) as error:
+        raise Stopped(str(error).removeprefix("sfq: "), MISSING) from None
+    except KeyError as error:
+        raise Stopped(error.args[0], USAGE) from None
+    return DONE
+
+
 def main(words: Optional[list[str]] = None) -> int:
     """Runs the command, and returns its status."""
     options, grid = parsed(sys.argv[1:] if words is None else words)
-    try:
-        run(options, grid)
-        return DONE
-    except Stopped as error:
-        text, status = str(error), error.status
-    except (_reading.Missing, LibraryError) as error:
-        text, status = str(error).removeprefix("sfq: "), MISSING
-    except KeyError as error:
-        text, status = error.args[0], USAGE
-    except MemoryError:
-        text, status = "out of memory", MEMORY
-    except (OSError, RuntimeError) as error:
-        text, status = str(error), FILES
-    except KeyboardInterrupt:
-        text, status = "interrupted", 130
-    say(text)
-    return status
+    return _endings.ended(NAME, lambda: run_words(options, grid), (OSError, RuntimeError))
 
 
 if __name__ == "__main__":

@@ -9,18 +9,20 @@ from __future__ import annotations
 
 import argparse
 import csv
+import functools
 import os
 import re
 import sys
 from typing import Iterator, NamedTuple, Optional
 
-from . import __version__, _tables, _texts
+from . import __version__, _endings, _tables, _texts
+from ._endings import DATA, DONE, Stopped
 from ._progress import Progress
 
-DONE, USAGE, DATA, FILES, MEMORY = 0, 2, 4, 6, 7
 NAME = "sfq-schema"
 NAME_OF = re.compile(r"[A-Za-z_][A-Za-z0-9_]*")
 WHOLE = re.compile(r" *[+-]?[0-9]+ *")
+PADDED = re.compile(r" *[+-]?0[0-9]")
 REAL = re.compile(r" *[+-]?([0-9]+\.[0-9]*|\.[0-9]+|[0-9]+)([eE][+-]?[0-9]+)? *")
 DATE = re.compile(r"\d{4}-\d\d-\d\d([T ].*)?")
 # The word of a geometry's text, and what a coordinate has that isn't whole.
@@ -30,17 +32,7 @@ SURROGATE = re.compile("[\udc80-\udcff]")
 PART = re.compile(r"\.0*[1-9]|[0-9][eE]")
 
 
-class Stopped(Exception):
-    """Why there is no proposal, and with which status."""
-
-    def __init__(self, text: str, status: int) -> None:
-        super().__init__(text)
-        self.status = status
-
-
-def say(text: str) -> None:
-    """Prints a line on standard error."""
-    print(f"{NAME}: {text}", file=sys.stderr, flush=True)
+say = functools.partial(_endings.say, NAME)
 
 
 def counted(number: int, noun: str) -> str:
@@ -53,7 +45,8 @@ class Column:
 
     def __init__(self, name: str) -> None:
         self.name = name
-        self.filled, self.empty = 0, 0
+        # How many fields have something in them, how many are empty, and how many whole numbers have a 0 in front.
+        self.filled, self.empty, self.padded = 0, 0, 0
         self.is_whole = self.is_real = self.is_date = self.is_shape = True
         self.has_parts = False
         self.words: set[str] = set()
@@ -80,6 +73,7 @@ class Column:
     def add_whole(self, field: str) -> None:
         """Takes in a field of a column whose fields were whole numbers so far."""
         value = int(field) if WHOLE.fullmatch(field) else None
+        self.padded += bool(PADDED.match(field))
         if value is None or not -(2**63) <= value < 2**63:
             self.is_whole, self.numbers = False, None
         elif self.numbers is not None:
@@ -110,7 +104,8 @@ class Column:
             return "every field is empty: the type is open" if self.empty else "no record: the type is open"
         behind = f", {self.empty:,} empty" if self.empty else ", none empty"
         if self.is_whole:
-            return f"{counted(self.filled, 'whole number')}{behind}" + (", none twice" if is_key else "")
+            zeros = f", {self.padded:,} with a 0 in front, which TEXT keeps" if self.padded else ""
+            return f"{counted(self.filled, 'whole number')}{behind}" + (", none twice" if is_key else "") + zeros
         if self.is_shape:
             words = " and ".join(sorted(self.words))
             parts = ": a coordinate isn't whole, so sfq-import has to bring them to a grid" if self.has_parts else ""
@@ -203,9 +198,12 @@ def statement(table: Table, key: Column) -> str:
     return f"CREATE TABLE {table.name} (\n" + "\n".join(lines) + "\n);\n"
 
 
-def found_files(folder: str) -> list[tuple[str, str]]:
-    """Returns the paths of the folder's tables with their names. Files whose name no table can have are left out, by a line each."""
-    found = []
+def found_files(folder: str) -> tuple[list[tuple[str, str]], int]:
+    """Returns the paths of the folder's tables with their names, and the status: DATA where a file's name is none that a table can have.
+
+    Such a file is left out, and a line says so.
+    """
+    found, status = [], DONE
     for it in sorted(os.listdir(folder)):
         name, ending = os.path.splitext(it)
         path = os.path.join(folder, it)
@@ -213,14 +211,16 @@ def found_files(folder: str) -> list[tuple[str, str]]:
             continue
         if not NAME_OF.fullmatch(name) or name.lower() in _tables.RESERVED:
             say(f"{path} is left out: {name!r} isn't a name that sfq takes; rename the file")
+            status = DATA
         else:
             found.append((path, name))
-    return found
+    return found, status
 
 
 def proposed(folder: str) -> tuple[str, int]:
     """Returns the text of the schema, and the status: DATA where a table is left out of it."""
-    files, parts, status = found_files(folder), list[str](), DONE
+    parts: list[str] = []
+    files, status = found_files(folder)
     if not files:
         raise Stopped(f"{folder} has no file t.csv of a table t", DATA)
     for path, name in files:
@@ -258,25 +258,19 @@ def parser() -> argparse.ArgumentParser:
     return found
 
 
+def run(folder: str) -> int:
+    """Writes the proposal for a folder, and returns the status."""
+    csv.field_size_limit(sys.maxsize)
+    text, status = proposed(folder)
+    sys.stdout.write(text)
+    sys.stdout.flush()
+    return status
+
+
 def main(words: Optional[list[str]] = None) -> int:
     """Runs the command, and returns its status."""
     options = parser().parse_args(words)
-    csv.field_size_limit(sys.maxsize)
-    try:
-        text, status = proposed(options.folder)
-        sys.stdout.write(text)
-        sys.stdout.flush()
-        return status
-    except Stopped as error:
-        said, status = str(error), error.status
-    except MemoryError:
-        said, status = "out of memory", MEMORY
-    except OSError as error:
-        said, status = str(error), FILES
-    except KeyboardInterrupt:
-        said, status = "interrupted", 130
-    say(said)
-    return status
+    return _endings.ended(NAME, lambda: run(options.folder))
 
 
 if __name__ == "__main__":

@@ -2,12 +2,13 @@
 import re
 from typing import Iterable, NamedTuple, Optional
 
+from sfq._tables import RESERVED
+
 # White space, a comment up to the end of its line, or a token. Words are of ASCII letters, so lower() is sfq's comparison.
 PATTERN = re.compile(
     r"[ \t\n\r]+|--[^\n]*|(?P<word>[A-Za-z_][A-Za-z0-9_]*)|(?P<integer>[0-9]+)|(?P<string>'[^']*(?:''[^']*)*')"
     r"|(?P<symbol><=|<>|>=|!=|[(),.;*+\-=<>])"
 )
-RESERVED = frozenset("select from where and or not is null join inner cross on as limit".split())
 
 
 class Unsure(Exception):
