@@ -2,6 +2,7 @@
 import os
 import pty
 import re
+import signal
 import subprocess
 import tempfile
 import unittest
@@ -9,11 +10,11 @@ import unittest
 from support import needs_build, write
 import repository
 
-# Takes a line away: back to its first column, and all from there on is erased.
-CLEAR = b"\r\x1b[K"
+# Takes a line away: up to its first column, and all from there on is erased.
+CLEAR = b"\r\x1b[A\x1b[K"
 
 # What the line says of a join.
-LINE = re.compile(rb"sfq: row (\d+) of (\d+), (\d+) candidates, (\d+) found")
+LINE = re.compile(rb"sfq: row (\d+) of (\d+), (\d+) candidates, (\d+) found\n")
 
 # A join of so many rows with as many walks over their pairs for a second or more.
 ROWS = 8_000
@@ -48,11 +49,20 @@ class ProgressOnATerminal(unittest.TestCase):
             records = "".join(f"{it},{number}\n" for it, number in enumerate(numbers, 1))
             write(f"{self.room}/{name}.csv", f"id,n\n{records}")
 
-    def run_query(self, query, is_output_shown):
-        """Runs a query with standard error on a terminal, and returns what the terminal and a pipe on standard output had."""
+    def words(self, query):
+        """Returns the words that run a query."""
+        return [repository.PROGRAM, "run", f"{self.room}/schema.sql", self.room, query]
+
+    def terminal(self):
+        """Returns a terminal's two ends, of which the first is closed after the test."""
         ours, theirs = pty.openpty()
         self.addCleanup(os.close, ours)
-        words = [repository.PROGRAM, "run", f"{self.room}/schema.sql", self.room, query]
+        return ours, theirs
+
+    def run_query(self, query, is_output_shown):
+        """Runs a query with standard error on a terminal, and returns what the terminal and a pipe on standard output had."""
+        ours, theirs = self.terminal()
+        words = self.words(query)
         output = theirs if is_output_shown else subprocess.PIPE
         with subprocess.Popen(words, stdout=output, stderr=theirs) as child:
             os.close(theirs)
@@ -84,6 +94,22 @@ class ProgressOnATerminal(unittest.TestCase):
         shown, written = self.run_query(QUERY, False)
         _, last = self.lines_of_a_join(shown)
         self.assertEqual((last, written), (b"", ANSWER))
+
+    @needs_build
+    def test_a_signal_leaves_a_whole_line(self):
+        ours, theirs = self.terminal()
+        with subprocess.Popen(self.words(QUERY), stdout=subprocess.DEVNULL, stderr=theirs) as child:
+            os.close(theirs)
+            shown = b""
+            while b"found\r\n" not in shown:
+                shown += os.read(ours, 1 << 16)
+            child.send_signal(signal.SIGINT)
+            shown += read_terminal(ours)
+            self.assertEqual(child.wait(timeout=60), -signal.SIGINT)
+        shown = shown.replace(b"\r\n", b"\n")
+        # The signal may come between the removal of a line and the next one.
+        _, last = self.lines_of_a_join(shown.removesuffix(CLEAR) + CLEAR)
+        self.assertEqual(last, b"")
 
     @needs_build
     def test_a_short_query_says_nothing(self):

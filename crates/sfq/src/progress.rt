@@ -1,5 +1,6 @@
 //! Shows how far a command is: a line on standard error, if that is a terminal and the command takes longer than half a second.
 //! The line is removed before anything else is written. Once output has been written to a terminal, no line is shown any more.
+//! It has its line end from the first, so a command that a signal ends leaves a whole line.
 
 use crate::inputs::Input;
 use std::cell::Cell;
@@ -14,8 +15,8 @@ const PATIENCE_MILLISECONDS: u64 = 500;
 /// How many milliseconds a line stays before it is written anew.
 const PAUSE_MILLISECONDS: u64 = 100;
 
-/// What removes a line: the cursor goes back to its first column, and all from there on is erased.
-const CLEAR: &[u8] = b"\r\x1b[K";
+/// What removes a line: the cursor goes up to its first column, and all from there on is erased.
+const CLEAR: &[u8] = b"\r\x1b[A\x1b[K";
 
 /// How many candidates are looked at from one look at the clock to the next.
 const STRIDE: u64 = 64;
@@ -131,8 +132,12 @@ impl<'r> Progress<'r> {
         let pause = Duration::from_millis(PAUSE_MILLISECONDS);
         self.due.set(elapsed.saturating_add(pause));
         self.clear();
-        self.applies.set(true);
         true
+    }
+
+    /// Notes that a line is on the terminal, if it was written whole. Another one isn't removed: the cursor may still be in it.
+    fn keep(&self, written: io::Result<()>) {
+        self.applies.set(written.is_ok());
     }
 
     /// Removes the line from the terminal.
@@ -166,7 +171,8 @@ impl ReadObserver for FileReading<'_> {
             let tables = self.progress.opened.get();
             let read = self.bytes / MEGABYTE;
             let mut err = self.progress.rt.stderr();
-            let _ = write!(err, "sfq: loading {name} ({place} of {tables}), {read} MB");
+            let written = writeln!(err, "sfq: loading {name} ({place} of {tables}), {read} MB");
+            self.progress.keep(written);
         }
     }
 }
@@ -208,10 +214,11 @@ impl RowObserver for Search<'_> {
             } = self;
             let row = total.saturating_sub(left);
             let mut err = self.progress.rt.stderr();
-            let _ = write!(
+            let written = writeln!(
                 err,
                 "sfq: row {row} of {total}, {candidates} candidates, {rows} found"
             );
+            self.progress.keep(written);
         }
     }
 

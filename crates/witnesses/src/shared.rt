@@ -5,6 +5,7 @@ ghost use Rattle.geometry_model.specs.Points.{IsPoint, point_at, same_point};
 ghost use Rattle.geometry_model.specs.Validity.{SharePoint, ShareOther};
 ghost use Rattle.noding.specs.Meetings.{IsMeeting, named};
 
+use edge_boxes::Bounds;
 use fraction::{GridPoint, RatPoint};
 use noding::{Meet, meet};
 use orient::Segment;
@@ -21,12 +22,17 @@ pub struct SharedPlace {
     pub meet: Meet,
 }
 
-/// What two edges share.
+/// What two edges share. Of most that share nothing the bounds are apart.
+#[tactic(auto, using(crate::proofs::SharedFacts::far_apart))]
 pub(crate) fn met(first: &Segment, second: &Segment) -> Meet
     ensures exact { IsMeeting first.now second.now result }
     ensures points { All IsPoint (named result) }
 {
-    meet(first, second)
+    if Bounds::of(first).overlap(&Bounds::of(second)) {
+        meet(first, second)
+    } else {
+        Meet::Apart
+    }
 }
 
 /// Whether two edges share a point, by what they share.
