@@ -121,7 +121,7 @@ class Pairs(unittest.TestCase):
 
     @needs_build
     def test_output_that_cannot_be_written(self):
-        for text in (RECORD, RECORD * 100_000):
+        for text in (RECORD, RECORD * 100_000, RECORD + b'POINT(1 2),POINT(1.5 2)\n'):
             with open("/dev/full", "wb") as full:
                 ran = subprocess.run([sweeps.program(), "pairs", "-"], input=text, stdout=full, stderr=subprocess.PIPE)
             self.assertEqual((ran.stderr, ran.returncode), (sweeps.WRITE_FAILED, 6))

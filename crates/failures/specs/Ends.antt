@@ -5,6 +5,7 @@ use Rattle.basics.specs.Counts.{one_more}
 use Rattle.streams.specs.Sinks.{AppendsFront}
 use Rattle.failures.specs.Failures.{failure_line, failure_status}
 use Rattle.failures.specs.declared.failure.Failure.{Failure}
+use Rattle.failures.specs.declared.failure.Failure.TheVariants as f
 
 -- how a command ends: done, or in a failure
 abbrev pub End : Type 0
@@ -14,6 +15,10 @@ End = Result (Unit {0}) Failure
 abbrev pub end_status : End → ℕ
 end_status (Ok done) = 0
 end_status (Err failure) = failure_status failure
+
+-- a status at which standard output may hold an answer: done, or pairs of which one is refused
+abbrev pub IsAnswered : ℕ → Type 0
+IsAnswered status = (status ≡ 0) ⊎ (status ≡ failure_status f.PairsRefused)
 
 -- a text was written: all of it, unless the sink failed once; then a beginning of it
 abbrev pub Writes : Option (List ℕ) → Option (List ℕ) → ℕ → ℕ → List ℕ → Type 0

@@ -1,7 +1,7 @@
 //! How a program ends: with its answer, or with the line and the status of its failure.
 
-ghost use Rattle.std.specs.Prelude.{◌≡◌, ◌⊎◌};
-ghost use Rattle.failures.specs.Ends.{Reports, Writes, end_status};
+ghost use Rattle.std.specs.Prelude.{◌≡◌, ◌↔◌, ◌⊎◌, IsTrue};
+ghost use Rattle.failures.specs.Ends.{IsAnswered, Reports, Writes, end_status};
 ghost use Rattle.failures.specs.Failures.{failure_line, failure_status};
 
 use crate::failure::{Failure, fault_line, status};
@@ -46,13 +46,23 @@ pub fn failed_words<E: Sink>(error: &io::Error, err: &mut E) -> u8
     MISUSE
 }
 
-/// Writes out what an output still holds back, and returns the status. If that fails where all was well, the answer can't be
-/// written.
-pub fn flushed<W: Write, E: Sink>(out: &mut StdSink<W>, status: u8, err: &mut E) -> u8
-    ensures { (result ≡ status) ⊎ ((status ≡ 0) × (result ≡ failure_status Failure.WriteFailed)) }
+/// Writes out what an output still holds back, and returns the status. If that fails where no line was written of a failure, the answer
+/// can't be written: where all was well, and where `pairs` ends with the status of a pair that is refused.
+pub fn flushed<W: Write, E: Sink>(out: &mut StdSink<W>, code: u8, err: &mut E) -> u8
+    ensures { (result ≡ code) ⊎ (IsAnswered code × (result ≡ failure_status Failure.WriteFailed)) }
 {
-    if out.flush().is_err() && status == 0 {
+    if out.flush().is_err() && is_answered(code) {
         return failed(&Failure::WriteFailed, err);
     }
-    status
+    code
+}
+
+/// Whether an output may hold back an answer at a status. At that of refused pairs it may be a refused query's too, whose output is empty.
+fn is_answered(code: u8) -> bool
+    ensures { IsTrue result ↔ IsAnswered code }
+{
+    match code {
+        0 | 5 => true,
+        _ => false,
+    }
 }

@@ -39,10 +39,11 @@ fn main(rt: HostRuntime) -> ExitCode {
     };
     let mut out = StdSink::new(buffer);
     let Served { status, is_said } = serve(&rt, &progress, &order, &mut out, &mut err);
+    let status = flushed(&mut out, status, &mut err);
     if is_explained(status) && !is_said && !progress.is_broken() {
         explain(&rt, &progress, &order, status);
     }
-    ExitCode::from(flushed(&mut out, status, &mut err))
+    ExitCode::from(status)
 }
 
 /// How an order was served: the status, and whether it was said of a table that it can't be read again.
