@@ -45,6 +45,17 @@ class Cases(unittest.TestCase):
         for it in ("schema unreadable", "parcel unreadable", "query unreadable", "first unreadable", "pairs unreadable"):
             self.assertIn(f"sfq: {it}\n", faults)
 
+    def test_each_word_from_elsewhere_has_a_case(self):
+        """The words that have a sentence of their own, by the tables of the crate that says it."""
+        cases = wrong_cases.all_cases()
+        texts = [it.decode(errors="replace") for case in cases for it in case.files.values() if it]
+        asked = "\n".join([*(it for case in cases for it in case.words), *texts])
+        for name, tables, least in (("query_words", 4, 120), ("geometry_sentences", 1, 10), ("schema_explanations", 1, 50)):
+            found = re.findall(r"^(?:pub\(crate\) )?const \w+: \[\(&str, &str\); \d+\] = \[\n(.*?)^\];", read(f"{ROOT}/crates/explanations/src/{name}.rt"), re.M | re.S)
+            words = re.findall(r'\(\s*"(\w+)",', "".join(found))
+            self.assertTrue(len(found) >= tables and len(words) >= least, (name, words))
+            self.assertEqual([it for it in words if not re.search(rf"\b{it}\b", asked, re.I)], [], name)
+
     def test_there_are_enough(self):
         count = collections.Counter(it.name.partition(":")[0] for it in wrong_cases.all_cases())
         for name, least in (("tables.txt", 50), ("schemas.txt", 30), ("queries.txt", 100), ("geometries.txt", 40)):
