@@ -6,6 +6,6 @@ use Rattle.feature_table.specs.declared.databases.HeldTables.{HeldTables}
 use Rattle.feature_table.specs.declared.databases.HeldTables.TheVariants as held
 
 -- the rows of each table, whoever keeps it
-abbrev pub rows_of : HeldTables → List (Table GeometryValue)
+abbrev pub rows_of : {I : Type 0} → HeldTables I → List (Table GeometryValue)
 rows_of (held.Own tables) = tables.items
-rows_of (held.Lent tables) = tables.now
+rows_of (held.Lent tables) = tables.now.items

@@ -22,7 +22,7 @@ use table_model::faults::{LoadFault, TableFault};
 #[derive(Drop)]
 pub(crate) enum HeldTables<'s, I: EnvelopeIndex> {
     Own(Vec<Table<I>>),
-    Lent(&'s [Table<I>]),
+    Lent(&'s Vec<Table<I>>),
 }
 
 /// The tables of a schema, which it borrows: lawful definitions, and for each the rows of its table
@@ -121,17 +121,22 @@ impl<'s, I: EnvelopeIndex + Drop> Database<'s, I> {
     {
         // The definitions are lawful, as those of a database are.
         let _definitions = schema.tables();
-        let tables = HeldTables::Own(load_tables(alloc, schema, readers)?);
-        Ok(Database { schema, tables })
+        let tables = load_tables(alloc, schema, readers)?;
+        Ok(Database {
+            schema,
+            tables: HeldTables::Own(tables),
+        })
     }
 
     /// The database of a schema and of tables that something else keeps, one for each definition. It takes no memory.
-    pub fn lent(schema: &'s Schema, tables: &'s [Table<I>]) -> Database<'s, I>
-        requires { IsDatabase takes (record { definitions = schema.entry.now; tables = tables.entry.now }) }
-        ensures { result ≡ record { definitions = schema.entry.now; tables = tables.entry.now } }
+    pub fn lent(schema: &'s Schema, tables: &'s Vec<Table<I>>) -> Database<'s, I>
+        requires { IsDatabase takes (record { definitions = schema.now; tables = tables.now.items }) }
+        ensures { result ≡ record { definitions = schema.entry.now; tables = tables.entry.now.items } }
     {
-        let tables = HeldTables::Lent(tables);
-        Database { schema, tables }
+        Database {
+            schema,
+            tables: HeldTables::Lent(tables),
+        }
     }
 
     /// Lends the definitions of the tables, in the order of the schema. With its tables they are a database

@@ -13,9 +13,9 @@ ghost use Rattle.table_model.specs.declared.definitions.TableDef.{TableDef as De
 
 use feature_table::{Database, LoadFault, Schema, Table, TableDef};
 use rtree::EnvelopeIndex;
-use spatial_sql::table_place;
 use std::alloc::{AllocError, Global};
 use std::marker::Model;
+use table_model::texts::same_name;
 
 /// A schema, and for each of its definitions a table, which has no rows until it is loaded (06-104r4, feature tables).
 #[derive(Drop)]
@@ -66,8 +66,9 @@ impl<I: EnvelopeIndex + Drop> KeptDatabase<I> {
     pub fn open(alloc: Global, schema: Schema) -> Result<KeptDatabase<I>, AllocError>
         ensures { IfOk result (λ kept. kept ≡ opened schema) }
     {
+        let count = schema.tables().len();
         let tables = empty_tables(alloc, &schema)?;
-        let loaded = none_loaded(alloc, tables.len())?;
+        let loaded = none_loaded(alloc, count)?;
         Ok(KeptDatabase {
             schema,
             tables,
@@ -116,7 +117,9 @@ impl<I: EnvelopeIndex + Drop> KeptDatabase<I> {
     pub fn place_of(&self, name: &[u8]) -> Option<usize>
         ensures { result ≡ spec.table_place self.now.definitions name.now }
     {
-        table_place(self.definitions(), name)
+        self.definitions()
+            .iter()
+            .position(|table| same_name(table.name.bytes(), name))
     }
 
     /// Lends the database of these tables. A table that isn't loaded has no rows. It takes no memory.
@@ -124,6 +127,6 @@ impl<I: EnvelopeIndex + Drop> KeptDatabase<I> {
         ensures value { result ≡ lent self.now }
         ensures empty { (place : ℕ) → is_loaded self.now place ≡ false → slice_index_or result.tables place [] ≡ [] }
     {
-        Database::lent(&self.schema, self.tables.as_slice())
+        Database::lent(&self.schema, &self.tables)
     }
 }

@@ -6,7 +6,7 @@ ghost use Rattle.kept_tables.specs.KeptTables.{names_unloaded};
 
 use crate::KeptDatabase;
 use rtree::EnvelopeIndex;
-use spatial_sql::Query;
+use sql_text::Query;
 use table_model::queries::WrittenReference;
 
 /// Whether a reference names a table of the schema that isn't loaded. A name that the schema lacks is none: it is refused when

@@ -35,7 +35,6 @@ pub use idle_rows::{asks_alone, gives_none};
 pub use passing_rows::passes;
 pub use query_binder::{Argument, Bound, ColumnShape, Cond, TableDef};
 pub use query_binding::bind_to_tables;
-pub use reference_binding::table_place;
 pub use sides::{dimension, printed};
 pub use sought_values::{equal_column, sought_value};
 pub use sql_text::{Query, QueryFault, SchemaFault, read_query, read_schema};

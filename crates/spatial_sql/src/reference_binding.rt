@@ -14,8 +14,8 @@ use table_model::queries::{Name, WrittenReference};
 use table_model::references::References;
 use table_model::texts::same_name;
 
-/// The place of a table by its name, without regard to ASCII case (SQL, names of tables).
-pub fn table_place(definitions: &[TableDef], name: &[u8]) -> Option<usize>
+/// The place of a table by its name.
+fn table_place(definitions: &[TableDef], name: &[u8]) -> Option<usize>
     ensures { result ≡ spec.table_place definitions.now name.now }
 {
     definitions
