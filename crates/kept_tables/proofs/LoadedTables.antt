@@ -67,23 +67,23 @@ within kept is place loaded = go (cases_lt place (length kept.loaded))
 
 -- the table of a place is that of its text, where another was loaded and where this one was
 pub loaded_texts_are_kept : LoadedTextsAreKept
-loaded_texts_are_kept kept texts place text rows d is many there before loads at e loaded = go (cases_eq at place)
+loaded_texts_are_kept kept texts place text rows d is many there before loads k e loaded = go (cases_eq k place)
   where
     many_tables : length kept.tables ≡ length kept.definitions
     many_tables = is.database.count
 
     loads_now : Result SpatialTable LoadFault
-    loads_now = table_in reading (get_or kept.definitions at e) (get_or (set texts place text) at [])
+    loads_now = table_in reading (get_or kept.definitions k e) (get_or (set texts place text) k [])
 
-    go : (at ≡ place) ⊎ (at ≡ place → ⊥) → loads_now ≡ Ok (get_or (set kept.tables place rows) at [])
+    go : (k ≡ place) ⊎ (k ≡ place → ⊥) → loads_now ≡ Ok (get_or (set kept.tables place rows) k [])
     go (inl same) =
         let here = get_or-set_same texts place text [] (omega (arith, many, there)) in
         let put = get_or-set_same kept.tables place rows [] (omega (arith, many_tables, there)) in
         rw (same, here, put, get_or_default kept.definitions place e d there) loads
     go (inr other) =
-        let as_before = get_or-set_other kept.loaded place at true false other in
-        rw (get_or-set_other texts place at text [] other, get_or-set_other kept.tables place at rows [] other)
-        (before at e (rw as_before at loaded))
+        let as_before = get_or-set_other kept.loaded place k true false other in
+        rw (get_or-set_other texts place k text [] other, get_or-set_other kept.tables place k rows [] other)
+        (before k e (rw as_before at loaded))
 
 -- a table among others loads where it loads by itself
 by_itself : {X : Type 0} (place : ℕ) (r : Result X LoadFault) (x : X) → at_table place r ≡ Ok x → r ≡ Ok x

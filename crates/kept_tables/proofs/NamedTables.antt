@@ -1,19 +1,32 @@
 -- What a query gives depends on the tables of its references alone, and these are the tables that it names.
-use Rattle.std.proofs.Common.{◌≡◌, ◌++◌, ap, ap₂, refl, ℕ, Bool, true, false, List, [], ◌∷◌, Option, None, Some, Ok, Err, IfOk}
-use Rattle.std.specs.Prelude.{All, if◌then◌else◌, ⊤, Result}
-use Rattle.std.specs.List.{list_any}
+use mathlib.Core.Path.{fun_ext}
+use Rattle.std.proofs.Common.{◌≡◌, ◌++◌, ap, ap₂, refl, ℕ, Bool, true, false, List, [], ◌∷◌, length, map, Option, None, Some, Ok, Err, IfOk}
+use Rattle.std.specs.Prelude.{All, if◌then◌else◌, ⊤, Result, sum_by}
+use Rattle.std.specs.List.{filter, list_any}
+use Rattle.std.specs.Option.{option_map_or}
+use Rattle.geometry_model.specs.Geometries.{Geometry}
 use Rattle.std.proofs.lemmas.List.Elements.{All-cons, All-head, All-nil, All-push, All-tail}
 use Rattle.kept_tables.specs.KeptLaws.{AgreeAt, AnswersAreOfNamed, OutcomesAreOfNamed, PlansAreOfNamed, RowsAreOfNamed, SameAt, database_of}
 use Rattle.table_model.specs.Binding.{Checked, GeometryBinding, ◌>>=◌, bound_items, bound_reference, bound_references, bound_whole}
 use Rattle.table_model.specs.Binding.{name_start, named_apart, next_reference, reference_at, references_after, statement, table_place}
-use Rattle.table_model.specs.GeometryColumns.{geometry_binding}
-use Rattle.table_model.specs.Meanings.{referenced}
-use Rattle.table_model.specs.RunOutcomes.{OfQuery, after, answer_text, text_for}
-use Rattle.table_model.specs.SpatialTables.{SpatialSchema, SpatialStatement, SpatialTable}
+use Rattle.table_model.specs.AnswerTexts.{answer}
+use Rattle.table_model.specs.Arguments.{denoted}
+use Rattle.table_model.specs.Candidates.{candidates_among}
+use Rattle.table_model.specs.ExplainTexts.{analyze_text, explain_text}
+use Rattle.table_model.specs.GeometryColumns.{ColumnShape, geometry_binding, geometry_writing}
+use Rattle.table_model.specs.Meanings.{Row, all_true, is_true, meaning, product, referenced, search_condition, up_to}
+use Rattle.table_model.specs.Places.{Choice, choices, limited, meant, rows_at}
+use Rattle.table_model.specs.Plans.{chosen, first_of_least, lawful_accesses, lawful_plans, plan_of}
+use Rattle.table_model.specs.RunOutcomes.{MatrixOf, OfQuery, RecordText, after, answer_text, kept_count, records_text, text_for}
+use Rattle.table_model.specs.SpatialTables.{SpatialQuery, SpatialSchema, SpatialStatement, SpatialTable}
+use Rattle.table_model.specs.Statements.{by_conjuncts}
 use Rattle.table_model.specs.Texts.{same_name}
+use Rattle.table_model.specs.Truths.{truth}
+use Rattle.table_model.specs.Work.{candidate_work, counted, filters_of, keeps_order, work}
 use Rattle.table_model.specs.declared.conditions.Reference.{Reference}
 use Rattle.table_model.specs.declared.faults.QueryFault.{QueryFault}
 use Rattle.table_model.specs.declared.faults.QueryFault.TheVariants as faults
+use Rattle.table_model.specs.declared.plans.Plan.{Plan}
 use Rattle.table_model.specs.declared.queries.Explain.{Explain}
 use Rattle.table_model.specs.declared.queries.Explain.TheVariants as explains
 use Rattle.table_model.specs.declared.queries.Query.{Query}
@@ -30,30 +43,73 @@ same_referenced (r ∷ more) tables others agree =
     ap₂ (λ (x : SpatialTable) (xs : List SpatialTable). x ∷ xs) (All-head P r more agree)
     (same_referenced more tables others (All-tail P r more agree))
 
--- so the product, and what is filtered of it, is the same
+module _ (matrix : MatrixOf) (tables others : List SpatialTable) (query : SpatialStatement)
+    (agree : AgreeAt query.references tables others) where
+  abbrev bound : SpatialQuery
+  bound = by_conjuncts query
+
+  same : referenced tables query.references ≡ referenced others query.references
+  same = same_referenced query.references tables others agree
+
+  -- so what is filtered of their product is the same
+  abbrev filtered_of : List SpatialTable → List (List (Row Geometry))
+  filtered_of named = filter (λ rows. is_true (truth matrix denoted rows (search_condition query))) (product named)
+
+  same_meaning : meaning (truth matrix denoted) tables query ≡ meaning (truth matrix denoted) others query
+  same_meaning = ap (λ named. if query.counts then filtered_of named else up_to query.limit (filtered_of named)) same
+
+  abbrev selects : List SpatialTable → Choice → Bool
+  selects named choice = all_true (truth matrix denoted) bound.conjuncts (rows_at named choice)
+
+  same_meant : meant (truth matrix denoted) tables bound ≡ meant (truth matrix denoted) others bound
+  same_meant = ap (λ named. limited bound (filter (selects named) (choices named))) same
+
+  -- and so are the numbers of rows, by which a plan is chosen
+  abbrev plans_of : List SpatialTable → List Plan
+  plans_of named =
+      map (plan_of (map (λ table. length table) named) bound.conjuncts) (lawful_accesses bound.references bound.conjuncts)
+
+  same_plans : lawful_plans tables bound ≡ lawful_plans others bound
+  same_plans = ap plans_of same
+
+  same_chosen : chosen tables bound ≡ chosen others bound
+  same_chosen = ap (λ named. first_of_least (λ plan. plan.cost) (plans_of named)) same
+
+  -- and the candidates of each, and what they compute
+  abbrev work_with : Plan → List SpatialTable → ℕ
+  work_with plan named =
+      sum_by (λ choice. candidate_work matrix denoted (filters_of bound plan) (rows_at named choice))
+      (counted (selects named) (keeps_order plan.accesses) bound.counts bound.limit
+      (candidates_among denoted bound.conjuncts named plan.accesses))
+
+  same_work : (plan : Plan) → work matrix denoted tables bound plan ≡ work matrix denoted others bound plan
+  same_work plan = ap (work_with plan) same
+
+  -- and so is the text of the answer, whichever is asked for
+  same_text : (record_text : RecordText) (definitions : SpatialSchema) (explain : Explain)
+      → text_for explain record_text matrix (database_of definitions tables) query
+      ≡ text_for explain record_text matrix (database_of definitions others) query
+  same_text record_text definitions explains.No =
+      ap (λ rows. records_text record_text (answer geometry_writing definitions bound rows)) same_meaning
+  same_text record_text definitions explains.Plan = ap (λ plan. option_map_or (explain_text bound) plan []) same_chosen
+  same_text record_text definitions explains.Analyze =
+      ap₂ (λ (text : Plan → List ℕ) (plan : Option Plan). option_map_or text plan [])
+      (fun_ext (λ plan. ap (λ n. analyze_text bound plan (kept_count n)) (same_work plan))) same_chosen
+
 pub rows_are_of_named : RowsAreOfNamed
 rows_are_of_named matrix tables others query agree =
-    let same = same_referenced query.references tables others agree in (rw same refl, rw same refl)
+    (same_meaning matrix tables others query agree, same_meant matrix tables others query agree)
 
 pub plans_are_of_named : PlansAreOfNamed
-plans_are_of_named matrix tables others query plan agree =
-    let same = same_referenced query.references tables others agree in (
-      rw same refl,
-      rw same refl,
-      rw same refl,
-    )
+plans_are_of_named matrix tables others query agree = (
+  same_plans matrix tables others query agree,
+  same_chosen matrix tables others query agree,
+  same_work matrix tables others query agree,
+)
 
--- and so is the answer, whichever is asked for
 pub answers_are_of_named : AnswersAreOfNamed
-answers_are_of_named record_text matrix definitions tables others query agree = go query.explain
-  where
-    text : Explain → List SpatialTable → List ℕ
-    text explain all = text_for explain record_text matrix (database_of definitions all) query
-
-    go : (explain : Explain) → text explain tables ≡ text explain others
-    go explains.No = rw (same_referenced query.references tables others agree) refl
-    go explains.Plan = rw (same_referenced query.references tables others agree) refl
-    go explains.Analyze = rw (same_referenced query.references tables others agree) refl
+answers_are_of_named record_text matrix definitions tables others query agree =
+    same_text matrix tables others query agree record_text definitions query.explain
 
 -- ---- by names
 
@@ -107,7 +163,7 @@ module _ (definitions : SpatialSchema) (P : ℕ → Type 0) where
       (λ r is. all_after (before ++ r ∷ []) more (All-push OfTable before r earlier is) (All-tail OfNamed w more named))
 
   -- so it is of the references of a query
-  of_statement : {A B C D : Type 0} (how : GeometryBinding _ A B C D) (query : Query A C) → All OfNamed query.references
+  of_statement : {A B C D : Type 0} (how : GeometryBinding ColumnShape A B C D) (query : Query A C) → All OfNamed query.references
       → IfOk (statement how definitions query) (λ bound. All OfTable bound.references)
   of_statement how query named =
       then_ok (bound_references definitions query.references) _ (All OfTable) _

@@ -68,11 +68,11 @@ RowsAreOfNamed = (matrix : MatrixOf) (tables others : List SpatialTable) (query 
 
 -- so are its lawful plans, the chosen one, and the work of each
 abbrev pub PlansAreOfNamed : Type 0
-PlansAreOfNamed = (matrix : MatrixOf) (tables others : List SpatialTable) (query : SpatialStatement) (plan : Plan)
+PlansAreOfNamed = (matrix : MatrixOf) (tables others : List SpatialTable) (query : SpatialStatement)
     → AgreeAt query.references tables others
     → (lawful_plans tables (by_conjuncts query) ≡ lawful_plans others (by_conjuncts query))
     × (chosen tables (by_conjuncts query) ≡ chosen others (by_conjuncts query))
-    × (work matrix denoted tables (by_conjuncts query) plan ≡ work matrix denoted others (by_conjuncts query) plan)
+    × ((plan : Plan) → work matrix denoted tables (by_conjuncts query) plan ≡ work matrix denoted others (by_conjuncts query) plan)
 
 -- so is the text of its answer, the header included: its rows, its plan, or its plan and the work (SQL, the query)
 abbrev pub AnswersAreOfNamed : Type 0

@@ -1,6 +1,6 @@
 //! Databases whose tables are loaded one at a time.
 
-ghost use Rattle.std.specs.Prelude.{◌≡◌, ◌<◌, [], IfOk, List, OnErr, OnOk, false, length, replicate};
+ghost use Rattle.std.specs.Prelude.{◌≡◌, ◌<◌, [], ℕ, IfOk, OnErr, OnOk, false, length, replicate};
 ghost use Rattle.std.specs.List.{slice_index_or};
 ghost use Rattle.feature_table.specs.GeometryFields.{reading};
 ghost use Rattle.feature_table.specs.Outcomes.{Loads};
@@ -8,7 +8,6 @@ ghost use Rattle.feature_table.specs.Tables.{table_in};
 ghost use Rattle.kept_tables.specs.KeptTables.{IsKept, is_loaded, lent, opened, table_at, with_table};
 ghost use Rattle.table_model.specs.Binding as spec;
 ghost use Rattle.table_model.specs.GeometryColumns.{ColumnShape as Shape};
-ghost use Rattle.table_model.specs.SpatialTables.{SpatialTable};
 ghost use Rattle.table_model.specs.declared.definitions.TableDef.{TableDef as Definition};
 
 use feature_table::{Database, LoadFault, Schema, Table, TableDef};
@@ -37,6 +36,7 @@ impl<I: EnvelopeIndex> Model for KeptDatabase<I> {
 }
 
 /// As many tables without rows as a schema has definitions.
+#[tactic(auto, using(std::proofs::lemmas::List::replicate_more))]
 fn empty_tables<I: EnvelopeIndex + Drop>(
     alloc: Global,
     schema: &Schema,
@@ -51,6 +51,7 @@ fn empty_tables<I: EnvelopeIndex + Drop>(
 }
 
 /// As many times `false` as this.
+#[tactic(auto, using(std::proofs::lemmas::List::replicate_more))]
 fn none_loaded(alloc: Global, count: usize) -> Result<Vec<bool>, AllocError>
     ensures { IfOk result (λ loaded. loaded.items ≡ replicate count false) }
 {

@@ -9,10 +9,11 @@ use Rattle.feature_table.proofs.databases.Database.table.Goals as goal
 
 -- a table that is read of the list of them is that of the database
 read : (database : Database ShapeValue GeometryValue) (held : List (Table GeometryValue)) (i : ℕ) (table : Table GeometryValue)
-    → held ≡ database.tables → length held ≡ length database.definitions → i < length database.definitions → table ≡ get_or held i table
-    → slice_get database.tables i ≡ Some table
+    → held ≡ database.tables → length held ≡ length database.definitions → i < length database.definitions
+    → table ≡ get_or held i table → slice_get database.tables i ≡ Some table
 read database held i table is many there at =
-    subst (λ (tables : List (Table GeometryValue)). slice_get tables i ≡ Some table) is (read_at held i table (omega (arith, many, there)) at)
+    let found = read_at held i table (omega (arith, many, there)) at in
+    subst (λ (tables : List (Table GeometryValue)). slice_get tables i ≡ Some table) is found
 
 pub returns-in-Own : goal.returns-in-Own
 returns-in-Own g c =
