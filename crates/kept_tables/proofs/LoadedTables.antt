@@ -30,12 +30,15 @@ use Rattle.table_model.specs.declared.queries.WrittenReference.{WrittenReference
 none_unloaded : (kept : KeptTables) (k : ℕ) (ws : List WrittenReference) → position_from (names_unloaded kept) k ws ≡ None
     → All (λ w. names_unloaded kept w ≡ false) ws
 none_unloaded kept k [] none = All-nil (λ w. names_unloaded kept w ≡ false)
-none_unloaded kept k (w ∷ ws) none = at (names_unloaded kept w) refl none
+none_unloaded kept k (w ∷ ws) none = at (names_unloaded kept w) refl none (none_unloaded kept (k + 1) ws)
   where
+    IsNamed : List WrittenReference → Type 0
+    IsNamed written = All (λ w. names_unloaded kept w ≡ false) written
+
     at : (b : Bool) → names_unloaded kept w ≡ b → cond b (Some k) (position_from (names_unloaded kept) (k + 1) ws) ≡ None
-        → All (λ w. names_unloaded kept w ≡ false) (w ∷ ws)
-    at true is none = absurd (none-some k (sym none))
-    at false is none = All-cons (λ w. names_unloaded kept w ≡ false) w ws is (none_unloaded kept (k + 1) ws none)
+        → (position_from (names_unloaded kept) (k + 1) ws ≡ None → IsNamed ws) → IsNamed (w ∷ ws)
+    at true is none more = absurd (none-some k (sym none))
+    at false is none more = All-cons (λ w. names_unloaded kept w ≡ false) w ws is (more none)
 
 -- the table at the place of a name that isn't unloaded is that of the whole
 same_table : (kept : KeptTables) (whole : List SpatialTable) → IsPartOf kept whole → (w : WrittenReference)
@@ -104,7 +107,8 @@ each_loads first [] texts tables many e place d there = absurd (omega (arith, th
 each_loads first (t ∷ definitions) [] tables many e place d there = absurd (omega (arith, many))
 each_loads first (t ∷ definitions) (text ∷ texts) tables many e place d there =
     let p = parts (at_table first (table_in reading t text)) (loads_from (first + 1) definitions texts) tables e in
-    let here = at place there p.head p.tail p.head_is p.tail_is in
+    let more = each_loads (first + 1) definitions texts p.tail fewer p.tail_is in
+    let here = at place there p.head p.tail p.head_is more in
     subst (λ (all : List SpatialTable). own place ≡ Ok (get_or all place [])) p.all_is here
   where
     fewer : length texts ≡ length definitions
@@ -114,11 +118,12 @@ each_loads first (t ∷ definitions) (text ∷ texts) tables many e place d ther
     own place = table_in reading (get_or (t ∷ definitions) place d) (get_or (text ∷ texts) place [])
 
     at : (place : ℕ) → place < length (t ∷ definitions) → (rows : SpatialTable) (rest : List SpatialTable)
-        → at_table first (table_in reading t text) ≡ Ok rows → each (loads_from (first + 1) definitions texts) ≡ Ok rest
+        → at_table first (table_in reading t text) ≡ Ok rows
+        → ((k : ℕ) (e : TableDef ColumnShape) → k < length definitions
+        → table_in reading (get_or definitions k e) (get_or texts k []) ≡ Ok (get_or rest k []))
         → own place ≡ Ok (get_or (rows ∷ rest) place [])
-    at zero there rows rest head tail = by_itself first (table_in reading t text) rows head
-    at (suc place) there rows rest head tail =
-        each_loads (first + 1) definitions texts rest fewer tail place d (omega (arith, there))
+    at zero there rows rest head more = by_itself first (table_in reading t text) rows head
+    at (suc place) there rows rest head more = more place d (omega (arith, there))
 
 -- so a kept database has of all tables those that it has loaded
 is_part : (kept : KeptTables) (texts : List (List ℕ)) (whole : List SpatialTable) → IsKept kept

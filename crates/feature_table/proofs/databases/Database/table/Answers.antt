@@ -30,5 +30,5 @@ returns-in-Lent g c =
     let lent = ap rows_of c.in-Lent.is in
     let tables = ap (λ (d : Database ShapeValue GeometryValue). d.tables) view in
     let definitions = ap (λ (d : Database ShapeValue GeometryValue). length d.definitions) view in
-    read c.args.self.now c.in-Lent.tables.now.items c.args.i c.index.result.now (sym lent ∙ tables)
-    (omega (arith, ap length lent, c.self.invariant.count, definitions)) c.requires c.index.ensures
+    read c.args.self.now c.in-Lent.tables.now.items c.args.i c.index-in-Lent.result.now (sym lent ∙ tables)
+    (omega (arith, ap length lent, c.self.invariant.count, definitions)) c.requires c.index-in-Lent.ensures
