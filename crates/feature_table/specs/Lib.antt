@@ -3,6 +3,7 @@ pub mod Layouts
 pub mod RowReading
 pub mod Tables
 pub mod GeometryFields
+pub mod HeldTables
 pub mod Indexes
 pub mod FlatRows
 pub mod KeyPlaces

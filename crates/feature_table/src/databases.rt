@@ -5,6 +5,7 @@ ghost use Rattle.std.specs.List.{slice_index_or};
 ghost use Rattle.feature_table.specs.GeometryFields.{ShapeValue, reading, takes};
 ghost use Rattle.feature_table.specs.Outcomes.{LoadsTable};
 ghost use Rattle.feature_table.specs.Tables.{AreOfRecords, AreRecordsOf, EarlierLoad, records_in, table_in, tables_in};
+ghost use Rattle.feature_table.specs.HeldTables.{rows_of};
 ghost use Rattle.table_model.specs.Databases.{at_table};
 ghost use Rattle.table_model.specs.FeatureTables.{IsDatabase};
 ghost use Rattle.table_model.specs.Loading.{Record, load};
@@ -17,25 +18,33 @@ use std::io::Read;
 use std::marker::Model;
 use table_model::faults::{LoadFault, TableFault};
 
+/// The tables of a database: its own, or those that something else keeps.
+#[derive(Drop)]
+pub(crate) enum HeldTables<'s, I: EnvelopeIndex> {
+    Own(Vec<Table<I>>),
+    Lent(&'s Vec<Table<I>>),
+}
+
 /// The tables of a schema, which it borrows: lawful definitions, and for each the rows of its table
 /// (06-104r4, feature tables).
 #[derive(Drop)]
 pub struct Database<'s, I: EnvelopeIndex> {
     schema: &'s Schema,
-    tables: Vec<Table<I>>,
+    tables: HeldTables<'s, I>,
 }
 
 impl<'s, I: EnvelopeIndex> Model for Database<'s, I> {
     ghost use Rattle.feature_table.specs.GeometryFields.{GeometryValue, ShapeValue, takes};
+    ghost use Rattle.feature_table.specs.HeldTables.{rows_of};
     ghost use Rattle.table_model.specs.Databases.{Database};
     ghost use Rattle.table_model.specs.FeatureTables.{IsDatabase};
 
     ghost Value = { Database ShapeValue GeometryValue };
 
-    ghost view = { λ d. record { definitions = d.schema.now; tables = d.tables.items } };
+    ghost view = { λ d. record { definitions = d.schema.now; tables = rows_of d.tables } };
 
     ghost invariant = { λ d.
-        IsDatabase takes (record { definitions = d.schema.now; tables = d.tables.items }) };
+        IsDatabase takes (record { definitions = d.schema.now; tables = rows_of d.tables }) };
 }
 
 /// Loads the table at a place of a schema, and adds that place to a fault.
@@ -113,7 +122,21 @@ impl<'s, I: EnvelopeIndex + Drop> Database<'s, I> {
         // The definitions are lawful, as those of a database are.
         let _definitions = schema.tables();
         let tables = load_tables(alloc, schema, readers)?;
-        Ok(Database { schema, tables })
+        Ok(Database {
+            schema,
+            tables: HeldTables::Own(tables),
+        })
+    }
+
+    /// The database of a schema and of tables that something else keeps, one for each definition. It takes no memory.
+    pub fn lent(schema: &'s Schema, tables: &'s Vec<Table<I>>) -> Database<'s, I>
+        requires { IsDatabase takes (record { definitions = schema.now; tables = tables.now.items }) }
+        ensures { result ≡ record { definitions = schema.entry.now; tables = tables.entry.now.items } }
+    {
+        Database {
+            schema,
+            tables: HeldTables::Lent(tables),
+        }
     }
 
     /// Lends the definitions of the tables, in the order of the schema. With its tables they are a database
@@ -130,6 +153,9 @@ impl<'s, I: EnvelopeIndex + Drop> Database<'s, I> {
         requires { i < length self.now.definitions }
         ensures { slice_get self.now.tables i ≡ Some result.now }
     {
-        &self.tables[i]
+        match &self.tables {
+            HeldTables::Own(tables) => &tables[i],
+            HeldTables::Lent(tables) => &tables[i],
+        }
     }
 }

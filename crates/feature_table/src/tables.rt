@@ -16,11 +16,11 @@ use crate::indexes::Indexes;
 use crate::keys::rows_by_key;
 use crate::loading::read_rows;
 use crate::records::{Records, next_record};
-use crate::values::Row;
+use crate::values::{Row, Values};
 use csv::ByteRecord;
 use rtree::EnvelopeIndex;
 use sql_text::TableDef;
-use std::alloc::Global;
+use std::alloc::{AllocError, Global};
 use std::io::Read;
 use std::marker::Model;
 use table_model::faults::LoadFault;
@@ -48,6 +48,16 @@ impl<I: EnvelopeIndex> Model for Table<I> {
 }
 
 impl<I: EnvelopeIndex + Drop> Table<I> {
+    /// The table of a lawful definition that has no rows. It fails only when memory runs out.
+    pub fn empty(alloc: Global, table: &TableDef) -> Result<Table<I>, AllocError>
+        requires { IsTrue (lawful (table.now ∷ [])) }
+        ensures { IfOk result (λ t. t ≡ []) }
+    {
+        let rows = FlatRows::new(Values::new(alloc), table.columns.len(), Vec::new(alloc));
+        let indexes = Indexes::build(alloc, table, &rows)?;
+        Ok(Table { rows, indexes })
+    }
+
     /// Loads the table of a lawful definition from the CSV text that a reader gives. The error is the first fault: of the
     /// header, then of the records in order, then a repeated key; `ReadFailed` comes where reading failed, and `OutOfMemory` may
     /// come in place of any result. Whatever the reader is, there are records whose table or fault this is. It is

@@ -16,6 +16,8 @@ mod file_tests;
 #[cfg(test)]
 mod front_tests;
 #[cfg(test)]
+mod kept_table_tests;
+#[cfg(test)]
 mod observer_tests;
 #[cfg(test)]
 mod row_tests;

@@ -1,0 +1,2 @@
+pub mod KeptTables
+pub mod KeptLaws

@@ -1,0 +1,129 @@
+//! Kept databases: tables that are loaded one after another, faults, and queries of the tables that are loaded.
+
+use crate::tables::points_up_to;
+use de9im::Work;
+use executor::{RowPair, execute};
+use feature_table::LoadFault;
+use kept_tables::{KeptDatabase, unloaded_reference};
+use planner::choose;
+use rtree::RTree;
+use spatial_sql::{Query, bind, read_query, read_schema};
+use std::alloc::Global;
+use std::test::Fail;
+
+const TWO_SCHEMA: &[u8] = b"CREATE TABLE big (id INTEGER PRIMARY KEY, geom POINT);
+CREATE TABLE sq (id INTEGER PRIMARY KEY, geom POLYGON NOT NULL);";
+
+const SQUARES: &[u8] = b"id,geom
+1,\"POLYGON((0 0,4 0,4 4,0 4,0 0))\"
+2,\"POLYGON((4 0,8 0,8 4,4 4,4 0))\"
+";
+
+const WITHIN: &str = "SELECT id FROM BIG \
+    WHERE ST_Within(geom, ST_GeomFromText('POLYGON((0 0,4 0,4 4,0 4,0 0))'))";
+
+const JOINED: &str = "SELECT b.id, s.id FROM big b JOIN sq s ON ST_Within(b.geom, s.geom)";
+
+/// A database of two tables, of which none is loaded.
+fn opened(alloc: Global) -> Result<KeptDatabase<RTree>, Fail> {
+    let schema = read_schema(alloc, TWO_SCHEMA)?;
+    Ok(KeptDatabase::open(alloc, schema)?)
+}
+
+/// What came of loading the table of a name.
+fn load(
+    alloc: Global,
+    kept: &mut KeptDatabase<RTree>,
+    name: &[u8],
+    text: &[u8],
+) -> Result<Result<(), LoadFault>, Fail> {
+    let place = kept.place_of(name).ok_or("no such table")?;
+    if place >= kept.definitions().len() {
+        return Err(Fail::from("no such place"));
+    }
+    Ok(kept.load(alloc, place, text))
+}
+
+/// Which reference of a query names a table that isn't loaded, and the rows of the query over what is loaded.
+fn asked(
+    alloc: Global,
+    kept: &KeptDatabase<RTree>,
+    query: &Query<'_>,
+) -> Result<(Option<usize>, Vec<RowPair>), Fail> {
+    let database = kept.database();
+    let bound = bind(alloc, query, &database)?;
+    let plan = choose(alloc, &database, &bound)?;
+    let rows = execute(alloc, &database, &bound, &plan, &mut Work::new())?;
+    Ok((unloaded_reference(kept, query), rows))
+}
+
+/// The same of the text of a query, its rows by their places, one number after the other.
+fn found(
+    alloc: Global,
+    kept: &KeptDatabase<RTree>,
+    query: &str,
+) -> Result<(Option<usize>, Vec<usize>), Fail> {
+    let query = read_query(alloc, query)?;
+    let (unloaded, rows) = asked(alloc, kept, &query)?;
+    let mut places = Vec::new(alloc);
+    for row in rows {
+        places.push(row.first)?;
+        if let Some(second) = row.second {
+            places.push(second)?;
+        }
+    }
+    Ok((unloaded, places))
+}
+
+/// Nothing is loaded at first, and a table that isn't loaded has no rows.
+#[test]
+fn opened_has_no_rows(rt: HostRuntime) -> Result<(), Fail> {
+    let kept = opened(rt.alloc())?;
+    assert!(rt; !kept.is_loaded(0) && !kept.is_loaded(1) && !kept.is_loaded(2));
+    let (unloaded, places) = found(rt.alloc(), &kept, JOINED)?;
+    assert!(rt; unloaded == Some(0) && places.is_empty());
+    Ok(())
+}
+
+/// A query of one table needs that table alone; another table may be loaded after it.
+#[test]
+fn tables_are_loaded_one_after_another(rt: HostRuntime) -> Result<(), Fail> {
+    let mut kept = opened(rt.alloc())?;
+    let points = points_up_to(rt.alloc(), 6)?;
+    load(rt.alloc(), &mut kept, b"big", points.as_bytes())??;
+    assert!(rt; kept.is_loaded(0) && !kept.is_loaded(1));
+    let (unloaded, places) = found(rt.alloc(), &kept, WITHIN)?;
+    assert!(rt; unloaded.is_none() && places.as_slice() == [0, 1, 2].as_slice());
+    let (unloaded, places) = found(rt.alloc(), &kept, JOINED)?;
+    assert!(rt; unloaded == Some(1) && places.is_empty());
+    load(rt.alloc(), &mut kept, b"SQ", SQUARES)??;
+    let (unloaded, places) = found(rt.alloc(), &kept, JOINED)?;
+    assert!(rt; unloaded.is_none());
+    assert!(rt; places.as_slice() == [0, 0, 1, 0, 2, 0, 4, 1, 5, 1].as_slice());
+    Ok(())
+}
+
+/// A fault leaves the table that was there, and another text takes its place.
+#[test]
+fn faults_leave_the_table(rt: HostRuntime) -> Result<(), Fail> {
+    let mut kept = opened(rt.alloc())?;
+    load(rt.alloc(), &mut kept, b"sq", b"id,geom\n")??;
+    let points = points_up_to(rt.alloc(), 6)?;
+    load(rt.alloc(), &mut kept, b"big", points.as_bytes())??;
+    let broken = load(
+        rt.alloc(),
+        &mut kept,
+        b"big",
+        b"id,geom\n1,POINT(1 1)\nx,\n",
+    )?;
+    assert!(rt; broken.err() == Some(LoadFault::BadInteger(2)));
+    let unfit = load(rt.alloc(), &mut kept, b"sq", b"id,geom\n1,\n")?;
+    assert!(rt; unfit.err() == Some(LoadFault::NullNotAllowed(1)));
+    assert!(rt; kept.is_loaded(0) && kept.is_loaded(1));
+    let (_, places) = found(rt.alloc(), &kept, WITHIN)?;
+    assert!(rt; places.as_slice() == [0, 1, 2].as_slice());
+    load(rt.alloc(), &mut kept, b"big", b"id,geom\n7,POINT(3 3)\n")??;
+    let (_, places) = found(rt.alloc(), &kept, WITHIN)?;
+    assert!(rt; places.as_slice() == [0].as_slice());
+    Ok(())
+}
