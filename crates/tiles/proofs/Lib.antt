@@ -21,6 +21,8 @@ pub mod KeyMerges
 pub mod LoadedParts
 pub mod LoadedTexts
 pub mod MadeTiles
+pub mod NarrowQueries
+pub mod SchemaNames
 pub mod StretchTexts
 pub mod TiledAnswers
 pub mod WholeTables

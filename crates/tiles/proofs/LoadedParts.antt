@@ -118,7 +118,7 @@ own_header columns differ = go columns (λ t c there. (t, there))
 -- ---- keys
 
 -- the field of a column that is copied
-at_its_place : {X : Type 0} (f : ℕ → X) (columns : List ℕ) (column : ℕ) → Contains columns column
+pub at_its_place : {X : Type 0} (f : ℕ → X) (columns : List ℕ) (column : ℕ) → Contains columns column
     → slice_get (map f columns) (place_among columns column) ≡ Some (f column)
 at_its_place f [] column m = absurd (no_member column m)
 at_its_place {X = X} f (k ∷ columns) column m =

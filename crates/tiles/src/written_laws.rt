@@ -2,13 +2,13 @@
 
 ghost use Rattle.tiles.specs.LoadedParts.{StretchesAreLoaded, TilesAreLoaded};
 ghost use Rattle.tiles.specs.LoadedRows.{CheckedIsLoaded, LoadedAreOnGrid};
-ghost use Rattle.tiles.specs.LoadedTexts.{TextsAreLoaded};
+ghost use Rattle.tiles.specs.LoadedTexts.{SchemaNamesBeginWords, TextsAreLoaded};
 ghost use Rattle.tiles.specs.MadeTiles.{MadeTilesAreMarked};
 ghost use Rattle.tiles.specs.ReadBack.{WrittenTablesAreRead};
 ghost use Rattle.tiles.specs.StretchTexts.{StretchTextsAreLoaded};
 ghost use Rattle.tiles.specs.Stretches.{StretchesAreWhole};
 ghost use Rattle.tiles.specs.TileRows.{TilesAreRead};
-ghost use Rattle.tiles.specs.TiledAnswers.{TiledAnswersAreMeant};
+ghost use Rattle.tiles.specs.TiledAnswers.{TiledAnswersAreMeant, TiledCountsAreMeant};
 ghost use Rattle.tiles.specs.WholeTables.{CheckedIsWhole, LoadedIsWhole, WholeTablesAreKeyed};
 
 /// The text of a tile or of a stretch is read as its header and its records, each of the fields that were written (RFC 4180).
@@ -62,6 +62,11 @@ pub fn tiles_are_loaded()
     ensures { TilesAreLoaded }
 {}
 
+/// The first name of a column of each table in a schema's text begins as a word does (SQL, identifiers).
+pub fn schema_names_begin_words()
+    ensures { SchemaNamesBeginWords }
+{}
+
 /// The text of a part loads as its header and its records do (06-104r4, feature tables).
 pub fn texts_are_loaded()
     ensures { TextsAreLoaded }
@@ -81,4 +86,10 @@ pub fn made_tiles_are_marked()
 /// of the rows that the query means over the whole tables (SQL, the query).
 pub fn tiled_answers_are_meant()
     ensures { TiledAnswersAreMeant }
+{}
+
+/// Under COUNT(*) the numbers of rows that a query over two split tables gives in the cells of a cut add up to that over the whole
+/// tables (SQL, COUNT).
+pub fn tiled_counts_are_meant()
+    ensures { TiledCountsAreMeant }
 {}
