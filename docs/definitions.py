@@ -172,6 +172,11 @@ LIBRARY = [
       ("library_calls", "Numbers", ""),
       ("library_calls", "Meeting", ""),
       ("library_calls", "Keeping", "")]),
+    ("Indexes of envelopes",
+     "An index is made of the four bounds of each envelope, and a search finds the envelopes that meet a window.",
+     [(G, "Envelopes", "with_position"),
+      ("rtree", "Found", ""),
+      ("library_calls", "Indexes", "")]),
     ("Relations",
      "Eleven relations have a number: the eight named predicates, and three that are this project's choice.",
      [("library_calls", "Relations", "")]),
@@ -234,6 +239,7 @@ SHOWN = ["IsPoint", "side", "on", "IsInterior", "IsBoundary", "IsExterior", "Has
          "HoldsStretch", "IsFacePoint", "IsOff", "IsShownBy", "ShowsAll", "IsMeeting", "IsClashOf", "IsMeetingOf",
          "IsPlaceOf", "IsVerdictOn", "IsFirstWitness", "IsFirstPlaceOf", "HasMatrix", "HasRelation", "covers", "covered_by", "contains_properly",
          "text_fault_in_numbers", "validity_fault_in_numbers", "fault_in_numbers", "IsMade", "IsTaken", "fits", "LiesAt", "bounds_of", "IsSpelled",
+         "overlap", "meets", "placed_meets", "meeting_places", "are_of_none", "are_of_some", "bounded", "places_in",
           "CutsGrid", "IsMedian", "IsCutAtMedians", "TiledAnswersAreMeant", "AreMade", "IsWritten", "SplitsParts", "Returns", "ok", "first_refused", "second_refused", "out_of_memory", "unknown", "too_small", "none_there"]
 # Names that the crates of definitions have twice, on one page, each with its file beside it.
 TWICE = ["takes", "ReturnsFirst"]

@@ -152,6 +152,44 @@ PATTERNS = [
     ("POINT(1 1)", "POINT(1 2)", "", "4"),
 ]
 
+# Envelopes by their bounds, a window, and the positions of those that meet it; or 4 with the position of the first that are no
+# bounds, or 4 alone where the window has none. Worked out by hand.
+SQUARES = "0 2 0 2 4 6 0 2 0 -1 0 -1 2 4 2 2 -3 9 -3 9 5 5 1 1"
+INDEXES = [
+    (SQUARES, "0 1 0 1", "0 0 4"),
+    (SQUARES, "2 4 1 2", "0 0 1 3 4"),
+    (SQUARES, "2 2 2 2", "0 0 3 4"),
+    (SQUARES, "5 5 1 1", "0 1 4 5"),
+    (SQUARES, "6 9 2 9", "0 1 4"),
+    (SQUARES, "7 9 -3 9", "0 4"),
+    (SQUARES, "10 11 0 1", "0"),
+    (SQUARES, "-10000000 10000000 -10000000 10000000", "0 0 1 3 4 5"),
+    # Those of empty geometries meet one another alone.
+    (SQUARES, "0 -1 0 -1", "0 2"),
+    ("0 0 0 0", "0 -1 0 -1", "0"),
+    ("0 -1 0 -1 0 -1 0 -1", "0 -1 0 -1", "0 0 1"),
+    ("0 -1 0 -1", "-9 9 -9 9", "0"),
+    ("", "0 1 0 1", "0"),
+    ("", "0 -1 0 -1", "0"),
+    # Equal ones are found by each position. Eight make a leaf, and more than 64 three levels.
+    (" ".join(["1 1 1 1"] * 9), "1 1 1 1", "0 0 1 2 3 4 5 6 7 8"),
+    (" ".join(f"{i} {i} {-i} {-i}" for i in range(200)), "70 73 -72 -10", "0 70 71 72"),
+    (" ".join(f"{i * 7 % 100} {i * 7 % 100} {i % 2} 1" for i in range(100)), "0 3 0 0", "0 0 86"),
+    # No bounds.
+    ("0 1 0 1 1 0 0 1", "0 0 0 0", "4 1"),
+    ("0 1 1 0", "0 0 0 0", "4 0"),
+    ("0 -1 0 1", "0 0 0 0", "4 0"),
+    ("0 -1 0 -2", "0 0 0 0", "4 0"),
+    ("0 0 0 0 -10000001 0 0 0 0 10000001 0 0", "0 0 0 0", "4 1"),
+    ("0 10000001 0 0", "0 0 0 0", "4 0"),
+    ("0 0 -10000001 0", "0 0 0 0", "4 0"),
+    ("0 0 0 10000001", "0 0 0 0", "4 0"),
+    ("-2147483648 2147483647 0 0", "0 0 0 0", "4 0"),
+    (SQUARES, "1 0 0 0", "4"),
+    (SQUARES, "0 0 1 0", "4"),
+    (SQUARES, "0 0 0 10000001", "4"),
+]
+
 
 def pairs():
     """Returns the required pairs with their matrices, which were worked out by hand."""
@@ -173,6 +211,7 @@ def lines_of_calls():
             (f"answer\t{text}\t{text}", f"1 {fault}"),
             (f"answer\tPOINT(0 0)\t{text}", f"2 {fault}"),
         ]
+    calls += [(f"index\t{bounds}\t{window}", wanted) for bounds, window, wanted in INDEXES]
     return calls + lines_of_kept_calls() + [it for it in lines_of_whys() if len(it[0]) < 200][::10]
 
 
@@ -224,7 +263,7 @@ class WithLibrary(engine_rows.WithLibrary):
     def tearDownClass(cls):
         cls.room.cleanup()
 
-    def program(self, name, *words, of=("calls", "kept", "whys")):
+    def program(self, name, *words, of=("calls", "kept", "whys", "indexes")):
         """Compiles the program, and returns its path."""
         to = f"{self.room.name}/{name}"
         flags = ["-std=c99", "-Wall", "-Wextra", "-Werror", "-g", f"-I{ROOT}/bindings/c", "-pthread"]
@@ -290,6 +329,8 @@ class Border(unittest.TestCase):
     # How C has what a call takes: a slice is a pointer and a number, and a value that comes back is behind a pointer.
     AS_C = {
         "u32": "uint32_t", "i32": "int32_t", "bool": "bool", "": "void", "KeptGeometry": "struct kept", "&mut Slot": "struct kept *",
+        "KeptIndex": "struct kept", "&mut IndexSlot": "struct kept *", "&[Bounds]": "const struct bounds *, size_t",
+        "&Bounds": "const struct bounds *", "&mut [usize]": "size_t *, size_t",
         "&mut Fault": "sfq_fault *", "&mut bool": "bool *", "&mut u32": "uint32_t *", "&mut usize": "size_t *",
         "&mut [u8; 9]": "uint8_t *", "&mut [bool; 11]": "bool *", "&mut [i32; 4]": "int32_t *", "&[u8]": "const uint8_t *, size_t",
         "&mut [u8]": "uint8_t *, size_t", "&[usize]": "const size_t *, size_t", "&[Coordinates]": "const struct position *, size_t",
@@ -321,7 +362,7 @@ class Border(unittest.TestCase):
             subprocess.run(["cc", *flags, f"{ROOT}/tests/library/nulls.c", "-o", f"{room}/nulls"], check=True)
             ran = subprocess.run([f"{room}/nulls"], capture_output=True, text=True)
         # Of nulls nothing is handed on, and of texts that are there all their bytes.
-        self.assertEqual((ran.returncode, ran.stdout), (0, "0 16\n"))
+        self.assertEqual((ran.returncode, ran.stdout), (0, "0 17\n"))
 
 
 @needs("gcc", "cc")

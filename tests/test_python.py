@@ -18,9 +18,11 @@ from support import ROOT, needs, python_with, read, write
 import engine_rows
 import language
 import library
+import packages
 import pairs as drawing
 import repository
 import sfq
+import wheels
 from sfq import _faults, _library, _progress, _texts
 
 SQUARE = "POLYGON((0 0,4 0,4 4,0 4,0 0))"
@@ -43,6 +45,17 @@ except sfq.FaultError as error:
 for it in ([[1.5, 2]], [[float("nan"), 2]], [1, 2], [[10**12, 1]]):
     try:
         square.locate_many(numpy.array(it))
+    except ValueError as error:
+        print(type(error).__name__)
+for kind in ("int16", "uint64", float):
+    index = sfq.Index(numpy.array([[0, 0, 2, 2], [9, 9, 9, 9], [2, 1, 9, 9]], dtype=kind))
+    print(str([len(index), index.search((2, 1, 2, 2)), sfq.Index(numpy.zeros((0, 4), dtype=kind)).search((0, 0, 1, 1))]).replace(" ", ""))
+none = [float("nan")] * 4
+index = sfq.Index(numpy.array([[0, 0, 2, 2], none]))
+print(str([index.search(None), index.search((0, 0, 9, 9))]).replace(" ", ""))
+for it in ([none[:3] + [1]], [[0, 0, 0.5, 1]], [[1, 2, 3]], [[1, 0, 0, 0]], [[0, 0, 10**12, 1]]):
+    try:
+        sfq.Index(numpy.array(it))
     except ValueError as error:
         print(type(error).__name__)
 """
@@ -228,7 +241,65 @@ class Package(engine_rows.WithLibrary):
         ran = subprocess.run([PYTHON, "-c", ARRAYS], capture_output=True, text=True, env=environment(PYTHONPATH=f"{ROOT}/bindings/python"))
         self.assertEqual((ran.returncode, ran.stdout), (0, ran.stdout), ran.stderr)
         self.assertEqual(ran.stdout.split(), ["[0,1,2]", "LINESTRING(0", "0,3", "4)", "['0FFFFF212',", "'FF0FFF212']", "[]",
-                                              "['0FFFFFFF2',", "'FF0FFF212']", "1", "W3", "GridError", "GridError", "GridError", "ValueError"])
+                                              "['0FFFFFFF2',", "'FF0FFF212']", "1", "W3", "GridError", "GridError", "GridError", "ValueError",
+                                              *["[3,[0,2],[]]"] * 3, "[[1],[0]]", "GridError", "GridError", "GridError", "ValueError", "ValueError"])
+
+    def test_indexes_find_what_a_look_at_each_envelope_finds(self):
+        chance, limit = random.Random(47), 60
+
+        def drawn():
+            if chance.random() < 0.1:
+                return None
+            x, y = chance.randrange(limit), chance.randrange(limit)
+            return x, y, x + chance.randrange(9), y + chance.randrange(9)
+
+        def meet(one, other):
+            if one is None or other is None:
+                return one is other
+            return all(one[i] <= other[i + 2] and other[i] <= one[i + 2] for i in (0, 1))
+
+        for count in (0, 1, 8, 9, 65, 1_000):
+            envelopes = [drawn() for _ in range(count)]
+            with sfq.Index(iter(envelopes)) as index:
+                self.assertEqual(len(index), count)
+                for window in [None, (0, 0, limit * 2, limit * 2), *(drawn() for _ in range(50))]:
+                    self.assertEqual(index.search(window), [at for at, it in enumerate(envelopes) if meet(it, window)], window)
+
+    def test_an_index_of_bounds(self):
+        shapes = [sfq.Geometry(it) for it in (SQUARE, "POINT EMPTY", "LINESTRING(4 4,9 7)", "POINT(5 0)")]
+        index = sfq.Index(it.bounds for it in shapes)
+        self.assertEqual([index.search(it.bounds) for it in shapes], [[0, 2], [1], [0, 2], [3]])
+        self.assertEqual(index.search((-10_000_000, 0, 10_000_000, 0)), [0, 3])
+        index.close()
+        index.close()
+        with self.assertRaisesRegex(ValueError, "the index is closed"):
+            index.search((0, 0, 1, 1))
+
+    def test_what_is_no_envelope(self):
+        index = sfq.Index([(0, 0, 1, 1)])
+        for window in ((1, 0, 0, 0), (0, 0, 10_000_001, 0), (-10**30, 0, 0, 0)):
+            with self.assertRaisesRegex(ValueError, "the window has a least bound past its greatest, or one past 10,000,000"):
+                index.search(window)
+            with self.assertRaisesRegex(ValueError, "the envelope at 1 has a least bound past"):
+                sfq.Index([None, window])
+        for envelope in ((0, 0, 1), (0, 0, 1.5, 1), (0, 0, float("nan"), 1)):
+            with self.assertRaises(sfq.GridError):
+                index.search(envelope)
+            with self.assertRaises(sfq.GridError):
+                sfq.Index([envelope])
+
+    def test_threads_share_an_index(self):
+        index, differ = sfq.Index([(it, it, it + 100, it + 100) for it in range(2_000)]), []
+
+        def work():
+            differ.extend(it for it in range(500) if index.search((it, it, it, it)) != list(range(max(0, it - 100), it + 1)))
+
+        threads = [threading.Thread(target=work) for _ in range(4)]
+        for it in threads:
+            it.start()
+        for it in threads:
+            it.join()
+        self.assertEqual(differ, [])
 
     def test_coordinates(self):
         for text, wanted in (
@@ -288,6 +359,27 @@ class Package(engine_rows.WithLibrary):
     def test_out_of_memory_is_an_error(self):
         with self.assertRaisesRegex(MemoryError, "out of memory"):
             _library.is_refused(_library.OUT_OF_MEMORY)
+
+    def test_a_wheel_has_the_library_within(self):
+        """The same bytes each time, installed by pip without a network, and asked where no other library is named."""
+        if lacks_setuptools() == "python3-venv":
+            self.skipTest("needs the package python3-venv")
+        version, seconds = packages.released()
+        with tempfile.TemporaryDirectory(prefix="sfq-wheel-") as room:
+            path = wheels.make(room, version, seconds, packages.wanted_libc([library.SHARED]))
+            with open(path, "rb") as file:
+                first = file.read()
+            with open(wheels.make(room, version, seconds, packages.wanted_libc([library.SHARED])), "rb") as file:
+                self.assertEqual(file.read(), first)
+            clean = {name: value for name, value in environment().items() if not name.startswith(("PIP_", "PYTHON", "SFQ_"))}
+            python = f"{room}/venv/bin/python"
+            text = "import sfq; print(sfq.relate('POINT(1 1)', 'POINT(1 1)'), sfq._library.library()._name)"
+            pip = [python, "-m", "pip", "install", "-q", "--no-index", "--disable-pip-version-check", path]
+            for words in ([DEBIAN, "-m", "venv", f"{room}/venv"], pip):
+                ran = subprocess.run(words, env=clean, cwd=room, capture_output=True, text=True)
+                self.assertEqual((ran.returncode, ran.stderr), (0, ""), words)
+            ran = subprocess.run([python, "-c", text], env=clean, cwd=room, capture_output=True, text=True)
+            self.assertRegex(ran.stdout, rf"^0FFFFFFF2 {room}/venv/lib/.*/sfq/libsfq.so.0\n$", ran.stderr)
 
     def test_the_example_of_the_document(self):
         text = re.search(r"^## Python$(.*?)^## ", read(f"{ROOT}/docs/LIBRARY.md"), re.M | re.S)[1]

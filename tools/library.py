@@ -5,6 +5,7 @@ can be seen from outside.
 """
 import hashlib
 import os
+import re
 import shutil
 import sys
 import tempfile
@@ -14,15 +15,15 @@ import repository
 
 FOLDER = f"{repository.ROOT}/bindings/c"
 OUT = f"{FOLDER}/out"
-SHARED = f"{OUT}/libsfq.so.0"
+NAME = "libsfq.so.0"
+SHARED = f"{OUT}/{NAME}"
 FLAGS = ["-std=c99", "-O2", "-Wall", "-Wextra", "-Werror", "-fPIC"]
 
 
 def seen_calls() -> list[str]:
     """Returns the calls that can be seen from outside, by bindings/c/sfq.map."""
     with open(f"{FOLDER}/sfq.map", encoding="utf-8") as text:
-        listed = text.read().split("global:")[1].split("local:")[0]
-    return [it.strip() for it in listed.split(";") if it.strip()]
+        return re.findall(r"^\s+(\w+);$", text.read(), re.M)
 
 
 def inputs() -> str:

@@ -16,6 +16,7 @@ import bindings
 import library
 import repository
 import tiles
+import wheels
 
 # Where Python's modules of programs are installed, a folder for each package. The launchers have Python run this folder.
 SHARE = "share/sfq"
@@ -242,7 +243,7 @@ def make_deb(path: str, version: str, seconds: int) -> bool:
 
 
 def make_packages(folder: str) -> int:
-    """Makes both packages in the folder: the same bytes from the same sources, wherever they are made."""
+    """Makes the packages in the folder: the same bytes from the same sources, wherever they are made."""
     version, seconds = released()
     os.makedirs(folder, exist_ok=True)
     top = f"sfq-{version}-linux-x86_64"
@@ -251,6 +252,10 @@ def make_packages(folder: str) -> int:
     if not make_deb(made[1], version, seconds):
         print("sfq: no dpkg-deb here, so no Debian package is made")
         made.pop()
+    if library.is_made():
+        made.append(wheels.make(folder, version, seconds, wanted_libc([library.SHARED])))
+    else:
+        print("sfq: no wheel of the Python package is made, which needs ./build --library")
     for it in made:
         print(f"{repository.sum_of_file(it)}  {os.path.relpath(it)}")
     return 0

@@ -1,7 +1,7 @@
 /*
  * The border between C and the proved calls of the crate sfq_c. Nothing here is proved: it hands in what those calls require.
- * No pointer is null, also with a length of 0; what is written to is a value of its type before; a geometry is handed to one
- * call, which puts it back into an empty slot; two geometries that are the same go to a call for one.
+ * No pointer is null, also with a length of 0; what is written to is a value of its type before; a geometry or an index is handed to
+ * one call, which puts it back into an empty slot; two geometries that are the same go to a call for one.
  */
 #include "sfq.h"
 
@@ -9,7 +9,7 @@
 
 /* ---- the proved calls, as crates/sfq_c/src declares them ---- */
 
-/* A kept geometry, and a slot for one. */
+/* A kept geometry or index, and a slot for one. */
 struct kept {
     void *at;
 };
@@ -17,6 +17,11 @@ struct kept {
 /* Two coordinates. An array of them is one of coordinates, x and y in turn. */
 struct position {
     int32_t x, y;
+};
+
+/* The four bounds of an envelope. An array of them is one of numbers, four in turn. */
+struct bounds {
+    int32_t least_x, greatest_x, least_y, greatest_y;
 };
 
 uint32_t sfq_proved_fault(const uint8_t *text, size_t length, sfq_fault *fault);
@@ -43,6 +48,10 @@ uint32_t sfq_proved_dimension(struct kept kept, struct kept *back);
 bool sfq_proved_is_empty(struct kept kept, struct kept *back);
 uint32_t sfq_proved_envelope(struct kept kept, int32_t *bounds, struct kept *back);
 uint32_t sfq_proved_locate(struct kept kept, int32_t x, int32_t y, uint32_t *place, struct kept *back);
+uint32_t sfq_proved_index_build(const struct bounds *bounds, size_t count, struct kept *slot, size_t *position);
+uint32_t sfq_proved_index_search(struct kept kept, const struct bounds *window, size_t *room, size_t size, size_t *count,
+                                 struct kept *back);
+void sfq_proved_index_free(struct kept kept);
 uint32_t sfq_proved_why(struct kept first, struct kept second, uint8_t *room, size_t size, size_t *length, struct kept *first_back,
                         struct kept *second_back);
 uint32_t sfq_proved_why_itself(struct kept kept, uint8_t *room, size_t size, size_t *length, struct kept *back);
@@ -354,6 +363,51 @@ int sfq_locate_many(sfq_geometry *geometry, const int32_t *coordinates, size_t c
     }
     *done = i;
     return status;
+}
+
+int sfq_index_build(const int32_t *bounds, size_t count, sfq_index *index, size_t *position)
+{
+    static const struct bounds none = SFQ_NO_BOUNDS;
+    struct kept slot = empty_slot;
+    size_t other = 0;
+    uint32_t status;
+    if (index->kept != NULL) {
+        return SFQ_NO_GEOMETRY;
+    }
+    status = sfq_proved_index_build(bounds != NULL ? (const struct bounds *)(const void *)bounds : &none, count_of(bounds, count), &slot,
+                                    position != NULL ? position : &other);
+    if (status == SFQ_OK) {
+        index->kept = slot.at;
+    }
+    return (int)status;
+}
+
+int sfq_index_search(sfq_index *index, const int32_t window[4], size_t *room, size_t size, size_t *count)
+{
+    struct kept kept, back = empty_slot;
+    size_t nothing = 0;
+    uint32_t status;
+    if (index == NULL || index->kept == NULL) {
+        return SFQ_NO_GEOMETRY;
+    }
+    if (window == NULL) {
+        return SFQ_UNKNOWN;
+    }
+    kept.at = index->kept;
+    status = sfq_proved_index_search(kept, (const struct bounds *)(const void *)window, room != NULL ? room : &nothing,
+                                     count_of(room, size), count, &back);
+    index->kept = back.at;
+    return (int)status;
+}
+
+void sfq_index_free(sfq_index *index)
+{
+    struct kept kept;
+    if (index != NULL && index->kept != NULL) {
+        kept.at = index->kept;
+        sfq_proved_index_free(kept);
+        index->kept = NULL;
+    }
 }
 
 int sfq_why(sfq_geometry *first, sfq_geometry *second, char *room, size_t size, size_t *length)

@@ -14,12 +14,13 @@
  *
  * Geometries. An `sfq_geometry` is either empty, as SFQ_EMPTY makes it, or holds one geometry from sfq_read until sfq_free. A
  * copy of the struct isn't a second geometry: use one of the two only. A call that fails leaves the geometries that it was handed
- * as they were.
+ * as they were. The same holds of an `sfq_index`, from sfq_index_build until sfq_index_free.
  *
- * Threads. A geometry serves one call at a time. Different geometries may serve calls in different threads at once, and a
- * geometry may go from one thread to another. There is no other state.
+ * Threads. A geometry or an index serves one call at a time. Different ones may serve calls in different threads at once, and each
+ * may go from one thread to another. There is no other state.
  *
- * Memory. Calls take memory by malloc and realloc, and give it back by free before they return, but for what a geometry holds.
+ * Memory. Calls take memory by malloc and realloc, and give it back by free before they return, but for what a geometry or an index
+ * holds.
  * Where memory is refused, the status is SFQ_OUT_OF_MEMORY. Calls were tested on stacks of 64 KB. No call may be made from a
  * signal handler, or in the forked child of a process that has threads.
  *
@@ -46,10 +47,10 @@ enum sfq_status {
     SFQ_REFUSED = 1,        /* the first or only text isn't that of a valid geometry */
     SFQ_SECOND_REFUSED = 2, /* the first text is, and the second isn't */
     SFQ_OUT_OF_MEMORY = 3,
-    SFQ_UNKNOWN = 4,        /* no relation, pattern, position or type with such parts is written so */
+    SFQ_UNKNOWN = 4,        /* no relation, pattern, position, envelope or type with such parts is written so */
     SFQ_TOO_SMALL = 5,      /* the room is too small */
     SFQ_NONE = 6,           /* there is no envelope: the geometry is empty */
-    SFQ_NO_GEOMETRY = 7     /* a geometry is empty that has to hold one, or holds one that has to be empty */
+    SFQ_NO_GEOMETRY = 7     /* a geometry or an index is empty that has to hold one, or holds one that has to be empty */
 };
 
 /*
@@ -80,6 +81,11 @@ typedef struct sfq_fault {
 typedef struct sfq_geometry {
     void *kept;
 } sfq_geometry;
+
+/* An index of envelopes that a program keeps. */
+typedef struct sfq_index {
+    void *kept;
+} sfq_index;
 
 #define SFQ_EMPTY { NULL }
 
@@ -206,6 +212,31 @@ int sfq_locate(sfq_geometry *geometry, int32_t x, int32_t y, uint32_t *place);
  * place. The first one that is past the limit ends the call.
  */
 int sfq_locate_many(sfq_geometry *geometry, const int32_t *coordinates, size_t count, uint32_t *places, size_t *done);
+
+/* ---- indexes of envelopes ---- */
+
+/* The four bounds of the envelope of an empty geometry. */
+#define SFQ_NO_BOUNDS { 0, -1, 0, -1 }
+
+/*
+ * Makes an index of `count` envelopes, and keeps it in `index`, which has to be empty. An envelope is four bounds, as sfq_envelope
+ * writes them: the least x, the greatest x, the least y and the greatest y. SFQ_UNKNOWN where four are neither SFQ_NO_BOUNDS nor
+ * bounds within the limit of which the least aren't past the greatest; `position` is then that of the first such, from 0. It may
+ * be null where it isn't wanted.
+ */
+int sfq_index_build(const int32_t *bounds, size_t count, sfq_index *index, size_t *position);
+
+/*
+ * The positions, from 0 and ascending, of the envelopes that meet a window, which is four bounds too: that share a point with it, be
+ * it on their sides. An envelope of an empty geometry meets only a window of SFQ_NO_BOUNDS, and such a window no other. `count` is
+ * how many there are; it is written where the status is SFQ_OK or SFQ_TOO_SMALL. The room has `size` numbers, of which those after the
+ * positions are left as they were; with too few the status is SFQ_TOO_SMALL. To ask for the count first, pass a null room.
+ * SFQ_UNKNOWN where the window is null or has no bounds.
+ */
+int sfq_index_search(sfq_index *index, const int32_t window[4], size_t *room, size_t size, size_t *count);
+
+/* Frees what an index holds, and leaves it empty. Null and an empty one do nothing. */
+void sfq_index_free(sfq_index *index);
 
 /* ---- why ---- */
 

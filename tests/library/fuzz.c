@@ -3,8 +3,8 @@
  *
  *     fuzz SEED COUNT
  *
- * makes COUNT texts, patterns and arrays each. What is handed in ends where memory ends that may be read, so that a byte too far
- * ends the program. A status has to be one of its call's, the place of a fault within the text, and what is read has to be what its
+ * makes COUNT texts, patterns and arrays each, and an eighth as many indexes. What is handed in ends where memory ends that may be
+ * read, so that a byte too far ends the program. A status has to be one of its call's, the place of a fault within the text, and what is read has to be what its
  * canonical text spells. Prints what isn't so, and ends with status 1 then.
  */
 #define _GNU_SOURCE
@@ -211,6 +211,59 @@ static void try_array(struct room *positions, struct room *lines, struct room *p
     sfq_free(&read);
 }
 
+/* ---- indexes ---- */
+
+/* Whether an envelope by its bounds meets a window, or both are of empty geometries. */
+static bool meet(const int32_t one[4], const int32_t other[4])
+{
+    bool no_one = one[0] > one[1], no_other = other[0] > other[1];
+    if (no_one || no_other)
+        return no_one && no_other;
+    return one[0] <= other[1] && other[0] <= one[1] && one[2] <= other[3] && other[2] <= one[3];
+}
+
+/* Bounds of a small or a large envelope, seldom of an empty geometry, and more seldom none. */
+static void draw_bounds(int32_t bounds[4])
+{
+    static const int32_t none[4] = SFQ_NO_BOUNDS;
+    int32_t limit = chance(9) == 0 ? 10000000 : 30;
+    int i;
+    if (chance(20) == 0) {
+        memcpy(bounds, none, sizeof none);
+        return;
+    }
+    for (i = 0; i < 2; i++) {
+        bounds[2 * i] = (int32_t)chance((unsigned)limit) - limit / 2;
+        bounds[2 * i + 1] = bounds[2 * i] + (int32_t)chance((unsigned)limit / 3);
+    }
+    if (chance(500) == 0)
+        bounds[chance(4)] = chance(2) == 0 ? 10000001 : INT32_MIN;
+}
+
+/* What a search finds has to be what a look at each envelope finds. */
+static void try_index(struct room *first, struct room *second)
+{
+    int32_t bounds[PAGE / 4], window[4];
+    size_t count = chance(PAGE / 16), found[PAGE / 16], many = 999, at = 999, i, next = 0;
+    sfq_index index = SFQ_EMPTY;
+    int status;
+    for (i = 0; i < count; i++)
+        draw_bounds(bounds + 4 * i);
+    draw_bounds(window);
+    status = sfq_index_build(put(first, bounds, count * 16), count, &index, &at);
+    need(status == SFQ_OK || (status == SFQ_UNKNOWN && at < count), "another status of an index", "", 0);
+    need((status == SFQ_OK) == (at == 999), "a position", "", 0);
+    if (status == SFQ_OK) {
+        status = sfq_index_search(&index, put(second, window, sizeof window), found, count, &many);
+        need(status == SFQ_OK || status == SFQ_UNKNOWN, "another status of a search", "", 0);
+        for (i = 0; status == SFQ_OK && i < count; i++)
+            if (meet(bounds + 4 * i, window))
+                need(next < many && found[next++] == i, "another position", "", 0);
+        need(status != SFQ_OK || next == many, "a position too many", "", 0);
+    }
+    sfq_index_free(&index);
+}
+
 int main(int number, char **words)
 {
     struct room first = make_room(), second = make_room(), third = make_room();
@@ -225,6 +278,8 @@ int main(int number, char **words)
         try_text(&first);
         try_pattern(&first, &kept);
         try_array(&first, &second, &third);
+        if (turns % 8 == 0)
+            try_index(&first, &second);
     }
     sfq_free(&kept);
     return wrong;

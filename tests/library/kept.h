@@ -1,4 +1,4 @@
-/* What calls.c, kept.c and whys.c share. */
+/* What calls.c, kept.c, whys.c and indexes.c share. */
 #ifndef KEPT_H
 #define KEPT_H
 
@@ -26,6 +26,12 @@ bool is_why_call(char *const words[WORDS]);
 
 /* Makes such a call. */
 struct printed run_why(char *const words[WORDS]);
+
+/* Whether the words are a call over an index of envelopes. */
+bool is_index_call(char *const words[WORDS]);
+
+/* Makes such a call. */
+struct printed run_index(char *const words[WORDS]);
 
 /* Reads geometries in this thread, uses each in one of four others, and frees it here. Returns how many calls went wrong. */
 int hand_over(void);

@@ -79,12 +79,30 @@ uint32_t sfq_proved_reason(const uint8_t *text, size_t text_length, uint8_t *roo
     return sfq_proved_fault(text, text_length, fault);
 }
 
+uint32_t sfq_proved_index_build(const struct bounds *bounds, size_t count, struct kept *slot, size_t *position)
+{
+    (void)slot;
+    handed += bounds != NULL && position != NULL ? count : 100;
+    return SFQ_UNKNOWN;
+}
+
+uint32_t sfq_proved_index_search(struct kept kept, const struct bounds *window, size_t *room, size_t size, size_t *count,
+                                 struct kept *back)
+{
+    *count = 0;
+    *back = kept;
+    handed += window != NULL && room != NULL ? size : 100;
+    return SFQ_TOO_SMALL;
+}
+
 int main(void)
 {
+    static const int32_t window[4] = { 0, 1, 0, 1 };
     char matrix[10];
     bool answers[SFQ_RELATIONS];
     size_t length;
     int one, two;
+    sfq_index no_index = SFQ_EMPTY, index = { &one };
     sfq_geometry none = SFQ_EMPTY, first = { &one }, second = { &two };
     sfq_check(NULL, 9, NULL);
     sfq_relate_texts(NULL, 9, NULL, 9, matrix, NULL);
@@ -95,11 +113,14 @@ int main(void)
     sfq_relate_pattern(&first, &first, NULL, 9, answers);
     sfq_text(&first, NULL, 9, &length);
     sfq_reason(NULL, 9, NULL, 9, &length, NULL);
+    sfq_index_build(NULL, 9, &no_index, NULL);
+    sfq_index_search(&index, window, NULL, 9, &length);
     printf("%zu", handed);
     handed = 0;
     sfq_check("POINT", 5, NULL);
     sfq_relate_texts("P", 1, "L", 1, matrix, NULL);
     sfq_relate_pattern(&first, &second, "T********", 9, answers);
+    sfq_index_build(window, 1, &no_index, &length);
     printf(" %zu\n", handed);
     return 0;
 }

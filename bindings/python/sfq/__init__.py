@@ -14,10 +14,10 @@ from __future__ import annotations
 import re
 from typing import Any, Iterable, NamedTuple, Optional, Sequence, Union
 
-from . import _library, _positions, _texts
+from . import _bounds, _library, _positions, _texts
 from ._faults import Fault, FaultError, GridError, LibraryError
 
-__all__ = ["Cell", "Fault", "FaultError", "Geometry", "GridError", "LibraryError", "from_shapely", "relate", "relate_many"]
+__all__ = ["Cell", "Fault", "FaultError", "Geometry", "GridError", "Index", "LibraryError", "from_shapely", "relate", "relate_many"]
 __version__ = "0.2.0"
 
 
@@ -226,6 +226,47 @@ class Geometry:
     def contains_properly(self, other: Shape) -> bool:
         """Whether they share a point, and all of the other geometry is in the interior of this one."""
         return self._holds("contains_properly", other)
+
+
+# An envelope as `Geometry.bounds` is: the least x, the least y, the greatest x and the greatest y; None is that of an empty geometry.
+Bounds = Optional[tuple[int, int, int, int]]
+
+
+class Index:
+    """An index of envelopes, which finds the positions of those that meet a window: what an STRtree is elsewhere.
+
+    It is made of envelopes as `Geometry.bounds` has them, or of an array of numpy, of n rows of four numbers: of a least x, a least
+    y, a greatest x and a greatest y. None, `(0, 0, -1, -1)`, or a row of four NaN is the envelope of an empty geometry. GridError
+    where a number isn't whole; ValueError where a least is past a greatest or one past the limit, with the envelope's position. It
+    serves one search at a time: threads that search at once wait for each other. At the end of a `with` it is closed.
+    """
+
+    __slots__ = ("_count", "_kept")
+
+    def __init__(self, envelopes: Union[Iterable[Bounds], Any]) -> None:
+        buffer, self._count = _bounds.buffer(envelopes)
+        self._kept = _library.KeptIndex(buffer, self._count)
+
+    def __len__(self) -> int:
+        """How many envelopes it was made of."""
+        return self._count
+
+    def search(self, window: Bounds) -> list[int]:
+        """Returns the positions, from 0 and ascending, of the envelopes that share a point with the window, be it on their sides.
+
+        The window None finds the envelopes of empty geometries, and no other window does. ValueError once it is closed.
+        """
+        return self._kept.search(_bounds.window(window))
+
+    def close(self) -> None:
+        """Gives back the memory. Closing it again does nothing."""
+        self._kept.close()
+
+    def __enter__(self) -> Index:
+        return self
+
+    def __exit__(self, *_error: object) -> None:
+        self.close()
 
 
 Shape = Union[Geometry, str]

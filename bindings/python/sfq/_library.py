@@ -2,8 +2,8 @@
 
 The proof ends at the calls of the crate sfq_c: the matrix is that of the sets of points of the two texts, the fault is the first
 one. sfq.h says what the library's calls return, which sfq.c makes of them, without a proof. Not proved either is what is here: a text is handed over as its bytes and their number, which ctypes keeps until the call returns, and
-each thing that a call writes is a variable of the call's own. A geometry that the library keeps serves one call at a time, by a
-lock of its own, and is freed when Python has no use for it any more.
+each thing that a call writes is a variable of the call's own. A geometry or an index that the library keeps serves one call at a
+time, by a lock of its own, and is freed when Python has no use for it any more.
 """
 from __future__ import annotations
 
@@ -16,7 +16,7 @@ from typing import Any, Callable, Iterable, Iterator, Optional, Sequence
 
 from ._faults import Fault, FaultError, LibraryError, PositionFault
 
-OK, REFUSED, OUT_OF_MEMORY, UNKNOWN, NONE = 0, 1, 3, 4, 6
+OK, REFUSED, OUT_OF_MEMORY, UNKNOWN, TOO_SMALL, NONE = 0, 1, 3, 4, 5, 6
 # The types, by the numbers of sfq_type.
 TYPES = ("Point", "LineString", "Polygon", "MultiPoint", "MultiLineString", "MultiPolygon")
 # The relations, by the numbers of sfq_relation.
@@ -39,12 +39,13 @@ class CFault(ctypes.Structure):
 
 
 def places() -> tuple[str, ...]:
-    """Returns where the library is looked for: SFQ_LIBRARY alone if it is set, else the prefix of this package, else the system."""
+    """Returns where the library is looked for: SFQ_LIBRARY alone if it is set, else in this package, in its prefix, in the system."""
     if os.environ.get("SFQ_LIBRARY"):
         return (os.environ["SFQ_LIBRARY"],)
-    # The package is in lib/python3.N/site-packages of a prefix, or in share/sfq.
-    above = os.path.normpath(os.path.join(os.path.dirname(os.path.abspath(__file__)), *[os.pardir] * 3))
-    return (os.path.join(above, NAME), os.path.join(above, "lib", NAME), NAME)
+    # A wheel has it in the package. The package is in lib/python3.N/site-packages of a prefix, or in share/sfq.
+    here = os.path.dirname(os.path.abspath(__file__))
+    above = os.path.normpath(os.path.join(here, *[os.pardir] * 3))
+    return (os.path.join(here, NAME), os.path.join(above, NAME), os.path.join(above, "lib", NAME), NAME)
 
 
 @functools.lru_cache(maxsize=None)
@@ -66,6 +67,12 @@ def library() -> ctypes.CDLL:
 
 class CGeometry(ctypes.Structure):
     """The struct sfq_geometry: empty, or one that the library keeps."""
+
+    _fields_ = [("kept", ctypes.c_void_p)]
+
+
+class CIndex(ctypes.Structure):
+    """The struct sfq_index: empty, or one that the library keeps."""
 
     _fields_ = [("kept", ctypes.c_void_p)]
 
@@ -93,6 +100,16 @@ def declare(found: ctypes.CDLL) -> ctypes.CDLL:
     for name in ("check", "read", "read_positions", "relate", "relate_many", "relate_points", "holds", "text", "locate_many", "dimension",
                  "is_empty", "envelope", "why", "reason"):
         getattr(found, f"sfq_{name}").restype = ctypes.c_int
+    return declare_indexes(found)
+
+
+def declare_indexes(found: ctypes.CDLL) -> ctypes.CDLL:
+    """Declares the calls over indexes."""
+    index, count = ctypes.POINTER(CIndex), ctypes.POINTER(ctypes.c_size_t)
+    found.sfq_index_build.argtypes = [ctypes.c_void_p, ctypes.c_size_t, index, count]
+    found.sfq_index_search.argtypes = [index, ctypes.c_int32 * 4, ctypes.c_void_p, ctypes.c_size_t, count]
+    found.sfq_index_free.argtypes, found.sfq_index_free.restype = [index], None
+    found.sfq_index_build.restype = found.sfq_index_search.restype = ctypes.c_int
     return found
 
 
@@ -301,3 +318,50 @@ def why(first: Kept, second: Kept) -> str:
     need_valid(first, second)
     with held((first, second)):
         return handed_out(lambda *room: library().sfq_why(ctypes.byref(first.geometry), ctypes.byref(second.geometry), *room))
+
+
+class KeptIndex:
+    """What the library keeps of an index of envelopes, until it is closed.
+
+    The bounds are a buffer of 32-bit numbers, four for each envelope. The room for what a search finds grows with it.
+    """
+
+    __slots__ = ("index", "lock", "room")
+
+    def __init__(self, bounds: Any, count: int) -> None:
+        self.index, self.lock, self.room = CIndex(), threading.Lock(), (ctypes.c_size_t * 64)()
+        position = ctypes.c_size_t()
+        status = library().sfq_index_build(bounds, count, ctypes.byref(self.index), ctypes.byref(position))
+        if status == UNKNOWN:
+            raise ValueError(
+                f"sfq: the envelope at {position.value} has a least bound past its greatest, or one past 10,000,000 either way"
+            )
+        need_ok(status)
+
+    def __del__(self) -> None:
+        self.close()
+
+    def close(self) -> None:
+        """Frees the index. Closing it again does nothing."""
+        with self.lock:
+            if self.index.kept is not None:
+                library().sfq_index_free(ctypes.byref(self.index))
+
+    def search(self, window: Any) -> list[int]:
+        """Returns the positions, ascending, of the envelopes that meet a window. ValueError where it is no window, or all is closed."""
+        found = ctypes.c_size_t()
+        with self.lock:
+            if self.index.kept is None:
+                raise ValueError("sfq: the index is closed")
+            status = self._ask(window, found)
+            if status == TOO_SMALL:
+                self.room = (ctypes.c_size_t * found.value)()
+                status = self._ask(window, found)
+            if status == UNKNOWN:
+                raise ValueError("sfq: the window has a least bound past its greatest, or one past 10,000,000 either way")
+            need_ok(status)
+            return self.room[:found.value]
+
+    def _ask(self, window: Any, found: Any) -> int:
+        index = ctypes.byref(self.index)
+        return int(library().sfq_index_search(index, window, self.room, len(self.room), ctypes.byref(found)))

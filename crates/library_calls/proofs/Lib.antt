@@ -7,3 +7,5 @@ pub mod Tested
 pub mod WrittenFacts
 pub mod BoxWords
 pub mod ValidParts
+pub mod IndexParts
+pub mod BoundsFacts

@@ -44,9 +44,9 @@ status_of_relation number = option_map_or (λ _. ok) (relation_of number) unknow
 abbrev pub status_of_pattern : List ℕ → ℕ
 status_of_pattern text = option_map_or (λ _. ok) (pattern_of_text text) unknown
 
--- the status of writing a text where the room is given
-abbrev pub status_of_room : List ℕ → List ℕ → ℕ
-status_of_room text room = cond (nat_le (length text) (length room)) ok too_small
+-- the status of writing items, as the bytes of a text, where the room is given
+abbrev pub status_of_room : {A : Type 0} → List A → List A → ℕ
+status_of_room items room = cond (nat_le (length items) (length room)) ok too_small
 
 -- the position of two coordinates
 abbrev pub position : ℤ → ℤ → Position

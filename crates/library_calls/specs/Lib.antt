@@ -9,3 +9,4 @@ pub mod Texts
 pub mod ArrayLaws
 pub mod Written
 pub mod Keeping
+pub mod Indexes

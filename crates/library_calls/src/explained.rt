@@ -115,13 +115,13 @@ fn text_of_verdict(alloc: Global, verdict: &Verdict) -> Result<MemorySink, Alloc
     }
 }
 
-/// Writes the length of a text, and the text at the front of the room, if that is enough.
-pub fn hand_out(text: &[u8], room: &mut [u8], size: &mut usize) -> u32
-    ensures size { size.new ≡ length text.now }
-    ensures text { result ≡ ok → room.new ≡ text.now ++ drop (length text.now) room.old }
+/// Writes how many items there are, as the bytes of a text, and the items at the front of the room, if that is enough.
+pub fn hand_out<T: Copy>(items: &[T], room: &mut [T], size: &mut usize) -> u32
+    ensures size { size.new ≡ length items.now }
+    ensures items { result ≡ ok → room.new ≡ items.now ++ drop (length items.now) room.old }
     ensures kept { result ≢ ok → room.new ≡ room.old }
-    ensures status { result ≡ status_of_room text.now room.old }
+    ensures status { result ≡ status_of_room items.now room.old }
 {
-    *size = text.len();
-    write_front(text, room)
+    *size = items.len();
+    write_front(items, room)
 }

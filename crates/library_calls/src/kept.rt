@@ -138,16 +138,16 @@ pub fn write_text(alloc: Global, geometry: &Valid, room: &mut [u8], size: &mut u
     }
 }
 
-/// Writes a text at the front of the room, if it is enough.
-pub(crate) fn write_front(text: &[u8], room: &mut [u8]) -> u32
-    ensures text { result ≡ ok → room.new ≡ text.now ++ drop (length text.now) room.old }
+/// Writes items, as the bytes of a text, at the front of the room, if it is enough.
+pub(crate) fn write_front<T: Copy>(items: &[T], room: &mut [T]) -> u32
+    ensures items { result ≡ ok → room.new ≡ items.now ++ drop (length items.now) room.old }
     ensures kept { result ≢ ok → room.new ≡ room.old }
-    ensures status { result ≡ status_of_room text.now room.old }
+    ensures status { result ≡ status_of_room items.now room.old }
 {
-    if text.len() > room.len() {
+    if items.len() > room.len() {
         return 5;
     }
-    room[..text.len()].copy_from_slice(text);
+    room[..items.len()].copy_from_slice(items);
     0
 }
 

@@ -1,17 +1,22 @@
 //! What the C library does (06-103r4, 6.1, 7.2 and 8.2; the numbers, arrays and limits: this project's choice): with texts, with
 //! arrays of whole coordinates, which are as texts with these numbers, and with valid geometries that a caller keeps behind a
-//! pointer: their matrix, the relations by number, what shows why, and faults in numbers. The crate `sfq_c` exports it.
+//! pointer: their matrix, the relations by number, what shows why, and faults in numbers; and with indexes of envelopes. The crate
+//! `sfq_c` exports it.
 #![tactic(auto)]
 
 pub mod array_laws;
 mod arrays;
+pub mod bounds;
 mod building;
 mod checking;
 mod coordinates;
 mod explained;
 pub mod faults;
+pub mod index_laws;
+mod indexes;
 mod kept;
 mod kept_geometry;
+mod kept_index;
 mod meeting;
 mod parts;
 mod patterns;
@@ -21,14 +26,17 @@ mod slot;
 mod texts;
 
 pub use arrays::read_positions;
+pub use bounds::{Bounds, Unbuilt};
 pub use checking::read_arrays;
 pub use coordinates::Coordinates;
 pub use explained::{hand_out, write_reason, write_why};
 pub use faults::{Fault, Refusal};
+pub use indexes::{build_index, write_found};
 pub use kept::{
     dimension_of, write_envelope, write_holds, write_matches, write_matrix, write_place, write_text,
 };
 pub use kept_geometry::KeptGeometry;
+pub use kept_index::{IndexSlot, KeptIndex};
 pub use patterns::pattern_in;
 pub use relations::{Relation, all_hold, holds, relation_of};
 pub use sizes::fitting_type;

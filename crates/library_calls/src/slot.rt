@@ -1,7 +1,7 @@
 //! Where a call writes a geometry that C keeps.
 
 ghost use Rattle.std.specs.Prelude.{◌≡◌, Option, Some};
-ghost use Rattle.library_calls.specs.Keeping.{Kept, slot_coded, slot_owns};
+ghost use Rattle.library_calls.specs.Keeping.{Kept, kept_slot_coded, kept_slot_owns};
 
 use crate::kept_geometry::KeptGeometry;
 use crate::parts::Parts;
@@ -16,11 +16,11 @@ use validity::Valid;
 pub struct Slot {
     at: *mut u8,
     alloc: Global,
-    pub ghost geometry: { Option Kept } by { slot_coded },
+    pub ghost geometry: { Option Kept } by { kept_slot_coded },
 }
 
 impl Model for Slot {
-    ghost also_owns = { λ s. slot_owns s.alloc s.at s.geometry };
+    ghost also_owns = { λ s. kept_slot_owns s.alloc s.at s.geometry };
 }
 
 impl Slot {

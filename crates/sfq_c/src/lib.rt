@@ -1,13 +1,14 @@
-//! The proved calls of the C library, over texts, over arrays of positions, and over geometries that C keeps. `bindings/c/sfq.c`
-//! calls them, and hands in what they require: a slice crosses as a pointer, which is never null, and a length; `Global` takes no
-//! bytes, and C passes nothing for it; a slot is empty.
+//! The proved calls of the C library, over texts, over arrays of positions, over geometries that C keeps, and over indexes of
+//! envelopes. `bindings/c/sfq.c` calls them, and hands in what they require: a slice crosses as a pointer, which is never null, and
+//! a length; `Global` takes no bytes, and C passes nothing for it; a slot is empty.
 //!
 //! A status is 0 where the call gives what it promises, 1 where the first or only text is refused, 2 where the second is, 3 where
-//! memory ran out, 4 where no relation, pattern or position on the grid is written so, 5 where the room is too small, and 6 where
-//! a geometry has no envelope (06-103r4, 6.1 and 7.2; the calls and the numbers: this project's choice).
+//! memory ran out, 4 where no relation, pattern, envelope or position on the grid is written so, 5 where the room is too small, and
+//! 6 where a geometry has no envelope (06-103r4, 6.1 and 7.2; the calls and the numbers: this project's choice).
 #![tactic(auto)]
 
 mod array_calls;
+mod index_calls;
 mod kept_calls;
 mod reason_calls;
 mod text_calls;

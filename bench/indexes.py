@@ -1,0 +1,115 @@
+#!/usr/bin/env python3
+"""Measures indexes of envelopes by the C library beside GEOS's STRtree, by `indexes.c`.
+
+1,000, 10,000 and 100,000 envelopes of three kinds are indexed: small ones at random, parcels side by side, and long bands. Then
+1,000 windows are asked for, each of which finds some ten. It prints the instructions that valgrind counts, of a search and of
+building for each envelope, and with `--time` the nanoseconds of processor too, as the least of runs that alternate. Reading the
+input and making GEOS's geometries are left out, being what a run with no turns takes.
+
+It needs Python's standard library, valgrind, gcc and `libgeos-dev` from the distribution's packages, and the library: run
+`./build --library` once. It is no test: the gate doesn't run it.
+"""
+
+import argparse
+import math
+import pathlib
+import random
+import subprocess
+import sys
+import tempfile
+
+from timing import ROOT, figure, instructions, measure, print_columns, print_heads
+
+LIBRARY = ROOT / "bindings" / "c" / "out" / "libsfq.a"
+SIZES = (1_000, 10_000, 100_000)
+WINDOWS = 1_000
+# Coordinates go so far either way.
+LIMIT = 10_000_000
+
+
+def built(folder):
+    """Compiles the program that asks, and returns its path."""
+    if not LIBRARY.exists():
+        sys.exit("the library isn't there: run ./build --library once")
+    program = folder / "indexes"
+    source = pathlib.Path(__file__).resolve().parent / "indexes.c"
+    words = ["gcc", "-O2", "-Wall", "-o", program, source, f"-I{ROOT}/bindings/c", LIBRARY, "-lgeos_c"]
+    subprocess.run([str(it) for it in words], check=True)
+    return program
+
+
+def around(chance, wide, high):
+    """The bounds of an envelope of this size, somewhere."""
+    x, y = chance.randint(-LIMIT, LIMIT - wide), chance.randint(-LIMIT, LIMIT - high)
+    return x, x + wide, y, y + high
+
+
+def small(chance, size):
+    step = int(2 * LIMIT / math.sqrt(size))
+    return [around(chance, chance.randint(0, step // 4), chance.randint(0, step // 4)) for _ in range(size)]
+
+
+def parcels(chance, size):
+    side = math.isqrt(size - 1) + 1
+    step = 2 * LIMIT // side
+    cells = [(x * step - LIMIT, (x + 1) * step - LIMIT, y * step - LIMIT, (y + 1) * step - LIMIT) for x in range(side) for y in range(side)]
+    chance.shuffle(cells)
+    return cells[:size]
+
+
+def bands(chance, size):
+    """Half of them across, half of them up, a tenth of the whole long."""
+    return [around(chance, *((LIMIT // 5, 100) if it % 2 else (100, LIMIT // 5))) for it in range(size)]
+
+
+KINDS = [("small ones", small), ("parcels", parcels), ("bands", bands)]
+
+
+def write_input(path, kind, size):
+    chance = random.Random(size)
+    found = kind(chance, size)
+    step = int(2 * LIMIT / math.sqrt(size) * 3)
+    wide = 2 * LIMIT // size * 50 if kind is bands else step
+    found += [around(chance, wide, wide) for _ in range(WINDOWS)]
+    path.write_text("\n".join([f"{size} {WINDOWS}", *(" ".join(map(str, it)) for it in found)]) + "\n")
+
+
+def main():
+    parser = argparse.ArgumentParser(description=__doc__.splitlines()[0])
+    parser.add_argument("--time", action="store_true", help="nanoseconds too")
+    units = ["instructions", "nanoseconds"] if parser.parse_args().time else ["instructions"]
+    with tempfile.TemporaryDirectory() as room:
+        folder = pathlib.Path(room)
+        program, given = built(folder), folder / "input"
+
+        def output(how, turns):
+            measure([program, how, turns], folder, given)
+            return (folder / "output").read_text()
+
+        def taken(unit, ways, turns):
+            """What a turn takes by each of two ways, which alternate."""
+            if unit == "instructions":
+                return [(instructions([program, it, turns], folder, given) - instructions([program, it, 0], folder, given)) / turns for it in ways]
+            least = [[math.inf, math.inf] for _ in ways]
+            for _ in range(5):
+                for times, it in zip(least, ways):
+                    times[:] = [min(old, measure([program, it, many], folder, given)[1]) for old, many in zip(times, (0, turns))]
+            return [(times[1] - times[0]) / turns * 1e9 for times in least]
+
+        print_heads(["envelopes", "number", "what", "found", "unit", "sfq", "GEOS", "ratio"])
+        for name, kind in KINDS:
+            for size in SIZES:
+                write_input(given, kind, size)
+                for what, count, turns in (("search", WINDOWS, 3), ("build", size, 2)):
+                    ways = [what, f"geos_{what}"]
+                    found = [output(it, 1) for it in ways]
+                    if found[0] != found[1]:
+                        sys.exit(f"{name}, {size}: {found[0]} and {found[1]} are found")
+                    for unit in units:
+                        ours, theirs = (it / count for it in taken(unit, ways, turns if unit == "instructions" else 20 * turns))
+                        each = f"{int(found[0].split()[0]) / WINDOWS:.1f}" if what == "search" else ""
+                        print_columns([name, f"{size:,}", what, each, unit, figure(ours), figure(theirs), f"{ours / theirs:.2g}"])
+
+
+if __name__ == "__main__":
+    main()

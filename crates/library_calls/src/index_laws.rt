@@ -1,0 +1,8 @@
+//! The law of envelopes that meet.
+
+ghost use Rattle.library_calls.specs.Indexes.{OverlapIsShared};
+
+/// Two envelopes overlap exactly where a position is in both, be it on their sides (06-103r4, 6.1.2.2: Envelope).
+pub fn overlap_is_shared()
+    ensures { OverlapIsShared }
+{}

@@ -1,0 +1,98 @@
+//! An index of envelopes that a caller in C keeps.
+
+ghost use Rattle.std.specs.Prelude.{◌≡◌, Option, Some};
+ghost use Rattle.library_calls.specs.Keeping.{Indexed, index_coded, index_owns, index_slot_coded, index_slot_owns};
+
+use crate::parts::Parts;
+use rtree::CurveTree;
+use std::alloc::Global;
+use std::marker::Model;
+
+/// An index of envelopes behind one pointer, as a [`KeptGeometry`](crate::KeptGeometry) is a geometry. Contracts see which list of
+/// envelopes it was built of.
+#[repr(C)]
+pub struct KeptIndex {
+    at: *mut u8,
+    alloc: Global,
+    pub ghost envelopes: { Indexed } by { index_coded },
+}
+
+impl Model for KeptIndex {
+    ghost also_owns = { λ k. index_owns k.alloc k.at k.envelopes };
+}
+
+impl KeptIndex {
+    /// Keeps the index in a box.
+    pub fn of(whole: Box<CurveTree>) -> KeptIndex
+        ensures { result.envelopes ≡ whole.value }
+    {
+        KeptIndex::of_parts(Parts::of(whole))
+    }
+
+    /// The box with the index.
+    pub fn into_box(self) -> Box<CurveTree>
+        ensures { result.value ≡ self.envelopes }
+    {
+        self.into_parts().into_box()
+    }
+
+    fn of_parts(parts: Parts<CurveTree, Global>) -> KeptIndex
+        ensures { result.envelopes ≡ parts.value }
+    {
+        let Parts { at, alloc } = parts;
+        KeptIndex {
+            at: at as *mut u8,
+            alloc,
+        }
+    }
+
+    fn into_parts(self) -> Parts<CurveTree, Global>
+        ensures { result.value ≡ self.envelopes }
+    {
+        let KeptIndex { at, alloc } = self;
+        Parts {
+            at: at as *mut CurveTree,
+            alloc,
+        }
+    }
+}
+
+impl Drop for KeptIndex {
+    fn drop(self) {
+        drop(self.into_box());
+    }
+}
+
+unsafe impl Send for KeptIndex {}
+
+/// A kept index, or none, as a [`Slot`](crate::Slot) has a geometry or none.
+#[derive(Drop)]
+#[repr(C)]
+pub struct IndexSlot {
+    at: *mut u8,
+    alloc: Global,
+    pub ghost envelopes: { Option Indexed } by { index_slot_coded },
+}
+
+impl Model for IndexSlot {
+    ghost also_owns = { λ s. index_slot_owns s.alloc s.at s.envelopes };
+}
+
+impl IndexSlot {
+    /// A slot with this index.
+    pub fn of(kept: KeptIndex) -> IndexSlot
+        ensures { result.envelopes ≡ Some kept.envelopes }
+    {
+        IndexSlot::of_parts(kept.into_parts())
+    }
+
+    fn of_parts(parts: Parts<CurveTree, Global>) -> IndexSlot
+        ensures { result.envelopes ≡ Some parts.value }
+    {
+        let Parts { at, alloc } = parts;
+        IndexSlot {
+            at: at as *mut u8,
+            alloc,
+        }
+    }
+}

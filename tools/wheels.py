@@ -1,0 +1,77 @@
+"""Makes a wheel of the Python package with the C library inside: pip installs it where neither the kit nor a compiler is."""
+import base64
+import datetime
+import hashlib
+import io
+import re
+import zipfile
+from typing import Iterable
+
+import bindings
+import library
+import repository
+
+PROJECT = f"{repository.ROOT}/bindings/python/pyproject.toml"
+
+
+def described(name: str) -> str:
+    """Returns what pyproject.toml says under a name, of the project or of its scripts."""
+    with open(PROJECT, encoding="utf-8") as text:
+        return str(re.findall(rf'^{re.escape(name)} = "(.*)"$', text.read(), re.M)[0])
+
+
+def scripts() -> str:
+    """Returns the commands of pyproject.toml as an installer reads them."""
+    with open(PROJECT, encoding="utf-8") as text:
+        part = text.read().split("[project.scripts]\n")[1].split("\n\n")[0]
+    return "[console_scripts]\n" + part.replace('"', "") + "\n"
+
+
+def tag(libc: str) -> str:
+    """Returns for which Pythons and systems the wheel is: any Python 3, on x86-64 with a C library of this version or later."""
+    return f"py3-none-manylinux_{libc.replace('.', '_')}_x86_64"
+
+
+def about(version: str, libc: str) -> dict[str, str]:
+    """Returns the files that say what the wheel is."""
+    metadata = f"Metadata-Version: 2.1\nName: sfq\nVersion: {version}\nSummary: {described('description')}\n"
+    return {
+        "METADATA": f"{metadata}Requires-Python: {described('requires-python')}\n",
+        "WHEEL": f"Wheel-Version: 1.0\nGenerator: sfq {version}\nRoot-Is-Purelib: false\nTag: {tag(libc)}\n",
+        "entry_points.txt": scripts(),
+        "top_level.txt": "sfq\nsfq_scale\n",
+    }
+
+
+def files(version: str, libc: str) -> Iterable[tuple[str, bytes]]:
+    """Returns each file of the wheel but the list of them: its place and its bytes."""
+    for name in ("sfq", "sfq_scale"):
+        for source, target, _ in bindings.of_package(name, "."):
+            with open(f"{repository.ROOT}/{source}", "rb") as file:
+                yield target[2:], file.read()
+    with open(library.SHARED, "rb") as file:
+        yield f"sfq/{library.NAME}", file.read()
+    for name, text in about(version, libc).items():
+        yield f"sfq-{version}.dist-info/{name}", text.encode()
+
+
+def listed(place: str, text: bytes) -> str:
+    """Returns the line of a file in the list of the wheel's files."""
+    digest = base64.urlsafe_b64encode(hashlib.sha256(text).digest()).rstrip(b"=").decode()
+    return f"{place},sha256={digest},{len(text)}\n"
+
+
+def make(folder: str, version: str, seconds: int, libc: str) -> str:
+    """Makes the wheel in the folder, the same bytes from the same files, and returns its path."""
+    found, record = dict(files(version, libc)), f"sfq-{version}.dist-info/RECORD"
+    found[record] = ("".join(listed(place, text) for place, text in found.items()) + f"{record},,\n").encode()
+    room, day = io.BytesIO(), datetime.datetime.fromtimestamp(seconds, datetime.timezone.utc)
+    with zipfile.ZipFile(room, "w") as archive:
+        for place, text in found.items():
+            entry = zipfile.ZipInfo(place, (day.year, day.month, day.day, day.hour, day.minute, day.second))
+            entry.compress_type, entry.external_attr = zipfile.ZIP_DEFLATED, 0o100644 << 16
+            archive.writestr(entry, text)
+    path = f"{folder}/sfq-{version}-{tag(libc)}.whl"
+    with open(path, "wb") as made:
+        made.write(room.getvalue())
+    return path
