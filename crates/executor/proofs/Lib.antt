@@ -5,6 +5,7 @@ pub mod OrderLemmas
 mod KeptLemmas
 mod KeptRowLemmas
 mod MemoryLemmas
+pub mod PausedLemmas
 mod IterationLemmas
 pub mod CandidateLemmas
 mod IdleLemmas

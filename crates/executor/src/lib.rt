@@ -11,6 +11,7 @@ mod iteration;
 mod keys;
 mod orders;
 mod partners;
+mod paused_rows;
 mod places;
 mod referenced_tables;
 pub mod row_pairs;
@@ -21,6 +22,7 @@ mod walks;
 
 pub use execution::execute;
 pub use iteration::Rows;
+pub use paused_rows::PausedRows;
 pub use referenced_tables::{Tables, tables_of};
 pub use row_pairs::RowPair;
 pub use spatial_sql::Work;
