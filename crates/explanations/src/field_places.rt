@@ -254,19 +254,37 @@ pub(crate) fn record_end(body: &[u8], number: usize) -> Option<usize>
 }
 
 /// The most bytes of a field, its quotes counted.
-const FIELD_BYTES: usize = 1 << 20;
+pub(crate) const FIELD_BYTES: usize = 1 << 20;
 
-/// The first field that has more bytes than a field may have: the number of its record, and its own in it.
+/// The most fields of a record.
+pub(crate) const RECORD_FIELDS: usize = 100_000;
+
+/// The most bytes of a record, with the blank lines before it.
+const RECORD_BYTES: usize = 33 << 20;
+
+/// The first field that is too long, or that is one too many in its record, or the first of a record that is too long: the number of its
+/// record, and its own in it.
 pub(crate) fn long_field(body: &[u8]) -> Option<(usize, usize)> {
     let mut cursor = Cursor::new();
-    let mut from = 0;
+    let mut field = 0;
+    let mut record = 0;
     for at in 0..body.len() {
         if cursor.begins(body[at]) {
-            from = at;
+            field = at;
         }
-        cursor = cursor.after(body[at]);
-        if at.saturating_sub(from) >= FIELD_BYTES {
+        let next = cursor.after(body[at]);
+        if next.records != cursor.records {
+            record = at;
+        }
+        let is_in_field = next.records == cursor.records && next.fields == cursor.fields;
+        cursor = next;
+        if is_in_field && at.saturating_sub(field) >= FIELD_BYTES
+            || cursor.fields >= RECORD_FIELDS
+        {
             return Some((cursor.records, cursor.fields));
+        }
+        if at.saturating_sub(record) > RECORD_BYTES {
+            return Some((cursor.records, 0));
         }
     }
     None

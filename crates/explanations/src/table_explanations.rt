@@ -34,8 +34,8 @@ pub struct Found<'r> {
 /// with a caret below the place, the line that says what is wrong, and a sentence that says what to do. The place is where the field
 /// begins; of a fault of a geometry's text the byte of that, behind the quote before it; of a name given twice the second; of a record with
 /// too many fields the first of these, and of one with too few its end. Of a column that the header lacks, and of a record too many, the
-/// line alone is shown. Of a read that failed, something is said only if the text has a field that is too long. At Err memory ran out
-/// (the form: this project's choice).
+/// line alone is shown. If the text has no such place, the line that says what is wrong is all. Of a read that failed, something is said only if the text has a field or a record that is too long, or one with too
+/// many fields. At Err memory ran out (the form: this project's choice).
 pub fn table_explained(
     alloc: Global,
     text: &[u8],
@@ -49,7 +49,10 @@ pub fn table_explained(
     let at = field_of(alloc, body, table, fault, found)?;
     let place = fault_place(body, fault, at);
     let mut lines = place_shown(alloc, text, fault, place)?;
-    let sentence = sentence_of(alloc, text, table, fault, found, at)?;
+    let sentence = match place {
+        None if !found.line.is_empty() => Vec::new(alloc),
+        _ => sentence_of(alloc, text, table, fault, found, at)?,
+    };
     lines.extend_from_slice(found.line)?;
     push_said(&mut lines, sentence.as_slice())?;
     Ok(lines)
@@ -267,6 +270,10 @@ fn sentence_of(
         header: record_at(body, 0),
         record: record_at(body, last_record(fault)),
         field: field_text(body, at),
+        number: match at {
+            Some(at) => Some(at.field),
+            None => None,
+        },
         column: column_of(table, fault, found),
         earlier: found.record.unwrap_or(0),
         line: line_of_record(text, found.record.unwrap_or(0)),

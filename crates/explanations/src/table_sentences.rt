@@ -1,5 +1,6 @@
 //! What is said of a table's fault: what is there and what to do, by the field, its record and the header.
 
+use crate::field_places::{FIELD_BYTES, RECORD_FIELDS};
 use crate::geometry_sentences::{TYPES, advice, is_binary, opened, text_sentence};
 use crate::marks::{is_plain, push_shown};
 use crate::nearest_names::nearest;
@@ -22,6 +23,8 @@ pub(crate) struct Near<'t> {
     pub(crate) header: &'t [u8],
     pub(crate) record: &'t [u8],
     pub(crate) field: &'t [u8],
+    /// The number of the field in its record, from 0.
+    pub(crate) number: Option<usize>,
     /// The place of the field's column in the definition.
     pub(crate) column: Option<usize>,
     /// The number of an earlier record with the same key, and that of its line.
@@ -385,17 +388,25 @@ fn key_sentence(alloc: Global, near: &Near<'_>) -> Result<Vec<u8>, AllocError> {
     )
 }
 
-/// The sentence of a field that is too long.
+/// The sentence of a field that is too long, of one too many, or of a record that is too long; nothing, if there is none.
 fn long_sentence(alloc: Global, near: &Near<'_>) -> Result<Vec<u8>, AllocError> {
-    if near.field.is_empty() {
-        return Ok(Vec::new(alloc));
+    match near.number {
+        Some(number) => joined(alloc, &[long_words(near.field, number).as_bytes()]),
+        None => Ok(Vec::new(alloc)),
     }
-    let sentence = if first(near.field) == b'"' {
+}
+
+/// What is said of a field of this number that is too long or one too many, or that is the first of a record that is too long.
+fn long_words(field: &[u8], number: usize) -> &'static str {
+    if number >= RECORD_FIELDS {
+        "this is field 100001 of the record, and 100000 are taken: split the table"
+    } else if field.len() <= FIELD_BYTES {
+        "the record that begins here has more than 34603008 bytes: split it, or keep its texts outside the table"
+    } else if first(field) == b'"' {
         "the quote that opens here isn't closed within 1048576 bytes: close it"
     } else {
         "the field that begins here has more than 1048576 bytes: shorten it, or keep it outside the table"
-    };
-    joined(alloc, &[sentence.as_bytes()])
+    }
 }
 
 // ---- fields
