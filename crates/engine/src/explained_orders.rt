@@ -429,6 +429,7 @@ fn explain_encoding<R: Read + Drop, F: FnMut(File<'_>) -> Option<R>, E: Sink>(
     requires { F.IsAlwaysCallable opener.old }
     ensures callable { F.IsAlwaysCallable opener.new }
     ensures opened { MayOpenQuery (OpensFile F.FnMut) opener.old word.now opener.new }
+    ensures quiet { result ≡ false → err.new ≡ err.old }
     ensures said { (err.new ≡ err.old) ⊎ SaysEncoding E.taken E.failures word.now err.old err.new }
 {
     let Some(path) = word.strip_prefix("@") else {

@@ -10,8 +10,8 @@ returns g c =
     (λ e is. record {
       place = c.in_ok-place.place;
       named = c.in_ok-place.ensures.named;
-      table = c.table.result.now;
-      there = c.table.ensures.value;
+      table = c.table-table.result.now;
+      there = c.table-table.ensures.value;
       reader = c.in-Some.reader;
       middle = c.opener.new.self;
       opened = record { shown = c.as_str.result; shows = c.as_str.ensures.value ∙ c.in-Ok.ensures; called = c.in-Some.ensures };

@@ -1,5 +1,5 @@
 -- The file is the one at the table's path, and what is written is of a front of its text.
-use Rattle.std.proofs.Common.{◌∙◌, None, Some, inl, inr, refl, subst}
+use Rattle.std.proofs.Common.{◌∙◌, inl, inr, refl, subst}
 use Rattle.explanations.specs.Tables.{IsTableNote}
 use Rattle.text_commands.proofs.EndLemmas.{writes}
 use Rattle.text_commands.specs.Explanations.{Adds}
