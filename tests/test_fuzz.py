@@ -183,6 +183,27 @@ class Parts(unittest.TestCase):
             (outcomes.Ran(b"t 2\n", notes + b"\n", 0), why),
         ):
             self.assertIsNotNone(outcomes.wrong_outcome(ran, words), ran)
+        place = b"  3 | 2,,,\"b\n    |     ^\n"
+        quote = notes + place + b"sfq: the quote that opens here isn't closed: the rest of the file is one field\n"
+        self.assertIsNone(outcomes.wrong_outcome(outcomes.Ran(b"t 2\nu 1\n", quote, 0), why))
+
+    def test_what_is_added_to_faults_and_answers(self):
+        place, reason = b"  3 | 2,9.5,b\n    |   ^\n", b'sfq: column pop: "9.5" isn\'t a whole number of 64 bits\n'
+        fault, note = b"sfq: t L5 record 2\n", place + b"sfq: note: a comparison with NULL never holds: write IS NULL\n"
+        run, why = [b"run", b"s", b"d", b"q"], [b"run", b"--why", b"s", b"d", b"q"]
+        for ran, words, is_well in (
+            (outcomes.Ran(b"", fault + place + reason + b"sfq: write digits\n", 4), why, True),
+            (outcomes.Ran(b"", fault + reason, 4), why, True),
+            (outcomes.Ran(b"", fault + place + b"sfq: write digits\n", 4), why, False),
+            (outcomes.Ran(b"", fault + place + reason, 4), run, False),
+            (outcomes.Ran(b"", b"sfq: t L1\nsfq: the file is empty: its first line names the columns\n", 4), why, True),
+            (outcomes.Ran(b"", b"sfq: t L10\n100002 | 7,a\nsfq: this is record 100001\n", 4), why, True),
+            (outcomes.Ran(b"id\n", note, 0), why, True),
+            (outcomes.Ran(b"id\n", 2 * note, 0), why, True),
+            (outcomes.Ran(b"id\n", 3 * note, 0), why, False),
+            (outcomes.Ran(b"id\n", note, 0), run, False),
+        ):
+            self.assertEqual(outcomes.wrong_outcome(ran, words) is None, is_well, ran)
 
     def test_labels_that_differ_are_found(self):
         texts, matrices = [SQUARE, LINE], {(0, 0): "2FFF1FFF2", (0, 1): "FF20F1102", (1, 0): "F01FF0212", (1, 1): "1FFF0FFF2"}

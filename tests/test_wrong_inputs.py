@@ -152,6 +152,24 @@ class Streams(unittest.TestCase):
         self.assertEqual(said, "sfq: - can't be read twice: save it as a file to see more\n")
 
     @needs_build
+    def test_an_empty_path(self):
+        for words, fault in ((["pairs", ""], "pairs"), (["relate", "@", "POINT(1 2)"], "first"), (["check", "", "d"], "schema")):
+            said = self.run_with_switch(words, stdout=subprocess.DEVNULL)
+            self.assertEqual(said, f"sfq: {fault} unreadable\nsfq: the path is empty: name a file\n")
+
+    @needs_build
+    def test_notes_are_quiet_of_what_cannot_be_read_twice(self):
+        with tempfile.TemporaryDirectory(prefix="sfq-once-") as room:
+            write(f"{room}/schema.sql", "CREATE TABLE t (id INTEGER PRIMARY KEY, name TEXT)")
+            write(f"{room}/t.csv", "id,name\n1,a\n")
+            words = ["run", f"{room}/schema.sql", room]
+            said = self.run_with_switch([*words, "@-"], given="SELECT id FROM t WHERE name = NULL", stdout=subprocess.DEVNULL)
+            self.assertEqual(said, "")
+            with open("/dev/full", "wb") as full:
+                said = self.run_with_switch([*words, "SELECT id FROM t WHERE name = NULL"], stdout=full)
+            self.assertEqual(said, "sfq: write failed\n")
+
+    @needs_build
     def test_a_named_pipe_is_not_waited_for(self):
         with tempfile.TemporaryDirectory(prefix="sfq-pipe-") as room:
             os.mkfifo(f"{room}/a.wkt")

@@ -194,7 +194,7 @@ def of_table(case: Case, fault: str, reason: str) -> list[str]:
     if code == "L10":
         return place_lines(text, found[100_001][0][0], False)
     if code == "L11":
-        at = next((begin for it in found for begin, field in it if len(field) > 1 << 20), None)
+        at = next((begin for it in found for number, (begin, field) in enumerate(it) if len(field) > 1 << 20 or number == 100_000), None)
         return [] if at is None else place_lines(text, at)
     record = found[int(re.match(r" record (\d+)", rest)[1]) - (name == "pairs")]
     if code == "L3":

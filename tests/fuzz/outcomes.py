@@ -15,7 +15,7 @@ LINES = {
     6: rf"schema unreadable|{NAME} (?:L11|unreadable)",
 }
 LINES = {status: re.compile(f"sfq: (?:{lines})\n".encode()) for status, lines in LINES.items()}
-# The second line that `--why` may add of a table, by the code of the first.
+# The line that `--why` adds of a table, by the code of the first, and that of a file that is empty.
 REASONS = {
     "L1": rf"column {NAME} isn't in the header",
     "L2": rf"column {NAME} is in the header more than once",
@@ -28,10 +28,18 @@ REASONS = {
     "L9": r"record \d+ has the key -?\d+",
 }
 REASONS = {code: re.compile(f"sfq: (?:{text})\n".encode(), re.DOTALL) for code, text in REASONS.items()}
+EMPTY = b"sfq: the file is empty: its first line names the columns\n"
+# The lines that show a place: the line of a text, and a caret below it.
+PLACE = r" *\d+ \|[^\n]*\n *\| *\^\n"
 # The lines that `check --why` may write of tables that load.
-NOTES = re.compile(rf"(?:sfq: note: {NAME} (?:header|record \d+): field \d+ holds a line end\n)+".encode())
-# What `--why` may add of other faults: the line of a text and a caret below it, and sentences.
-EXPLANATION = re.compile(rb"(?: *\d+ \|[^\n]*\n *\| *\^\n)?(?:sfq: [^\n]*\n)*")
+NOTES = re.compile(
+    rf"(?:sfq: note: {NAME} (?:header|record \d+): field \d+ holds a line end\n"
+    rf"(?:{PLACE}sfq: the quote that opens here isn't closed: the rest of the file is one field\n)?)+".encode()
+)
+# What `run --why` may write of queries without a fault.
+QUERY_NOTES = re.compile(rf"(?:{PLACE}sfq: note: [^\n]*\n){{1,2}}".encode())
+# What `--why` may add of faults: the line of a text and a caret below it, or of a table the line alone, and sentences.
+EXPLANATION = re.compile(rb"(?: *\d+ \|[^\n]*\n(?: *\| *\^\n)?)?(?:sfq: [^\n]*\n)*")
 MOST_LINES, MOST_COLUMNS = 8, 200
 MISUSE, REFUSED = 2, 5
 # The statuses of faults of each command.
@@ -81,16 +89,21 @@ def is_explanation(text):
 
 
 def without_reason(err, words):
-    """Returns standard error without what `--why` may add: lines behind that of a fault, or notes of tables that load."""
+    """Returns standard error without what `--why` may add: lines behind that of a fault, or notes of tables that load or on a query."""
     if not err or b"--why" not in words:
         return err
-    if words[:1] == [b"check"] and NOTES.fullmatch(err):
+    notes = {b"check": NOTES, b"run": QUERY_NOTES}.get(b"".join(words[:1]))
+    if notes and notes.fullmatch(err):
         return b""
     first, _, rest = err.partition(b"\n")
     code = re.match(rb"sfq: \w+ (L\d+)", first)
-    reason = REASONS.get(code[1].decode()) if code else None
-    is_added = reason.fullmatch(rest) if reason else is_explanation(rest)
-    return first + b"\n" if is_added else err
+    return first + b"\n" if is_explanation(rest) and has_reason(rest, code[1].decode() if code else "") else err
+
+
+def has_reason(text, code):
+    """Whether what `--why` adds has the line of a table's fault with this code, if such a fault has one."""
+    reason = REASONS.get(code)
+    return reason is None or text == EMPTY or any(reason.fullmatch(it) for it in text.splitlines(keepends=True))
 
 
 def wrong_outcome(ran, words):

@@ -1,5 +1,5 @@
 -- What is written of tables that have loaded, one after another.
-use Rattle.std.proofs.Common.{◌≡◌, ◌+◌, ◌≤◌, ◌⊎◌, inr, ℕ, List, [], ◌∷◌, ◌++◌, length, take, add-one, refl, subst, sym, IfErr, IfOk, Option, Some, Result, Ok, Err}
+use Rattle.std.proofs.Common.{◌≡◌, ◌+◌, ◌≤◌, inr, ℕ, List, [], ◌∷◌, ◌++◌, length, take, add-one, refl, subst, sym, IfErr, IfOk, Option, Some, Result, Ok, Err}
 use Rattle.std.specs.Prelude.{slice_get}
 use Rattle.std.proofs.lemmas.List.{take_all}
 use Rattle.engine.proofs.FileLemmas.{take-more}

@@ -1,16 +1,15 @@
 -- What a command does with an opener of files, it does with the opener of paths that this one calls: each state of the first has one of the
 -- second under it, and each call a call.
-use Rattle.std.proofs.Common.{true, false, ◌≡◌, ◌⊎◌, inl, inr, ℕ, List, [], ◌∷◌, Option, None, Some, Result, Ok, Err, refl, ap}
+use Rattle.std.proofs.Common.{true, false, ◌≡◌, inl, inr, ℕ, List, [], ◌∷◌, Option, None, Some, Result, Ok, Err, refl, ap}
 use Rattle.std.specs.Prelude.{codes}
 use Rattle.std.specs.String.{string_bytes}
 use denote.Ref.{Bor}
 use Rattle.command_line.specs.declared.known_commands.Order.{Order}
 use Rattle.command_line.specs.declared.known_commands.Order.TheVariants as orders
-use Rattle.engine.specs.Commands.{CheckEnds, ChecksFiles, ChecksTables, Explains, ExplainsFiles, FindsReason, LooksAgain, MayExplain, NotesTables, Opens, OpensTables, OverFiles, OverTables, RunEnds, RunsFiles, RunsQuery, RunsTables, ServesOrder, table_names, table_path, table_paths}
+use Rattle.engine.specs.Commands.{CheckEnds, ChecksFiles, ChecksTables, Explains, ExplainsFiles, ExplainsTable, LooksAgain, MayExplain, MayOpen, Notes, NotesTables, Opens, OpensTables, OverFiles, OverTables, RunEnds, RunsFiles, RunsQuery, RunsTables, SaysQuote, ServesOrder, table_names, table_path, table_paths}
 use Rattle.failures.specs.declared.failure.Failure.{Failure}
 use Rattle.failures.specs.declared.failure.Failure.TheVariants as f
 use Rattle.record_reasons.specs.declared.line_ends.LineEnd.{LineEnd}
-use Rattle.record_reasons.specs.declared.reason.Reason.{Reason}
 use Rattle.table_model.specs.Loading.{Record}
 use Rattle.table_model.specs.SpatialTables.{SpatialSchema}
 use Rattle.table_model.specs.declared.faults.LoadFault.{LoadFault}
@@ -187,32 +186,64 @@ module _ {F G R : Type 0} (files : Opening G R) (paths : Opening F R) (under : G
   -- ---- reasons
 
   module _ {E : Type 0} (remaining : R → Option (List ℕ)) (taken : E → Option (List ℕ)) (failures : E → ℕ) (directory : List ℕ) where
-    finds-reason : (before : G) (definitions : SpatialSchema) (name : List ℕ) (fault : LoadFault) (reason : Reason)
-        → FindsReason files remaining before directory definitions name fault reason
-        → FindsReason paths remaining (under before) directory definitions name fault reason
-    finds-reason before definitions name fault reason r = record {
-      place = r.place;
-      named = r.named;
-      table = r.table;
-      there = r.there;
-      after = under r.after;
-      reader = r.reader;
-      opened = called role.Table (λ lent. refl) before (table_path directory name) (Some r.reader) r.after r.opened;
-      is = r.is;
+    explains-table : (before : G) (definitions : SpatialSchema) (name : List ℕ) (fault : LoadFault) (explanation : List ℕ)
+        → ExplainsTable files remaining before directory definitions name fault explanation
+        → ExplainsTable paths remaining (under before) directory definitions name fault explanation
+    explains-table before definitions name fault explanation e = record {
+      place = e.place;
+      named = e.named;
+      table = e.table;
+      there = e.there;
+      reader = e.reader;
+      middle = under e.middle;
+      opened = called role.Table (λ lent. refl) before (table_path directory name) (Some e.reader) e.middle e.opened;
+      line = e.line;
+      says = e.says;
+      again = e.again;
+      after = under e.after;
+      reopened = called role.Table (λ lent. refl) e.middle (table_path directory name) (Some e.again) e.after e.reopened;
+      left = e.left;
+      text = e.text;
+      front = e.front;
+      explains = e.explains;
     }
+
+    may-open : (name : List ℕ) (before after : G) → MayOpen files directory name before after
+        → MayOpen paths directory name (under before) (under after)
+    may-open name before after (inl same) = inl (ap under same)
+    may-open name before after (inr by) =
+        inr (by.0, called role.Table (λ lent. refl) before (table_path directory name) by.0 after by.1)
 
     looks-again : (name : List ℕ) (before after : G) (looked : Result (Option LineEnd) LoadFault)
         → LooksAgain files remaining directory name before after looked → LooksAgain paths remaining directory name
         (under before) (under after) looked
     looks-again name before after (Ok found) l =
         (l.0, called role.Table (λ lent. refl) before (table_path directory name) (Some l.0) after l.1, l.2)
-    looks-again name before after (Err fault) l = (l.0, opened l.1)
-      where
-        opened : (after ≡ before) ⊎ ((file : Option R) × files role.Table before (table_path directory name) file after)
-            → (under after ≡ under before) ⊎ ((file : Option R) × paths role.Table (under before) (table_path directory name)
-            file (under after))
-        opened (inl same) = inl (ap under same)
-        opened (inr by) = inr (by.0, called role.Table (λ lent. refl) before (table_path directory name) by.0 after by.1)
+    looks-again name before after (Err fault) l = (l.0, may-open name before after l.1)
+
+    says-quote : (name : List ℕ) (number : ℕ) (before after : G) (old new : E)
+        → SaysQuote files remaining taken failures directory name number before after old new
+        → SaysQuote paths remaining taken failures directory name number (under before) (under after) old new
+    says-quote name number before after old new (inl nothing) = inl (may-open name before after nothing.0, nothing.1)
+    says-quote name number before after old new (inr s) =
+        inr (record {
+          reader = s.reader;
+          opened = called role.Table (λ lent. refl) before (table_path directory name) (Some s.reader) after s.opened;
+          left = s.left;
+          text = s.text;
+          front = s.front;
+          note = s.note;
+          notes = s.notes;
+          written = s.written;
+        })
+
+    notes-more : (name : List ℕ) (looked : Result (Option LineEnd) LoadFault) (before after : G) (old new : E)
+        → Notes files remaining taken failures directory name looked before after old new
+        → Notes paths remaining taken failures directory name looked (under before) (under after) old new
+    notes-more name (Ok (Some at_field)) before after old new n =
+        (n.0, n.1, says-quote name at_field.number before after n.0 new n.2)
+    notes-more name (Ok None) before after old new n = (ap under n.0, n.1)
+    notes-more name (Err fault) before after old new n = (ap under n.0, n.1)
 
     may-explain : (old new : E) (before : G) (definitions : SpatialSchema) (failure : Failure)
         → MayExplain files remaining taken failures old new before directory definitions failure
@@ -224,9 +255,8 @@ module _ {F G R : Type 0} (files : Opening G R) (paths : Opening F R) (under : G
           e.1,
           e.2,
           record {
-            reason = e.3.reason;
-            finds = finds-reason before definitions e.0.now e.1 e.3.reason
-                e.3.finds;
+            explanation = e.3.explanation;
+            explains = explains-table before definitions e.0.now e.1 e.3.explanation e.3.explains;
             written = e.3.written;
           },
         )
@@ -239,7 +269,12 @@ module _ {F G R : Type 0} (files : Opening G R) (paths : Opening F R) (under : G
         let n = noted.2 in (
           under noted.0,
           noted.1,
-          record { looked = n.looked; looks = looks-again name before noted.0 n.looked n.looks; notes = n.notes },
+          record {
+            looked = n.looked;
+            middle = under n.middle;
+            looks = looks-again name before n.middle n.looked n.looks;
+            notes = notes-more name n.looked n.middle noted.0 old noted.1 n.notes;
+          },
           notes-tables names noted.0 after noted.1 new noted.3,
         )
 

@@ -7,6 +7,7 @@ use Rattle.failures.specs.declared.failure.Failure.{Failure}
 use Rattle.failures.specs.declared.failure.Failure.TheVariants as f
 use Rattle.failures.specs.declared.run_fault.Fault.{Fault}
 use Rattle.failures.specs.declared.run_fault.Fault.TheVariants as faults
+use Rattle.explanations.specs.Tables.{IsFront, IsTableExplanation, IsTableNote}
 use Rattle.feature_table.specs.Tables.{EachRecordsOf, EarlierLoad}
 use Rattle.feature_table.specs.Outcomes.{IsFailure}
 use Rattle.query_runs.specs.Runs.{Runs, RunsOver}
@@ -192,26 +193,39 @@ module _ {F R S : Type 0} (opens : Opening F R) (remaining : R → Option (List 
 abbrev pub IsNamed : SpatialSchema → List ℕ → ℕ → Type 0
 IsNamed definitions name place = (table : TableDef ColumnShape) × (slice_get definitions place ≡ Some table) × (same_name table.name name ≡ true)
 
--- the reason of the fault of the table of this name, in the records that its file has when it is opened again, in the state `before`
-pub record FindsReason {F R : Type 0} (opens : Opening F R) (remaining : R → Option (List ℕ)) (before : F) (directory : List ℕ)
-    (definitions : SpatialSchema) (name : List ℕ) (fault : LoadFault) (reason : Reason) : Type 0 where
+-- the line that says what is wrong in some bytes, if they are known: that of the reason of a table's fault, or none
+abbrev pub SaysReason : Option (List ℕ) → TableDef ColumnShape → LoadFault → List ℕ → Type 0
+SaysReason known table fault line = (line ≡ []) ⊎ ((reason : Reason) × IsReasonOf known table fault reason × (line ≡ reason_line reason))
+
+-- what explains the fault of the table of this name: its file is opened again, in the state `before`, for the reason, and then once more for a
+-- front of its text, in which the explanation shows the record
+pub record ExplainsTable {F R : Type 0} (opens : Opening F R) (remaining : R → Option (List ℕ)) (before : F) (directory : List ℕ)
+    (definitions : SpatialSchema) (name : List ℕ) (fault : LoadFault) (explanation : List ℕ) : Type 0 where
   pub place : ℕ
   pub named : IsNamed definitions name place
   pub table : TableDef ColumnShape
   pub there : slice_get definitions place ≡ Some table
-  pub after : F
   pub reader : R
-  pub opened : opens role.Table before (table_path directory name) (Some reader) after
-  pub is : IsReasonOf (remaining reader) table fault reason
+  pub middle : F
+  pub opened : opens role.Table before (table_path directory name) (Some reader) middle
+  pub line : List ℕ
+  pub says : SaysReason (remaining reader) table fault line
+  pub again : R
+  pub after : F
+  pub reopened : opens role.Table middle (table_path directory name) (Some again) after
+  pub left : R
+  pub text : List ℕ
+  pub front : IsFront (remaining again) (remaining left) text
+  pub explains : IsTableExplanation text fault line explanation
 
--- the line of the reason of a table's fault was written, or a beginning of it
+-- what explains a table's fault was written, or a beginning of it
 pub record ExplainsLoad {F R E : Type 0} (opens : Opening F R) (remaining : R → Option (List ℕ)) (taken : E → Option (List ℕ))
     (failures : E → ℕ) (old new : E) (before : F) (directory : List ℕ) (definitions : SpatialSchema) (name : List ℕ) (fault : LoadFault) : Type 0 where
-  pub reason : Reason
-  pub finds : FindsReason opens remaining before directory definitions name fault reason
-  pub written : Writes (taken old) (taken new) (failures old) (failures new) (reason_line reason)
+  pub explanation : List ℕ
+  pub explains : ExplainsTable opens remaining before directory definitions name fault explanation
+  pub written : Writes (taken old) (taken new) (failures old) (failures new) explanation
 
--- what is written of a failure besides its own line: nothing, or the reason of a table's fault
+-- what is written of a failure besides its own line: nothing, or what explains a table's fault
 abbrev pub MayExplain : {F R E : Type 0} → Opening F R → (R → Option (List ℕ)) → (E → Option (List ℕ)) → (E → ℕ) → E → E
     → F → List ℕ → SpatialSchema → Failure → Type 0
 MayExplain opens remaining taken failures old new before directory definitions failure =
@@ -219,27 +233,52 @@ MayExplain opens remaining taken failures old new before directory definitions f
     ⊎ ((name : Bor (List ℕ)) × (fault : LoadFault) × (failure ≡ f.Load name fault)
     × ExplainsLoad opens remaining taken failures old new before directory definitions name.now fault)
 
+-- the file of the table of this name may have been opened
+abbrev pub MayOpen : {F R : Type 0} → Opening F R → List ℕ → List ℕ → F → F → Type 0
+MayOpen {R = R} opens directory name before after =
+    (after ≡ before) ⊎ ((file : Option R) × opens role.Table before (table_path directory name) file after)
+
 -- what a table's file shows when it is opened again, in the state `before`, and read: its first field with a line end, or that it has none; at Err
 -- it isn't opened or read, or memory ran out
 abbrev pub LooksAgain : {F R : Type 0} → Opening F R → (R → Option (List ℕ)) → List ℕ → List ℕ → F → F → Result (Option LineEnd) LoadFault → Type 0
 LooksAgain {R = R} opens remaining directory name before after (Ok found) =
     (reader : R) × opens role.Table before (table_path directory name) (Some reader) after × FindsLineEnd (remaining reader) found
-LooksAgain {R = R} opens remaining directory name before after (Err fault) =
-    IsFailure fault × ((after ≡ before) ⊎ ((file : Option R) × opens role.Table before (table_path directory name) file after))
-
--- the line of such a field was written, or a beginning of it; without one nothing was, nor where the file can't be opened or read again
-abbrev pub Notes : {E : Type 0} → (E → Option (List ℕ)) → (E → ℕ) → List ℕ → Result (Option LineEnd) LoadFault → E → E → Type 0
-Notes taken failures name (Ok (Some at_field)) old new = Writes (taken old) (taken new) (failures old) (failures new) (note_line name at_field)
-Notes taken failures name (Ok None) old new = new ≡ old
-Notes taken failures name (Err fault) old new = new ≡ old
+LooksAgain opens remaining directory name before after (Err fault) = IsFailure fault × MayOpen opens directory name before after
 
 -- the sink of standard error, and the folder of the tables' files
 module _ {F R E : Type 0} (opens : Opening F R) (remaining : R → Option (List ℕ)) (taken : E → Option (List ℕ)) (failures : E → ℕ) (directory : List ℕ) where
+  -- the place where the quote of a record's field opens was written, or a beginning of it, or nothing: it is in a front of the text of the
+  -- table's file, which is opened once more
+  pub record ShowsQuote (name : List ℕ) (number : ℕ) (before after : F) (old new : E) : Type 0 where
+    pub reader : R
+    pub opened : opens role.Table before (table_path directory name) (Some reader) after
+    pub left : R
+    pub text : List ℕ
+    pub front : IsFront (remaining reader) (remaining left) text
+    pub note : List ℕ
+    pub notes : IsTableNote text number note
+    pub written : Writes (taken old) (taken new) (failures old) (failures new) note
+
+  -- the same, or nothing, where the file can't be opened or memory ran out
+  abbrev pub SaysQuote : List ℕ → ℕ → F → F → E → E → Type 0
+  SaysQuote name number before after old new =
+      (MayOpen opens directory name before after × (new ≡ old)) ⊎ ShowsQuote name number before after old new
+
+  -- the line of a field with a line end was written, or a beginning of it, and where its quote opens; without such a field nothing was, nor where
+  -- the file can't be opened or read again
+  abbrev pub Notes : List ℕ → Result (Option LineEnd) LoadFault → F → F → E → E → Type 0
+  Notes name (Ok (Some at_field)) before after old new =
+      (shown : E) × Writes (taken old) (taken shown) (failures old) (failures shown) (note_line name at_field)
+      × SaysQuote name at_field.number before after shown new
+  Notes name (Ok None) before after old new = (after ≡ before) × (new ≡ old)
+  Notes name (Err fault) before after old new = (after ≡ before) × (new ≡ old)
+
   -- what is written of the table of this name, which has loaded, and the states of the opener
   pub record NotesTable (name : List ℕ) (before after : F) (old new : E) : Type 0 where
     pub looked : Result (Option LineEnd) LoadFault
-    pub looks : LooksAgain opens remaining directory name before after looked
-    pub notes : Notes taken failures name looked old new
+    pub middle : F
+    pub looks : LooksAgain opens remaining directory name before middle looked
+    pub notes : Notes name looked middle after old new
 
   -- and of the tables of these names, one after another
   abbrev pub NotesTables : List (List ℕ) → F → F → E → E → Type 0

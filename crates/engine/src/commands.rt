@@ -1,28 +1,31 @@
 //! The commands of the program: `serve` does what the command line orders, over readers and sinks of any kind.
 
-ghost use Rattle.std.specs.Prelude.{◌≡◌, ◌<◌, length, take, Err, IfErr, IfOk, IfSome, OnErr, OnOk};
+ghost use Rattle.std.specs.Prelude.{◌≡◌, ◌<◌, [], length, take, Err, IfErr, IfOk, IfSome, OnErr, OnOk};
 ghost use Rattle.std.specs.Fn.{CalledAt, TakesAt};
 ghost use Rattle.std.specs.String.{string_bytes};
 ghost use Rattle.std.specs.Io.KnownBytes.{Appends};
-ghost use Rattle.engine.specs.Commands.{ChecksFiles, ChecksTables, ExplainsFiles, FindsReason, IsFaultOf, IsNamed, IsUnread, LooksAgain, MayExplain, NotesTable, NotesTables, Opens, OpensTables, ReadsSchema, RunsFiles, RunsQuery, RunsTables, ServesOrder, ServesReasons, ServesTables, check_text, table_names, table_paths};
+ghost use Rattle.engine.specs.Commands.{ChecksFiles, ChecksTables, ExplainsFiles, ExplainsTable, IsFaultOf, IsNamed, IsUnread, LooksAgain, MayExplain, NotesTable, NotesTables, Opens, OpensTables, ReadsSchema, RunsFiles, RunsQuery, RunsTables, SaysQuote, SaysReason, ServesOrder, ServesReasons, ServesTables, check_text, table_names, table_paths};
 ghost use Rattle.engine.specs.Commands as spec;
+ghost use Rattle.explanations.specs.Tables.{IsTableExplanation};
 ghost use Rattle.feature_table.specs.Outcomes.{IsFailure};
 ghost use Rattle.query_runs.specs.Runs.{IsOfTables};
+ghost use Rattle.record_reasons.specs.ReasonTexts.{reason_line};
 ghost use Rattle.streams.specs.Sinks.{AppendsFront, CountsFailure};
 ghost use Rattle.text_commands.specs.Ends.{Serves};
 ghost use Rattle.text_commands.specs.Files.{OpensFile, OpensPath, path_of};
 
 use command_line::Order;
+use explanations::{Found, last_record, open_quote_explained, table_explained, table_front};
 use failures::{Failure, Fault, ended, failed};
 use feature_table::{Database, Records, Schema};
 use itoa::Buffer;
 use query_runs::run_by_references;
 use record_reasons::{LineEnd, Reason, first_line_end, put_line_end, put_record_reason, reason_of};
 use rtree::{CurveTree, EnvelopeIndex, RowTree};
-use sql_text::read_schema;
+use sql_text::{TableDef, read_schema};
 use std::alloc::{AllocError, Global};
 use std::io::{ErrorKind, Read};
-use streams::{RowObserver, Sink, SinkFault, Unobserved, put_parts};
+use streams::{MemorySink, RowObserver, Sink, SinkFault, Unobserved, put_all, put_parts};
 use table_model::faults::{LoadFault, SchemaFault};
 use table_model::texts::same_name;
 use table_model::tokens::TEXT_LIMIT;
@@ -34,13 +37,13 @@ use text_commands::{
 type ColumnIndex = CurveTree;
 
 /// The same under a query with a single reference, and in a check: one search at most.
-type RowIndex = RowTree;
+pub(crate) type RowIndex = RowTree;
 
 /// How many bytes of a schema's file are read: one more than a schema may have.
 pub(crate) const SCHEMA_BYTES: u64 = TEXT_LIMIT as u64 + 1;
 
 /// Does what the order says. It writes the answer to `out` and the line of a failure to `err`. After a failed check with `why` it also
-/// writes the line of the reason, if it finds one, and after one that is done a line for each table that has a field with a line end.
+/// writes what explains a table's fault, if it finds that, and after one that is done a line for each table that has a field with a line end.
 /// It returns the status of the program: 0, or that of the failure. The opener returns the reader of the file at a path, or None if it can't be opened.
 pub fn serve<R: Read + Drop, F: FnMut(&str) -> Option<R>, S: Sink, E: Sink>(
     alloc: Global,
@@ -243,9 +246,9 @@ fn serve_check<R: Read + Drop, F: FnMut(File<'_>) -> Option<R>, S: Sink, E: Sink
     ended(end, err)
 }
 
-/// The same, and after the line of a table's fault it writes the line of its reason, if it finds one: the table's file is opened
-/// and read again for it. A file that has changed, or that can't be read again, has none. Where all tables load, it writes a line for
-/// each that has a field with a line end.
+/// The same, and after the line of a table's fault it writes what explains it, if it finds that: the table's file is opened
+/// and read again for it. Of a file that has changed, or that can't be read again, nothing is written. Where all tables load, it writes a line
+/// for each that has a field with a line end.
 #[inline(never)]
 fn serve_reasons<R: Read + Drop, F: FnMut(File<'_>) -> Option<R>, S: Sink, E: Sink>(
     alloc: Global,
@@ -277,7 +280,7 @@ fn serve_reasons<R: Read + Drop, F: FnMut(File<'_>) -> Option<R>, S: Sink, E: Si
     }
 }
 
-/// Writes the line of the reason of a failure, if it is a table's fault and its reason is found.
+/// Writes what explains a failure, if it is a table's fault and its reason is found.
 pub(crate) fn explain<R: Read + Drop, F: FnMut(File<'_>) -> Option<R>, E: Sink>(
     alloc: Global,
     schema: &Schema,
@@ -293,37 +296,176 @@ pub(crate) fn explain<R: Read + Drop, F: FnMut(File<'_>) -> Option<R>, E: Sink>(
     let Failure::Load(name, fault) = *failure else {
         return;
     };
-    let Some(reason) = found_reason(alloc, schema, directory, name, fault, opener) else {
+    let Some(explanation) = fault_explained(alloc, schema, directory, name, fault, opener) else {
         return;
     };
-    let _ = put_record_reason(&reason, err);
+    let _ = put_all(err, explanation.as_slice());
 }
 
-/// The reason of the fault of the table of this name, whose file is opened again; None if it can't be found.
-fn found_reason<'s, R: Read + Drop, F: FnMut(File<'_>) -> Option<R>>(
+/// What explains the fault of the table of this name; None if nothing is found, or memory runs out. Its file is opened again for the reason,
+/// and once more for the text.
+fn fault_explained<R: Read + Drop, F: FnMut(File<'_>) -> Option<R>>(
     alloc: Global,
-    schema: &'s Schema,
+    schema: &Schema,
     directory: &str,
     name: &str,
     fault: LoadFault,
     mut opener: F,
-) -> Option<Reason<'s>>
+) -> Option<Vec<u8>>
     requires { F.IsAlwaysCallable opener }
-    ensures { IfSome result (FindsReason (OpensFile F.FnMut) R.remaining opener directory.now schema.entry.now
-        name.now fault) }
+    ensures { IfSome result (λ e. ExplainsTable (OpensFile F.FnMut) R.remaining opener directory.now schema.now
+        name.now fault e.items) }
 {
     let place = table_named(schema, name)?;
+    let table = schema.table(place);
     let Ok(path) = table_path(alloc, directory, name) else {
         return None;
     };
     let Some(reader) = opener(File::Table(path.as_str())) else {
         return None;
     };
-    let mut records = Records::new(alloc, reader);
-    let Ok(reason) = reason_of(alloc, schema.table(place), &mut records, fault) else {
+    let Some(said) = reason_said(alloc, table, reader, fault) else {
         return None;
     };
-    reason
+    let Some(mut again) = opener(File::Table(path.as_str())) else {
+        return None;
+    };
+    let Ok(text) = table_front(alloc, &mut again, last_record(fault)) else {
+        return None;
+    };
+    explanation_of(alloc, table, text.as_slice(), fault, &said)
+}
+
+/// What the reason of a table's fault says: its line, the column that it names, and the record with the same key.
+#[derive(Drop)]
+struct Said<'s> {
+    line: Vec<u8>,
+    column: Option<&'s str>,
+    record: Option<usize>,
+}
+
+/// What the reason of a table's fault says in the records that a reader gives; nothing, if there is none. None is for records that can't be read
+/// now, and for memory that ran out.
+fn reason_said<'s, R: Read + Drop>(
+    alloc: Global,
+    table: &'s TableDef,
+    reader: R,
+    fault: LoadFault,
+) -> Option<Said<'s>>
+    ensures { IfSome result (λ said. SaysReason (R.remaining reader) table.entry.now fault said.line.items) }
+{
+    if let LoadFault::ReadFailed = fault {
+        return Some(nothing_said(alloc));
+    }
+    let mut records = Records::new(alloc, reader);
+    let Ok(found) = reason_of(alloc, table, &mut records, fault) else {
+        return None;
+    };
+    let Some(reason) = found else {
+        return Some(nothing_said(alloc));
+    };
+    let Ok(said) = line_said(alloc, &reason) else {
+        return None;
+    };
+    Some(said)
+}
+
+/// What is said without a reason.
+fn nothing_said<'s>(alloc: Global) -> Said<'s>
+    ensures { result.line.items ≡ [] }
+{
+    Said {
+        line: Vec::new(alloc),
+        column: None,
+        record: None,
+    }
+}
+
+/// What a reason says.
+fn line_said<'s>(alloc: Global, reason: &Reason<'s>) -> Result<Said<'s>, AllocError>
+    ensures { IfOk result (λ said. said.line.items ≡ reason_line reason.now) }
+{
+    let line = reason_text(alloc, reason)?;
+    Ok(Said {
+        line,
+        column: column_of(reason),
+        record: record_of(reason),
+    })
+}
+
+/// The line of a reason.
+fn reason_text(alloc: Global, reason: &Reason<'_>) -> Result<Vec<u8>, AllocError>
+    ensures { IfOk result (λ line. line.items ≡ reason_line reason.now) }
+{
+    let mut line = MemorySink::new(alloc);
+    let Ok(()) = put_record_reason(reason, &mut line) else {
+        return Err(AllocError);
+    };
+    Vec::from_slice(alloc, line.bytes())
+}
+
+/// The column that a reason names.
+fn column_of<'s>(reason: &Reason<'s>) -> Option<&'s str> {
+    match reason {
+        Reason::Missing { column }
+        | Reason::Repeated { column }
+        | Reason::Null { column }
+        | Reason::NotUtf8 { column } => Some(*column),
+        Reason::NoInteger { column, .. }
+        | Reason::Refused { column, .. }
+        | Reason::Invalid { column, .. }
+        | Reason::OtherType { column, .. } => Some(*column),
+        Reason::Lengths { .. } | Reason::SameKey { .. } => None,
+    }
+}
+
+/// The earlier record that a reason names.
+fn record_of(reason: &Reason<'_>) -> Option<usize> {
+    match reason {
+        Reason::SameKey { record, .. } => Some(*record),
+        _ => None,
+    }
+}
+
+/// The explanation of a table's fault in a front of its text, with what its reason says; None if there is nothing to say, or memory runs out.
+fn explanation_of(
+    alloc: Global,
+    table: &TableDef,
+    text: &[u8],
+    fault: LoadFault,
+    said: &Said<'_>,
+) -> Option<Vec<u8>>
+    ensures { IfSome result (λ e. IsTableExplanation text.now fault said.now.line.items e.items) }
+{
+    if said.line.is_empty() && !is_clear(fault, text) {
+        return None;
+    }
+    let found = Found {
+        line: said.line.as_slice(),
+        column: bytes_of(said.column),
+        record: said.record,
+    };
+    let Ok(explanation) = table_explained(alloc, text, table, fault, &found) else {
+        return None;
+    };
+    Some(explanation)
+}
+
+/// The bytes of a name, if there is one.
+fn bytes_of(name: Option<&str>) -> Option<&[u8]> {
+    match name {
+        Some(name) => Some(name.as_bytes()),
+        None => None,
+    }
+}
+
+/// Whether a fault is clear without a reason: it is of no record, or of a file that is empty.
+fn is_clear(fault: LoadFault, text: &[u8]) -> bool {
+    match fault {
+        LoadFault::ReadFailed | LoadFault::TooManyRows => true,
+        LoadFault::MissingColumn => text.trim_ascii().is_empty(),
+        _ => false,
+    }
 }
 
 /// The place of the table of this name, in any ASCII case.
@@ -357,7 +499,8 @@ fn put_notes<R: Read + Drop, F: FnMut(File<'_>) -> Option<R>, E: Sink>(
     }
 }
 
-/// Writes the line of the first field with a line end in the file of the table of this name, if there is one.
+/// Writes the line of the first field with a line end in the file of the table of this name, if there is one, and where its quote opens, if
+/// it isn't closed.
 fn put_note<R: Read + Drop, F: FnMut(File<'_>) -> Option<R>, E: Sink>(
     alloc: Global,
     directory: &str,
@@ -377,6 +520,46 @@ fn put_note<R: Read + Drop, F: FnMut(File<'_>) -> Option<R>, E: Sink>(
         return;
     };
     let _ = put_line_end(name, at, err);
+    put_open_quote(alloc, directory, name, at, opener, err);
+}
+
+/// Shows where the quote of a field with a line end opens, in the file of the table of this name, which is opened once more. Nothing is
+/// written if the quote is closed.
+fn put_open_quote<R: Read + Drop, F: FnMut(File<'_>) -> Option<R>, E: Sink>(
+    alloc: Global,
+    directory: &str,
+    name: &str,
+    at: LineEnd,
+    opener: &mut F,
+    err: &mut E,
+)
+    requires { F.IsAlwaysCallable opener.old }
+    ensures callable { F.IsAlwaysCallable opener.new }
+    ensures says { SaysQuote (OpensFile F.FnMut) R.remaining E.taken E.failures directory.now name.now at.number
+        opener.old opener.new err.old err.new }
+{
+    let Ok(path) = table_path(alloc, directory, name) else {
+        return;
+    };
+    let Some(mut reader) = opener(File::Table(path.as_str())) else {
+        return;
+    };
+    let Ok(text) = table_front(alloc, &mut reader, usize::MAX) else {
+        return;
+    };
+    if !is_at_end(&mut reader) {
+        return;
+    }
+    let Ok(note) = open_quote_explained(alloc, text.as_slice(), at.number, at.field) else {
+        return;
+    };
+    let _ = put_all(err, note.as_slice());
+}
+
+/// Whether a reader has nothing more to give.
+fn is_at_end<R: Read>(reader: &mut R) -> bool {
+    let mut byte = [0; 1];
+    matches!(reader.read(&mut byte), Ok(0))
 }
 
 /// The first field with a line end in the file of the table of this name, which is opened again. At Err it can't be opened or read, or

@@ -1,19 +1,20 @@
 //! What is written after the line of a fault, where more is asked for: files are opened once more for it.
 
-ghost use Rattle.std.specs.Prelude.{◌≡◌, ◌⊎◌, false, IfOk, IfSome};
+ghost use Rattle.std.specs.Prelude.{◌≡◌, ◌⊎◌, false, IfSome};
 ghost use Rattle.command_line.specs.Orders.{asks_why};
-ghost use Rattle.engine.specs.Explanations.{ExplainsOrder, ExplainsQuery, ExplainsRun, ExplainsSchema, ExplainsTables, HasQueryFault, SaysEncoding, SaysOf, not_utf8};
-ghost use Rattle.explanations.specs.Faults.{query_place};
-ghost use Rattle.explanations.specs.Marks.{IsExplanation};
+ghost use Rattle.engine.specs.Explanations.{ExplainsOrder, ExplainsQuery, ExplainsRun, ExplainsSchema, ExplainsTables, ExplainsUnread, HasQueryFault, MayNote, MayOpenQuery, NotesOrder, SaysEncoding, SaysOf, not_utf8};
 ghost use Rattle.std.specs.String.{string_bytes};
 ghost use Rattle.text_commands.specs.Explanations.{MayExplainBoth};
 ghost use Rattle.text_commands.specs.Files.{OpensFile};
 ghost use Rattle.text_commands.specs.PairNotes.{NotesFile};
 
-use crate::commands::{SCHEMA_BYTES, check_over, explain, open_tables, schema_in, schema_text};
+use crate::commands::{
+    RowIndex, SCHEMA_BYTES, check_over, explain, open_tables, schema_in, schema_text,
+};
 use command_line::Order;
-use explanations::{Names, file_explained, query_explained, schema_explained};
-use feature_table::Schema;
+use explanations::{file_explained, query_explained_over, query_notes, schema_explained};
+use feature_table::{Database, Schema};
+use rtree::EnvelopeIndex;
 use spatial_sql::bind_to_tables;
 use sql_text::{read_query, read_schema};
 use std::alloc::{AllocError, Global};
@@ -27,7 +28,7 @@ const NOT_UTF8: &str = " isn't UTF-8: save it as UTF-8";
 
 /// Writes what explains the fault of an order that has ended with a status, after the line of that fault: the line of the text that has it
 /// and what to do. Nothing is written if the order doesn't ask why, if there is no such fault now, if a file can't be opened again, or if
-/// memory runs out. A table's fault under `check` is explained by `serve`.
+/// memory runs out. A table's fault under `check` is explained by `serve`. Of an order that is done, see `note_order`.
 #[inline(never)]
 pub fn explain_order<R: Read + Drop, F: FnMut(File<'_>) -> Option<R>, E: Sink>(
     alloc: Global,
@@ -218,7 +219,7 @@ fn explain_query<R: Read + Drop, F: FnMut(File<'_>) -> Option<R>, E: Sink>(
     let Some(fault) = query_fault(alloc, &schema, text.as_str()) else {
         return;
     };
-    let Ok(explanation) = explained_by_names(alloc, &schema, text.as_str(), fault) else {
+    let Ok(explanation) = query_explained_over(alloc, text.as_bytes(), fault, &schema) else {
         return;
     };
     let _ = put_all(err, explanation.as_slice());
@@ -238,29 +239,144 @@ fn query_fault(alloc: Global, schema: &Schema, text: &str) -> Option<QueryFault>
     }
 }
 
-/// The explanation of a fault of a query, with the names of the tables of a schema and of their columns.
-fn explained_by_names(
+// ---- notes
+
+/// Writes notes on the query of an order that is done: what it means, where most readers think otherwise. Nothing is written if the order
+/// doesn't ask why or isn't a run, if a file can't be opened again, or if memory runs out.
+#[inline(never)]
+pub fn note_order<R: Read + Drop, F: FnMut(File<'_>) -> Option<R>, E: Sink>(
+    alloc: Global,
+    order: &Order,
+    opener: F,
+    err: &mut E,
+)
+    requires { F.IsAlwaysCallable opener }
+    ensures notes { NotesOrder (OpensFile F.FnMut) R.remaining E.taken E.failures opener order.now err.old err.new }
+    ensures unasked { asks_why order.now ≡ false → err.new ≡ err.old }
+{
+    if order.asks_why() {
+        note_asked(alloc, order, opener, err);
+    }
+}
+
+/// The same of an order that asks why.
+fn note_asked<R: Read + Drop, F: FnMut(File<'_>) -> Option<R>, E: Sink>(
+    alloc: Global,
+    order: &Order,
+    opener: F,
+    err: &mut E,
+)
+    requires { F.IsAlwaysCallable opener }
+    ensures notes { NotesOrder (OpensFile F.FnMut) R.remaining E.taken E.failures opener order.now err.old err.new }
+{
+    match order {
+        Order::Run {
+            schema,
+            directory,
+            query,
+            ..
+        } => note_run_of(alloc, schema, directory, query, opener, err),
+        Order::Check { .. }
+        | Order::Relate { .. }
+        | Order::Why { .. }
+        | Order::Pairs { .. }
+        | Order::Fault { .. } => {}
+    }
+}
+
+/// Notes on the query of a run with these words.
+fn note_run_of<R: Read + Drop, F: FnMut(File<'_>) -> Option<R>, E: Sink>(
+    alloc: Global,
+    schema: &String,
+    directory: &String,
+    query: &String,
+    opener: F,
+    err: &mut E,
+)
+    requires { F.IsAlwaysCallable opener }
+    ensures { MayNote (OpensFile F.FnMut) R.remaining E.taken E.failures opener (string_bytes query.now) err.old err.new }
+{
+    let places = Places {
+        schema: schema.as_str(),
+        directory: directory.as_str(),
+        query: query.as_str(),
+    };
+    note_run(alloc, &places, opener, err)
+}
+
+/// Notes on the query of a run, which is bound to the tables of its schema again.
+fn note_run<R: Read + Drop, F: FnMut(File<'_>) -> Option<R>, E: Sink>(
+    alloc: Global,
+    places: &Places<'_>,
+    mut opener: F,
+    err: &mut E,
+)
+    requires { F.IsAlwaysCallable opener }
+    ensures { MayNote (OpensFile F.FnMut) R.remaining E.taken E.failures opener places.now.query.now err.old err.new }
+{
+    let Ok(text) = query_text(alloc, places.query, &mut opener) else {
+        return;
+    };
+    let Ok(schema) = schema_in(alloc, opener(File::Schema(places.schema))) else {
+        return;
+    };
+    let Ok(rows) = rows_for(alloc, &schema, text.as_str(), places.directory, opener) else {
+        return;
+    };
+    let Ok(notes) = query_notes(alloc, text.as_bytes(), &schema, rows.as_slice()) else {
+        return;
+    };
+    let _ = put_all(err, notes.as_slice());
+}
+
+/// How many rows each table has, in the schema's order, if a query is over two: only then do notes speak of rows. Else none are counted.
+fn rows_for<R: Read + Drop, F: FnMut(File<'_>) -> Option<R>>(
     alloc: Global,
     schema: &Schema,
     text: &str,
-    fault: QueryFault,
-) -> Result<Vec<u8>, AllocError>
-    ensures { IfOk result (λ e. IsExplanation text.now (query_place fault) e.items) }
+    directory: &str,
+    mut opener: F,
+) -> Result<Vec<usize>, AllocError>
+    requires { F.IsAlwaysCallable opener }
 {
-    let mut tables: Vec<&[u8]> = Vec::new(alloc);
-    let mut columns: Vec<&[u8]> = Vec::new(alloc);
-    for table in schema.tables() {
-        tables.push(table.name.bytes())?;
-        for column in table.columns.as_slice() {
-            columns.push(column.name.bytes())?;
-        }
+    if !has_two_tables(alloc, text) {
+        return Ok(Vec::new(alloc));
     }
-    let names = Names {
-        tables: tables.as_slice(),
-        columns: columns.as_slice(),
+    let Ok(readers) = open_tables(alloc, schema, directory, &mut opener) else {
+        return Ok(Vec::new(alloc));
     };
-    query_explained(alloc, text.as_bytes(), fault, &names)
+    let database: Database<'_, RowIndex> = match Database::load(alloc, schema, readers) {
+        Ok(database) => database,
+        Err(_) => return Ok(Vec::new(alloc)),
+    };
+    rows_of(alloc, &database)
 }
+
+/// How many rows each table has, in the schema's order.
+fn rows_of<I: EnvelopeIndex + Drop>(
+    alloc: Global,
+    database: &Database<'_, I>,
+) -> Result<Vec<usize>, AllocError> {
+    let mut rows = Vec::new(alloc);
+    let definitions = database.definitions();
+    for (place, _) in definitions.iter().enumerate() {
+        rows.push(database.table(place).rows())?;
+    }
+    Ok(rows)
+}
+
+/// Whether a query is over two tables.
+fn has_two_tables(alloc: Global, text: &str) -> bool {
+    match read_query(alloc, text) {
+        Ok(query) => {
+            let (_, second) = query.references.parts();
+            second.is_some()
+        }
+        Err(_) => false,
+    }
+}
+
+// ---- tables and files
 
 /// Explains the first fault of the tables of a schema, which are loaded again.
 fn explain_tables<R: Read + Drop, F: FnMut(File<'_>) -> Option<R>, E: Sink>(
@@ -284,7 +400,8 @@ fn explain_tables<R: Read + Drop, F: FnMut(File<'_>) -> Option<R>, E: Sink>(
 }
 
 /// Says why a run couldn't open or read a file: its files are opened once more, in the order in which it opened them, so that the opener
-/// says of the first which can't be opened why. Of a query's file that isn't UTF-8 that is said here.
+/// says of the first which can't be opened why. Of a query's file that isn't UTF-8 that is said here, and what a table's file has that can't
+/// be read is explained.
 fn explain_unread_run<R: Read + Drop, F: FnMut(File<'_>) -> Option<R>, E: Sink>(
     alloc: Global,
     places: &Places<'_>,
@@ -292,12 +409,14 @@ fn explain_unread_run<R: Read + Drop, F: FnMut(File<'_>) -> Option<R>, E: Sink>(
     err: &mut E,
 )
     requires { F.IsAlwaysCallable opener }
-    ensures { (err.new ≡ err.old) ⊎ SaysEncoding E.taken E.failures places.now.query.now err.old err.new }
+    ensures { (err.new ≡ err.old) ⊎ SaysEncoding E.taken E.failures places.now.query.now err.old err.new
+        ⊎ ExplainsUnread (OpensFile F.FnMut) R.remaining E.taken E.failures opener places.now.schema.now
+        places.now.directory.now places.now.query.now err.old err.new }
 {
     if explain_encoding(alloc, places.query, &mut opener, err) {
         return;
     }
-    open_again(alloc, places.schema, places.directory, opener);
+    explain_tables(alloc, places.schema, places.directory, opener, err);
 }
 
 /// Says of the file that a query's word names that it isn't UTF-8, and returns whether the word names one that can't be read as a query.
@@ -309,6 +428,8 @@ fn explain_encoding<R: Read + Drop, F: FnMut(File<'_>) -> Option<R>, E: Sink>(
 ) -> bool
     requires { F.IsAlwaysCallable opener.old }
     ensures callable { F.IsAlwaysCallable opener.new }
+    ensures opened { MayOpenQuery (OpensFile F.FnMut) opener.old word.now opener.new }
+    ensures quiet { result ≡ false → err.new ≡ err.old }
     ensures said { (err.new ≡ err.old) ⊎ SaysEncoding E.taken E.failures word.now err.old err.new }
 {
     let Some(path) = word.strip_prefix("@") else {

@@ -1,7 +1,7 @@
 //! What the files that a command opens are, in their order.
 
 use command_line::Order;
-use engine::{File, Unobserved, explain_order, serve_observed};
+use engine::{File, Unobserved, explain_order, note_order, serve_observed};
 use std::alloc::{AllocError, Global};
 use std::cell::Cell;
 use std::test::Fail;
@@ -131,5 +131,36 @@ fn nothing_is_opened_unless_an_order_asks_why(rt: HostRuntime) -> Result<(), Fai
     assert!(rt; explained(alloc, &order, 6, "")? == (0, true));
     let order = order.with_why();
     assert!(rt; explained(alloc, &order, 7, "")? == (0, true));
+    Ok(())
+}
+
+/// The files that notes on an order open.
+fn noted(alloc: Global, order: &Order) -> u64 {
+    let digits = Cell::new(0_u64);
+    let mut err = MemorySink::new(alloc);
+    let opener = |file: File<'_>| {
+        let (digit, text) = digit_and_text(file);
+        digits.set(digits.get().wrapping_mul(10).wrapping_add(digit));
+        Some(text)
+    };
+    note_order(alloc, order, opener, &mut err);
+    digits.get()
+}
+
+/// Tables are opened again only for a query over two, whose rows are counted; and nothing is, unless an order asks why.
+#[test]
+fn notes_open_the_query_and_the_schema(rt: HostRuntime) -> Result<(), Fail> {
+    let alloc = rt.alloc();
+    let order = run_of_a_file(alloc, false)?;
+    assert!(rt; noted(alloc, &order) == 0);
+    let order = order.with_why();
+    assert!(rt; noted(alloc, &order) == 31);
+    let order = Order::Run {
+        schema: text(alloc, "s")?,
+        directory: text(alloc, "d")?,
+        query: text(alloc, "SELECT a.id FROM t a, t b")?,
+        why: true,
+    };
+    assert!(rt; noted(alloc, &order) == 12);
     Ok(())
 }

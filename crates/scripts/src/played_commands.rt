@@ -2,7 +2,7 @@
 
 use crate::files::Files;
 use command_line::{Order, order};
-use engine::{File, explain_order, serve};
+use engine::{File, explain_order, note_order, serve};
 use std::alloc::{AllocError, Global};
 use streams::MemorySink;
 
@@ -43,8 +43,10 @@ fn output_of_order(alloc: Global, files: &Files, order: &Order) -> Result<Vec<u8
     let mut err = MemorySink::new(alloc);
     let opener = |path: &str| files.text_at(path);
     let status = serve(alloc, order, opener, &mut out, &mut err);
-    if status != 0 && order.asks_why() {
-        let again = |file: File<'_>| files.text_at(file.path());
+    let again = |file: File<'_>| files.text_at(file.path());
+    if status == 0 {
+        note_order(alloc, order, again, &mut err);
+    } else {
         explain_order(alloc, order, status, again, &mut err);
     }
     let mut text = Vec::from_slice(alloc, out.bytes())?;

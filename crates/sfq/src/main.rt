@@ -8,10 +8,12 @@ mod openings;
 mod progress;
 
 use crate::coloured::{Coloured, is_wanted};
-use crate::openings::{OpenedTables, opened, opened_again};
+use crate::openings::{OpenedTables, opened, opened_again, opened_quietly};
 use crate::progress::{Cleared, Progress};
 use command_line::{Misuse, Order, order, read_words, texts_of};
-use engine::{Failure, File, explain_order, failed, failed_words, flushed, serve_observed};
+use engine::{
+    Failure, File, explain_order, failed, failed_words, flushed, note_order, serve_observed,
+};
 use std::alloc::Global;
 use std::cell::Cell;
 use std::env;
@@ -42,6 +44,9 @@ fn main(rt: HostRuntime) -> ExitCode {
     let status = flushed(&mut out, status, &mut err);
     if is_explained(status) && !is_said && !progress.is_broken() {
         explain(&rt, &progress, &order, status);
+    }
+    if status == 0 && !progress.is_broken() {
+        note(&rt, &progress, &order);
     }
     ExitCode::from(status)
 }
@@ -86,6 +91,13 @@ fn explain<'p>(rt: &HostRuntime, progress: &'p Progress<'p>, order: &Order, stat
     let mut again = explaining(rt, progress);
     let opener = |file: File<'_>| opened_again(rt, progress, file, &mut again);
     explain_order(rt.alloc(), order, status, opener, &mut err);
+}
+
+/// Writes notes on the query of an order that is done, if it asks for that. Files are opened once more; of one that can't be, nothing is said.
+fn note<'p>(rt: &HostRuntime, progress: &'p Progress<'p>, order: &Order) {
+    let mut err = explaining(rt, progress);
+    let opener = |file: File<'_>| opened_quietly(rt, progress, file);
+    note_order(rt.alloc(), order, opener, &mut err);
 }
 
 /// Standard error, for what explains a fault.

@@ -3,8 +3,8 @@
 use crate::inputs::{CommandReader, Input, is_standard};
 use crate::progress::{Progress, Reported};
 use engine::File;
-use explanations::file_explained;
-use std::alloc::Global;
+use explanations::{file_explained, said_line};
+use std::alloc::{AllocError, Global};
 use std::fs;
 use std::io::{Error, ErrorKind};
 use streams::{BoundedReader, Sink, put_all};
@@ -31,12 +31,30 @@ pub fn opened_again<'p, E: Sink>(
     match lasting_input(rt, file) {
         Ok(input) => Some(reader(progress, file, input)),
         Err(words) => {
-            if let Ok(line) = file_explained(rt.alloc(), file.path().as_bytes(), words) {
+            if let Ok(line) = unopened(rt.alloc(), file.path(), words) {
                 let _ = put_all(err, line.as_slice());
             }
             None
         }
     }
+}
+
+/// The same, but nothing is written.
+pub fn opened_quietly<'p>(
+    rt: &HostRuntime,
+    progress: &'p Progress<'p>,
+    file: File<'_>,
+) -> Option<CommandReader<Reported<'p>>> {
+    let input = lasting_input(rt, file).ok()?;
+    Some(reader(progress, file, input))
+}
+
+/// The line that says of a file why it isn't opened: its path, and these words behind it. A path that is empty can't be shown.
+fn unopened(alloc: Global, path: &str, words: &str) -> Result<Vec<u8>, AllocError> {
+    if path.is_empty() {
+        return said_line(alloc, b"the path is empty: name a file");
+    }
+    file_explained(alloc, path.as_bytes(), words)
 }
 
 /// The reader of a file that was opened.

@@ -1,5 +1,5 @@
 -- Each exit over the tables' files.
-use Rattle.std.proofs.Common.{◌≡◌, ◌∙◌, ℕ, Err, Ok, refl}
+use Rattle.std.proofs.Common.{◌∙◌, ℕ, Err, Ok, refl}
 use Rattle.engine.proofs.FileLemmas.{counts-as, runs-as}
 use Rattle.text_commands.proofs.WordLemmas.{handed-on}
 use Rattle.engine.specs.Commands.{RunsTables}

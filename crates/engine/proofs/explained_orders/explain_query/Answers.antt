@@ -11,7 +11,7 @@ use Rattle.engine.proofs.explained_orders.explain_query.Goals as goal
 pub returns : goal.returns
 returns g c =
     let puts = c.put_all.ensures in
-    let e = c.in-Ok-explained_by_names.explanation.items in
+    let e = c.in-Ok-query_explained_over.explanation.items in
     let definitions = c.in-Ok-schema_in.schema in
     inr (record {
       text = string_bytes c.in-Ok.text;
@@ -25,7 +25,8 @@ returns g c =
       fault = c.in-Some.fault;
       has = subst (λ text. HasQueryFault definitions text c.in-Some.fault) c.as_str.ensures.value c.in-Some.ensures;
       explanation = e;
-      explains = subst (λ text. IsExplanation text (query_place c.in-Some.fault) e) c.as_str-2.ensures.value c.in-Ok-explained_by_names.ensures;
+      explains = subst (λ text. IsExplanation text (query_place c.in-Some.fault) e) c.as_bytes.ensures.value
+          c.in-Ok-query_explained_over.ensures;
       written = subst (λ text. Adds g.E.Sink.taken g.E.Sink.failures c.args.err.now c.put_all.new.sink text) c.as_slice.ensures.value
           (writes c.put_all.result _ _ _ _ _ puts.ok puts.front puts.failures);
     })
