@@ -202,6 +202,10 @@ TILES = [
       ("sfq_tiles", "Checks", "IsUnread Files IsCheckedAt IsOpenEnding"),
       ("sfq_tiles", "Splits", "header_by tables_by Begins End IsOfPart EndsBefore SplitsFiles"),
       ("sfq_tiles", "Endings", "memory_ending copy_ending")]),
+    ("What a query gives over the parts",
+     "A query is asked over what the texts of its parts of tiles load as, those of each number. Merged by keys, its answers are those over"
+     " the whole tables.",
+     [("sfq_tiles", "TileAnswers", "")]),
 ]
 SHOWN = ["IsPoint", "side", "on", "IsInterior", "IsBoundary", "IsExterior", "HasTriangle", "HasDimension", "common",
          "IsMatrix", "GivesMatrix", "crosses", "holds", "IsValid", "Spells", "IsQuery", "and_of", "related", "truth_by_parts",
@@ -209,7 +213,7 @@ SHOWN = ["IsPoint", "side", "on", "IsInterior", "IsBoundary", "IsExterior", "Has
          "HoldsStretch", "IsFacePoint", "IsOff", "IsShownBy", "ShowsAll", "IsMeeting", "IsClashOf", "IsMeetingOf",
          "IsPlaceOf", "IsVerdictOn", "HasMatrix", "HasRelation", "covers", "covered_by", "contains_properly",
          "text_fault_in_numbers", "validity_fault_in_numbers", "fault_in_numbers", "IsMade", "IsTaken", "fits", "LiesAt", "bounds_of", "IsSpelled",
-          "CutsGrid", "IsMedian", "IsCutAtMedians", "TiledAnswersAreMeant", "AreMade", "IsWritten", "SplitsParts", "Returns", "ok", "first_refused", "second_refused", "out_of_memory", "unknown", "too_small", "none_there"]
+          "CutsGrid", "IsMedian", "IsCutAtMedians", "TiledAnswersAreMeant", "AnswersAreMeant", "AreMade", "IsWritten", "SplitsParts", "Returns", "ok", "first_refused", "second_refused", "out_of_memory", "unknown", "too_small", "none_there"]
 # Names that the crates of definitions have twice, on one page, each with its file beside it.
 TWICE = ["takes", "ReturnsFirst"]
 HEAD = """# Definitions
