@@ -1,29 +1,24 @@
 -- What splitting, once it is done, has written.
-use Rattle.std.proofs.Common.{◌≡◌, ◌∙◌, ◌⊎◌, ◌<◌, inl, inr, refl, ℕ, zero, suc, List, [], ◌∷◌, length, map, subst, sym}
+use Rattle.std.proofs.Common.{◌≡◌, ◌<◌, ⊎_elim, ℕ, zero, suc, List, [], ◌∷◌, length, map, subst}
 use Rattle.std.proofs.Common.{Option, Some, Result, Ok, Err}
 use Rattle.std.specs.Prelude.{Bool, MatchResult, slice_get}
-use Rattle.std.specs.List.{AllZip}
 use Rattle.std.proofs.lemmas.Option.{same_Some}
 use Rattle.basics.proofs.Options.{nothing_there}
 use Rattle.failures.specs.declared.failure.Failure.{Failure}
-use Rattle.failures.specs.declared.failure.Failure.TheVariants as f
-use Rattle.feature_table.specs.GeometryFields.{ShapeValue}
 use Rattle.geometry_model.specs.Envelopes.{Envelope}
 use Rattle.sfq_tiles.specs.Checks.{AreChecked, Files, ReadsSchema}
 use Rattle.sfq_tiles.specs.MadeTables.{AreMade, IsMadeAt}
 use Rattle.sfq_tiles.specs.SchemaTexts.{text_of}
 use Rattle.sfq_tiles.specs.Splits.{AreAllWritten, ArePut, EndsBefore, HasSchema, IsWritten, SplitsFiles, SplitsParts}
-use Rattle.sfq_tiles.specs.Splits.{SplitsTables, SplitsWords, WritesParts}
+use Rattle.sfq_tiles.specs.Splits.{SplitsTables, SplitsWords}
 use Rattle.sfq_tiles.specs.TileAnswers.{AreSplit, IsPartThere}
 use Rattle.sfq_tiles.specs.Words.{AreNamed, IsNamed}
-use Rattle.sfq_tiles.specs.declared.endings.Ending.{Ending}
 use Rattle.sfq_tiles.specs.declared.endings.Ending.TheVariants as e
 use Rattle.sfq_tiles.specs.declared.listing.Written.{Written}
 use Rattle.sfq_tiles.specs.declared.parts.NamedPart.{NamedPart}
 use Rattle.sfq_tiles.specs.declared.words.Words.{Words}
 use Rattle.table_laws.specs.Cells.{CutsGrid}
 use Rattle.table_model.specs.SpatialTables.{SpatialSchema}
-use Rattle.table_model.specs.declared.definitions.TableDef.{TableDef}
 use Rattle.tiles.specs.Texts.{Texts}
 
 -- ---- parts
@@ -61,16 +56,12 @@ module _ {O T : Type 0} (begins_tiles begins_stretches : O → List ℕ → T �
 
 -- ---- ends
 
--- what follows from each of three follows from one of them
-one_of_three : {A B C X : Type 0} → (A → X) → (B → X) → (C → X) → A ⊎ (B ⊎ C) → X
-one_of_three a b c (inl h) = a h
-one_of_three a b c (inr (inl h)) = b h
-one_of_three a b c (inr (inr h)) = c h
-
--- the same of two
-one_of_two : {A B X : Type 0} → (A → X) → (B → X) → A ⊎ B → X
-one_of_two a b (inl h) = a h
-one_of_two a b (inr h) = b h
+-- what follows where a schema is read, and where none is, follows
+of_schema : {X : Type 0} (R : Result SpatialSchema Failure → Type 0) (P : SpatialSchema → Type 0) (Q : Failure → Type 0)
+    → ((definitions : SpatialSchema) → R (Ok definitions) → P definitions → X) → ((failure : Failure) → Q failure → X)
+    → (schema : Result SpatialSchema Failure) → R schema → MatchResult schema P Q → X
+of_schema R P Q a b (Ok definitions) r h = a definitions r h
+of_schema R P Q a b (Err failure) r h = b failure h
 
 module _ {O T S : Type 0} (there : O → Option Bool) (begins_tiles begins_stretches : O → List ℕ → T → Type 0)
     (takes : O → T → O → Type 0) (texts : T → Texts) (makes : O → List ℕ → O → Type 0) (taken : S → Option (List ℕ))
@@ -129,26 +120,24 @@ module _ {O T S : Type 0} (there : O → Option Bool) (begins_tiles begins_stret
         → SplitsParts there begins_tiles begins_stretches takes texts makes taken failures old new out_old out_new files directory
         rows definitions parts (Ok tt) → Split
     split_parts parts named =
-        one_of_three (λ early. cc early.1.0) (λ found. cc found.0.0)
-        (λ is. one_of_three (λ put. put_parts _ is.3 is.4 is.1 parts named is.2 put.1) (λ failed. cc failed.0) (λ late. cc late.1)
-        is.5)
+        ⊎_elim (λ early. cc early.1.0)
+        (⊎_elim (λ found. cc found.0.0)
+        (λ is. ⊎_elim (λ put. put_parts _ is.3 is.4 is.1 parts named is.2 put.1)
+        (⊎_elim (λ failed. cc failed.0) (λ late. cc late.1)) is.5))
 
     split_tables : SplitsTables there begins_tiles begins_stretches takes texts makes taken failures old new out_old out_new files
         directory words rows definitions (Ok tt) → Split
-    split_tables = one_of_two (λ mistake. cc mistake.1.0) (λ parts. split_parts parts.0 parts.1 parts.2)
+    split_tables = ⊎_elim (λ mistake. cc mistake.1.0) (λ parts. split_parts parts.0 parts.1 parts.2)
 
   split_files : (rows : ℕ) → SplitsFiles there begins_tiles begins_stretches takes texts makes taken failures old new out_old
       out_new files path directory words rows (Ok tt) → Split
-  split_files rows is = go is.schema is.read is.rest
-    where
-      go : (schema : Result SpatialSchema Failure) → ReadsSchema (files path) schema
-          → MatchResult schema
-          (λ definitions. SplitsTables there begins_tiles begins_stretches takes texts makes taken failures old new out_old
-          out_new files directory words rows definitions (Ok tt))
-          (λ failure. EndsBefore there begins_tiles begins_stretches takes texts makes taken failures old new out_old out_new
-          (Ok tt) (e.Failed failure)) → Split
-      go (Ok definitions) read rest = split_tables rows definitions read rest
-      go (Err failure) read rest = cc rest.0
+  split_files rows is =
+      of_schema (ReadsSchema (files path))
+      (λ definitions. SplitsTables there begins_tiles begins_stretches takes texts makes taken failures old new out_old out_new
+      files directory words rows definitions (Ok tt))
+      (λ failure. EndsBefore there begins_tiles begins_stretches takes texts makes taken failures old new out_old out_new (Ok tt)
+      (e.Failed failure))
+      (λ definitions read. split_tables rows definitions read) (λ failure before. cc before.0) is.schema is.read is.rest
 
 -- splitting by the words of the command line has written these
 pub split_words : {O T S : Type 0} (there : O → Option Bool) (begins_tiles begins_stretches : O → List ℕ → T → Type 0)
@@ -157,8 +146,7 @@ pub split_words : {O T S : Type 0} (there : O → Option Bool) (begins_tiles beg
     → SplitsWords there begins_tiles begins_stretches takes texts makes taken failures old new out_old out_new files words (Ok tt)
     → AreSplit begins_tiles begins_stretches takes texts makes old new files words.schema.now words.directory.now
     (map (λ word. word.now) words.parts.items)
-split_words there begins_tiles begins_stretches takes texts makes taken failures old new out_old out_new files words (inl wrong) =
-    cc wrong.1.0
-split_words there begins_tiles begins_stretches takes texts makes taken failures old new out_old out_new files words (inr is) =
-    split_files there begins_tiles begins_stretches takes texts makes taken failures old new out_old out_new files
-    words.schema.now words.directory.now (map (λ word. word.now) words.parts.items) is.0 is.2
+split_words there begins_tiles begins_stretches takes texts makes taken failures old new out_old out_new files words =
+    ⊎_elim (λ wrong. cc wrong.1.0)
+    (λ is. split_files there begins_tiles begins_stretches takes texts makes taken failures old new out_old out_new files
+    words.schema.now words.directory.now (map (λ word. word.now) words.parts.items) is.0 is.2)

@@ -1,6 +1,6 @@
 -- What a query gives over the tiles that were written is what it means over the whole.
-use Rattle.std.proofs.Common.{◌≡◌, ◌∙◌, ◌+◌, ap, ap₂, refl, subst, sym, ℕ, zero, suc, true, false, List, [], ◌∷◌, ◌++◌}
-use Rattle.std.proofs.Common.{Option, None, Some, Ok, length, map}
+use Rattle.std.proofs.Common.{◌≡◌, ◌∙◌, ◌+◌, ap, ap₂, refl, subst, sym, ℕ, zero, suc, true, false, List, [], ◌∷◌}
+use Rattle.std.proofs.Common.{Option, None, Some, length, map}
 use Rattle.std.specs.Prelude.{Bool, codes, slice_get, string_bytes, sum_by}
 use Rattle.std.specs.Io.KnownBytes.{Appends}
 use Rattle.std.specs.List.{AllZip, flat_map, list_all, range_with_len}
@@ -19,7 +19,7 @@ use Rattle.sfq_tiles.proofs.StatusLemmas.{is_done}
 use Rattle.sfq_tiles.proofs.SplitParts.{split_words}
 use Rattle.sfq_tiles.proofs.WholeTables.{whole_is_there}
 use Rattle.sfq_tiles.specs.Checks.{Files, table_path}
-use Rattle.sfq_tiles.specs.MadeTables.{IsMade, mark_column}
+use Rattle.sfq_tiles.specs.MadeTables.{mark_column}
 use Rattle.sfq_tiles.specs.SchemaTexts.{text_of}
 use Rattle.sfq_tiles.specs.Splits.{Begins, IsWritten, Returns, SplitsWords, header_by, tables_by}
 use Rattle.sfq_tiles.specs.TileAnswers.{AnswersAreMeant, ArePartRows, BeginEmpty, GivesAnswers, IsPartThere, IsWholeOf}
@@ -34,8 +34,7 @@ use Rattle.table_model.specs.Arguments.{denoted}
 use Rattle.table_model.specs.Databases.{Database}
 use Rattle.table_model.specs.Definitions.{column_names, lawful, lawful_table, names_differ}
 use Rattle.table_model.specs.GeometryColumns.{shape_named}
-use Rattle.table_model.specs.Loading.{Record}
-use Rattle.table_model.specs.Meanings.{Row, Table, meaning, up_to}
+use Rattle.table_model.specs.Meanings.{Row, meaning, up_to}
 use Rattle.table_model.specs.SchemaGrammar.{IsSchema}
 use Rattle.table_model.specs.SpatialTables.{SpatialSchema}
 use Rattle.table_model.specs.Statements.{by_conjuncts}
@@ -46,7 +45,7 @@ use Rattle.table_model.specs.declared.definitions.ColumnDef.{ColumnDef}
 use Rattle.table_model.specs.declared.definitions.TableDef.{TableDef}
 use Rattle.tiles.proofs.SchemaNames.{schema_names_begin_words}
 use Rattle.tiles.proofs.TiledAnswers.{tiled_answers_are_meant, tiled_counts_are_meant}
-use Rattle.tiles.specs.Copies.{AreRecordsOfTable, AreWritten, table_at}
+use Rattle.tiles.specs.Copies.{AreWritten, table_at}
 use Rattle.tiles.specs.KeyMerges.{by_keys}
 use Rattle.tiles.specs.LoadedTexts.{BeginsWord}
 use Rattle.tiles.specs.Texts.{Texts}

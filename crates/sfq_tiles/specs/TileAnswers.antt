@@ -1,5 +1,5 @@
 -- What a query gives over the tiles that splitting wrote of its tables.
-use Rattle.std.specs.Prelude.{◌≡◌, ◌+◌, ◌<◌, ℕ, true, false, List, [], ◌∷◌, Ok, Option, Some, codes, flat_map, length, map, slice_get, sum_by}
+use Rattle.std.specs.Prelude.{◌≡◌, ◌+◌, ◌<◌, ℕ, true, false, List, [], ◌∷◌, Ok, Some, codes, flat_map, length, map, slice_get, sum_by}
 use Rattle.std.specs.List.{AllZip, range_with_len}
 use Rattle.feature_table.specs.GeometryFields.{ShapeValue, reading}
 use Rattle.feature_table.specs.Tables.{records_in, table_in}
