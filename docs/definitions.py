@@ -225,6 +225,10 @@ TILES = [
       ("sfq_tiles", "Checks", "IsUnread Files IsCheckedAt IsOpenEnding"),
       ("sfq_tiles", "Splits", "header_by tables_by Begins End IsOfPart EndsBefore SplitsFiles"),
       ("sfq_tiles", "Endings", "memory_ending copy_ending")]),
+    ("What a query gives over the parts",
+     "A query is asked over what the texts of its parts of tiles load as, those of each number. Merged by keys, its answers are those over"
+     " the whole tables.",
+     [("sfq_tiles", "TileAnswers", "")]),
     ("Columns, texts and lines",
      "What is copied of a table and of a query over it, what the text of a cell gets, and what is written of a failure.",
      [("table_laws", "ColumnLaws", "+fields_in narrowed place_among moved moved_condition condition_columns item_column IsNarrowed IsNarrow"),
@@ -239,7 +243,7 @@ SHOWN = ["IsPoint", "side", "on", "IsInterior", "IsBoundary", "IsExterior", "Has
          "IsPlaceOf", "IsVerdictOn", "IsFirstWitness", "IsFirstPlaceOf", "HasMatrix", "HasRelation", "covers", "covered_by", "contains_properly",
          "text_fault_in_numbers", "validity_fault_in_numbers", "fault_in_numbers", "IsMade", "IsTaken", "fits", "LiesAt", "bounds_of", "IsSpelled",
          "overlap", "meets", "placed_meets", "meeting_places", "are_of_none", "are_of_some", "bounded", "places_in",
-          "CutsGrid", "IsMedian", "IsCutAtMedians", "TiledAnswersAreMeant", "AreMade", "IsWritten", "SplitsParts", "Returns", "ok", "first_refused", "second_refused", "out_of_memory", "unknown", "too_small", "none_there"]
+          "CutsGrid", "IsMedian", "IsCutAtMedians", "TiledAnswersAreMeant", "AnswersAreMeant", "AreMade", "IsWritten", "SplitsParts", "Returns", "ok", "first_refused", "second_refused", "out_of_memory", "unknown", "too_small", "none_there"]
 # Names that the crates of definitions have twice, on one page, each with its file beside it.
 TWICE = ["takes", "ReturnsFirst"]
 HEAD = """# Definitions

@@ -1,6 +1,11 @@
 mod FileLemmas
 mod ListLemmas
+mod PartLaws
 mod PlaceLemmas
 mod SplitLemmas
+mod SplitParts
+mod StatusLemmas
 mod TextLemmas
+mod TileAnswers
+mod WholeTables
 mod WordLemmas

@@ -4,4 +4,5 @@ pub mod Lists
 pub mod MadeTables
 pub mod SchemaTexts
 pub mod Splits
+pub mod TileAnswers
 pub mod Words

@@ -5,6 +5,7 @@ ghost use Rattle.std.specs.Io.KnownBytes.{Appends};
 ghost use Rattle.geometry_model.specs.Envelopes.{Envelope};
 ghost use Rattle.sfq_tiles.specs.Endings as spec;
 ghost use Rattle.sfq_tiles.specs.Splits.{AreAllWritten, IsLate, IsOfPart, IsWritten, Returns, SplitsFiles, SplitsParts, SplitsTables, SplitsWords, WritesParts, has_tiles, list_of};
+ghost use Rattle.sfq_tiles.specs.TileAnswers.{GivesAnswers};
 ghost use Rattle.streams.specs.Sinks.{AppendsFront, CountsFailure};
 ghost use Rattle.table_laws.specs.Cells.{CutsGrid};
 
@@ -24,7 +25,7 @@ use tiles::{Cells, CopyFault, Part, PlainRecords, Sampler, write_stretches, writ
 /// Splits the tables that the words name into parts, and returns the status. The schema and the tables are read from `sources`, each
 /// table twice, and nothing is made before all tables of the schema are checked. Then the schema of the parts, and of each part its
 /// tiles by one cut or its stretches, are written to `targets`, and listed in `out`. Where it ends early, `err` has the line of the
-/// ending.
+/// ending. What a query gives over parts of tiles that are written is what it means over their whole tables.
 pub fn split<I: Sources, O: Targets, S: Sink, E: Sink>(
     alloc: Global,
     words: &Words<'_>,
@@ -34,6 +35,24 @@ pub fn split<I: Sources, O: Targets, S: Sink, E: Sink>(
     err: &mut E,
 ) -> u8
     ensures splits { Returns E.taken E.failures
+        (SplitsWords O.there O.begins_tiles O.begins_stretches O.takes O.Texts.texts O.makes S.taken S.failures
+        targets.old targets.new out.old out.new (I.bytes sources.now) words.now) result err.old err.new }
+    ensures answers { result ≡ 0 → GivesAnswers O.begins_tiles O.begins_stretches O.takes O.Texts.texts O.makes
+        targets.old targets.new (I.bytes sources.now) words.now }
+{
+    split_words(alloc, words, sources, targets, out, err)
+}
+
+/// Splits the tables by the words.
+fn split_words<I: Sources, O: Targets, S: Sink, E: Sink>(
+    alloc: Global,
+    words: &Words<'_>,
+    sources: &I,
+    targets: &mut O,
+    out: &mut S,
+    err: &mut E,
+) -> u8
+    ensures { Returns E.taken E.failures
         (SplitsWords O.there O.begins_tiles O.begins_stretches O.takes O.Texts.texts O.makes S.taken S.failures
         targets.old targets.new out.old out.new (I.bytes sources.now) words.now) result err.old err.new }
 {
