@@ -40,10 +40,7 @@ const OTHER_TYPES: [(&str, &str); 14] = [
         "MULTICURVE",
         " isn't taken: curves aren't; write lines for them",
     ),
-    (
-        "MULTISURFACE",
-        " isn't taken: curves aren't; write lines for them",
-    ),
+    ("MULTISURFACE", " isn't taken: write MULTIPOLYGON"),
     ("TRIANGLE", " isn't taken: write POLYGON"),
     ("TIN", " isn't taken: write MULTIPOLYGON"),
     ("POLYHEDRALSURFACE", " isn't taken: write MULTIPOLYGON"),

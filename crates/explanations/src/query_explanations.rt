@@ -91,7 +91,7 @@ pub(crate) fn query_sentence(
             let what = greatness(front(text, at));
             joined(alloc, &[found.as_slice(), what.as_bytes()])
         }
-        QueryFault::OutOfMemory => joined(alloc, &[b"memory ran out"]),
+        QueryFault::OutOfMemory => Err(AllocError),
     }
 }
 

@@ -174,10 +174,12 @@ fn listed<'t>(near: &Around<'t>) -> Option<(&'t [u8], &'static str)> {
     if same_kind(near.kind, TokenKind::Text) {
         return None;
     }
+    if is(near.here, "OUTER")
+        && let Some(sentence) = said_of(near.before, &BEFORE)
+    {
+        return Some((near.before, sentence));
+    }
     if let Some(sentence) = said_of(near.here, &HERE) {
-        if is(near.here, "OUTER") {
-            return Some((near.before, sentence));
-        }
         return Some((near.here, sentence));
     }
     if is(near.here, "NOT")

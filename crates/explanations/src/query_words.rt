@@ -122,7 +122,7 @@ pub(crate) const HERE: [(&str, &str); 33] = [
 ];
 
 /// Words before the place of a fault, which were taken as a name.
-pub(crate) const BEFORE: [(&str, &str); 18] = [
+pub(crate) const BEFORE: [(&str, &str); 19] = [
     (
         "ORDER",
         " BY isn't there: rows come in the order of the key; sort the output",
@@ -180,6 +180,10 @@ pub(crate) const BEFORE: [(&str, &str); 18] = [
         " JOIN isn't there: write JOIN with ON and the condition",
     ),
     ("WINDOW", " isn't there: compute over the output"),
+    (
+        "FOR",
+        " isn't there: sfq reads tables and locks none; leave it out",
+    ),
 ];
 
 /// Words that begin a statement.

@@ -189,7 +189,7 @@ fn schema_sentence(alloc: Global, text: &[u8], fault: SchemaFault) -> Result<Vec
             alloc,
             &[b"the schema has more than 65536 bytes: comments count too"],
         ),
-        SchemaFault::OutOfMemory => joined(alloc, &[b"memory ran out"]),
+        SchemaFault::OutOfMemory => Err(AllocError),
     }
 }
 
@@ -234,18 +234,13 @@ fn syntax_sentence(alloc: Global, text: &[u8], at: usize) -> Result<Vec<u8>, All
             &[b"the file has bytes that are 0: is it UTF-16? save it as UTF-8"],
         );
     }
+    if let Some(sentence) = constraint_sentence(here, before, rest(found, here.len())) {
+        return joined(alloc, &[sentence.as_bytes()]);
+    }
     if here.is_empty() {
         return symbol_sentence(alloc, text, at, before);
     }
     let name = shown(alloc, here)?;
-    if is(here, "KEY") && (is(before, "PRIMARY") || is(before, "FOREIGN")) {
-        let sentence = if is(before, "FOREIGN") {
-            "constraints of a table aren't there: leave FOREIGN KEY out"
-        } else {
-            "constraints of a table aren't there: write PRIMARY KEY after the column's type"
-        };
-        return joined(alloc, &[sentence.as_bytes()]);
-    }
     if is(before, "IF") {
         return joined(
             alloc,
@@ -259,6 +254,33 @@ fn syntax_sentence(alloc: Global, text: &[u8], at: usize) -> Result<Vec<u8>, All
         return joined(alloc, &[name.as_slice(), sentence.as_bytes()]);
     }
     word_sentence(alloc, here, before, trimmed_back(front(text, at)))
+}
+
+/// The sentence of a constraint of a table, by the word at the place, that before it and what comes after it.
+fn constraint_sentence(here: &[u8], before: &[u8], after: &[u8]) -> Option<&'static str> {
+    let kind = if is(here, "KEY") || (here.is_empty() && first(after) == b'(') {
+        before
+    } else if is(before, "CONSTRAINT") {
+        word(trimmed(after))
+    } else {
+        return None;
+    };
+    constraint_words(kind)
+}
+
+/// What is said of a constraint of a table, by the word that begins it.
+fn constraint_words(kind: &[u8]) -> Option<&'static str> {
+    if is(kind, "PRIMARY") {
+        Some("constraints of a table aren't there: write PRIMARY KEY after the column's type")
+    } else if is(kind, "FOREIGN") {
+        Some("constraints of a table aren't there: leave FOREIGN KEY out")
+    } else if is(kind, "UNIQUE") {
+        Some("constraints of a table aren't there: leave UNIQUE out")
+    } else if is(kind, "CHECK") {
+        Some("constraints of a table aren't there: leave CHECK out")
+    } else {
+        None
+    }
 }
 
 /// The sentence of a key that isn't a whole number, by its type and the text up to that type's end.

@@ -59,8 +59,8 @@ pub(crate) fn table_sentence(
         LoadFault::DoubleHeader
         | LoadFault::NotUtf8(_)
         | LoadFault::NullNotAllowed(_)
-        | LoadFault::TooManyRows
-        | LoadFault::OutOfMemory => joined(alloc, &[plain_sentence(fault, near).as_bytes()]),
+        | LoadFault::TooManyRows => joined(alloc, &[plain_sentence(fault, near).as_bytes()]),
+        LoadFault::OutOfMemory => Err(AllocError),
     }
 }
 
@@ -71,10 +71,7 @@ fn plain_sentence(fault: LoadFault, near: &Near<'_>) -> &'static str {
         LoadFault::NotUtf8(_) => "is the file in Latin-1? save it as UTF-8",
         LoadFault::NullNotAllowed(_) if is_key(near) => NO_KEY,
         LoadFault::NullNotAllowed(_) => NOT_NULL,
-        LoadFault::TooManyRows => {
-            "this is record 100001, and 100000 are taken: split the table, or ask by sfq-scale"
-        }
-        _ => "memory ran out",
+        _ => "this is record 100001, and 100000 are taken: split the table, or ask by sfq-scale",
     }
 }
 

@@ -69,6 +69,19 @@ fn a_schema_is_explained(rt: HostRuntime) -> Result<(), Fail> {
     Ok(())
 }
 
+/// Of memory that ran out nothing is said, as when it runs out while an explanation is made.
+#[test]
+fn memory_that_ran_out_is_not_explained(rt: HostRuntime) {
+    let names = Names {
+        tables: &TABLES,
+        columns: &COLUMNS,
+    };
+    let query = query_explained(rt.alloc(), b"SELECT id", QueryFault::OutOfMemory, &names);
+    assert!(rt; query.is_err());
+    let schema = schema_explained(rt.alloc(), b"CREATE TABLE", SchemaFault::OutOfMemory);
+    assert!(rt; schema.is_err());
+}
+
 #[test]
 fn a_geometry_is_explained(rt: HostRuntime) -> Result<(), Fail> {
     let lines = text_explained(rt.alloc(), b"POINT(1 2", TextFault::Syntax(9))?;
