@@ -100,6 +100,30 @@ fn streamed(
     one_by_one(alloc, Rows::new(alloc, database, bound, plan, Work::new()))
 }
 
+/// The rows of a plan, one after another, and the work after the last, where the stream is taken apart after each row and
+/// goes on from what was kept.
+fn paused_after_each(
+    alloc: Global,
+    database: &Database<'_, RTree>,
+    bound: &Bound,
+    plan: &Plan,
+) -> Result<(Vec<RowPair>, u64), AllocError>
+    requires bound { IsBound geometry_fits database.now.definitions bound.now }
+    requires lawful { IsLawful database.now.tables bound.now plan.now }
+{
+    let mut pairs = Vec::new(alloc);
+    let mut paused = Rows::new(alloc, database, bound, plan, Work::new()).pause();
+    for _ in 0..100u8 {
+        let mut rows = Rows::resume(alloc, database, bound, plan, paused);
+        match rows.next_observed(&mut Unobserved) {
+            Some(row) => pairs.push(row?)?,
+            None => return Ok((pairs, rows.work().count())),
+        }
+        paused = rows.pause();
+    }
+    Err(AllocError)
+}
+
 /// The rows of a plan, all at once, and the work of the plan.
 fn executed(
     alloc: Global,
@@ -116,7 +140,7 @@ fn executed(
 }
 
 /// The text of a plan: its accesses, its rows, and the work after the first of them and of all. The rows are those that come
-/// one after another.
+/// one after another, and those that come where the stream is paused after each, with no more work.
 fn plan_text(
     alloc: Global,
     database: &Database<'_, RTree>,
@@ -130,6 +154,10 @@ fn plan_text(
     let (others, after_first) = streamed(alloc, database, bound, plan)?;
     if rows != others {
         return Err(Fail::from("other rows one by one"));
+    }
+    let (others, after_last) = paused_after_each(alloc, database, bound, plan)?;
+    if rows != others || after_last != all {
+        return Err(Fail::from("other rows after a pause"));
     }
     let mut text = text_of(alloc, plan.accesses.as_slice(), rows.as_slice())?;
     write!(text, "| {after_first} of {all}")?;
