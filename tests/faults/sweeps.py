@@ -195,8 +195,6 @@ def tables():
     columns = "id INTEGER PRIMARY KEY, name TEXT"
     schema = f"CREATE TABLE place ({columns}, geom POINT);\nCREATE TABLE area ({columns}, geom POLYGON);\n"
     write(f"{path}/schema.sql", f"{schema}CREATE TABLE shore (id INTEGER PRIMARY KEY, geom LINESTRING);\n")
-    write(f"{path}/word.wkt", "POLYGON((0 0,4 4,4 0,0 4,0 0))\n")
-    write(f"{path}/pairs.csv", "POINT(1 2),POINT(1 2)\nPOINT(1 2),POINT(1.5 2)\nCIRCLE(1),POINT(1 2)\n")
     for folder, points, shapes in (("good", places, areas), ("bad", places, bad), ("noted", two_lines, two_lines)):
         for name, rows in (("place", points), ("area", shapes), ("shore", shores)):
             write(f"{path}/{folder}/{name}.csv", "\n".join(rows) + "\n")
@@ -226,8 +224,6 @@ COMMANDS = {
     "relate of 400": ["relate", star(200, 9000), f"MULTILINESTRING((-9000 1,9000 2),{star(199, 9100)[8:-1]})"],
     "relate along a border": ["relate", *bordering(300)],
     "relate refused": ["relate", RING, "POLYGON((0 0,4 4,4 0,0 4,0 0))"],
-    "relate --why refused": ["relate", "--why", RING, "@word.wkt"],
-    "pairs --why refused": ["pairs", "--why", "pairs.csv"],
     "check": ["check", "schema.sql", "good"],
     "check refused": ["check", "schema.sql", "bad"],
     "check --why": ["check", "--why", "schema.sql", "noted"],
@@ -235,7 +231,6 @@ COMMANDS = {
     "rows": query(f"SELECT id, name, ST_AsText(geom) FROM place WHERE NOT ST_Touches(geom, ST_GeomFromText('{LARGE}'))"),
     "long rows": query("SELECT id, ST_AsText(geom) FROM shore"),
     "rows refused": query("SELECT id FROM place WHERE ST_Within(geom, ST_GeomFromText('POINT(1'))"),
-    "rows --why refused": ["run", "--why", *query("SELECT nmae FROM place")[1:]],
     "join": query(JOIN),
     "join that sorts": query("SELECT a.id, p.id FROM area a, place p WHERE ST_Contains(a.geom, p.geom)"),
     "LIMIT that sorts": query("SELECT a.id, p.id FROM area a, place p WHERE ST_Contains(a.geom, p.geom) LIMIT 40"),
