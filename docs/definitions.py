@@ -228,7 +228,10 @@ TILES = [
     ("What a query gives over the parts",
      "A query is asked over what the texts of its parts of tiles load as, those of each number. Merged by keys, its answers are those over"
      " the whole tables.",
-     [("sfq_tiles", "TileAnswers", "")]),
+     [("table_model", "References", "+AreOneOrTwo"),
+      ("table_model", "BoundQueries", "+GeometryFits cond_fits item_fits AreReferences IsBound argument_fits geometry_fits"),
+      ("table_model", "TruthLaws", "+Argument"),
+      ("sfq_tiles", "TileAnswers", "")]),
     ("Columns, texts and lines",
      "What is copied of a table and of a query over it, what the text of a cell gets, and what is written of a failure.",
      [("table_laws", "ColumnLaws", "+fields_in narrowed place_among moved moved_condition condition_columns item_column IsNarrowed IsNarrow"),
