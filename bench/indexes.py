@@ -14,28 +14,16 @@ import argparse
 import math
 import pathlib
 import random
-import subprocess
 import sys
 import tempfile
 
-from timing import ROOT, figure, instructions, measure, print_columns, print_heads
+from peers import build_beside_geos
+from timing import figure, instructions, measure, print_columns, print_heads
 
-LIBRARY = ROOT / "bindings" / "c" / "out" / "libsfq.a"
 SIZES = (1_000, 10_000, 100_000)
 WINDOWS = 1_000
 # Coordinates go so far either way.
 LIMIT = 10_000_000
-
-
-def built(folder):
-    """Compiles the program that asks, and returns its path."""
-    if not LIBRARY.exists():
-        sys.exit("the library isn't there: run ./build --library once")
-    program = folder / "indexes"
-    source = pathlib.Path(__file__).resolve().parent / "indexes.c"
-    words = ["gcc", "-O2", "-Wall", "-o", program, source, f"-I{ROOT}/bindings/c", LIBRARY, "-lgeos_c"]
-    subprocess.run([str(it) for it in words], check=True)
-    return program
 
 
 def around(chance, wide, high):
@@ -80,7 +68,7 @@ def main():
     units = ["instructions", "nanoseconds"] if parser.parse_args().time else ["instructions"]
     with tempfile.TemporaryDirectory() as room:
         folder = pathlib.Path(room)
-        program, given = built(folder), folder / "input"
+        program, given = build_beside_geos("indexes", folder), folder / "input"
 
         def output(how, turns):
             measure([program, how, turns], folder, given)

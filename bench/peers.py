@@ -1,4 +1,4 @@
-"""What `windows.py` and `joins.py` share: the commands of the peers, and the lines that compare them with `sfq`."""
+"""What measures beside peers share: the commands of the peers, the lines that compare them with `sfq`, and the programs over GEOS."""
 
 import pathlib
 import shutil
@@ -6,9 +6,11 @@ import subprocess
 import sys
 import time
 
-from timing import PROGRAM, exponent, figure, instructions, measure, print_columns, print_heads, ratios
+from timing import PROGRAM, ROOT, exponent, figure, instructions, measure, print_columns, print_heads, ratios
 
-TABLES = pathlib.Path(__file__).resolve().parent / "geos_tables.c"
+FOLDER = pathlib.Path(__file__).resolve().parent
+TABLES = FOLDER / "geos_tables.c"
+LIBRARY = ROOT / "bindings" / "c" / "out" / "libsfq.a"
 
 # A row is measured for as many seconds at the least, so that short runs are measured often.
 SECONDS = 8
@@ -27,6 +29,16 @@ def build_geos(folder):
     """Compiles the peer over GEOS, and returns its path."""
     program = folder / "geos_tables"
     subprocess.run(["gcc", "-O2", "-o", str(program), str(TABLES), "-lgeos_c"], check=True)
+    return program
+
+
+def build_beside_geos(name, folder):
+    """Compiles the program of this name over the C library and GEOS, and returns its path."""
+    if not LIBRARY.exists():
+        sys.exit("the library isn't there: run ./build --library once")
+    program = folder / name
+    words = ["gcc", "-O2", "-Wall", "-o", program, FOLDER / f"{name}.c", f"-I{ROOT}/bindings/c", LIBRARY, "-lgeos_c"]
+    subprocess.run([str(it) for it in words], check=True)
     return program
 
 

@@ -13,31 +13,19 @@ It needs Python's standard library, valgrind, gcc and `libgeos-dev` from the dis
 import argparse
 import pathlib
 import random
-import subprocess
 import sys
 import tempfile
 
 from areas import SPAN, ring, star
-from timing import ROOT, figure, instructions, measure, print_columns, print_heads, ratios
+from peers import build_beside_geos
+from timing import figure, instructions, measure, print_columns, print_heads, ratios
 
-LIBRARY = ROOT / "bindings" / "c" / "out" / "libsfq.a"
 SIZES = (5, 100, 1_000, 9_999)
 # Two stars: what they are, and by how much one of them is moved either way.
 MOVED = [("cross", SPAN // 3), ("are apart", SPAN * 29 // 20)]
 POINTS = 1_000
 # What is asked, by the library and by GEOS.
 ASKED = [("position, intersects", "locate", "geos"), ("point, intersects", "holds", "geos"), ("point, contains", "contains", "geos_contains")]
-
-
-def built(folder):
-    """Compiles the program that asks, and returns its path."""
-    if not LIBRARY.exists():
-        sys.exit("the library isn't there: run ./build --library once")
-    program = folder / "prepared"
-    source = pathlib.Path(__file__).resolve().parent / "prepared.c"
-    words = ["gcc", "-O2", "-Wall", "-o", program, source, f"-I{ROOT}/bindings/c", LIBRARY, "-lgeos_c"]
-    subprocess.run([str(it) for it in words], check=True)
-    return program
 
 
 def write_input(path, size):
@@ -66,7 +54,7 @@ def main():
     units = ["instructions", "nanoseconds"] if is_timed else ["instructions"]
     with tempfile.TemporaryDirectory() as room:
         folder = pathlib.Path(room)
-        program, given = built(folder), folder / "input"
+        program, given = build_beside_geos("prepared", folder), folder / "input"
         print_heads(["asked", "positions", "unit", "sfq", "GEOS", "ratio", "to the best"])
 
         def compare(what, size, ours, theirs, count, turns):

@@ -76,6 +76,15 @@ def environment(**more):
     return {**os.environ, "SFQ_LIBRARY": library.SHARED, "PYTHONDONTWRITEBYTECODE": "1", **more}
 
 
+def in_four_threads(work):
+    """Calls `work` in four threads at once, and waits for them."""
+    threads = [threading.Thread(target=work) for _ in range(4)]
+    for it in threads:
+        it.start()
+    for it in threads:
+        it.join()
+
+
 class Package(engine_rows.WithLibrary):
     """The package as it is in the repository, over the library that ./build --library made."""
 
@@ -294,11 +303,7 @@ class Package(engine_rows.WithLibrary):
         def work():
             differ.extend(it for it in range(500) if index.search((it, it, it, it)) != list(range(max(0, it - 100), it + 1)))
 
-        threads = [threading.Thread(target=work) for _ in range(4)]
-        for it in threads:
-            it.start()
-        for it in threads:
-            it.join()
+        in_four_threads(work)
         self.assertEqual(differ, [])
 
     def test_coordinates(self):
@@ -349,11 +354,7 @@ class Package(engine_rows.WithLibrary):
         def work():
             differ.extend(it for _ in range(5) for it in pairs if sfq.relate(it.first, it.second) != it.matrix)
 
-        threads = [threading.Thread(target=work) for _ in range(4)]
-        for it in threads:
-            it.start()
-        for it in threads:
-            it.join()
+        in_four_threads(work)
         self.assertEqual(differ, [])
 
     def test_out_of_memory_is_an_error(self):
