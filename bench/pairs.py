@@ -11,97 +11,22 @@ It needs Python's standard library and the built program: run `rt run` once in c
 
 import argparse
 import random
+import runpy
 import subprocess
 import sys
 
 from gauged import GAUGE
+from timing import ROOT
 
-GRID = 7
-# How far geometries of many edges reach, and how often they are drawn.
-REACH = 30
-MANY = 0.2
+runpy.run_path(str(ROOT / "tools" / "paths.py"))
 
-
-def position(chance):
-    """A position of the small grid."""
-    return chance.randint(0, GRID), chance.randint(0, GRID)
-
-
-def listed(positions):
-    """Positions in parentheses."""
-    return "(" + ",".join(f"{x} {y}" for x, y in positions) + ")"
-
-
-def draw_line(chance):
-    """The positions of a line, at times a closed one, or of many edges."""
-    if chance.random() < MANY:
-        return draw_long_line(chance)
-    positions = [position(chance) for _ in range(chance.randint(2, 5))]
-    return positions + positions[:1] if chance.random() < 0.3 else positions
-
-
-def draw_ring(chance, low=0, high=GRID):
-    """The positions of a ring: a box or three to five corners, which may cross."""
-    if chance.random() < 0.4:
-        (left, right), (lower, upper) = (sorted(chance.sample(range(low, high + 1), 2)) for _ in range(2))
-        corners = [(left, lower), (right, lower), (right, upper), (left, upper)]
-    else:
-        corners = [(chance.randint(low, high), chance.randint(low, high)) for _ in range(chance.randint(3, 5))]
-    return corners + corners[:1]
-
-
-def draw_long_line(chance):
-    """The positions of a line of many edges, at times of short ones, at times a closed one."""
-    step = chance.choice((1, 3, REACH))
-    x, y = position(chance)
-    positions = [(x, y)]
-    for _ in range(chance.randint(20, 40)):
-        x, y = (min(max(at + chance.randint(-step, step), 0), REACH) for at in (x, y))
-        positions.append((x, y))
-    return positions + positions[:1] if chance.random() < 0.3 else positions
-
-
-def draw_long_ring(chance, low=0, high=GRID):
-    """A ring of many edges, from left to right and back; it begins at any of its positions."""
-    middle = chance.randint(low + 1, high)
-    right = chance.randint(12, REACH)
-    lower = [(x, chance.randint(low, middle - 1)) for x in range(right)]
-    upper = [(x, chance.randint(middle, high)) for x in reversed(range(right))]
-    corners = lower + upper
-    begin = chance.randrange(len(corners))
-    corners = (corners[begin:] + corners[:begin])[:: chance.choice((1, -1))]
-    return corners + corners[:1]
-
-
-def draw_rings(chance, low=0, high=GRID):
-    """The rings of a polygon, at times with a hole, or one of many edges."""
-    if chance.random() < MANY:
-        return [draw_long_ring(chance, low, high)]
-    if chance.random() < 0.3 and high - low >= 4:
-        outer = [(low, low), (high, low), (high, high), (low, high), (low, low)]
-        return [outer, draw_ring(chance, low + 1, high - 1)]
-    return [draw_ring(chance, low, high)]
+from sfq_audit import families
+from sfq_audit.shapes import WORDS as TYPES
 
 
 def draw(chance, word):
     """The text of a random geometry of a type, which may have a fault."""
-    if chance.random() < 0.01:
-        return word + " EMPTY"
-    if word == "POINT":
-        return word + listed([position(chance)])
-    if word == "MULTIPOINT":
-        return word + "(" + ",".join(listed([position(chance)]) for _ in range(chance.randint(1, 4))) + ")"
-    if word == "LINESTRING":
-        return word + listed(draw_line(chance))
-    if word == "MULTILINESTRING":
-        return word + "(" + ",".join(listed(draw_line(chance)) for _ in range(chance.randint(1, 3))) + ")"
-    if word == "POLYGON":
-        return word + "(" + ",".join(map(listed, draw_rings(chance))) + ")"
-    elements = [draw_rings(chance, 0, 3), draw_rings(chance, 4, GRID)][: chance.randint(1, 2)]
-    return word + "(" + ",".join("(" + ",".join(map(listed, rings)) + ")" for rings in elements) + ")"
-
-
-TYPES = ("POINT", "MULTIPOINT", "LINESTRING", "MULTILINESTRING", "POLYGON", "MULTIPOLYGON")
+    return families.draw(chance, word).text
 
 
 def relate_pairs(first, second, seed, count):

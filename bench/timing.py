@@ -72,17 +72,29 @@ def instructions(command, folder, given=os.devnull, status=0):
     return int(re.search(r"I +refs: +([\d,]+)", ran.stderr)[1].replace(",", ""))
 
 
-def shares(command, folder, status=0):
-    """Which functions take how many of a hundred instructions of a command, those that take most first. Ends the program where the
-    command's status isn't the one that is wanted."""
-    counted = folder / "callgrind.out"
+def marked(command, folder, status=0, way=("--instr-atstart=no",)):
+    """How many instructions a command takes between the marks that it has for callgrind, or by another way in all. What callgrind
+    writes goes to a file. Ends the program where the command's status isn't the one that is wanted."""
     with open(folder / "output", "wb") as output:
         ran = subprocess.run(
-            ["valgrind", "--tool=callgrind", f"--callgrind-out-file={counted}", *map(str, command)],
-            cwd=folder, stdin=subprocess.DEVNULL, stdout=output, stderr=subprocess.DEVNULL,
+            ["valgrind", "--tool=callgrind", f"--callgrind-out-file={folder}/callgrind.out", *way, *map(str, command)],
+            cwd=folder, stdin=subprocess.DEVNULL, stdout=output, stderr=subprocess.PIPE, text=True,
         )
     if ran.returncode != status:
         sys.exit(f"{command[0]} ended with status {ran.returncode}")
+    return int(re.search(r"Collected : (\d+)", ran.stderr)[1])
+
+
+def shares(command, folder, status=0):
+    """Which functions take how many of a hundred instructions of a command, those that take most first. Ends the program where the
+    command's status isn't the one that is wanted."""
+    marked(command, folder, status, way=())
+    return counted_shares(folder)
+
+
+def counted_shares(folder):
+    """Which functions take how many of a hundred instructions of what callgrind counted last, those that take most first."""
+    counted = folder / "callgrind.out"
     shown = subprocess.run(["callgrind_annotate", str(counted)], capture_output=True, text=True, check=True).stdout
     found = {}
     for share, path in re.findall(r"^ *[\d,]+ \( *([\d.]+)%\)  \S*?:(\S+)", shown, re.M):

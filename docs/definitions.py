@@ -185,6 +185,19 @@ LIBRARY = [
     ("Lines of witnesses",
      "What `sfq_why` and `sfq_reason` hand out; the rest is in [DEFINITIONS-WHY](DEFINITIONS-WHY.md).",
      [("library_calls", "Explained", "")]),
+    ("Databases",
+     "A database that C keeps has the tables of a schema, which have no rows until they are loaded; each is loaded from a text."
+     " Statements are open over it.",
+     [("sfq_tables", "Connections", "definition_at"),
+      ("sfq_tables", "OpenStatements", ""),
+      ("sfq_tables", "OpenColumns", ""),
+      ("sfq_tables", "OpenConstants", ""),
+      ("statements", "Constants", "+constants_of with_constant constant_type may_replace takes"),
+      ("statements", "BoundConstants", "+HasBegunWithPlan StaysAtEnd"),
+      ("sfq_tables", "SteppedAnswers", ""),
+      ("kept_tables", "KeptTables", "+KeptTables table_at is_loaded opened with_table"),
+      ("sfq_tables", "TableFaults", "plain geometry_fault_at no_fault has_failed_schema has_failed_load has_failed_query IsReported"),
+      ("sfq_tables", "KeptConnections", "")]),
 ]
 TILES = [
     ("Tiles",

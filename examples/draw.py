@@ -4,121 +4,36 @@
     sfq why FIRST SECOND | python3 examples/draw.py FIRST SECOND > picture.svg
     sfq why FIRST | python3 examples/draw.py FIRST > picture.svg
     sfq run SCHEMA DIR QUERY | python3 examples/draw.py --rows DIR/TABLE.csv > picture.svg
+    python3 examples/draw.py --map DIR/TABLE.csv=COLOUR .. > picture.svg
 
 The first geometry is blue, the second orange. Where the two meet is marked: a point by a dot, a stretch by a thick line, an
 area by a ring around a point of it. The place of a fault is red. Of a table it draws all geometries in grey, and in blue those
-of the rows whose key is in the answer's first column. Python's standard library is enough.
+of the rows whose key is in the answer's first column. A map has all geometries of some tables, the first table at the bottom, each
+in its colour (a name or #RRGGBB; grey without one), and a key of the tables. Python's standard library is enough.
 """
 import csv
+import os
 import re
+import runpy
 import sys
-from fractions import Fraction
+import types
 from xml.sax.saxutils import escape
 
-SIZE, MARGIN = 480, 24
-COLOURS = ("#2a6fb0", "#d9822b")
-FAULT, MARK, OTHER = "#c62828", "#1b1b1b", "#9aa0a6"
-NUMBER = r"(-?\d+(?:/\d+)?)"
-POINT = rf"{NUMBER} {NUMBER}"
-
-
-def parts_of(text):
-    """Returns the lists of positions in a well-known text."""
-    groups = re.findall(r"[^()]*\d[^()]*", text.partition("(")[2])
-    return [[tuple(map(Fraction, it.split())) for it in group.strip(" ,").split(",")] for group in groups]
-
-
-def points_in(line):
-    """Returns the points that a line names after a word, such as `at 6/5 2/5`."""
-    return [(Fraction(x), Fraction(y)) for x, y in re.findall(rf"(?<![\w/]){POINT}(?![\w/])", line)]
-
-
-class Marks:
-    """What is marked, by the kind of mark."""
-
-    def __init__(self, lines):
-        self.points, self.stretches, self.rings, self.faults = [], [], [], []
-        for line in lines:
-            if re.match(r"(?:interior|boundary|exterior) ", line):
-                self.add_cell(line)
-            elif re.match(r"V\d ", line):
-                self.add_fault(line.partition(": ")[2])
-
-    def add_cell(self, line):
-        points = points_in(line.split(" ", 3)[3] if line.count(" ") > 2 else "")
-        if " at " in line:
-            self.points += points
-        elif " from " in line:
-            self.stretches.append(points)
-        elif " around " in line:
-            self.rings += points
-
-    def add_fault(self, place):
-        """Takes what two edges share, or the last points of the place."""
-        place = place.partition(" share ")[2] or re.sub(r".*\bleft ", "", place)
-        self.faults.append(points_in(place))
-
-    def all_points(self):
-        return self.points + self.rings + [p for group in self.stretches + self.faults for p in group]
-
-
-class Page:
-    """The scale from the grid to the page, whose y goes down."""
-
-    def __init__(self, points):
-        xs, ys = zip(*(points or [(Fraction(0), Fraction(0))]))
-        self.left, self.top = min(xs), max(ys)
-        self.step = Fraction(SIZE - 2 * MARGIN) / max(max(xs) - self.left, self.top - min(ys), 1)
-
-    def place(self, p):
-        x, y = MARGIN + (p[0] - self.left) * self.step, MARGIN + (self.top - p[1]) * self.step
-        return f"{float(x):.2f}", f"{float(y):.2f}"
-
-    def path(self, parts, is_closed):
-        way = " ".join("M" + " L".join(",".join(self.place(p)) for p in part) for part in parts)
-        return way + (" Z" if is_closed else "")
-
-    def dot(self, p, kind, radius, paint):
-        x, y = self.place(p)
-        return f'<circle class="{kind}" cx="{x}" cy="{y}" r="{radius}" {paint}/>'
-
-    def line(self, points, kind, paint):
-        return f'<path class="{kind}" d="{self.path([points], False)}" fill="none" {paint}/>'
-
-
-def shape(page, text, kind, colour):
-    """Returns the drawing of a geometry."""
-    parts = parts_of(text)
-    word = text.strip().upper()
-    if not parts:
-        return []
-    if "POINT" in word:
-        return [page.dot(p, kind, 5, f'fill="{colour}"') for part in parts for p in part]
-    if "LINE" in word:
-        return [page.line(part, kind, f'stroke="{colour}" stroke-width="2"') for part in parts]
-    paint = f'fill="{colour}" fill-opacity="0.25" fill-rule="evenodd" stroke="{colour}" stroke-width="2"'
-    return [f'<path class="{kind}" d="{page.path(parts, True)}" {paint}/>']
-
-
-def drawn_fault(page, points):
-    if len(points) == 1:
-        return [page.dot(points[0], "fault", 7, f'fill="{FAULT}"')]
-    return [page.line(points, "fault", f'stroke="{FAULT}" stroke-width="6"')]
-
-
-def svg(title, body):
-    """Returns the text of an SVG."""
-    head = f'<svg xmlns="http://www.w3.org/2000/svg" viewBox="0 0 {SIZE} {SIZE}" width="{SIZE}" height="{SIZE}">'
-    title = f"<title>{escape(title)}</title>"
-    return "\n".join([head, title, '<rect width="100%" height="100%" fill="#fff"/>', *body, "</svg>\n"])
+# Where the module that draws is: in a checkout, and in a prefix beside share/doc/sfq.
+HERE = os.path.dirname(os.path.realpath(__file__))
+PLACES = [f"{HERE}/{it}/sfq_audit/drawing.py" for it in ("../bindings/python", "../../../sfq")]
+drawn = types.SimpleNamespace(**runpy.run_path(next(it for it in PLACES if os.path.isfile(it))))
+GEOMETRIC = re.compile(r"\s*(?:MULTI)?(?:POINT|LINESTRING|POLYGON)\b", re.IGNORECASE)
+TABLE = re.compile(r"(.*?)(?:=(#[0-9a-fA-F]{6}|[a-z]+))?")
+# The key of a map: how many tables are in a row of it, and how far apart rows are.
+KEY_COLUMNS, KEY_STEP = 4, 18
 
 
 def geometries_in(path, key_name):
     """Returns the key and the geometry of each row of a table, whose first column with a geometry is taken."""
     with open(path, newline="") as file:
         rows = [{name.lower(): field for name, field in row.items()} for row in csv.DictReader(file)]
-    geometric = re.compile(r"\s*(?:MULTI)?(?:POINT|LINESTRING|POLYGON)\b", re.IGNORECASE)
-    column = next((name for row in rows for name, field in row.items() if geometric.match(field)), None)
+    column = next((name for row in rows for name, field in row.items() if GEOMETRIC.match(field)), None)
     return [(row[key_name].strip(), row[column]) for row in rows if column is not None]
 
 
@@ -127,35 +42,54 @@ def rows_drawn(path, answer):
     (head, *_), *records = csv.reader(answer)
     keys = {record[0] for record in records}
     found = geometries_in(path, head.rpartition(".")[2].lower())
-    page = Page([p for _, text in found for part in parts_of(text) for p in part])
+    page = drawn.Page([p for _, text in found for part in drawn.parts_of(text) for p in part])
     body = []
-    for kind, colour in (("other", OTHER), ("row", COLOURS[0])):
+    for kind, colour in (("other", drawn.OTHER), ("row", drawn.COLOURS[0])):
         for key, text in found:
-            if (key in keys) == (kind == "row") and parts_of(text):
-                body += [f'<g class="{kind}">', *shape(page, text, "shape", colour), "</g>"]
-    return svg(f"rows of {path}", body)
+            if (key in keys) == (kind == "row") and drawn.parts_of(text):
+                body += [f'<g class="{kind}">', *drawn.shape(page, text, "shape", colour), "</g>"]
+    return drawn.svg(f"rows of {path}", body)
 
 
-def drawing(texts, lines):
-    """Returns the SVG of some texts and of the lines of `why`."""
-    marks = Marks(lines)
-    page = Page([p for text in texts for part in parts_of(text) for p in part] + marks.all_points())
+def texts_in(path):
+    """Returns all geometries of a table, of each of its columns."""
+    with open(path, newline="", encoding="utf-8") as file:
+        return [field for record in csv.reader(file) for field in record if GEOMETRIC.match(field)]
+
+
+def key_of_map(names, top):
+    """Returns the drawing of the key of a map: each table's colour and name."""
     body = []
-    for text, kind, colour in zip(texts, ("first", "second"), COLOURS):
-        body += shape(page, text, kind, colour)
-    body += [page.line(it, "stretch", f'stroke="{MARK}" stroke-width="5" stroke-opacity="0.5"') for it in marks.stretches]
-    body += [page.dot(p, "ring", 8, f'fill="none" stroke="{MARK}" stroke-width="1.5"') for p in marks.rings]
-    body += [page.dot(p, "point", 4, f'fill="{MARK}"') for p in marks.points]
-    body += [it for points in marks.faults if points for it in drawn_fault(page, points)]
-    return svg(" and ".join(texts), body)
+    for at, (name, colour) in enumerate(names):
+        x, y = drawn.MARGIN + at % KEY_COLUMNS * (drawn.SIZE - 2 * drawn.MARGIN) // KEY_COLUMNS, top + at // KEY_COLUMNS * KEY_STEP
+        body += [
+            f'<rect class="key" x="{x}" y="{y:.2f}" width="10" height="10" fill="{colour}"/>',
+            f'<text x="{x + 14}" y="{y + 9:.2f}" font-family="sans-serif" font-size="11" fill="{drawn.MARK}">{escape(name)}</text>',
+        ]
+    return body
+
+
+def map_drawn(words):
+    """Returns the SVG of a map of tables, each named by its file, with `=COLOUR` behind it or not."""
+    tables = [(path, colour or drawn.OTHER, texts_in(path)) for path, colour in (TABLE.fullmatch(it).groups() for it in words)]
+    page = drawn.Page([p for _, _, texts in tables for text in texts for part in drawn.parts_of(text) for p in part])
+    names = [(os.path.splitext(os.path.basename(path))[0], colour) for path, colour, _ in tables]
+    body = []
+    for _, colour, texts in tables:
+        body += ['<g class="table">', *(line for text in texts for line in drawn.shape(page, text, "shape", colour)), "</g>"]
+    height = page.height + -(-len(tables) // KEY_COLUMNS) * KEY_STEP + drawn.MARGIN / 2
+    return drawn.svg("map of " + ", ".join(it for it, _ in names), body + key_of_map(names, page.height), height)
 
 
 def main(words):
-    if not 1 <= len(words) <= 2 or words[0] in ("-h", "--help") or words == ["--rows"]:
+    if words[:1] == ["--map"] and len(words) > 1:
+        sys.stdout.write(map_drawn(words[1:]))
+        return 0
+    if not 1 <= len(words) <= 2 or words[0] in ("-h", "--help") or words in (["--rows"], ["--map"]):
         print(__doc__.strip(), file=sys.stderr)
         return 2
     lines = sys.stdin.read().splitlines()
-    sys.stdout.write(rows_drawn(words[1], lines) if words[0] == "--rows" else drawing(words, lines))
+    sys.stdout.write(rows_drawn(words[1], lines) if words[0] == "--rows" else drawn.drawing(words, lines))
     return 0
 
 

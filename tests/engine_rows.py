@@ -40,7 +40,7 @@ class WithLibrary(unittest.TestCase):
 
     @classmethod
     def setUpClass(cls):
-        if not library.is_made():
+        if not library.are_made():
             raise unittest.SkipTest("needs ./build --library")
 
 

@@ -169,6 +169,24 @@ def lines(first, second):
     return "".join(f"{l} {k} {found.get((l, k), 'F')}\n" for l in PARTS for k in PARTS)
 
 
+# ---- predicates
+
+def related(matrix, *texts):
+    """Returns the names of the predicates that hold of two texts with this matrix, by the sets of points (06-103r4, 6.1.15.3)."""
+    inner = matrix[0]
+    (a, b), is_in, covers = (read(it).dimension for it in texts), matrix[2] == matrix[5] == "F", matrix[6] == matrix[7] == "F"
+    meet = any(matrix[it] != "F" for it in (0, 1, 3, 4))
+    # Interiors that meet in a set of a lesser dimension than the greater one of the two types.
+    is_less, is_apart = inner != "F" and int(inner) < max(a, b), not is_in and not covers
+    truths = {
+        "ST_Equals": is_in and covers, "ST_Disjoint": not meet, "ST_Intersects": meet, "ST_Touches": meet and inner == "F",
+        "ST_Within": inner != "F" and is_in, "ST_Contains": inner != "F" and covers,
+        "ST_Crosses": is_less and is_apart and (a != b or a == 1),
+        "ST_Overlaps": a == b and inner == str(a) and is_apart,
+    }
+    return {name for name, holds in truths.items() if holds}
+
+
 # ---- random geometries, each valid
 
 def random_line(dice, most):

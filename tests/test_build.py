@@ -10,13 +10,18 @@ import signal
 import subprocess
 import sys
 import tarfile
+import tempfile
 import time
 import unittest
 
 from support import ROOT, WithCheckout, needs, read, write
 
+import debian
+import library
 import pace
+import packages
 import repository
+import wheels
 
 # The crate of sfq-tiles, for tests that make this program too.
 WITH_TILES = {"sfq_tiles": ["middle"]}
@@ -224,7 +229,7 @@ class Builds(WithBuild):
         self.assertIn(f"    {total}  crates/low/src/lib.rt\n", text)
         self.assertNotIn("middle/src", text)
         self.assertIn("its libraries: clap, std\n", text)
-        self.assertIn("the program of ./build is the same", text)
+        self.assertIn("the program sfq is the same as that of ./build\n", text)
         self.assertFalse(os.path.exists(folders[0]))
 
     def test_misuse(self):
@@ -237,8 +242,8 @@ class Builds(WithBuild):
         prefix = f"{self.checkout.room}/prefix"
         ran = self.build("--install", prefix)
         self.assertEqual(ran.returncode, 0, ran.stderr)
-        self.assertEqual(sorted(os.listdir(f"{prefix}/bin")), ["sfq", "sfq-export", "sfq-import", "sfq-schema"])
-        for it in ("sfq-tiles and sfq-scale, which need ./build --tiles", "the C library and what is over it, which need ./build --library"):
+        self.assertEqual(sorted(os.listdir(f"{prefix}/bin")), ["sfq", "sfq-audit", "sfq-export", "sfq-import", "sfq-schema", "sfq-shell"])
+        for it in ("sfq-tiles and sfq-scale, which need ./build --tiles", "the C libraries and what is over them, which need ./build --library"):
             self.assertIn(f"not installed: {it}\n", ran.stdout.decode())
         self.assertEqual(self.build("--uninstall", prefix).returncode, 0)
         self.assertEqual(os.listdir(prefix), [])
@@ -451,11 +456,22 @@ class Paces(unittest.TestCase):
         self.assertEqual(said, ["less than a minute left", "about a minute left", "about 2 min left", "about 14 min left"])
 
 
+class WithLibrary(WithBuild):
+    MORE_CRATES = {"sfq_c": ["middle"]}
+
+    def test_verify_makes_the_library(self):
+        ran = self.build("--verify")
+        self.assertEqual(ran.returncode, 1)
+        self.assertRegex(ran.stdout.decode(), r"proved: 5 crates, \d+ functions, .*\nlinking the program\nlinking the library libsfq.so.0\n\Z")
+        # The stand-in for the kit compiles nothing.
+        self.assertRegex(ran.stderr.decode(), r"\Asfq: no C library: the kit at \S+ lacks bin/rattle\n\Z")
+
+
 class Commands(WithBuild):
-    """The commands beside sfq: sfq-tiles, which ./build --tiles makes, sfq-scale over it, sfq-import, sfq-export and sfq-schema."""
+    """The commands beside sfq: sfq-tiles, which ./build --tiles makes, sfq-scale over it, and those of the Python package."""
 
     MORE_CRATES = WITH_TILES
-    NAMES = ["sfq", "sfq-export", "sfq-import", "sfq-scale", "sfq-schema", "sfq-tiles"]
+    NAMES = ["sfq", "sfq-audit", "sfq-export", "sfq-import", "sfq-scale", "sfq-schema", "sfq-shell", "sfq-tiles"]
 
     def test_tiles_are_made_of_what_is_proved(self):
         ran = self.build("--tiles")
@@ -480,7 +496,7 @@ class Commands(WithBuild):
         for name, makes in (("sfq", "./build"), ("sfq-tiles", "./build --tiles")):
             path = f"{self.checkout.root}/crates/{name.replace('-', '_')}/out/{name.replace('-', '_')}"
             self.assertIn(f"    {hashlib.sha256(read(path).encode()).hexdigest()}  the program {name}\n", ran.stdout.decode())
-            self.assertIn(f"the program of {makes} is the same\n", ran.stdout.decode())
+            self.assertIn(f"the program {name} is the same as that of {makes}\n", ran.stdout.decode())
 
     def test_tiles_that_are_not_proved(self):
         ran = self.build("--tiles", BREAKS="middle")
@@ -499,7 +515,7 @@ class Commands(WithBuild):
                 self.assertIn(f"share/{path.format(it)}", found)
         for it in ("sfq", "sfq-tiles"):
             self.assertEqual(subprocess.run([f"{prefix}/bin/{it}"], capture_output=True).stdout, b"proved\n")
-        for it in ("sfq-scale", "sfq-import", "sfq-export", "sfq-schema"):
+        for it in ("sfq-audit", "sfq-scale", "sfq-import", "sfq-export", "sfq-schema", "sfq-shell"):
             ran = subprocess.run([f"{prefix}/bin/{it}", "--version"], capture_output=True, text=True, cwd="/")
             self.assertEqual((ran.stdout, ran.stderr), (f"{it} {repository.version()}\n", ""))
         self.assertEqual(self.installed(prefix), found)
@@ -600,6 +616,70 @@ class Packages(WithBuild):
         self.assertTrue(text.startswith(f"sfq ({repository.version()}) "), text)
         self.assertEqual(gzip.open(f"{folder}/usr/share/man/man1/sfq.1.gz", "rt").read(), read(f"{ROOT}/packaging/man/sfq.1"))
         self.assertIn("No licence has been chosen yet", read(f"{folder}/usr/share/doc/sfq/copyright"))
+
+
+@needs("dpkg", "dpkg-deb")
+@needs("gcc", "cc")
+class OfLibraries(unittest.TestCase):
+    """The Debian packages of the libraries and of Python, with a stand-in for each library."""
+
+    def setUp(self):
+        room = tempfile.TemporaryDirectory(prefix="sfq-debian-")
+        self.addCleanup(room.cleanup)
+        self.room, before = room.name, library.FILES
+        self.addCleanup(setattr, library, "FILES", before)
+        library.FILES = [self.stand_in(*it) for it in before]
+        self.version, self.seconds = packages.released()
+        os.mkdir(f"{self.room}/packages")
+
+    def stand_in(self, source, target, mode):
+        """Returns what a library's file is installed from: the header of the repository, or a library of one call."""
+        name = os.path.basename(target)
+        if target.endswith(".h"):
+            return source, target, mode
+        write(f"{self.room}/it.c", "#include <stdlib.h>\nvoid *it(size_t size);\nvoid *it(size_t size) { return malloc(size); }\n")
+        if target.endswith(".so.0"):
+            words = ["cc", "-shared", "-fPIC", f"-Wl,-soname,{name}", f"{self.room}/it.c", "-o", f"{self.room}/{name}"]
+        else:
+            words = ["sh", "-c", f"cc -c {self.room}/it.c -o {self.room}/it.o && ar rcsD {self.room}/{name} {self.room}/it.o"]
+        subprocess.run(words, check=True)
+        return f"{self.room}/{name}", target, mode
+
+    def make(self):
+        """Makes the packages, and returns the path of each by its name."""
+        made = debian.of_libraries(self.version, packages.wanted_libc)
+        return {it.name: debian.make(f"{self.room}/packages", it, self.version, self.seconds) for it in made}
+
+    def test_what_they_have(self):
+        found = self.make()
+        self.assertEqual([os.path.basename(it) for it in found.values()], [
+            f"libsfq0_{self.version}_amd64.deb", f"libsfq-dev_{self.version}_amd64.deb", f"python3-sfq_{self.version}_all.deb",
+        ])
+        listed = {}
+        for name, path in found.items():
+            subprocess.run(["dpkg-deb", "-x", path, f"{self.room}/root"], check=True)
+            shown = subprocess.run(["dpkg-deb", "-c", path], capture_output=True, text=True, check=True).stdout
+            listed[name] = {it.split()[5] for it in shown.splitlines()}
+        at = "./usr/lib/x86_64-linux-gnu"
+        shared = {f"{at}/{os.path.basename(it)}" for it in wheels.shared()}
+        self.assertIn(f"{at}/libsfq.so.0", shared)
+        self.assertLessEqual(shared, listed["libsfq0"])
+        self.assertLessEqual({"./usr/include/sfq.h", f"{at}/libsfq.a", f"{at}/libsfq.so", f"{at}/pkgconfig/sfq.pc"}, listed["libsfq-dev"])
+        modules = {f"./usr/lib/python3/dist-packages/sfq/{it}" for it in os.listdir(f"{ROOT}/bindings/python/sfq") if "." in it}
+        self.assertLessEqual(modules, listed["python3-sfq"])
+        self.assertFalse(any("/bin/" in it or "sfq_scale" in it for it in listed["python3-sfq"]))
+        self.assertEqual(os.readlink(f"{self.room}/root/usr/lib/x86_64-linux-gnu/libsfq.so"), "libsfq.so.0")
+        self.assertIn("libdir=${prefix}/lib/x86_64-linux-gnu\n", read(f"{self.room}/root/usr/lib/x86_64-linux-gnu/pkgconfig/sfq.pc"))
+        self.assertTrue(read(f"{self.room}/root/usr/lib/x86_64-linux-gnu/pkgconfig/sfq.pc").startswith("prefix=/usr\n"))
+
+    def test_the_same_bytes(self):
+        sums = [{name: repository.sum_of_file(path) for name, path in self.make().items()} for _ in range(2)]
+        self.assertEqual(*sums)
+
+    @needs("lintian", "lintian")
+    def test_lintian_prints_nothing(self):
+        ran = subprocess.run(["lintian", "--allow-root", "--fail-on", "none", *self.make().values()], capture_output=True, text=True)
+        self.assertEqual((ran.stdout, ran.stderr), ("", ""))
 
 
 if __name__ == "__main__":

@@ -27,7 +27,7 @@ class ShownCalls(unittest.TestCase):
     def test_each_document_shows_some(self):
         with tempfile.TemporaryDirectory(prefix="sfq-documents-") as room:
             paths = [it.place.partition(":")[0] for it in printed.everything(room)]
-        for path, least in (("README.md", 2), ("examples/parcels/README.md", 15), ("docs/FAULTS.md", 45), ("packaging/man/sfq.1", 5)):
+        for path, least in (("README.md", 2), ("examples/parcels/README.md", 15), ("examples/blue_lake/README.md", 13), ("docs/FAULTS.md", 45), ("packaging/man/sfq.1", 5)):
             self.assertGreaterEqual(paths.count(path), least, path)
 
 

@@ -1,4 +1,7 @@
 """examples/draw.py: each picture is XML, and has a mark for each line that shows something."""
+import filecmp
+import glob
+import os
 import re
 import shutil
 import subprocess
@@ -78,14 +81,37 @@ class Drawings(unittest.TestCase):
                 found = marks(draw(["--rows", file.name], answer))
                 self.assertEqual((found["row"], found["other"]), (rows, 3 - rows))
 
+    def test_a_map_of_tables(self):
+        with tempfile.TemporaryDirectory() as room:
+            for name, text in (("well", 'id,geom,area\n1,POINT(1 2),"POLYGON((0 0,9 0,9 9,0 0))"\n2,,\n'), ("none", "id,geom\n")):
+                with open(f"{room}/{name}.csv", "w", encoding="utf-8") as file:
+                    file.write(text)
+            picture = draw(["--map", f"{room}/well.csv=#123456", f"{room}/none.csv"], "")
+        found = marks(picture)
+        self.assertEqual((found["table"], found["shape"], found["key"]), (2, 2, 2))
+        self.assertEqual([it.text for it in tree.fromstring(picture) if it.tag.endswith("text")], ["well", "none"])
+        self.assertIn('fill="#123456"', picture)
+
     def test_the_pictures_of_the_documents(self):
         for name, texts in PICTURES.items():
             lines = exact_cells.lines(*texts) if len(texts) == 2 else exact_places.line(*texts)
             with self.subTest(name=name):
                 self.assertEqual(read(f"{ROOT}/docs/pictures/{name}.svg"), draw(texts, lines))
 
+    def test_the_pictures_of_pairs(self):
+        """docs/pictures/draw.py, which reads pairs from a page, draws each picture again."""
+        with tempfile.TemporaryDirectory() as room:
+            shutil.copytree(f"{ROOT}/docs", f"{room}/docs")
+            shutil.copytree(f"{ROOT}/examples/parcels", f"{room}/examples/parcels")
+            for it in glob.glob(f"{room}/docs/pictures/elsewhere-*"):
+                os.remove(it)
+            subprocess.run([sys.executable, "-B", "draw.py"], cwd=f"{room}/docs/pictures", check=True)
+            names = sorted(os.listdir(f"{ROOT}/docs/pictures"))
+            self.assertEqual(sorted(os.listdir(f"{room}/docs/pictures")), names)
+            self.assertEqual(filecmp.cmpfiles(f"{ROOT}/docs/pictures", f"{room}/docs/pictures", names, shallow=False)[1:], ([], []))
+
     def test_words(self):
-        for words in ([], ["--help"], ["--rows"], ["a", "b", "c"]):
+        for words in ([], ["--help"], ["--rows"], ["--map"], ["a", "b", "c"]):
             ran = subprocess.run([sys.executable, "-B", SCRIPT, *words], input="", capture_output=True, text=True)
             self.assertEqual((ran.stdout, ran.returncode), ("", 2))
             self.assertIn("sfq why", ran.stderr)

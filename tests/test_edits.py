@@ -37,14 +37,26 @@ impl<T: Ord> PartialOrd for Number<T> {
     }
 }
 
+impl From<wide::Wide> for Number<u32> {
+    fn from(wide: wide::Wide) -> Self {
+        wide.narrow()
+    }
+}
+
 /// Twice.
 fn twice(number: u32) -> u32 {
     2 * number
 }
 """
-LOG = """./proofs/numbers/Number/value/Answers.antt:5:2: error: `returns-clause-value`: `search`: no proof of `it` was found
+LOG = """./proofs/numbers/Number/value/Answers.antt:5:2: error: `returns-clause-value`: `search`: no proof of `it`
+  was found. Every way was tried
 ./proofs/numbers/twice/Answers.antt:5:2: error: `returns`: `goal.returns`: module `A` has no `returns`
+./proofs/numbers/twice/Answers.antt:7:2: error: `returns-clause-twice`: record `After-self` (nearest: .double-2)
+  has no field `double`
+  the fields that can be named here are `before`
 ./proofs/numbers/twice/Answers.antt:9:2: error: 1 declaration that depends on `returns`, which was rejected, was not checked: x
+./proofs/numbers/+again/Answers.antt:5:2: error: `returns`: `search`: no proof of `it`
+fn low::numbers::again: not proved
 fn low::numbers::Number::value: not proved
 fn low::numbers::Number::next: proved
 fn low::numbers::twice: not proved; it calls `low::numbers::Number::value`, which is not proved
@@ -71,6 +83,7 @@ class Edits(unittest.TestCase):
         self.assertEqual(self.functions(("self.value + 1", "self.value")), {"low::numbers::Number::next"})
         self.assertEqual(self.functions(("Some(self.cmp(other))", "None")), {"low::numbers::NumberPartialOrd::partial_cmp"})
         self.assertEqual(self.functions(("2 * number", "3 * number")), {"low::numbers::twice"})
+        self.assertEqual(self.functions(("wide.narrow()", "0")), {"low::numbers::NumberFromWide::from"})
 
     def test_a_change_outside_of_functions_or_of_what_is_there_twice(self):
         self.assertEqual(self.functions(("u32 = 7", "u32 = 8")), set())
@@ -97,7 +110,8 @@ class Edits(unittest.TestCase):
         self.assertIsNone(edits.changed(changed, group))
 
     def test_only_a_goal_of_the_function_itself_refuses(self):
-        self.assertEqual(edits.refused_in(LOG), {"low::numbers::Number::value", "low::numbers::NumberPartialOrd::partial_cmp"})
+        refused = {"low::numbers::again", "low::numbers::Number::value", "low::numbers::NumberPartialOrd::partial_cmp"}
+        self.assertEqual(edits.refused_in(LOG), refused)
 
 
 if __name__ == "__main__":

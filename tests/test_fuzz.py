@@ -215,10 +215,10 @@ class Parts(unittest.TestCase):
 
     def test_predicates_by_their_patterns(self):
         holding = lambda matrix, *dimensions: [it for it in outcomes.PREDICATES if outcomes.holds(it, matrix, dimensions)]
-        self.assertEqual(holding("F01FF0212", 1, 2), ["ST_Touches", "ST_Intersects"])
-        self.assertEqual(holding("0FFFFF212", 0, 2), ["ST_Within", "ST_Intersects"])
-        self.assertEqual(holding("0F2FF1FF2", 2, 0), ["ST_Contains", "ST_Intersects"])
-        self.assertEqual(holding("2FFF1FFF2", 2, 2), ["ST_Equals", "ST_Within", "ST_Contains", "ST_Intersects"])
+        self.assertEqual(holding("F01FF0212", 1, 2), ["ST_Intersects", "ST_Touches"])
+        self.assertEqual(holding("0FFFFF212", 0, 2), ["ST_Intersects", "ST_Within"])
+        self.assertEqual(holding("0F2FF1FF2", 2, 0), ["ST_Intersects", "ST_Contains"])
+        self.assertEqual(holding("2FFF1FFF2", 2, 2), ["ST_Equals", "ST_Intersects", "ST_Within", "ST_Contains"])
         self.assertEqual(holding("212101212", 2, 2), ["ST_Intersects", "ST_Overlaps"])
         self.assertEqual(holding("0F1FF0102", 1, 1), ["ST_Intersects", "ST_Crosses"])
         self.assertEqual(holding("FFFFFFFF2", 0, 1), ["ST_Equals", "ST_Disjoint"])

@@ -256,6 +256,43 @@ class Endings(unittest.TestCase):
             self.assertEqual((_endings.ended("it", lambda: 4), said.getvalue()), (4, ""))
 
 
+class Outputs(unittest.TestCase):
+    """A file of sfq-export or sfq-audit: it is there as a whole or not at all, and what isn't a file stays what it is."""
+
+    def written(self, path, is_kept):
+        output = exports.Output(path)
+        output.file.write("text")
+        if is_kept:
+            output.keep()
+        output.drop()
+
+    def test_a_file(self):
+        with tempfile.TemporaryDirectory() as room:
+            self.written(f"{room}/new", False)
+            self.assertEqual(os.listdir(room), [])
+            self.written(f"{room}/new", True)
+            self.assertEqual((os.listdir(room), read(f"{room}/new")), (["new"], "text"))
+
+    def test_a_link_a_pipe_and_a_device_stay(self):
+        with tempfile.TemporaryDirectory() as room:
+            write(f"{room}/file", "before")
+            os.symlink(f"{room}/file", f"{room}/link")
+            self.written(f"{room}/link", True)
+            self.assertTrue(os.path.islink(f"{room}/link"))
+            self.assertEqual(read(f"{room}/file"), "text")
+            os.mkfifo(f"{room}/pipe")
+            with subprocess.Popen(["cat", f"{room}/pipe"], stdout=subprocess.PIPE, text=True) as child:
+                self.written(f"{room}/pipe", True)
+                self.assertEqual(child.communicate()[0], "text")
+            self.written("/dev/null", True)
+            self.assertEqual(sorted(os.listdir(room)), ["file", "link", "pipe"])
+
+    def test_a_folder_that_is_not_there(self):
+        with self.assertRaises(OSError) as raised:
+            exports.Output("/no/such/file")
+        self.assertEqual(_endings.reason(raised.exception), "/no/such/file: No such file or directory")
+
+
 class Installation(unittest.TestCase):
     """The commands where ./build --install installs them."""
 

@@ -251,6 +251,11 @@ def lines_of_whys():
     return calls
 
 
+# What a program is linked with: both libraries, shared or static.
+SHARED = [library.SHARED, library.TABLES.shared, f"-Wl,-rpath,{library.OUT}"]
+STATIC = [library.SHAPES.archive, library.TABLES.archive]
+
+
 class WithLibrary(engine_rows.WithLibrary):
     """Compiles the program tests/library/calls.c, and has it make calls."""
 
@@ -263,7 +268,7 @@ class WithLibrary(engine_rows.WithLibrary):
     def tearDownClass(cls):
         cls.room.cleanup()
 
-    def program(self, name, *words, of=("calls", "kept", "whys", "indexes")):
+    def program(self, name, *words, of=("calls", "kept", "whys", "indexes", "databases", "rows")):
         """Compiles the program, and returns its path."""
         to = f"{self.room.name}/{name}"
         flags = ["-std=c99", "-Wall", "-Wextra", "-Werror", "-g", f"-I{ROOT}/bindings/c", "-pthread"]
@@ -272,14 +277,14 @@ class WithLibrary(engine_rows.WithLibrary):
         return to
 
     def shared(self):
-        return self.program("shared", library.SHARED, f"-Wl,-rpath,{library.OUT}")
+        return self.program("shared", *SHARED)
 
     def calling(self, words, calls):
         return subprocess.run(words, input="\n".join(calls) + "\n", capture_output=True, text=True)
 
     def fuzz(self, seed, count):
         """Hands in bytes and numbers by chance, to the library and to one in a program that sanitizers watch."""
-        for words in ([library.SHARED, f"-Wl,-rpath,{library.OUT}"], ["-fsanitize=address,undefined", f"{library.OUT}/libsfq.a"]):
+        for words in (SHARED, ["-fsanitize=address,undefined", *STATIC]):
             ran = subprocess.run([self.program("fuzz", *words, of=["fuzz"]), str(seed), str(count)], capture_output=True)
             self.assertEqual((ran.returncode, ran.stdout, ran.stderr), (0, b"", b""), f"seed {seed}")
 
@@ -324,14 +329,15 @@ class WithLibrary(engine_rows.WithLibrary):
 
 
 class Border(unittest.TestCase):
-    """bindings/c/sfq.c beside the calls of the crate sfq_c, without either proved or made."""
+    """bindings/c/sfq.c and sfq_tables.c beside the calls of their crates, without either proved or made."""
 
     # How C has what a call takes: a slice is a pointer and a number, and a value that comes back is behind a pointer.
     AS_C = {
-        "u32": "uint32_t", "i32": "int32_t", "bool": "bool", "": "void", "KeptGeometry": "struct kept", "&mut Slot": "struct kept *",
+        "u32": "uint32_t", "u64": "uint64_t", "i32": "int32_t", "i64": "int64_t", "usize": "size_t", "bool": "bool", "": "void", "KeptGeometry": "struct kept", "&mut Slot": "struct kept *",
+        "KeptConnection": "struct kept", "&mut ConnectionSlot": "struct kept *", "&mut TablesFault": "sfq_tables_fault *",
         "KeptIndex": "struct kept", "&mut IndexSlot": "struct kept *", "&[Bounds]": "const struct bounds *, size_t",
         "&Bounds": "const struct bounds *", "&mut [usize]": "size_t *, size_t",
-        "&mut Fault": "sfq_fault *", "&mut bool": "bool *", "&mut u32": "uint32_t *", "&mut usize": "size_t *",
+        "&mut Fault": "sfq_fault *", "&mut bool": "bool *", "&mut u32": "uint32_t *", "&mut u64": "uint64_t *", "&mut i64": "int64_t *", "&mut usize": "size_t *",
         "&mut [u8; 9]": "uint8_t *", "&mut [bool; 11]": "bool *", "&mut [i32; 4]": "int32_t *", "&[u8]": "const uint8_t *, size_t",
         "&mut [u8]": "uint8_t *, size_t", "&[usize]": "const size_t *, size_t", "&[Coordinates]": "const struct position *, size_t",
     }
@@ -347,13 +353,14 @@ class Border(unittest.TestCase):
         return found
 
     def test_prototypes_are_those_of_the_exports(self):
-        text = re.sub(r"\s+", " ", read(f"{ROOT}/bindings/c/sfq.c"))
-        declared = {}
-        for result, name, words in re.findall(r"(?<=[;}] )(\w+) (sfq_proved_\w+)\(([^()]*)\);", text):
-            declared[name] = (result, re.sub(r"\b\w+(?=,|$)", "", words).replace(" ,", ",").strip())
-        exported = self.exports("sfq_c")
-        self.assertGreater(len(exported), 15)
-        self.assertEqual(declared, exported)
+        for it, least in ((library.SHAPES, 15), (library.TABLES, 22)):
+            text = re.sub(r"\s+", " ", read(f"{ROOT}/bindings/c/{it.name}.c"))
+            declared = {}
+            for result, name, words in re.findall(r"(?<=[;}] )(\w+) (sfq_proved_\w+)\(([^()]*)\);", text):
+                declared[name] = (result, re.sub(r"\b\w+(?=,|$)", "", words).replace(" ,", ",").strip())
+            exported = self.exports(it.crate)
+            self.assertGreaterEqual(len(exported), least)
+            self.assertEqual(declared, exported)
 
     @needs("gcc", "cc")
     def test_null_texts_and_arrays_are_empty(self):
@@ -365,25 +372,54 @@ class Border(unittest.TestCase):
         self.assertEqual((ran.returncode, ran.stdout), (0, "0 17\n"))
 
 
-@needs("gcc", "cc")
-class Library(WithLibrary):
-    """The calls over the shared library, and over the static one."""
+class PlayedCalls:
+    """What holds of all calls of a library: over the shared one and the static one, with each allocation refused in turn, and under
+    valgrind. Of these calls at least so many allocations are refused."""
+
+    least = 0
+
+    def calls(self):
+        """The calls, each with what it prints."""
+        raise NotImplementedError
+
+    def more_calls(self):
+        """Calls that are only compared."""
+        return []
 
     def test_rows_and_faults_with_both_libraries(self):
-        calls = lines_of_calls() + lines_of_whys()
-        for program in (self.shared(), self.program("static", f"{library.OUT}/libsfq.a")):
+        calls = self.calls() + self.more_calls()
+        for program in (self.shared(), self.program("static", *STATIC)):
             ran = self.calling([program], [it for it, _ in calls])
             self.assertEqual(ran.returncode, 0, ran.stderr)
             for (call, wanted), line in zip(calls, ran.stdout.splitlines(), strict=True):
                 self.assertEqual(line, wanted, call)
 
     def test_each_allocation_refused_in_turn(self):
-        program = self.program("refusing", "-DREFUSES", library.SHARED, f"-Wl,-rpath,{library.OUT}")
-        ran = self.calling([program, "refuse"], [it for it, _ in lines_of_calls()])
+        program = self.program("refusing", "-DREFUSES", *SHARED)
+        ran = self.calling([program, "refuse"], [it for it, _ in self.calls()])
         self.assertEqual(ran.returncode, 0, ran.stdout + ran.stderr)
         tried, managed = map(int, re.search(r"^(\d+) refused, (\d+) done without, 0 bad$", ran.stdout, re.M).groups())
-        self.assertGreater(tried, 500)
+        self.assertGreater(tried, self.least)
         self.assertLess(managed, tried // 10)
+
+    @needs("valgrind", "valgrind")
+    def test_valgrind_finds_nothing(self):
+        words = ["valgrind", "-q", "--leak-check=full", "--show-leak-kinds=all", "--error-exitcode=9", self.shared()]
+        ran = self.calling(words, [it for it, _ in self.calls()])
+        self.assertEqual((ran.returncode, ran.stderr), (0, ""))
+
+
+@needs("gcc", "cc")
+class Library(PlayedCalls, WithLibrary):
+    """The calls over geometries."""
+
+    least = 500
+
+    def calls(self):
+        return lines_of_calls()
+
+    def more_calls(self):
+        return lines_of_whys()
 
     def test_four_threads_on_small_stacks(self):
         """Small geometries, and some of thousands of positions."""
@@ -393,12 +429,6 @@ class Library(WithLibrary):
         ran = self.calling([self.shared(), "threads"], [it for it, _ in lines_of_calls()] + large)
         self.assertEqual(ran.returncode, 0, ran.stdout)
         self.assertIn(" 0 differ", ran.stdout)
-
-    @needs("valgrind", "valgrind")
-    def test_valgrind_finds_nothing(self):
-        words = ["valgrind", "-q", "--leak-check=full", "--show-leak-kinds=all", "--error-exitcode=9", self.shared()]
-        ran = self.calling(words, [it for it, _ in lines_of_calls()])
-        self.assertEqual((ran.returncode, ran.stderr), (0, ""))
 
     @needs("libc6-dev", "nm")
     def test_only_the_calls_of_the_header_can_be_seen(self):
@@ -433,7 +463,7 @@ class Library(WithLibrary):
                 file.write(source)
             flags = ["-std=c99", "-Wall", "-Wextra", "-Werror", f"-I{prefix}/include", f"-L{prefix}/lib"]
             program = f"{self.room.name}/example{at}"
-            subprocess.run(["cc", *flags, f"{program}.c", "-lsfq", f"-Wl,-rpath,{prefix}/lib", "-o", program], check=True)
+            subprocess.run(["cc", *flags, f"{program}.c", "-lsfq", "-lsfq_tables", f"-Wl,-rpath,{prefix}/lib", "-o", program], check=True)
             ran = subprocess.run([program], capture_output=True, text=True)
             self.assertEqual((ran.returncode, ran.stdout), (0, output), source)
 

@@ -23,6 +23,8 @@ OTHERS = {
     "sfq-import": [*python_command(sys.executable, "sfq-import"), "--help"],
     "sfq-export": [*python_command(sys.executable, "sfq-export"), "--help"],
     "sfq-schema": [*python_command(sys.executable, "sfq-schema"), "--help"],
+    "sfq-shell": [*python_command(sys.executable, "sfq-shell"), "--help"],
+    "sfq-audit": [*python_command(sys.executable, "sfq-audit"), "run", "--help"],
 }
 
 
@@ -33,8 +35,8 @@ def commands_in(text):
 
 
 def options_in(text):
-    """Returns the long options that a help text lists, with the short ones."""
-    return re.findall(r"^  (?:(-\w), )?(--[\w-]+)", text, re.M)
+    """Returns the long options that a help text lists, with the short ones; Python's lists an option's value behind each."""
+    return re.findall(r"^  (?:(-\w)(?: [^ ,]+)?, )?(--[\w-]+)", text, re.M)
 
 
 class ManualPage(unittest.TestCase):
@@ -133,7 +135,8 @@ class OtherCommands(unittest.TestCase):
             options = self.options(name)
             if options is None:
                 self.skipTest("needs ./build --tiles")
-            page, texts = read(f"{ROOT}/packaging/man/{name}.1").replace("\\-", "-"), {it: read(f"{ROOT}/packaging/completions/{it}") for it in completions(name)}
+            page = re.sub(r"\\f[A-Z]", "", read(f"{ROOT}/packaging/man/{name}.1").replace("\\-", "-"))
+            texts = {it: read(f"{ROOT}/packaging/completions/{it}") for it in completions(name)}
             for option in options:
                 self.assertRegex(page, rf"(?<![\w-]){option}\b", f"{name}: {option}")
                 for file, text in texts.items():
@@ -142,6 +145,18 @@ class OtherCommands(unittest.TestCase):
             # Nothing that the command doesn't have.
             offered = re.findall(r"compgen -W '([^']*--help[^']*)'", texts[f"{name}.bash"])[-1].split()
             self.assertEqual(set(offered) - {"--version"}, options - {"--version"}, name)
+
+    def test_options_of_sfq_audit_write(self):
+        """It has some that `run` doesn't have, and no others than the completions of it offer."""
+        text = subprocess.run([*python_command(sys.executable, "sfq-audit"), "write", "--help"], capture_output=True, text=True, check=True).stdout
+        options = {it for pair in options_in(text) for it in pair if it}
+        page = read(f"{ROOT}/packaging/man/sfq-audit.1").replace("\\-", "-")
+        for option in options:
+            self.assertRegex(page, rf"(?<![\w-]){option}\b", option)
+            for name in completions("sfq-audit"):
+                self.assertRegex(read(f"{ROOT}/packaging/completions/{name}"), rf"(?<![\w-]){option}\b|-[ls] {option.lstrip('-')}\b", f"{name}: {option}")
+        offered = re.findall(r"compgen -W '([^']*--help[^']*)'", read(f"{ROOT}/packaging/completions/sfq-audit.bash"))
+        self.assertIn(options, [set(it.split()) for it in offered])
 
     def test_each_says_its_version(self):
         for name, words in OTHERS.items():
@@ -197,7 +212,14 @@ class Completions(unittest.TestCase):
             self.assertEqual(self.complete("sfq-import", "--out", "", folder=room), ["tables"])
             self.assertEqual(self.complete("sfq-export", "t.", folder=room), ["t.csv"])
             self.assertEqual(self.complete("sfq-schema", "", folder=room), ["tables"])
+            self.assertEqual(sorted(self.complete("sfq-shell", "--mode", "csv", "", folder=room)), ["schema.sql", "tables"])
+            self.assertEqual(self.complete("sfq-shell", "--all", "schema.sql", "-c", ".tables", "t", folder=room), ["tables"])
+        self.assertEqual(self.complete("sfq-shell", "--mode", "g"), ["geojson"])
         self.assertEqual(self.complete("sfq-scale", "r"), ["run"])
+        self.assertEqual(self.complete("sfq-audit", "run", "--engine", "sh"), ["shapely"])
+        self.assertEqual(self.complete("sfq-audit", "run", "--family", "s"), ["slivers"])
+        self.assertEqual(self.complete("sfq-audit", "write", "--format", "j"), ["jts-xml"])
+        self.assertEqual(self.complete("sfq-audit", "run", "--format", "j"), ["json"])
         self.assertEqual(self.complete("sfq-scale", "run", "s", "d", "S"), ["SELECT"])
         self.assertEqual(self.complete("sfq-import", "--invalid", "m"), ["mend"])
         self.assertEqual(self.complete("sfq-tiles", "--part", ""), [])
@@ -234,7 +256,8 @@ class Completions(unittest.TestCase):
         for line, wanted in (
             ("sfq r", ["relate", "run"]), ("sfq relate ", GEOMETRIES), ("sfq why P", ["POINT(", "POLYGON("]), ("sfq fault ", codes()),
             ("sfq fault W", ["W1", "W2", "W3", "W4"]), ("sfq pairs --w", ["--why"]), ("sfq help wh", ["why"]), ("sfq-tiles --r", ["--rows"]), ("sfq-scale ru", ["run"]), ("sfq-scale run --se", ["--send"]),
-            ("sfq-import --invalid ", ["leave-out", "mend", "stop"]), ("sfq-export --w", ["--wgs84"]), ("sfq-schema --v", ["--version"]),
+            ("sfq-import --invalid ", ["leave-out", "mend", "stop"]), ("sfq-export --w", ["--wgs84"]), ("sfq-schema --v", ["--version"]), ("sfq-shell --mode j", ["json"]),
+            ("sfq-audit run --format h", ["html"]), ("sfq-audit write --format j", ["jts-xml"]), ("sfq-audit w", ["write"]),
         ):
             script = f"source '{ROOT}/packaging/completions/{line.partition(' ')[0]}.fish'; complete -C '{line}'"
             ran = subprocess.run([shutil.which("fish"), "--no-config", "-c", script], capture_output=True, text=True)

@@ -12,6 +12,7 @@ import sys
 import tempfile
 import threading
 import unittest
+import zipfile
 
 from support import ROOT, needs, python_with, read, write
 
@@ -367,10 +368,10 @@ class Package(engine_rows.WithLibrary):
             self.skipTest("needs the package python3-venv")
         version, seconds = packages.released()
         with tempfile.TemporaryDirectory(prefix="sfq-wheel-") as room:
-            path = wheels.make(room, version, seconds, packages.wanted_libc([library.SHARED]))
+            path = wheels.make(room, version, seconds, packages.wanted_libc(wheels.shared()))
             with open(path, "rb") as file:
                 first = file.read()
-            with open(wheels.make(room, version, seconds, packages.wanted_libc([library.SHARED])), "rb") as file:
+            with open(wheels.make(room, version, seconds, packages.wanted_libc(wheels.shared())), "rb") as file:
                 self.assertEqual(file.read(), first)
             clean = {name: value for name, value in environment().items() if not name.startswith(("PIP_", "PYTHON", "SFQ_"))}
             python = f"{room}/venv/bin/python"
@@ -381,6 +382,8 @@ class Package(engine_rows.WithLibrary):
                 self.assertEqual((ran.returncode, ran.stderr), (0, ""), words)
             ran = subprocess.run([python, "-c", text], env=clean, cwd=room, capture_output=True, text=True)
             self.assertRegex(ran.stdout, rf"^0FFFFFFF2 {room}/venv/lib/.*/sfq/libsfq.so.0\n$", ran.stderr)
+            inside = {it.rpartition("/")[2] for it in zipfile.ZipFile(path).namelist()}
+            self.assertLessEqual({os.path.basename(it) for it in wheels.shared()}, inside)
 
     def test_the_example_of_the_document(self):
         text = re.search(r"^## Python$(.*?)^## ", read(f"{ROOT}/docs/LIBRARY.md"), re.M | re.S)[1]
@@ -457,16 +460,16 @@ class Installation(unittest.TestCase):
             flags = ["-q", "--no-build-isolation", "--no-index", "--disable-pip-version-check"]
             run(python, "-m", "pip", "install", *flags, f"{room}/project")
             text = (
-                "import importlib.metadata as found, sfq, sfq_scale, os\n"
-                "for it in (sfq, sfq_scale):\n"
+                "import importlib.metadata as found, sfq, sfq_audit, sfq_scale, os\n"
+                "for it in (sfq, sfq_audit, sfq_scale):\n"
                 "    print(it.__file__, os.path.isfile(os.path.join(os.path.dirname(it.__file__), 'py.typed')))\n"
                 "print(found.version('sfq'), *sorted(it.name for it in found.distribution('sfq').entry_points))\n"
             )
             *places, last = run(python, "-c", text).splitlines()
             for it in places:
                 self.assertRegex(it, rf"^{room}/venv/lib/.*/__init__.py True$")
-            self.assertEqual(last, f"{repository.version()} sfq-export sfq-import sfq-scale sfq-schema")
-            for it in ("sfq-import", "sfq-export", "sfq-scale", "sfq-schema"):
+            self.assertEqual(last, f"{repository.version()} sfq-audit sfq-export sfq-import sfq-scale sfq-schema sfq-shell")
+            for it in ("sfq-audit", "sfq-import", "sfq-export", "sfq-scale", "sfq-schema", "sfq-shell"):
                 self.assertEqual(run(f"{room}/venv/bin/{it}", "--version"), f"{it} {repository.version()}\n")
             run(python, "-m", "pip", "uninstall", "-q", "-y", "--disable-pip-version-check", "sfq")
             self.assertEqual([it for it in os.listdir(f"{room}/venv/bin") if it.startswith("sfq")], [])

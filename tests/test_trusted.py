@@ -118,6 +118,7 @@ class Trusted(unittest.TestCase):
         for path, is_there, shown, command in (
             (repository.PROGRAM, repository.is_built, "the program sfq", "./build"), (tiles.PROGRAM, tiles.is_made, "the program sfq-tiles", "./build --tiles"),
             (library.SHARED, library.is_made, "the library libsfq.so.0", "./build --library"),
+            (library.TABLES.shared, lambda: library.is_made(library.TABLES), "the library libsfq_tables.so.0", "./build --library"),
         ):
             is_made = os.path.isfile(path) and is_there()
             self.assertIn(f"    {repository.sum_of_file(path)}  {shown}" if is_made else f"    {command} makes {shown}, which isn't there", follows)

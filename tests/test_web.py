@@ -1,4 +1,4 @@
-"""The web page: what its script checks, its module against the program in Chromium and Firefox, and the page as a person uses it."""
+"""The web page: what its script checks, its modules against the program in Node, Chromium and Firefox, and the page as a person uses it."""
 import base64
 import functools
 import http.server
@@ -13,13 +13,14 @@ import tempfile
 import threading
 import unittest
 
-from support import ROOT, needs_build, read
+from support import ROOT, needs, needs_build, read
 
 import answers
 import pairs
 import required_rows
 import web_page
 from fuzz import changes, outcomes
+from sfq_audit import predicates
 
 # A browser may take this long to begin and to do its work, in seconds.
 PATIENCE = 300
@@ -109,12 +110,12 @@ class BuildOfTheModule(unittest.TestCase):
 
     def test_examples_have_titles_and_both_texts(self):
         found = web_page.examples()
-        self.assertGreaterEqual(sum("elsewhere" in it for it in found), 7)
+        self.assertGreaterEqual(sum("elsewhere" in it for it in found), 10)
         for it in found:
             self.assertTrue(all(it[name] for name in ("title", "a", "b", "says")), it)
         elsewhere = next(it for it in found if "elsewhere" in it)
-        self.assertEqual((elsewhere["elsewhere"], elsewhere["sfq"]), ("0F1F0F102: crosses", "1FFF0F102: within"))
-        self.assertEqual(elsewhere["engines"], "GEOS, SpatiaLite, PostGIS, GDAL and JTS")
+        self.assertEqual((elsewhere["elsewhere"], elsewhere["sfq"]), ("0F100F102: crosses", "1FF00F102: within"))
+        self.assertEqual(elsewhere["engines"], "GEOS, SpatiaLite, PostGIS and JTS")
 
     def test_every_file_that_the_page_names_is_made(self):
         made = [*web_page.FILES, *(it.script for it in web_page.MODULES), "examples.js", "town.js"]
@@ -280,9 +281,88 @@ def with_answers(found):
 
 def relations(pair, matrix):
     """Returns which relations hold by a matrix, by their patterns."""
-    dimensions = tuple(map(outcomes.dimension, pair))
+    dimensions = tuple(map(predicates.dimension, pair))
     named = {it.removeprefix("ST_") for it in outcomes.PREDICATES if outcomes.holds(it, matrix, dimensions)}
-    return named | {name for name, forms in FURTHER.items() if any(outcomes.matches(it, matrix) for it in forms)}
+    return named | {name for name, forms in FURTHER.items() if any(predicates.matches(it, matrix) for it in forms)}
+
+
+# ---- the modules of the page of tables in Node
+
+
+def in_node(folder, *words):
+    """Returns what tests/web/asked.js prints of the page in a folder."""
+    ran = subprocess.run(["node", f"{ROOT}/tests/web/asked.js", folder, *words], capture_output=True, text=True, timeout=2 * PATIENCE)
+    if ran.returncode:
+        raise AssertionError(ran.stderr[-2000:])
+    return json.loads(ran.stdout)
+
+
+def asked_in_node(databases):
+    """Returns what comes of databases, given as the bytes of the schema, of the tables and of the queries: of each a list of answers or
+    lines of faults, and how often each call was made."""
+    def texts(them):
+        return [base64.b64encode(it).decode() for it in them]
+
+    with tempfile.TemporaryDirectory(prefix="sfq-web-test-") as room:
+        with open(f"{room}/asked.json", "w", encoding="ascii") as file:
+            given = [{"schema": texts([schema])[0], "tables": texts(tables), "queries": texts(asked)} for schema, tables, asked in databases]
+            json.dump(given, file)
+        found = in_node(page(room), "queries", f"{room}/asked.json")
+    return [(it["answers"], it["made"]) for it in found["found"]], found["lost"]
+
+
+@needs("nodejs", "node")
+class InNode(unittest.TestCase):
+    """The page of tables asks its modules in Node, where no browser is there."""
+
+    ASKS_LIBRARY = True
+
+    @needs_page
+    def test_tables_are_loaded_once(self):
+        """Each query of the scripts writes what is printed, all of one database over tables that are loaded once."""
+        databases = {}
+        for (schema, tables, query), printed in rows_that_ask():
+            databases.setdefault((schema, tuple(tables)), []).append((query, printed))
+        self.assertGreaterEqual(sum(map(len, databases.values())), 280)
+        self.assertGreaterEqual(max(map(len, databases.values())), 10)
+        found, lost = asked_in_node([
+            (schema.encode(), [it.encode() for it in tables], [query.encode() for query, _ in asked])
+            for (schema, tables), asked in databases.items()
+        ])
+        self.assertEqual(lost, 0, "memory isn't given back")
+        for ((_, tables), asked), (answers, made) in zip(databases.items(), found, strict=True):
+            for (query, printed), answer in zip(asked, answers, strict=True):
+                with self.subTest(query):
+                    self.assertEqual(answer, printed)
+            faults = sum(printed.startswith("sfq: ") for _, printed in asked)
+            with self.subTest(asked[0][0]):
+                self.assertEqual(made.get("page_run", 0), faults)
+                if not any(re.match(r"sfq: (\w+ L|S)\d", printed) for _, printed in asked):
+                    self.assertEqual(made["page_load"], len(tables))
+                    self.assertEqual(made.get("page_finalize", 0), len(asked) - faults)
+
+    @needs_page
+    def test_a_query_is_stopped(self):
+        with tempfile.TemporaryDirectory(prefix="sfq-web-test-") as room:
+            found = in_node(page(room), "stop")
+        self.assertEqual(found["rested"], {"value": 0, "done": False})
+        self.assertEqual(found["stopped"], {"value": "stopped", "done": True})
+        self.assertEqual([it["answer"] for it in found["answers"]], ["id\n7\n", "a.id\n", "id\n7\n"])
+        self.assertEqual([it["loaded"] for it in found["answers"]], [0, 0, 0])
+        # It rested about 30 times a second, and the others not at all.
+        self.assertEqual([it["rests"] > 1 for it in found["answers"]], [False, True, False])
+        made = found["made"]
+        self.assertEqual((made["page_load"], made["page_prepare"], made["page_finalize"]), (1, 4, 4))
+
+    @needs_page
+    def test_memory_that_is_short(self):
+        """A table that doesn't fit is refused, and what was loaded before is asked on."""
+        module = carried()[web_page.KEPT]
+        short = base64.b64encode(limited(module_of_page(web_page.KEPT), 24)).decode()
+        with tempfile.TemporaryDirectory(prefix="sfq-web-test-") as room:
+            web_page.write_page({**carried(), web_page.KEPT: {**module, "bytes": short}}, f"{room}/page")
+            found = in_node(f"{room}/page", "short")
+        self.assertEqual(found, ["n\n1\n", "memory ran out"] * 2 + ["n\n1\n"])
 
 
 class InBrowsers(unittest.TestCase):
@@ -325,10 +405,10 @@ class InBrowsers(unittest.TestCase):
     def compare_queries(self, asked, report):
         self.assertGreaterEqual(len(asked), 280)
         self.assertIsInstance(report, dict, report)
-        self.assertEqual((report["unfit"], report["lost"]), ("the schema has another number of tables", 0))
+        self.assertEqual((report["unfit"], report["lost"]), (["the schema has another number of tables"] * 2, 0))
         for ((_, _, query), printed), found in zip(asked, report["answers"], strict=True):
             with self.subTest(query):
-                self.assertEqual(found, printed)
+                self.assertEqual(found, [printed] * 2)
 
     @needs_page
     def test_pairs_of_the_scripts_in_chromium(self):

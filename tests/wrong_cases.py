@@ -196,9 +196,9 @@ def of_table(case: Case, fault: str, reason: str) -> list[str]:
     if code == "L11":
         at = next((begin for it in found for number, (begin, field) in enumerate(it) if len(field) > 1 << 20 or number == 100_000), None)
         return [] if at is None else place_lines(text, at)
-    record = found[int(re.match(r" record (\d+)", rest)[1]) - (name == "pairs")]
+    record = found[int(re.match(r" record (\d+)", rest)[1])]
     if code == "L3":
-        width = 2 if name == "pairs" else len(found[0])
+        width = len(found[0])
         end = record[-1][0] + len(record[-1][1])
         return place_lines(text, record[width][0] if len(record) > width else end)
     column = re.search(r"column (\w+)", reason)
@@ -216,6 +216,8 @@ def text_of(case: Case, word: str) -> bytes:
 def shown_place(case: Case) -> list[str]:
     """Returns the lines that show the place of a case's fault, none where it has no place."""
     fault, said = case.fault.rstrip("\n"), [it for it in case.added if it.startswith("sfq: ")]
+    if fault.startswith("sfq: pairs "):
+        return []
     if re.match(r"sfq: \w+ L\d+", fault):
         return of_table(case, fault, said[0] if said else "")
     at = re.match(r"sfq: (?:(first|second) )?([SQW])\d+ at (\d+)", fault)

@@ -1,5 +1,5 @@
-"""The proved calls of a static library, compiled: an archive for x86-64, of which the C library is made, and the module of LLVM on
-the way to it, of which the web page is made. The crate is sfq_c, or sfq_web for the page's queries."""
+"""The proved calls of a static library, compiled: an archive for x86-64, of which a C library is made, and the module of LLVM on the
+way to it, of which the web page is made. The crate is sfq_c, sfq_tables for databases, or sfq_web for the page's queries."""
 import os
 import re
 import subprocess
@@ -42,13 +42,9 @@ def find_kit() -> str:
     return kit
 
 
-def folder_of(name: str) -> str:
-    return f"{repository.ROOT}/crates/{name}"
-
-
-def crate_of(name: str = CRATE) -> proving.Crate:
+def crate_of(name: str = CRATE, root: str = repository.ROOT) -> proving.Crate:
     """Returns what is known of the crate's proof."""
-    crates = proving.crates_of(repository.ROOT, repository.logic_of(repository.kit_line()), [name])
+    crates = proving.crates_of(root, repository.logic_of(repository.kit_line()), [name])
     if not crates:
         raise Failure(f"crates.txt has no crate {name}")
     crates[-1].read_mark()
@@ -74,15 +70,15 @@ def prove(jobs: int = 0, name: str = CRATE) -> None:
         raise Failure(f"the crate {name} isn't proved")
 
 
-def words_of_build(kit: str, toolchain: str, archive: str, keeps: bool, name: str) -> list[str]:
+def words_of_build(kit: str, toolchain: str, archive: str, keeps: bool, name: str, root: str) -> list[str]:
     """Returns the words by which the kit builds the crate with a toolchain of our own. `rt lib` has no word for one."""
-    crates = repository.read_crates()
+    crates = repository.read_crates(root)
     words = [f"{kit}/bin/rattle", "build", "--crate-name", name, "src/lib.rt", "--extern", f"std={kit}/rlibs/std.rlib"]
     for it in crates[name]:
-        at = f"{repository.ROOT}/crates/{it}/out/rlib" if it in crates else f"{kit}/rlibs"
+        at = f"{root}/crates/{it}/out/rlib" if it in crates else f"{kit}/rlibs"
         words += ["--extern", f"{it}={at}/{it}.rlib"]
     for it in below(crates, name):
-        words += ["-L", f"dependency={repository.ROOT}/crates/{it}/out/rlib"]
+        words += ["-L", f"dependency={root}/crates/{it}/out/rlib"]
     words += ["-L", f"dependency={kit}/rlibs", "--antt-project", f"{kit}/rattle/logic/antt-project.json"]
     words += ["--logic-built", f"{kit}/logic_built", "--links", f"{name}=", "--crate-type", "staticlib"]
     words += ["--incremental", "out/incremental"] if keeps else []
@@ -101,8 +97,8 @@ def make_toolchain(kit: str, folder: str, module: str) -> None:
     os.chmod(f"{folder}/bin/clang", 0o755)
 
 
-def compile_calls(room: str, keeps: bool = True, name: str = CRATE) -> Compiled:
-    """Proves the crate over the libraries that are proved below it, and compiles it into a folder.
+def compile_calls(room: str, keeps: bool = True, name: str = CRATE, root: str = repository.ROOT) -> Compiled:
+    """Proves the crate of a repository over the libraries that are proved below it, and compiles it into a folder.
 
     `keeps` says whether these libraries are those of `rt check`, and what is proved now is kept beside them. What `rt ci` leaves
     serves too, but nothing else can be built on it.
@@ -110,12 +106,13 @@ def compile_calls(room: str, keeps: bool = True, name: str = CRATE) -> Compiled:
     kit = find_kit()
     compiled = Compiled(f"{room}/lib{name}.a", f"{room}/{name}.bc")
     make_toolchain(kit, f"{room}/toolchain-{name}", compiled.module)
-    report = run(words_of_build(kit, f"{room}/toolchain-{name}", compiled.archive, keeps, name), cwd=folder_of(name))
+    words = words_of_build(kit, f"{room}/toolchain-{name}", compiled.archive, keeps, name, root)
+    report = run(words, cwd=f"{root}/crates/{name}")
     found = re.search(rf"^logic=proved .*target={TARGET}.*$", report, re.M)
     if not found:
         raise Failure(f"the kit doesn't say that {name} is proved for {TARGET}")
     if not os.path.isfile(compiled.module):
         raise Failure("the kit's clang got no file module.bc")
     if keeps:
-        crate_of(name).write_mark(found[0])
+        crate_of(name, root).write_mark(found[0])
     return compiled

@@ -56,11 +56,13 @@ class Edit:
 
 
 def owner_of(line: str) -> str:
-    """Returns what a check calls the functions of a block by: its type, and behind that its trait."""
+    """Returns what a check calls the functions of a block by: its type, and behind that its trait, with the type that this is of."""
     head = re.match(r"(?:pub )?(?:unsafe )?(?:impl|trait)\b(?:<(?:[^<>]|<[^<>]*>)*>)? *(.*)", line)
     trait, is_of, of = (head[1] if head else "").partition(" for ")
-    words = [re.match(r"(?:\w+::)*(\w+)", it) for it in ([of, trait] if is_of else [trait])]
-    return "".join(it[1] for it in words if it)
+    words = [re.match(r"(?:\w+::)*(\w+)", of)] if is_of else []
+    words.append(re.match(r"(?:\w+::)*(\w+)(?:<(?:\w+::)*(\w+)>)?", trait))
+    names = [name for it in words if it for name in it.groups() if name]
+    return "".join(names if is_of else names[:1])
 
 
 def function_at(text: str, place: int) -> str:
@@ -129,12 +131,16 @@ def write(folder: str, texts: dict[str, str]) -> None:
 def refused_in(log: str) -> set[str]:
     """Returns the functions of which a check leaves a goal open by itself: not over what an answer names, nor over what they call."""
     errors: dict[str, list[str]] = {}
-    for line in log.split("\n"):
+    lines = log.split("\n")
+    for line, after in zip(lines, [*lines[1:], ""]):
         error = ERROR.match(line)
         if error:
-            errors.setdefault(error[1].replace("/", "::"), []).append(error[2])
+            # An error may go on in the next line, which begins with spaces.
+            more = after if after.startswith("  ") else ""
+            # The folder of a function that calls itself begins with a plus.
+            errors.setdefault(error[1].replace("/+", "/").replace("/", "::"), []).append(error[2] + more)
     found = set()
-    for line in log.split("\n"):
+    for line in lines:
         said = UNPROVED.match(line)
         if not said:
             continue

@@ -121,6 +121,7 @@ LISTS = [
     Place(
         "bindings/python/sfq/_wkb.py", r"^WORDS = ", r'(\d): "(\w+)"', [(str(at), it.upper()) for at, it in enumerate(NUMBERED, 1)], r"\}\n"
     ),
+    Place("bindings/python/sfq/_prompt.py", r"^FUNCTIONS = ", r'"(ST_\w+)"', FUNCTIONS, r"\)\n", True),
     Place("bindings/python/sfq/_tables.py", r"^RESERVED = ", r'"(\w+)"', [it.lower() for it in RESERVED], r"\}\n"),
     Place(
         "bindings/sqlite/sfq0.c", r'^ +\{ "ST_Equals"', r'"(\w+)", 2, relation, (\w+)',
@@ -168,5 +169,5 @@ LISTS = [
     Place("crates/explanations/src/schema_explanations.rt", r"^const TYPES", r'b"(\w+)"', COLUMN_WORDS, r"\n\];", True),
     Place("crates/record_reasons/specs/ReasonTexts.antt", r"^type_word", r'shapes\.(\w+) = codes "(\w+)"', TYPED),
     Place("crates/sfq_tiles/specs/SchemaTexts.antt", r"^shape_text", r'shapes\.(\w+)\) = codes "(\w+)"', TYPED),
-    Place("tests/fuzz/outcomes.py", r"^ALWAYS = ", r'"(ST_\w+)"', PREDICATES, r"\)\n\n", True),
+    Place("bindings/python/sfq_audit/predicates.py", r"^NAMES = ", r'"(\w+)"', [it[3:].lower() for it in PREDICATES], r"\)\n", True),
 ]

@@ -287,21 +287,24 @@ def gate(counts: Counts) -> bool:
 
 
 def make_library(counts: Counts) -> None:
-    """Makes the C library, and the web page where binaryen is there, of the libraries that `rt ci` left proved."""
+    """Makes the C libraries, and the web page where binaryen is there, of the libraries that `rt ci` left proved."""
     begun, text = time.monotonic(), ""
     try:
         with tempfile.TemporaryDirectory(prefix="sfq-calls-") as room:
-            compiled = calls.compile_calls(room, keeps=False)
-            library.link(compiled.archive)
+            compiled = {it.crate: calls.compile_calls(room, keeps=False, name=it.crate) for it in library.ALL}
+            for it in library.ALL:
+                library.link(compiled[it.crate].archive, it)
             if shutil.which("wasm-opt"):
                 import web_page
 
-                tables = calls.compile_calls(room, keeps=False, name=web_page.TABLES.crate)
-                made, kit = {web_page.SHAPES: compiled, web_page.TABLES: tables}, calls.find_kit()
-                web_page.write_page({it: web_page.carried(it, web_page.module_of(kit, it, each)) for it, each in made.items()})
+                for each in web_page.MODULES:
+                    if each.crate not in compiled:
+                        compiled[each.crate] = calls.compile_calls(room, keeps=False, name=each.crate)
+                kit = calls.find_kit()
+                web_page.write_page({it: web_page.carried(it, web_page.module_of(kit, it, compiled[it.crate])) for it in web_page.MODULES})
     except calls.Failure as it:
         text = str(it)
-    counts.take("making of the C library and the web page", not text, time.monotonic() - begun, text=text)
+    counts.take("making of the C libraries and the web page", not text, time.monotonic() - begun, text=text)
 
 
 def tests_of_library(counts: Counts, tests: Iterable[unittest.TestCase], is_left: bool) -> None:

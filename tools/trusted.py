@@ -11,11 +11,15 @@ PATH = re.compile(r"(?:crates/)?\b(\w+/(?:specs|src)/[\w/]+\.(?:antt|rt))\b")
 LINK = re.compile(r"\[([^\]]*)\]\([^)]*?" + PATH.pattern + r"\)")
 # The crates of definitions, whose files are listed where docs/PROVED.md has no chain.
 MODELS = ("geometry_model", "table_model")
-# The crates of the programs that users run, and that of the library's calls.
+# The crates of the programs that users run, and those of the calls of the libraries.
 PROGRAMS = ("sfq", "sfq_tiles")
 LIBRARY = "sfq_c"
+DATABASES = "sfq_tables"
 # What is made of each, and by what command.
-MAKES = {"sfq": ("sfq", "./build"), "sfq_tiles": ("sfq-tiles", "./build --tiles"), "sfq_c": ("libsfq.so.0", "./build --library")}
+MAKES = {
+    "sfq": ("sfq", "./build"), "sfq_tiles": ("sfq-tiles", "./build --tiles"), "sfq_c": ("libsfq.so.0", "./build --library"),
+    "sfq_tables": ("libsfq_tables.so.0", "./build --library"),
+}
 # The one call by which the program of tiles does what its words ask for: its crate, its type, its name.
 TILES = ("sfq_tiles", "", "split")
 
@@ -57,13 +61,21 @@ def of_headline(root: str) -> closure.Closure:
     return made
 
 
-def of_library(root: str) -> closure.Closure:
-    """Returns what the contracts of the library's calls reach."""
+def of_calls(root: str, crate: str) -> closure.Closure:
+    """Returns what the contracts of a library's calls reach."""
     made = closure.Closure(root)
     for it in made.functions():
-        if it.crate == LIBRARY and 'extern "C"' in it.signature:
+        if it.crate == crate and 'extern "C"' in it.signature:
             made.add_item(it)
     return made
+
+
+def of_library(root: str) -> closure.Closure:
+    return of_calls(root, LIBRARY)
+
+
+def of_databases(root: str) -> closure.Closure:
+    return of_calls(root, DATABASES)
 
 
 def of_tiles(root: str) -> closure.Closure:
@@ -80,13 +92,14 @@ CHAINS = {
     "the headline, by the chain of docs/PROVED.md": of_headline,
     "the C library, by the calls of sfq_c": of_library,
     "sfq-tiles, by the call split and the laws of docs/SCALE.md": of_tiles,
+    "databases of the C library, by the calls of sfq_tables": of_databases,
 }
 
 
 def kit_libraries(root: str = repository.ROOT) -> list[str]:
     """Returns the kit's libraries that the programs are built from: their contracts are taken as the kit proved them."""
     crates, used = repository.read_crates(root), {"std"}
-    left = [it for it in (*PROGRAMS, LIBRARY) if it in crates]
+    left = [it for it in (*PROGRAMS, LIBRARY, DATABASES) if it in crates]
     while left:
         for it in crates[left.pop()]:
             if it in crates:

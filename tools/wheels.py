@@ -1,8 +1,9 @@
-"""Makes a wheel of the Python package with the C library inside: pip installs it where neither the kit nor a compiler is."""
+"""Makes a wheel of the Python package with the C libraries inside: pip installs it where neither the kit nor a compiler is."""
 import base64
 import datetime
 import hashlib
 import io
+import os
 import re
 import zipfile
 from typing import Iterable
@@ -39,18 +40,24 @@ def about(version: str, libc: str) -> dict[str, str]:
         "METADATA": f"{metadata}Requires-Python: {described('requires-python')}\n",
         "WHEEL": f"Wheel-Version: 1.0\nGenerator: sfq {version}\nRoot-Is-Purelib: false\nTag: {tag(libc)}\n",
         "entry_points.txt": scripts(),
-        "top_level.txt": "sfq\nsfq_scale\n",
+        "top_level.txt": "sfq\nsfq_audit\nsfq_scale\n",
     }
+
+
+def shared() -> list[str]:
+    """Returns the paths of the shared libraries that are installed."""
+    return [os.path.join(repository.ROOT, source) for source, target, _ in library.FILES if target.endswith(".so.0")]
 
 
 def files(version: str, libc: str) -> Iterable[tuple[str, bytes]]:
     """Returns each file of the wheel but the list of them: its place and its bytes."""
-    for name in ("sfq", "sfq_scale"):
+    for name in ("sfq", "sfq_audit", "sfq_scale"):
         for source, target, _ in bindings.of_package(name, "."):
             with open(f"{repository.ROOT}/{source}", "rb") as file:
                 yield target[2:], file.read()
-    with open(library.SHARED, "rb") as file:
-        yield f"sfq/{library.NAME}", file.read()
+    for source in shared():
+        with open(source, "rb") as file:
+            yield f"sfq/{os.path.basename(source)}", file.read()
     for name, text in about(version, libc).items():
         yield f"sfq-{version}.dist-info/{name}", text.encode()
 

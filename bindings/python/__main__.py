@@ -1,4 +1,4 @@
-"""Runs a command of this project: `python3 FOLDER COMMAND ..`, where COMMAND is sfq-import, sfq-export, sfq-schema or sfq-scale, or its path.
+"""Runs a command of this project: `python3 FOLDER COMMAND ..`, where COMMAND is one of those below, or its path.
 
 Python looks for modules in the folder that it runs, so the packages beside this file are found, in a checkout and where
 `./build --install` installs them. The launchers in bin/ do this; where pip installs the project, it makes launchers of its own.
@@ -8,7 +8,7 @@ import os
 import sys
 
 # As pyproject.toml lists them.
-COMMANDS = {"sfq-import": "sfq.imports", "sfq-export": "sfq.exports", "sfq-schema": "sfq.schemas", "sfq-scale": "sfq_scale.command"}
+COMMANDS = {"sfq-import": "sfq.imports", "sfq-export": "sfq.exports", "sfq-schema": "sfq.schemas", "sfq-shell": "sfq.shell", "sfq-audit": "sfq_audit.command", "sfq-scale": "sfq_scale.command"}
 
 if __name__ == "__main__":
     # From here on the command is the program that runs: it looks for others beside itself.

@@ -4,7 +4,8 @@
 const find = (id) => document.getElementById(id);
 // An answer of more rows than this isn't shown whole.
 const MOST_ROWS = 500;
-let engine = null, trouble = "";
+// The query that is being asked is a generator, and none is before the first.
+let engine = null, trouble = "", asked = null;
 
 function make(name, text = "", className = "") {
   const it = document.createElement(name);
@@ -53,7 +54,7 @@ function faultWords(line) {
 
 function showAnswer(header, records) {
   const table = make("table"), caption = table.createCaption(), head = table.createTHead().insertRow();
-  caption.textContent = records.length === 1 ? "1 row" : `${records.length} rows`;
+  caption.textContent = rowsIn(records.length);
   head.append(...header.map((name) => {
     const cell = make("th", name);
     cell.scope = "col";
@@ -65,21 +66,60 @@ function showAnswer(header, records) {
   find("answer").replaceChildren(table);
 }
 
+// Asks the query of the page. One that is being asked is ended.
 function renew() {
+  stop();
   const given = tables(), query = find("query").value;
-  const begun = performance.now(), came = ask(() => engine.run(find("table-schema").value, Object.values(given), query));
-  const took = performance.now() - begun;
+  asked = ask(() => engine.asking(find("table-schema").value, Object.values(given), query));
+  goOn({ asked, given, query, begun: performance.now() });
+}
+
+function stop() {
+  const it = asked;
+  asked = null;
+  find("running").hidden = true;
+  if (it) ask(() => it.return());
+}
+
+function stopped() {
+  stop();
+  find("speed").textContent = "Stopped.";
+}
+
+// Goes on with a query until it rests, and then lets the page be used before it goes on; shows what came once it is there.
+function goOn(it) {
+  if (it.asked !== asked) return;
+  const came = it.asked && ask(() => it.asked.next()), took = performance.now() - it.begun;
+  if (came && !came.done) {
+    for (const name of ["answer", "fault", "speed"]) find(name).replaceChildren();
+    find("running").hidden = false;
+    find("progress").textContent = `${(took / 1000).toFixed(1)} s, ${rowsIn(came.value)} so far`;
+    setTimeout(goOn, 0, it);
+    return;
+  }
+  asked = null;
+  find("running").hidden = true;
+  show(came?.value, it.given, it.query, took);
+}
+
+const rowsIn = (count) => (count === 1 ? "1 row" : `${count} rows`);
+
+// Shows what came of a query: an answer, a fault, or nothing where the module has none.
+function show(came, given, query, took) {
   const [header = [], ...records] = came?.answer === undefined ? [] : recordsOf(came.answer);
   find("query").setAttribute("aria-invalid", String(came?.fault !== undefined));
   find("fault").replaceChildren(...(came?.fault ? [make("strong", came.fault), faultWords(came.fault)] : [trouble]));
   find("answer").replaceChildren();
   if (came?.answer !== undefined) showAnswer(header, records);
-  find("speed").textContent = came?.answer !== undefined ? `All tables loaded and the query run in ${Math.max(1, took).toFixed(0)} ms.` : "";
+  find("speed").textContent = came?.answer !== undefined ? `${loadedIn(came.loaded)}The query took ${Math.max(1, took).toFixed(0)} ms.` : "";
   const marked = rowsOf(query, header, records);
   drawMap(find("map"), featuresOf(given), marked);
   find("hint").textContent = came?.answer === undefined || marked.size
     ? "Point at a shape to read its table, key and name." : "Select an id to see the rows on the map.";
+  if (engine || trouble) document.documentElement.dataset.ready = "yes";
 }
+
+const loadedIn = (count) => (count ? `Tables loaded: ${count}. ` : "");
 
 // Calls the module, and notes why it returns nothing. A module that stopped is started anew.
 function ask(call) {
@@ -98,7 +138,7 @@ async function start() {
   engine = null;
   try {
     engine = await startTables();
-    find("module").textContent = `The module: ${engine.about}.`;
+    find("module").textContent = `The modules: ${engine.about}.`;
   } catch (error) {
     trouble = `The module didn't start, so there is no answer: ${error.message}`;
     find("module").textContent = trouble;
@@ -109,10 +149,10 @@ async function begin() {
   buildTexts();
   find("example").addEventListener("change", () => open(Number(find("example").value)));
   find("query").addEventListener("input", renew);
+  find("stop").addEventListener("click", stopped);
   new ResizeObserver(renew).observe(find("map"));
   await start();
   open(1);
-  document.documentElement.dataset.ready = "yes";
 }
 
 begin();

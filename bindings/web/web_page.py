@@ -1,5 +1,6 @@
 #!/usr/bin/env python3
-"""Makes the web page in bindings/web/out: the modules from the proved crates sfq_c and sfq_web, the examples, and the files beside this one.
+"""Makes the web page in bindings/web/out: the modules from the proved crates sfq_c, sfq_tables and sfq_web, the examples, and the files
+beside this one.
 
 usage: bindings/web/web_page.py [--jobs N]      or ./build --web
 
@@ -74,7 +75,15 @@ SHAPES = Module(
 TABLES = Module(
     "TABLES_MODULE", "tables_module.js", "sfq_web", ("heap.c", "memory.c", "tables.c"), ("sfq_proved_run",), COMMON | {"page_run"},
 )
-MODULES = (SHAPES, TABLES)
+KEPT = Module(
+    "KEPT_MODULE", "kept_module.js", "sfq_tables", ("heap.c", "memory.c", "kept.c"),
+    tuple(
+        f"sfq_proved_{it}" for it in
+        "open close load table_count table_columns table_column prepare step finalize header_text row_text".split()
+    ),
+    COMMON | {f"page_{it}" for it in "open close load tables columns column prepare step finalize header row".split()},
+)
+MODULES = (SHAPES, TABLES, KEPT)
 
 
 def find_kit() -> str:

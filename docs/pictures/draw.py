@@ -2,8 +2,9 @@
 """Draws the pictures of the documents: two geometries on the grid, and beside them their DE-9IM matrix; the map of
 the land register of examples/parcels, from its CSV files; and cells of a grid that is split.
 
-Run it in this folder without arguments. It writes one SVG for each entry of PICTURES, parcels.svg and cells.svg, the same
-bytes each time. The matrices are those of the worked rows; the script computes none.
+Run it in this folder without arguments. It writes one SVG for each entry of PICTURES and for each pair of ../WRONG-ELSEWHERE.md,
+parcels.svg and cells.svg, the same bytes each time. The matrices are those of the worked rows and of that page; the script
+computes none.
 """
 
 import csv
@@ -23,18 +24,8 @@ PICTURES = {
         "POLYGON((0 0,10 0,10 10,0 10,0 0),(4 4,6 4,6 6,4 6,4 4))",
         "101FF0212",
     ),
-    "elsewhere-1": ("LINESTRING(3 1,0 0)", "MULTILINESTRING((3 0,0 2),(3 1,0 0))", "1FFF0F102"),
-    "elsewhere-2": ("LINESTRING(1 0,5 4,5 -1,0 6)", "LINESTRING(1 0,3 2,5 4,5 -1,0 6)", "1FFF0FFF2"),
-    "elsewhere-3": ("MULTILINESTRING((6 5,3 2),(-5 5,5 3))", "LINESTRING(6 5,4 3)", "101F00FF2"),
-    "elsewhere-4": (
-        "LINESTRING(0 1,-1 0,-1 1,1 0,0 1)",
-        "MULTILINESTRING((0 1,1 -1,-1 -1,1 0),(-1 1,1 0,-1 0))",
-        "101FFF1F2",
-    ),
-    "elsewhere-5": ("LINESTRING(1 0,0 1,-1 0,1 1,1 0)", "POLYGON((1 1,-1 0,0 -1,1 1))", "111FFF212"),
-    "elsewhere-6": ("MULTILINESTRING((17 24,-30 -56),(8 26,-23 -148))", "POLYGON((3 0,7 8,-6 0,3 0))", "101FF0212"),
-    "elsewhere-7": ("POLYGON((1 -1,0 -1,3 3,1 -1))", "LINESTRING(2 1,1 0,3 2)", "1F2F01102"),
 }
+PAIR = re.compile(r"^\| (\d+) \| `(.*?)` \| `(.*?)` \|.*\| `([F012]{9})`[^|]*\|$", re.M)
 
 
 def parts(text):
@@ -228,7 +219,14 @@ def draw_cells():
         )
 
 
+def draw_pairs():
+    with open("../WRONG-ELSEWHERE.md", encoding="utf-8") as file:
+        for number, *rows in PAIR.findall(file.read()):
+            draw(f"elsewhere-{number}", *rows)
+
+
 for picture, rows in PICTURES.items():
     draw(picture, *rows)
+draw_pairs()
 draw_register()
 draw_cells()

@@ -150,7 +150,8 @@ def weight(name, text):
 def changed(parts, numbers, count):
     """Returns parts after so many changes of one of them each, at times with other words."""
     parts = with_other_words(parts, numbers) if count and numbers.random() < 0.04 else dict(parts)
-    for _ in range(count):
+    # The only word may be the one that was dropped.
+    for _ in range(count if parts else 0):
         name = numbers.choices(list(parts), [weight(*it) for it in parts.items()])[0]
         kind = kind_of(name, parts[name])
         parts[name] = changes.change(parts[name], other_texts(kind), kind, numbers)

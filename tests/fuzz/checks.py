@@ -7,6 +7,7 @@ import subprocess
 
 from fuzz import conditions, outcomes
 from fuzz.outcomes import Ran
+from sfq_audit import predicates
 
 # How long a run may take, in seconds. It takes some milliseconds.
 PATIENCE = 60
@@ -165,7 +166,7 @@ def add_matrices(text, texts, found, programs):
     """Relates a geometry to itself, and if it is accepted to those before it; returns what is wrong."""
     ran = programs.run(b"relate", b"--", text, text)
     what = outcomes.wrong_outcome(ran, [b"relate"])
-    if what is None and ran.status == 0 and not outcomes.matches("**F**FFF*", ran.out.decode()):
+    if what is None and ran.status == 0 and not predicates.matches("**F**FFF*", ran.out.decode()):
         what = "a geometry isn't equal to itself"
     if what or ran.status != 0:
         return what and said([b"relate", b"--", text, text], ran, what)

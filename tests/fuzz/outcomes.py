@@ -1,6 +1,8 @@
-"""What the program may write, as docs/FAULTS.md and the README say, and the predicates as patterns of matrices."""
+"""What the program may write, as docs/FAULTS.md and the README say, and whether predicates hold, named as in SQL."""
 import re
 from typing import NamedTuple
+
+from sfq_audit import predicates
 
 MATRIX = re.compile(rb"[F012]{8}2\n")
 # Why a geometry is refused.
@@ -51,18 +53,7 @@ EXPLAINED = re.compile(
     rf"cost \d+\nouter {METHOD}(?:inner {METHOD})?filter (?:none|\d+(?: \d+)*)\n(?:count\n)?(?:limit \d+\n)?(?:work \d+\n)?".encode()
 )
 CHECKED = re.compile(rb"(?:\w+ \d+\n)*")
-# The patterns of each predicate, of which one has to match, by the dimensions of the two types where they matter.
-ALWAYS = {
-    "ST_Equals": ("**F**FFF*",),
-    "ST_Disjoint": ("FF*FF****",),
-    "ST_Touches": ("FT*******", "F**T*****", "F***T****"),
-    "ST_Within": ("T*F**F***",),
-    "ST_Contains": ("T*****FF*",),
-}
-LOWER, HIGHER = "T*T******", "T*****T**"
-CROSSES = {(0, 1): LOWER, (0, 2): LOWER, (1, 2): LOWER, (1, 0): HIGHER, (2, 0): HIGHER, (2, 1): HIGHER, (1, 1): "0********"}
-OVERLAPS = {(0, 0): "T*T***T**", (1, 1): "1*T***T**", (2, 2): "T*T***T**"}
-PREDICATES = (*ALWAYS, "ST_Intersects", "ST_Crosses", "ST_Overlaps")
+PREDICATES = tuple(f"ST_{it.capitalize()}" for it in predicates.NAMES)
 
 
 class Ran(NamedTuple):
@@ -142,27 +133,6 @@ def transposed(matrix):
     return "".join(matrix[it] for it in (0, 3, 6, 1, 4, 7, 2, 5, 8))
 
 
-def takes(character, cell):
-    return character in ("*", cell) or (character == "T" and cell in "012")
-
-
-def matches(pattern, matrix):
-    return all(takes(*it) for it in zip(pattern, matrix))
-
-
-def dimension(text):
-    """Returns the dimension of a geometry's type: 0, 1 or 2."""
-    word = text.lower()
-    return 2 if "polygon" in word else 1 if "line" in word else 0
-
-
 def holds(predicate, matrix, dimensions):
     """Whether a predicate holds of two geometries. One that isn't named is the pattern of an ST_Relate."""
-    if predicate == "ST_Intersects":
-        return not holds("ST_Disjoint", matrix, dimensions)
-    if predicate in ALWAYS:
-        return any(matches(it, matrix) for it in ALWAYS[predicate])
-    if predicate in ("ST_Crosses", "ST_Overlaps"):
-        pattern = (CROSSES if predicate == "ST_Crosses" else OVERLAPS).get(dimensions)
-        return pattern is not None and matches(pattern, matrix)
-    return matches(predicate, matrix)
+    return predicates.holds(predicate[3:].lower(), matrix, dimensions) if predicate in PREDICATES else predicates.matches(predicate, matrix)

@@ -1,4 +1,5 @@
 """Makes a failing case smaller: parts, lines and bytes are dropped for as long as it still fails."""
+from sfq_audit.smaller import stretches
 
 
 def reduced(case, fails, tries=400):
@@ -12,14 +13,6 @@ def reduced(case, fails, tries=400):
 def whole_parts(case):
     """Returns the case without a part, for each part; the words stay."""
     return [case.without(it) for it in case.parts if not it.startswith("word ")]
-
-
-def stretches(pieces):
-    """Returns the pieces without a stretch of them: first halves, then quarters, and at last single ones."""
-    size = (len(pieces) + 1) // 2
-    while size:
-        yield from (pieces[:at] + pieces[at + size :] for at in range(0, len(pieces), size))
-        size //= 2
 
 
 def lines(case):

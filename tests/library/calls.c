@@ -1,14 +1,14 @@
 /*
- * Calls of the C library, for tests/test_library.py. Each line that it reads from standard input is a call, by tabs:
+ * Calls of the C library, for tests/test_library.py and test_databases.py. Each line that it reads from standard input is a call, by tabs:
  *
  *     check TEXT            prints the status, and the fault where there is one
  *     status TEXT           the same without a fault to write to, and an empty text as null: prints the status
  *     relate FIRST SECOND   prints the status, and the matrix or the fault
  *     answer FIRST SECOND   prints the status, the matrix and a digit for each relation, or the fault
  *
- * and those of kept.c, whys.c and indexes.c. With the word `refuse` the program refuses each allocation of each call in turn. With `threads` four
- * threads make all calls at once, many times, each on a stack of STACK bytes. It prints what differs from the first time, and
- * ends with status 1 then.
+ * and those of kept.c, whys.c, indexes.c, databases.c and rows.c. With the word `refuse` the program refuses each allocation of each
+ * call in turn. With `threads` four threads make all calls at once, many times, each on a stack of STACK bytes, or of the number
+ * after that word. It prints what differs from the first time, and ends with status 1 then.
  */
 #define _GNU_SOURCE
 #include "kept.h"
@@ -81,6 +81,10 @@ static struct printed run(char *const words[WORDS])
         return run_why(words);
     if (is_index_call(words))
         return run_index(words);
+    if (is_database_call(words))
+        return run_database(words);
+    if (is_row_call(words))
+        return run_row(words);
     return is_kept_call(words) ? run_kept(words) : run_texts(words);
 }
 
@@ -133,12 +137,12 @@ static void *run_all(void *differing)
     return NULL;
 }
 
-static int run_in_threads(void)
+static int run_in_threads(size_t stack)
 {
     pthread_t threads[4];
     pthread_attr_t small;
     int differing[4] = { 0 }, i, all = 0;
-    if (pthread_attr_init(&small) != 0 || pthread_attr_setstacksize(&small, STACK) != 0)
+    if (pthread_attr_init(&small) != 0 || pthread_attr_setstacksize(&small, stack) != 0)
         return 1;
     for (i = 0; i < 4; i++)
         if (pthread_create(&threads[i], &small, run_all, &differing[i]) != 0)
@@ -214,7 +218,8 @@ void free(void *old)
 /* Whether this is what a call prints whose memory was refused once. */
 static bool is_of_refusal(const char *text, int i)
 {
-    if (is_kept_call(calls[i]) || is_why_call(calls[i]) || is_index_call(calls[i]))
+    if (is_kept_call(calls[i]) || is_why_call(calls[i]) || is_index_call(calls[i]) || is_database_call(calls[i])
+        || is_row_call(calls[i]))
         return strncmp(text, "3 ", 2) == 0 && strcmp(text + 2, found[i].text) == 0;
     return strcmp(text, "3") == 0;
 }
@@ -270,7 +275,7 @@ int main(int number, char **words)
     if (number > 1 && strcmp(words[1], "refuse") == 0)
         status = run_refused();
     else if (number > 1 && strcmp(words[1], "threads") == 0)
-        status = run_in_threads();
+        status = run_in_threads(number > 2 ? (size_t)atol(words[2]) : STACK);
     else
         for (i = 0; i < count; i++)
             puts(found[i].text);

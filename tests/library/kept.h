@@ -1,4 +1,4 @@
-/* What calls.c, kept.c, whys.c and indexes.c share. */
+/* What calls.c, kept.c, whys.c, indexes.c, databases.c and rows.c share. */
 #ifndef KEPT_H
 #define KEPT_H
 
@@ -32,6 +32,18 @@ bool is_index_call(char *const words[WORDS]);
 
 /* Makes such a call. */
 struct printed run_index(char *const words[WORDS]);
+
+/* Whether the words are a call over a database. */
+bool is_database_call(char *const words[WORDS]);
+
+/* Makes such a call. */
+struct printed run_database(char *const words[WORDS]);
+
+/* Whether the words are a call over the rows of statements. */
+bool is_row_call(char *const words[WORDS]);
+
+/* Makes such a call. */
+struct printed run_row(char *const words[WORDS]);
 
 /* Reads geometries in this thread, uses each in one of four others, and frees it here. Returns how many calls went wrong. */
 int hand_over(void);

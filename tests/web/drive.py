@@ -110,6 +110,18 @@ class Page:
         field.clear()
         field.send_keys(text)
 
+    def ask(self, name, text):
+        """Writes into a field of the page of tables, and waits for the answer."""
+        self.set_text(name, text)
+        self.wait_for_answer()
+
+    def wait_for_answer(self):
+        until = time.monotonic() + 60
+        while self.find("#running").is_displayed():
+            if time.monotonic() > until:
+                raise Wrong("there is no answer within a minute")
+            time.sleep(0.05)
+
     def take_picture(self, path):
         """Takes a picture from the page's head to its texts."""
         self.open(size=(1120, 660))
@@ -228,10 +240,10 @@ def cells_are_explained(page):
 def an_example_is_opened_by_its_card(page):
     page.open()
     card = next(it for it in page.driver.find_elements(By.CSS_SELECTOR, "#cards a") if "Wrong elsewhere 1" in it.text)
-    same(card.find_element(By.TAG_NAME, "del").text, "0F1F0F102: crosses")
+    same(card.find_element(By.TAG_NAME, "del").text, "0F100F102: crosses")
     page.run("arguments[0].scrollIntoView()", card)
     card.click()
-    same((page.matrix(), page.lights()), ("1FFF0F102", ["Intersects", "Within"]))
+    same((page.matrix(), page.lights()), ("1FF00F102", ["Intersects", "Within"]))
     page.driver.back()
     same(page.matrix(), "F01FF0212")
 
@@ -340,19 +352,38 @@ def tables_are_asked(page):
     answer = lambda: [it.text for it in page.driver.find_elements(By.CSS_SELECTOR, "#answer tr")]
     marked = lambda: page.run("return [...new Set([...document.querySelectorAll('#map .marked')].map((it) => it.dataset.row))]")
     same((answer(), marked()), (["b.id b.name", "102 Quay House", "108 Boatyard"], ["parcel 102", "parcel 108"]))
-    page.set_text("query", "SELECT name FROM parcel WHERE id = 101")
+    page.ask("query", "SELECT name FROM parcel WHERE id = 101")
     same((answer(), marked(), page.find("#hint").text), (["name", "Mill"], [], "Select an id to see the rows on the map."))
-    page.set_text("query", "SELECT id FROM parcels")
+    page.ask("query", "SELECT id FROM parcels")
     same(page.find("#fault strong").text, "sfq: Q3 at 15")
     same((answer(), page.find("#query").get_attribute("aria-invalid")), ([], "true"))
-    page.set_text("query", "SELECT p.id, w.id FROM parcel p, well w WHERE ST_Contains(p.geom, w.geom) AND w.id = 1")
+    page.ask("query", "SELECT p.id, w.id FROM parcel p, well w WHERE ST_Contains(p.geom, w.geom) AND w.id = 1")
     same((answer(), marked()), (["p.id w.id", "101 1"], ["parcel 101", "well 1"]))
-    page.set_text("table-well", "id,name,geom\n1,Mill Well,POINT(7 2)")
+    page.ask("table-well", "id,name,geom\n1,Mill Well,POINT(7 2)")
     same((answer(), marked()), (["p.id w.id", "102 1"], ["parcel 102", "well 1"]))
-    page.set_text("table-well", "id,name,geom\n1,Mill Well,POINT(7.5 2)")
+    page.ask("table-well", "id,name,geom\n1,Mill Well,POINT(7.5 2)")
     same(page.find("#fault strong").text, "sfq: well L6 record 1 W2 at 6")
     page.run("document.getElementById('example').value = '0'; document.getElementById('example').dispatchEvent(new Event('change'))")
+    page.wait_for_answer()
     same(page.find("#query").get_attribute("value")[:30], "SELECT id, name FROM parcel WH")
+
+
+def a_long_query_is_stopped(page):
+    """A query of a hundred million pairs rests, so that it can be stopped, or another one is asked meanwhile."""
+    page.open(file="tables.html")
+    page.run("""
+        const rows = Array.from({ length: 10000 }, (_, at) => `${at},Well,`);
+        find("table-well").value = ["id,name,geom", ...rows].join("\\n");
+        find("query").value = "SELECT a.id FROM well a, well b WHERE a.name < b.name AND a.name > b.name";
+        renew();""")
+    same(page.find("#running").is_displayed(), True)
+    page.find("#stop").click()
+    same((page.find("#running").is_displayed(), page.find("#speed").text), (False, "Stopped."))
+    page.run("renew()")
+    same(page.find("#running").is_displayed(), True)
+    page.ask("query", "SELECT COUNT(*) FROM well")
+    same(page.find("#answer td").text, "10000")
+    same((page.find("#running").is_displayed(), page.find("#speed").text[:15]), (False, "The query took "))
 
 
 def large_shapes_are_quick(page):
@@ -407,7 +438,8 @@ TRIALS = [
     a_corner_is_dragged, a_new_corner_is_dragged, changes_are_undone, faults_are_shown, cells_are_explained,
     an_example_is_opened_by_its_card, an_example_is_opened_by_its_address, every_example_has_a_matrix,
     keys_alone_move_a_corner, keys_alone_draw, shapes_are_drawn_by_clicks, the_wheel_zooms, two_fingers_zoom,
-    the_place_of_a_fault_is_drawn, tables_are_asked, a_module_that_stops_is_started_anew, large_shapes_are_quick, pictures_are_as_they_should_be,
+    the_place_of_a_fault_is_drawn, tables_are_asked, a_long_query_is_stopped, a_module_that_stops_is_started_anew,
+    large_shapes_are_quick, pictures_are_as_they_should_be,
 ]
 
 

@@ -14,10 +14,22 @@ from __future__ import annotations
 import re
 from typing import Any, Iterable, NamedTuple, Optional, Sequence, Union
 
-from . import _bounds, _library, _positions, _texts
+from . import _bounds, _library, _positions, _sources, _texts
+from ._connections import GEOMETRY, NUMBER, STRING, Connection, Cursor
+from ._errors import (
+    DatabaseError, DataError, Error, IntegrityError, InterfaceError, InternalError, NotSupportedError, OperationalError,
+    ProgrammingError, Warning,
+)
 from ._faults import Fault, FaultError, GridError, LibraryError
 
-__all__ = ["Cell", "Fault", "FaultError", "Geometry", "GridError", "Index", "LibraryError", "from_shapely", "relate", "relate_many"]
+__all__ = [
+    "Cell", "Fault", "FaultError", "Geometry", "GridError", "Index", "LibraryError", "from_shapely", "relate", "relate_many",
+    "connect", "Connection", "Cursor", "GEOMETRY", "NUMBER", "STRING", "apilevel", "paramstyle", "threadsafety",
+    "DatabaseError", "DataError", "Error", "IntegrityError", "InterfaceError", "InternalError", "NotSupportedError", "OperationalError",
+    "ProgrammingError", "Warning",
+]
+# Which version of PEP 249 `connect` is of; that threads may share a connection; and that `?` is what a value is for.
+apilevel, threadsafety, paramstyle = "2.0", 2, "qmark"
 __version__ = "0.2.0"
 
 
@@ -316,3 +328,28 @@ def from_shapely(shape: Any) -> Geometry:
     GridError where a coordinate isn't whole, where there is a Z, and for collections of several types. Nothing is rounded.
     """
     return Geometry(_texts.of_interface(shape))
+
+
+def _of_row(text: str) -> Geometry:
+    """Returns the geometry of a canonical text."""
+    made = Geometry(text)
+    made._set("_text", text)
+    return made
+
+
+def connect(schema: Union[_sources.Path, bytes], tables: _sources.Tables = None, *, load_all: bool = False) -> Connection:
+    """Returns a connection to a schema and its tables (PEP 249), which are loaded once, when a query first names them.
+
+        >>> with sfq.connect("examples/parcels/schema.sql") as db:
+        ...     db.execute("SELECT id FROM parcel WHERE name = ?", ["Boatyard"]).fetchall()
+        [(108,)]
+
+    `schema` is the path of a file or a text with CREATE TABLE. `tables` is a folder with a CSV file for each table, that of the schema
+    if it isn't given, or a mapping from names to tables: paths, texts or bytes of CSV, columns by their names, arrays of numpy or
+    DataFrames. `load_all` loads all at once. ProgrammingError where the schema is refused, OperationalError where a file can't be
+    read, DataError where a table is refused.
+    """
+    found = Connection(schema, tables, _of_row)
+    if load_all:
+        found.load()
+    return found

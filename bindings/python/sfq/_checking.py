@@ -10,7 +10,7 @@ import shutil
 import subprocess
 import sys
 import tempfile
-from typing import Optional, Union
+from typing import IO, Any, Optional, Union
 
 from . import Geometry, _library
 from ._faults import LibraryError
@@ -41,12 +41,14 @@ class ByProgram:
     def __init__(self, program: str) -> None:
         self.program = program
 
-    def run(self, *words: str) -> subprocess.CompletedProcess[str]:
-        ran = subprocess.run([self.program, *words], stdin=subprocess.DEVNULL, stdout=subprocess.PIPE, stderr=subprocess.PIPE, text=True)
+    def run(self, *words: str, given: Union[int, IO[Any]] = subprocess.DEVNULL) -> subprocess.CompletedProcess[str]:
+        """Runs the program to its end. MemoryError where it is out of memory, LibraryError where it fails otherwise."""
+        # A group of its own: Ctrl-C reaches the command alone, which ends the program.
+        ran = subprocess.run([self.program, *words], stdin=given, stdout=subprocess.PIPE, stderr=subprocess.PIPE, text=True, start_new_session=True)
         if ran.returncode == 7:
             raise MemoryError("sfq: out of memory")
         if ran.returncode not in (0, 5):
-            raise LibraryError(f"sfq: {self.program} {words[0]} ended with status {ran.returncode}: {ran.stderr.strip()}")
+            raise LibraryError(": ".join([f"sfq: {self.program} {words[0]} ended with status {ran.returncode}", *ran.stderr.strip().splitlines()[-1:]]))
         return ran
 
     def reasons(self, texts: list[str]) -> list[Optional[str]]:
@@ -71,13 +73,23 @@ class ByProgram:
 Checker = Union[ByLibrary, ByProgram]
 
 
-def by_program(path: str) -> ByProgram:
-    """Returns what checks by the program. LibraryError where it is the script of a checkout that would make a build for each call."""
+def need_proved(path: str) -> None:
+    """LibraryError where a program is the script of a checkout that would make a build for each call."""
     folder = os.path.dirname(os.path.realpath(path))
     if os.path.isfile(f"{folder}/tools/current.sh"):
         if subprocess.run(["sh", "tools/current.sh", "is"], cwd=folder, stdin=subprocess.DEVNULL).returncode:
-            raise LibraryError(f"sfq: {path} has no proved program, and would make an unproved build for each record: run {folder}/build first")
+            raise LibraryError(f"sfq: {path} has no proved program, and would make an unproved build for each call: run {folder}/build first")
+
+
+def by_program(path: str) -> ByProgram:
+    """Returns what checks by the program. LibraryError where it isn't there ready."""
+    need_proved(path)
     return ByProgram(path)
+
+
+def beside() -> Optional[str]:
+    """Returns the program beside this command or on the path, None where there is none."""
+    return shutil.which(f"{os.path.dirname(os.path.realpath(sys.argv[0]))}/sfq") or shutil.which("sfq")
 
 
 def checker(program: str = "") -> Checker:
@@ -93,7 +105,7 @@ def checker(program: str = "") -> Checker:
     try:
         return ByLibrary()
     except LibraryError as error:
-        found = shutil.which(f"{os.path.dirname(os.path.realpath(sys.argv[0]))}/sfq") or shutil.which("sfq")
+        found = beside()
         if not found:
             raise LibraryError(f"{error}; and no program sfq is beside this command or on the path, which would do too") from None
         return by_program(found)

@@ -21,24 +21,30 @@ def say(name: str, text: str) -> None:
     print(f"{name}: {text}", file=sys.stderr, flush=True)
 
 
-def reason(error: Exception) -> str:
+def reason(error: BaseException) -> str:
     """Returns what an exception says: of a file that can't be opened its path, and the system's reason."""
     if isinstance(error, OSError) and error.filename and error.strerror:
         return f"{error.filename}: {error.strerror}"
     return str(error)
 
 
+def outcome(error: BaseException) -> tuple[str, int]:
+    """Returns what a command says where an exception ends it, and its status."""
+    if isinstance(error, Stopped):
+        return str(error), error.status
+    if isinstance(error, MemoryError):
+        return "out of memory", MEMORY
+    if isinstance(error, KeyboardInterrupt):
+        return "interrupted", INTERRUPTED
+    return reason(error), FILES
+
+
 def ended(name: str, run: Callable[[], int], of_files: tuple[type[Exception], ...] = (OSError,)) -> int:
     """Runs a command, and returns its status. Where it ends early a line says why. `of_files` is what files raise."""
+    ending: tuple[type[BaseException], ...] = (Stopped, MemoryError, KeyboardInterrupt, *of_files)
     try:
         return run()
-    except Stopped as error:
-        text, status = str(error), error.status
-    except MemoryError:
-        text, status = "out of memory", MEMORY
-    except of_files as error:
-        text, status = reason(error), FILES
-    except KeyboardInterrupt:
-        text, status = "interrupted", INTERRUPTED
+    except ending as error:
+        text, status = outcome(error)
     say(name, text)
     return status

@@ -38,31 +38,39 @@ class CFault(ctypes.Structure):
         return kind(f"{chr(self.letter)}{self.number}", self.first, self.second)
 
 
-def places() -> tuple[str, ...]:
-    """Returns where the library is looked for: SFQ_LIBRARY alone if it is set, else in this package, in its prefix, in the system."""
-    if os.environ.get("SFQ_LIBRARY"):
-        return (os.environ["SFQ_LIBRARY"],)
+def places(name: str = NAME) -> tuple[str, ...]:
+    """Returns where a library is looked for: in the folder of SFQ_LIBRARY alone if it is set, else in this package, in its prefix, in
+    the system."""
+    named = os.environ.get("SFQ_LIBRARY")
+    if named:
+        return (named if name == NAME else os.path.join(os.path.dirname(named), name),)
     # A wheel has it in the package. The package is in lib/python3.N/site-packages of a prefix, or in share/sfq.
     here = os.path.dirname(os.path.abspath(__file__))
     above = os.path.normpath(os.path.join(here, *[os.pardir] * 3))
-    return (os.path.join(here, NAME), os.path.join(above, NAME), os.path.join(above, "lib", NAME), NAME)
+    return (os.path.join(here, name), os.path.join(above, name), os.path.join(above, "lib", name), name)
 
 
-@functools.lru_cache(maxsize=None)
-def library() -> ctypes.CDLL:
-    """Loads the library, the first time that it is needed. LibraryError where none is there, or it lacks a call."""
+def load(name: str, declares: Callable[[ctypes.CDLL], ctypes.CDLL]) -> ctypes.CDLL:
+    """Loads a library, and declares its calls. LibraryError where none is there, or it lacks a call."""
     tried = []
-    for place in places():
+    for place in places(name):
         try:
-            return declare(ctypes.CDLL(place))
+            return declares(ctypes.CDLL(place, use_errno=True))
         except OSError as error:
             tried.append(str(error))
         except AttributeError as error:
             tried.append(f"{place} isn't the library that this package needs: {error}")
+    path = "its path" if name == NAME else f"the path of {NAME} beside it"
     raise LibraryError(
-        f"sfq: no {NAME}: install it by `./build --library` and `./build --install PREFIX`, "
-        f"or set SFQ_LIBRARY to its path ({'; '.join(tried)})"
+        f"sfq: no {name}: install it by `./build --library` and `./build --install PREFIX`, "
+        f"or set SFQ_LIBRARY to {path} ({'; '.join(tried)})"
     )
+
+
+@functools.lru_cache(maxsize=None)
+def library() -> ctypes.CDLL:
+    """Loads libsfq, the first time that it is needed."""
+    return load(NAME, declare)
 
 
 class CGeometry(ctypes.Structure):

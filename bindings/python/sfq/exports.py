@@ -14,8 +14,8 @@ import os
 import re
 import sys
 import tempfile
+from html import escape
 from typing import IO, Any, Callable, Iterator, NamedTuple, Optional, TextIO
-from xml.sax.saxutils import escape
 
 from . import __version__, _endings, _grid, _reading, _texts
 from ._endings import DATA, DONE, MISSING, USAGE, Stopped
@@ -237,7 +237,7 @@ class Picture:
         x, y = self.grid.x.text, self.grid.y.text
         where = f"x from {x(left)} to {x(right)}, y from {y(low)} to {y(high)}" if self.bounds else "no geometry"
         file.write(f'<svg xmlns="http://www.w3.org/2000/svg" viewBox="0 0 {SIZE} {SIZE}" width="{SIZE}" height="{SIZE}">\n'
-                   f"<title>{escape(name)}: {self.count} geometries</title>\n<desc>{where}</desc>\n"
+                   f"<title>{escape(name, quote=False)}: {self.count} geometries</title>\n<desc>{where}</desc>\n"
                    '<rect width="100%" height="100%" fill="#fff"/>\n')
         self.spool.seek(0)
         for line in self.spool:
@@ -261,21 +261,26 @@ def drawn(name: str, parts: Any, place: Callable[[Any], tuple[float, float]]) ->
 
 
 class Output:
-    """A file that is there as a whole once it is kept, or not at all."""
+    """A file that is there as a whole once it is kept, or not at all. A link, a device or a pipe stays, and is written as it is."""
 
     def __init__(self, path: str) -> None:
-        self.path = path
-        self.file = open(f"{path}.new", "w", encoding="utf-8") if path else None
+        self.path, self.is_new = path, not os.path.lexists(path) or (os.path.isfile(path) and not os.path.islink(path))
+        try:
+            self.file = open(f"{path}.new" if self.is_new else path, "w", encoding="utf-8") if path else None
+        except OSError as error:
+            error.filename = path
+            raise
 
     def keep(self) -> None:
         if self.file:
             self.file.close()
-            os.replace(self.file.name, self.path)
+            if self.is_new:
+                os.replace(self.file.name, self.path)
 
     def drop(self) -> None:
         if self.file:
             self.file.close()
-            if os.path.exists(self.file.name):
+            if self.is_new and os.path.exists(self.file.name):
                 os.remove(self.file.name)
 
 

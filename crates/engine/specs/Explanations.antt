@@ -25,7 +25,7 @@ use Rattle.table_model.specs.declared.faults.SchemaFault.TheVariants as s
 use Rattle.text_commands.specs.Explanations.{Adds, MayExplainBoth, MayExplainWord}
 use Rattle.text_commands.specs.Files.{Opening}
 use Rattle.text_commands.specs.GivenTexts.{Gives, ReadsQuery, file_named}
-use Rattle.text_commands.specs.PairNotes.{NotesFile}
+use Rattle.text_commands.specs.PairNotes.{MayExplainUnequal, NotesFile}
 use Rattle.text_commands.specs.declared.files.File.TheVariants as role
 
 -- the schema's text has this fault first, unless memory ran out
@@ -146,5 +146,7 @@ module _ {F R E : Type 0} (opens : Opening F R) (remaining : R → Option (List 
   ExplainsOrder (orders.Why first (Some second) why) old new =
       MayExplainBoth taken failures opens remaining opener (string_bytes first) (string_bytes second) old new
   ExplainsOrder (orders.Why first None why) old new = MayExplainWord taken failures opens remaining opener (string_bytes first) old new
-  ExplainsOrder (orders.Pairs file why) old new = NotesFile taken failures opens remaining opener (string_bytes file) old new
+  ExplainsOrder (orders.Pairs file why) old new =
+      NotesFile taken failures opens remaining opener (string_bytes file) old new
+      ⊎ MayExplainUnequal taken failures opens remaining opener (string_bytes file) old new
   ExplainsOrder (orders.Fault code) old new = new ≡ old

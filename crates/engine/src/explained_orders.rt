@@ -4,9 +4,9 @@ ghost use Rattle.std.specs.Prelude.{◌≡◌, ◌⊎◌, false, IfSome};
 ghost use Rattle.command_line.specs.Orders.{asks_why};
 ghost use Rattle.engine.specs.Explanations.{ExplainsOrder, ExplainsQuery, ExplainsRun, ExplainsSchema, ExplainsTables, ExplainsUnread, HasQueryFault, MayNote, MayOpenQuery, NotesOrder, SaysEncoding, SaysOf, not_utf8};
 ghost use Rattle.std.specs.String.{string_bytes};
-ghost use Rattle.text_commands.specs.Explanations.{MayExplainBoth};
+ghost use Rattle.text_commands.specs.Explanations.{MayExplainBoth, MayExplainWord};
 ghost use Rattle.text_commands.specs.Files.{OpensFile};
-ghost use Rattle.text_commands.specs.PairNotes.{NotesFile};
+ghost use Rattle.text_commands.specs.PairNotes.{MayExplainUnequal, NotesFile};
 
 use crate::commands::{
     RowIndex, SCHEMA_BYTES, check_over, explain, open_tables, schema_in, schema_text,
@@ -21,7 +21,9 @@ use std::alloc::{AllocError, Global};
 use std::io::Read;
 use streams::{MemorySink, Sink, put_all};
 use table_model::faults::QueryFault;
-use text_commands::{File, explain_pairs, explain_word, explain_words, query_text};
+use text_commands::{
+    File, explain_pairs, explain_unequal, explain_word, explain_words, geometry_text, query_text,
+};
 
 /// What is said of a query's file that isn't UTF-8, after its path.
 const NOT_UTF8: &str = " isn't UTF-8: save it as UTF-8";
@@ -76,10 +78,12 @@ fn explain_asked<R: Read + Drop, F: FnMut(File<'_>) -> Option<R>, E: Sink>(
             opener,
             err,
         ),
-        Order::Relate { first, second, .. } => explain_both(alloc, first, second, opener, err),
+        Order::Relate { first, second, .. } => {
+            explain_both(alloc, first, second, status, opener, err)
+        }
         Order::Why { first, second, .. } => match second {
-            Some(second) => explain_both(alloc, first, second, opener, err),
-            None => explain_word(alloc, first.as_str(), opener, err),
+            Some(second) => explain_both(alloc, first, second, status, opener, err),
+            None => explain_one(alloc, first.as_str(), status, opener, err),
         },
         Order::Pairs { file, .. } => note_pairs(alloc, file.as_str(), status, opener, err),
         Order::Fault { .. } => {}
@@ -94,11 +98,13 @@ struct Places<'a> {
     query: &'a str,
 }
 
-/// Explains the first fault of the texts that two words of `relate` or `why` give.
+/// Explains the first fault of the texts that two words of `relate` or `why` give, after a command that has ended with a status. Where a text
+/// isn't there, the files are opened once more, so that the opener says why.
 fn explain_both<R: Read + Drop, F: FnMut(File<'_>) -> Option<R>, E: Sink>(
     alloc: Global,
     first: &String,
     second: &String,
+    status: u8,
     opener: F,
     err: &mut E,
 )
@@ -106,7 +112,45 @@ fn explain_both<R: Read + Drop, F: FnMut(File<'_>) -> Option<R>, E: Sink>(
     ensures { MayExplainBoth E.taken E.failures (OpensFile F.FnMut) R.remaining opener
         (string_bytes first.now) (string_bytes second.now) err.old err.new }
 {
-    explain_words(alloc, first.as_str(), second.as_str(), opener, err)
+    match status {
+        5 => explain_words(alloc, first.as_str(), second.as_str(), opener, err),
+        6 => open_words(alloc, first.as_str(), second.as_str(), opener),
+        _ => {}
+    }
+}
+
+/// Opens the files of two words once more, up to the first that gives no text.
+fn open_words<R: Read + Drop, F: FnMut(File<'_>) -> Option<R>>(
+    alloc: Global,
+    first: &str,
+    second: &str,
+    mut opener: F,
+)
+    requires { F.IsAlwaysCallable opener }
+{
+    if geometry_text(alloc, first, "first", &mut opener).is_ok() {
+        let _ = geometry_text(alloc, second, "second", &mut opener);
+    }
+}
+
+/// The same of the text that the one word of `why` gives.
+fn explain_one<R: Read + Drop, F: FnMut(File<'_>) -> Option<R>, E: Sink>(
+    alloc: Global,
+    word: &str,
+    status: u8,
+    mut opener: F,
+    err: &mut E,
+)
+    requires { F.IsAlwaysCallable opener }
+    ensures { MayExplainWord E.taken E.failures (OpensFile F.FnMut) R.remaining opener word.now err.old err.new }
+{
+    match status {
+        5 => explain_word(alloc, word, opener, err),
+        6 => {
+            let _ = geometry_text(alloc, word, "first", &mut opener);
+        }
+        _ => {}
+    }
 }
 
 /// Explains the fault of a run with these words, which has ended with a status.
@@ -477,8 +521,8 @@ fn open_again<R: Read + Drop, F: FnMut(File<'_>) -> Option<R>>(
     let _ = open_tables(alloc, &schema, directory, &mut opener);
 }
 
-/// Notes the pairs of a file that are refused, after a command that has ended with a status; where its file can't be opened or read, it is
-/// opened once more, so that the opener says why.
+/// Notes the pairs of a file that are refused, after a command that has ended with a status, or explains the record that isn't a pair; where
+/// its file can't be opened or read, it is opened once more, so that the opener says why.
 fn note_pairs<R: Read + Drop, F: FnMut(File<'_>) -> Option<R>, E: Sink>(
     alloc: Global,
     path: &str,
@@ -487,9 +531,11 @@ fn note_pairs<R: Read + Drop, F: FnMut(File<'_>) -> Option<R>, E: Sink>(
     err: &mut E,
 )
     requires { F.IsAlwaysCallable opener }
-    ensures { NotesFile E.taken E.failures (OpensFile F.FnMut) R.remaining opener path.now err.old err.new }
+    ensures { NotesFile E.taken E.failures (OpensFile F.FnMut) R.remaining opener path.now err.old err.new
+        ⊎ MayExplainUnequal E.taken E.failures (OpensFile F.FnMut) R.remaining opener path.now err.old err.new }
 {
     match status {
+        4 => explain_unequal(alloc, path, opener, err),
         5 => explain_pairs(alloc, path, opener, err),
         6 => {
             let _ = opener(File::Pairs(path));

@@ -4,6 +4,7 @@ mod FirstLemmas
 pub mod OrderLemmas
 mod KeptLemmas
 mod KeptRowLemmas
+mod LookLemmas
 mod MemoryLemmas
 pub mod PausedLemmas
 mod IterationLemmas
@@ -12,10 +13,13 @@ mod IdleLemmas
 mod IdlePairLemmas
 mod KeyLemmas
 mod PartnerLemmas
+mod AloneLemmas
 pub mod PlaceLemmas
 mod ProbeLemmas
 mod RowLemmas
 pub mod ScanLemmas
+mod StepLemmas
+mod CountLemmas
 mod TurnLemmas
 mod ValueLemmas
 pub mod WalkLemmas

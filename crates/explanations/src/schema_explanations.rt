@@ -161,6 +161,38 @@ const WORDS: [(&str, &str); 51] = [
     ("TEMPORARY", " isn't there: write CREATE TABLE and the name"),
 ];
 
+/// What is said of indexes.
+const INDEXES: &str =
+    "indexes aren't written: a query makes those that it needs; leave this one out";
+
+/// Words that begin a constraint of a table, or an index, and what to do instead.
+const CONSTRAINTS: [(&str, &str); 9] = [
+    (
+        "PRIMARY",
+        "constraints of a table aren't there: write PRIMARY KEY after the column's type",
+    ),
+    (
+        "FOREIGN",
+        "constraints of a table aren't there: leave FOREIGN KEY out",
+    ),
+    (
+        "UNIQUE",
+        "constraints of a table aren't there: leave UNIQUE out",
+    ),
+    (
+        "CHECK",
+        "constraints of a table aren't there: leave CHECK out",
+    ),
+    (
+        "EXCLUDE",
+        "constraints of a table aren't there: leave EXCLUDE out",
+    ),
+    ("KEY", INDEXES),
+    ("INDEX", INDEXES),
+    ("FULLTEXT", INDEXES),
+    ("SPATIAL", INDEXES),
+];
+
 /// The sentence of a fault of a schema.
 fn schema_sentence(alloc: Global, text: &[u8], fault: SchemaFault) -> Result<Vec<u8>, AllocError> {
     match fault {
@@ -234,7 +266,7 @@ fn syntax_sentence(alloc: Global, text: &[u8], at: usize) -> Result<Vec<u8>, All
             &[b"the file has bytes that are 0: is it UTF-16? save it as UTF-8"],
         );
     }
-    if let Some(sentence) = constraint_sentence(here, before, rest(found, here.len())) {
+    if let Some(sentence) = constraint_sentence(front(text, at), found) {
         return joined(alloc, &[sentence.as_bytes()]);
     }
     if here.is_empty() {
@@ -256,31 +288,25 @@ fn syntax_sentence(alloc: Global, text: &[u8], at: usize) -> Result<Vec<u8>, All
     word_sentence(alloc, here, before, trimmed_back(front(text, at)))
 }
 
-/// The sentence of a constraint of a table, by the word at the place, that before it and what comes after it.
-fn constraint_sentence(here: &[u8], before: &[u8], after: &[u8]) -> Option<&'static str> {
-    let kind = if is(here, "KEY") || (here.is_empty() && first(after) == b'(') {
-        before
-    } else if is(before, "CONSTRAINT") {
-        word(trimmed(after))
-    } else {
-        return None;
-    };
-    constraint_words(kind)
-}
-
-/// What is said of a constraint of a table, by the word that begins it.
-fn constraint_words(kind: &[u8]) -> Option<&'static str> {
-    if is(kind, "PRIMARY") {
-        Some("constraints of a table aren't there: write PRIMARY KEY after the column's type")
-    } else if is(kind, "FOREIGN") {
-        Some("constraints of a table aren't there: leave FOREIGN KEY out")
-    } else if is(kind, "UNIQUE") {
-        Some("constraints of a table aren't there: leave UNIQUE out")
-    } else if is(kind, "CHECK") {
-        Some("constraints of a table aren't there: leave CHECK out")
-    } else {
-        None
+/// The sentence of a constraint of a table, or of an index, by the text before the place and what begins at it. It is a word where a column is
+/// to come, with an opening parenthesis, `KEY`, `INDEX` or `USING` behind it or behind a name; or `CONSTRAINT` and such a word.
+fn constraint_sentence(text: &[u8], found: &[u8]) -> Option<&'static str> {
+    let before = last_word(text);
+    let here = word(found);
+    let behind = trimmed(rest(found, here.len()));
+    let opens = first(behind) == b'(';
+    if is(before, "CONSTRAINT") {
+        let is_unnamed = opens || is(word(behind), "KEY");
+        return said_of(if is_unnamed { here } else { word(behind) }, &CONSTRAINTS);
     }
+    let known = trimmed_back(text);
+    let known = trimmed_back(front(known, known.len().saturating_sub(before.len())));
+    let is_first = last(known) == b',' || last(known) == b'(';
+    let is_kind = is(here, "KEY") || is(here, "INDEX") || is(here, "USING");
+    if is_first && (is_kind || (opens && said_of(here, &WORDS).is_none())) {
+        return said_of(before, &CONSTRAINTS);
+    }
+    None
 }
 
 /// The sentence of a key that isn't a whole number, by its type and the text up to that type's end.

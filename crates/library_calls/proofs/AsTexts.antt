@@ -1,5 +1,5 @@
 -- The arrays of what a text writes are taken as the text is read.
-use Rattle.std.proofs.Common.{◌≡◌, refl, sym, ap, ◌∙◌, subst, ℕ, zero, suc, ◌≤◌, inl, inr, ℤ, pos, neg_ℤ, Bool, true, false, if◌then◌else◌, List, [], ◌∷◌, ◌++◌, length, nat_le, Some, None, Err, unsigned_abs, arith}
+use Rattle.std.proofs.Common.{◌≡◌, refl, sym, ap, ◌∙◌, subst, ℕ, suc, ◌≤◌, inl, inr, ℤ, Bool, true, false, if◌then◌else◌, List, [], ◌∷◌, ◌++◌, length, nat_le, Some, None, Err, unsigned_abs, arith}
 use Rattle.std.specs.List.{flat_map}
 use Rattle.std.specs.Option.{option_to_list}
 use Rattle.std.specs.Str.Parse.{digits_value}
@@ -12,17 +12,13 @@ use Rattle.geometry_model.specs.TextReading.{read_text}
 use Rattle.geometry_model.specs.WellKnownText.{Rule, Separated, Number, PositionText, PointText, LineText, PolygonText, Body, TaggedText, Writes, IsWithinCounts, coordinate_limit, geometry_of, part_limit, position_limit, signed, written_parts, written_positions}
 use Rattle.geometry_model.specs.declared.text_faults.TextFault.TheVariants.{TooLong}
 use Rattle.text_laws.proofs.FullTexts.{too_many_is_too_long}
+use Rattle.basics.proofs.Numbers.{negated}
 use Rattle.text_laws.proofs.TextComplete.{spelled_is_read}
 use Rattle.fraction.specs.Ranges.{IsOnGrid}
 use Rattle.library_calls.specs.ArrayLaws.{ArraysAreAsTexts, TestsAreLimits}
 use Rattle.library_calls.specs.Written.{first_past_limit, geometry_in_arrays, is_on_grid, is_within_counts, taken, within_or}
 
 -- ---- all numbers of a text are within the limit
-
--- the minus doesn't change a number's size
-negated : (n : ℕ) → unsigned_abs (neg_ℤ (pos n)) ≡ n
-negated zero = refl
-negated (suc n) = refl
 
 signed_size : (minus : Bool) (whole : List ℕ) → unsigned_abs (signed minus whole) ≡ digits_value 10 whole
 signed_size false whole = refl

@@ -1,7 +1,7 @@
 //! What shows the cells of the matrix of two geometries, and where a geometry isn't valid, as text.
 
 ghost use Rattle.std.specs.Prelude.{◌≡◌, ◌≢◌, ◌++◌, drop, IfErr, IfOk, length};
-ghost use Rattle.library_calls.specs.Explained.{AreWitnessLines, HandsOut, IsUnread, IsUnreadFor, IsVerdictLine};
+ghost use Rattle.library_calls.specs.Explained.{AreWitnessLines, HandsOut, IsTextRefusal, IsUnreadFor, IsVerdictLine};
 ghost use Rattle.library_calls.specs.Kept.{status_of_room};
 ghost use Rattle.library_calls.specs.Refusals.{first_refused, ok, out_of_memory};
 ghost use Rattle.library_calls.specs.declared.faults.Refusal.TheVariants as refusal;
@@ -89,7 +89,7 @@ pub fn write_reason(
 /// The line of the verdict on the geometry of a text.
 fn verdict_line(alloc: Global, text: &[u8]) -> Result<MemorySink, Refusal>
     ensures line { IfOk result (λ line. IsVerdictLine text.now (memory_bytes line)) }
-    ensures refused { IfErr result (IsUnread text.now) }
+    ensures refused { IfErr result (IsTextRefusal text.now) }
 {
     match verdict_of(alloc, text) {
         Ok(verdict) => match text_of_verdict(alloc, &verdict) {

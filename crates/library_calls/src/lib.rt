@@ -18,7 +18,7 @@ mod kept;
 mod kept_geometry;
 mod kept_index;
 mod meeting;
-mod parts;
+pub mod parts;
 mod patterns;
 mod relations;
 mod sizes;

@@ -6,13 +6,13 @@ ghost use Rattle.std.specs.Box.Ownership.{box_owns};
 use std::alloc::Allocator;
 use std::marker::Model;
 
-/// What a box is made of, with its fields visible in this crate.
-pub(crate) struct Parts<T, A: Allocator> {
+/// What a box is made of, with its fields visible: what C keeps behind a pointer is made of them, and they of it.
+pub struct Parts<T, A: Allocator> {
     /// Where the value is.
-    pub(crate) at: *mut T,
+    pub at: *mut T,
     /// What frees it.
-    pub(crate) alloc: A,
-    pub(crate) ghost value: { T },
+    pub alloc: A,
+    pub ghost value: { T },
 }
 
 impl<T, A: Allocator> Model for Parts<T, A> {
@@ -21,7 +21,7 @@ impl<T, A: Allocator> Model for Parts<T, A> {
 
 impl<T, A: Allocator> Parts<T, A> {
     /// Takes a box apart.
-    pub(crate) fn of(whole: Box<T, A>) -> Parts<T, A>
+    pub fn of(whole: Box<T, A>) -> Parts<T, A>
     where
         T: Drop,
         ensures { result.value ≡ whole.value }
@@ -31,7 +31,7 @@ impl<T, A: Allocator> Parts<T, A> {
     }
 
     /// Makes the box again.
-    pub(crate) fn into_box(self) -> Box<T, A>
+    pub fn into_box(self) -> Box<T, A>
         ensures { result.value ≡ self.value }
     {
         let Parts { at, alloc } = self;

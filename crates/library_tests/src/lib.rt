@@ -7,6 +7,8 @@ mod bound_query_tests;
 #[cfg(test)]
 mod box_tests;
 #[cfg(test)]
+mod constant_tests;
+#[cfg(test)]
 mod device_tests;
 #[cfg(test)]
 mod draws;

@@ -6,4 +6,4 @@ mod record_fields;
 mod runs;
 
 pub use record_fields::{header_record, put_row};
-pub use runs::{run, run_by_references, run_observed};
+pub use runs::{one_field, put_pair, run, run_by_references, run_observed};

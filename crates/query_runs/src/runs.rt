@@ -275,8 +275,8 @@ fn put_count<S: Sink>(
     put_field(alloc, digits.format(count).as_bytes(), writer, sink)
 }
 
-/// A record of this one field.
-fn one_field(alloc: Global, field: &[u8]) -> Result<ByteRecord, AllocError>
+/// A record of this one field. It fails only when memory runs out.
+pub fn one_field(alloc: Global, field: &[u8]) -> Result<ByteRecord, AllocError>
     ensures { IfOk result (λ r. fields_of r ≡ field.now ∷ []) }
 {
     let mut fields = ByteRecord::new(alloc);
@@ -325,8 +325,8 @@ fn put_records<I: EnvelopeIndex + Drop, S: Sink, O: RowObserver>(
     Ok(())
 }
 
-/// Writes the record of a pair of rows.
-fn put_pair<I: EnvelopeIndex + Drop, S: Sink>(
+/// Writes the record of a pair of rows, as `put_row` writes that of rows (SQL, the query).
+pub fn put_pair<I: EnvelopeIndex + Drop, S: Sink>(
     alloc: Global,
     database: &Database<'_, I>,
     query: &Bound,

@@ -10,7 +10,7 @@ use sql_text::read_schema;
 use std::test::Fail;
 use streams::MemorySink;
 use table_model::faults::{QueryFault, SchemaFault};
-use text_commands::{File, explain_pairs, explain_word, explain_words};
+use text_commands::{File, explain_pairs, explain_unequal, explain_word, explain_words};
 
 const TABLES: [&[u8]; 2] = [b"building", b"parcel"];
 
@@ -174,6 +174,22 @@ fn pairs_that_are_refused_are_noted(rt: HostRuntime) -> Result<(), Fail> {
     let lines = err.bytes().iter().filter(|byte| **byte == b'\n').count();
     assert_eq!(rt; lines, 100);
     Ok(())
+}
+
+/// The first record that hasn't two fields is named with their number; of pairs alone nothing is said.
+#[test]
+fn a_record_that_is_no_pair_is_explained(rt: HostRuntime) {
+    let alloc = rt.alloc();
+    let text = b"POINT(1 2),POINT(1 2)\n\nLINESTRING(0 0,1 1),POINT(1 1)\nPOINT(1 2)\n";
+    let mut err = MemorySink::new(alloc);
+    explain_unequal(alloc, "p", |_: File<'_>| Some(text.as_slice()), &mut err);
+    let said =
+        b"sfq: record 2: the number of its fields is 3: write two geometries in a record, one with a comma in quotes\n";
+    assert_eq!(rt; err.bytes(), said.as_slice());
+    let text = b"POINT(1 2),POINT(1 2)\n";
+    let mut err = MemorySink::new(alloc);
+    explain_unequal(alloc, "p", |_: File<'_>| Some(text.as_slice()), &mut err);
+    assert!(rt; err.bytes().is_empty());
 }
 
 const SCHEMA: &str =

@@ -22,6 +22,10 @@ mod observer_tests;
 #[cfg(test)]
 mod row_tests;
 #[cfg(test)]
+mod statement_row_tests;
+#[cfg(test)]
+mod statement_tests;
+#[cfg(test)]
 mod step_tests;
 #[cfg(test)]
 mod table_explanation_tests;

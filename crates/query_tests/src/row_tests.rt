@@ -6,7 +6,7 @@ ghost use Rattle.table_model.specs.Plans.{IsLawful};
 use crate::tables::{POINTS_SCHEMA, database_of, points_up_to};
 use de9im::Work;
 use engine::Unobserved;
-use executor::{RowPair, Rows, execute};
+use executor::{CountStep, RowPair, Rows, Step, execute};
 use feature_table::Database;
 use planner::choose;
 use rtree::RTree;
@@ -124,6 +124,54 @@ fn paused_after_each(
     Err(AllocError)
 }
 
+/// The rows of a plan, the work after the last, and how many steps are busy, where each makes so many looks at most.
+fn bounded(
+    alloc: Global,
+    database: &Database<'_, RTree>,
+    bound: &Bound,
+    plan: &Plan,
+    most: u64,
+) -> Result<(Vec<RowPair>, u64, u64), AllocError>
+    requires bound { IsBound geometry_fits database.now.definitions bound.now }
+    requires lawful { IsLawful database.now.tables bound.now plan.now }
+{
+    let mut pairs = Vec::new(alloc);
+    let mut busy: u64 = 0;
+    let mut rows = Rows::new(alloc, database, bound, plan, Work::new());
+    for _ in 0..1000u16 {
+        match rows.next_within(most, &mut Unobserved)? {
+            Step::Row(pair) => pairs.push(pair)?,
+            Step::Busy => busy = busy.saturating_add(1),
+            Step::End => return Ok((pairs, rows.work().count(), busy)),
+        }
+    }
+    Err(AllocError)
+}
+
+/// How many rows a plan has, and the work after the last, where they are counted by steps of so many looks at most.
+fn counted(
+    alloc: Global,
+    database: &Database<'_, RTree>,
+    bound: &Bound,
+    plan: &Plan,
+    most: u64,
+) -> Result<(usize, u64), AllocError>
+    requires bound { IsBound geometry_fits database.now.definitions bound.now }
+    requires lawful { IsLawful database.now.tables bound.now plan.now }
+{
+    let mut count: u64 = 0;
+    let mut rows = Rows::new(alloc, database, bound, plan, Work::new());
+    for _ in 0..1000u16 {
+        match rows.count_within(most, &mut Unobserved)? {
+            CountStep::More(more) => count = count.saturating_add(more),
+            CountStep::All(more) => {
+                return Ok((count.saturating_add(more) as usize, rows.work().count()));
+            }
+        }
+    }
+    Err(AllocError)
+}
+
 /// The rows of a plan, all at once, and the work of the plan.
 fn executed(
     alloc: Global,
@@ -140,7 +188,9 @@ fn executed(
 }
 
 /// The text of a plan: its accesses, its rows, and the work after the first of them and of all. The rows are those that come
-/// one after another, and those that come where the stream is paused after each, with no more work.
+/// one after another, those that come where the stream is paused after each, and those that come by steps of 1, 2 and 1,000
+/// looks at most, with no more work; counted by such steps they are as many. Of one table the text says how many of these steps
+/// are busy.
 fn plan_text(
     alloc: Global,
     database: &Database<'_, RTree>,
@@ -159,8 +209,22 @@ fn plan_text(
     if rows != others || after_last != all {
         return Err(Fail::from("other rows after a pause"));
     }
+    let mut steps = String::new(alloc);
+    for most in &[1u64, 2, 1000] {
+        let (others, after_last, busy) = bounded(alloc, database, bound, plan, *most)?;
+        if rows != others || after_last != all {
+            return Err(Fail::from("other rows by bounded steps"));
+        }
+        if counted(alloc, database, bound, plan, *most)? != (rows.len(), all) {
+            return Err(Fail::from("another count by bounded steps"));
+        }
+        write!(steps, "{busy}, ")?;
+    }
     let mut text = text_of(alloc, plan.accesses.as_slice(), rows.as_slice())?;
     write!(text, "| {after_first} of {all}")?;
+    if plan.accesses.as_slice().len() == 1 {
+        write!(text, " | {steps}busy")?;
+    }
     Ok(text)
 }
 
@@ -200,7 +264,7 @@ fn found(alloc: Global, schema: &str, texts: &[&[u8]], query: &str) -> Result<St
 fn work_after_a_row_that_is_found(rt: HostRuntime) -> Result<(), Fail> {
     let points = points_up_to(rt.alloc(), 100)?;
     let text = found(rt.alloc(), POINTS_SCHEMA, &[points.as_bytes()], SCANNED)?;
-    assert!(rt; text.as_str() == "0 scan, | 0, 1, 2, 3, 99, | 1 of 100");
+    assert!(rt; text.as_str() == "0 scan, | 0, 1, 2, 3, 99, | 1 of 100 | 95, 47, 0, busy");
     Ok(())
 }
 
@@ -230,8 +294,8 @@ fn work_after_a_row_in_order(rt: HostRuntime) -> Result<(), Fail> {
 fn all_rows_of_each_shape(rt: HostRuntime) -> Result<(), Fail> {
     let points = points_up_to(rt.alloc(), 10)?;
     for (query, wanted) in &[
-        (SCANNED, "0 scan, | 0, 1, 2, 3, | 1 of 10"),
-        (PROBED, "0 probe 0, | 0, 1, 2, 3, | 1 of 4"),
+        (SCANNED, "0 scan, | 0, 1, 2, 3, | 1 of 10 | 6, 3, 0, busy"),
+        (PROBED, "0 probe 0, | 0, 1, 2, 3, | 1 of 4 | 0, 0, 0, busy"),
         (SCANNED_TWICE, "0 scan, 1 scan, | 0 1, | 2 of 2"),
         (
             PROBED_WITHIN,

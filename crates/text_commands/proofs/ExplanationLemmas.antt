@@ -17,6 +17,11 @@ shown-fault : (r : Result Geometry GeometryFault) (word : GeometryWord) (failure
 shown-fault (Ok g) word failure fault shown is = cc
 shown-fault (Err e) word failure fault shown is = cc
 
+-- the geometry that a text gives is that of what was read
+pub spelled : (r : Result Geometry GeometryFault) (g : Geometry) → or_refused First r ≡ Ok g → r ≡ Ok g
+spelled (Ok x) g is = cc
+spelled (Err e) g is = cc
+
 -- so a refusal of a text shows its first fault
 pub first-fault : (text : List ℕ) (failure : Failure) (word : GeometryWord) (fault : GeometryFault)
     → failure ≡ f.Refused word fault → IsFailureOf (geometry_in_word First text) failure → HasFirst text fault

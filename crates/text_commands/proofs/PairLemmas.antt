@@ -1,5 +1,6 @@
 -- What was read and written of the pairs of a text so far, and how a run over them ends.
 use Rattle.std.proofs.Common.{◌≡◌, ◌≢◌, ◌∙◌, ◌==◌, ◌+◌, ◌++◌, ◌⊎◌, ◌||◌, inl, inr, ℕ, Bool, true, false, List, [], ◌∷◌, Option, Some, None, Result, Ok, Err, ap, arith, ap₂, cond, length, map, take, IfOk, IfErr, refl, sym, subst, append_assoc, append-nil, length-append}
+use Rattle.std.specs.Prelude.{slice_get}
 use Rattle.std.specs.List.{concat, list_any}
 use Rattle.std.specs.Io.KnownBytes.{Appends}
 use Rattle.std.proofs.Math.Seq.{take-append-add, take-length}
@@ -10,6 +11,7 @@ use Rattle.std.proofs.lemmas.Bool.Decides.{nat_tests}
 use Rattle.std.proofs.lemmas.Option.{same_Some}
 use Rattle.std.specs.Result.{is_err}
 use Rattle.std.proofs.Math.Bool.{or-false}
+use Rattle.basics.proofs.Lists.{behind}
 use Rattle.csv.specs.declared.reader.Reader.{Reader}
 use Rattle.failures.specs.declared.failure.Failure.{Failure}
 use Rattle.failures.specs.declared.failure.Failure.TheVariants as f
@@ -21,6 +23,7 @@ use Rattle.table_model.specs.Loading.{Record}
 use Rattle.table_model.specs.RunOutcomes.{ByEveryMatrix, MatrixOf}
 use Rattle.feature_table.specs.Reading.{StillGives, TakesFirst}
 use Rattle.feature_table.specs.Records.{records_in}
+use Rattle.text_commands.specs.PairNotes.{IsFirstUnequal}
 use Rattle.text_commands.specs.Relations.{IsFailureOf, relation}
 use Rattle.geometry_model.specs.Dimensions.{Matrix}
 
@@ -304,3 +307,50 @@ refusal_front matrix fields first second failure (Err f.WriteFailed) old new bef
 refusal_front matrix fields first second failure (Err f.OutOfMemory) old new before after is_first is_second of put =
     (inr refl, AppendsFront-whole old new [] (pair_line matrix fields) put.0)
 refusal_front matrix fields first second failure (Err _) old new before after is_first is_second of put = absurd put
+
+-- ---- the first record that isn't a pair
+
+-- so many records were read, all of them pairs
+pub record Passed {R : Type 0} (remaining : R → Option (List ℕ)) (known : Option (List ℕ))
+    (reader : Reader R) (place : ℕ) : Type 0 where
+  pub read : List Record
+  pub count : length read ≡ place
+  pub pairs : ArePairs read
+  pub begins : Begins remaining known reader read
+
+pub none_passed : {R : Type 0} (remaining : R → Option (List ℕ)) (known : Option (List ℕ)) (reader : Reader R)
+    → Begins remaining known reader []
+    → Passed remaining known reader 0
+none_passed remaining known reader begins = record { read = []; count = refl; pairs = refl; begins = begins }
+
+pub passed_more : {R : Type 0} (remaining : R → Option (List ℕ)) (known : Option (List ℕ))
+    (reader after : Reader R) (fields : Record) (place : ℕ)
+    → Passed remaining known reader place → Takes remaining reader after true fields → is_pair fields ≡ true
+    → Passed remaining known after (place + 1)
+passed_more remaining known reader after fields place p takes is =
+    let size = length-append p.read (fields ∷ []) in
+    let count = p.count in record {
+      read = p.read ++ fields ∷ [];
+      count = omega (arith, size, count);
+      pairs = pairs_more p.read fields p.pairs is;
+      begins = begins_more remaining known reader after p.read fields p.begins takes;
+    }
+
+-- the next record isn't a pair
+pub passed_all : {R : Type 0} (remaining : R → Option (List ℕ)) (known : Option (List ℕ))
+    (reader after : Reader R) (fields : Record) (place count : ℕ)
+    → Passed remaining known reader place → Takes remaining reader after true fields → is_pair fields ≡ false
+    → count ≡ length fields → IsFirstUnequal known (place + 1) count
+passed_all remaining known reader after fields place count p takes is counts =
+    let b = begun_more remaining known reader after p.read fields p.begins takes in
+    let front = front_length p.read (fields ∷ b.0) p.pairs in
+    let none = front_ends fields b.0 is in
+    let size = p.count in
+    let at : pairs_before (p.read ++ fields ∷ b.0) ≡ length p.read + 0 = omega (arith, front, none) in (
+      p.read ++ fields ∷ b.0,
+      fields,
+      b.1,
+      ap (slice_get (p.read ++ fields ∷ b.0)) at ∙ behind p.read (fields ∷ b.0) 0,
+      omega (arith, at, size),
+      counts,
+    )

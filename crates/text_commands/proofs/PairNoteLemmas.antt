@@ -1,7 +1,7 @@
 -- What was read and noted of the pairs of a text so far.
 use Rattle.std.proofs.Common.{◌≡◌, ◌≢◌, ◌∙◌, ◌+◌, ◌++◌, ◌≤◌, inl, inr}
 use Rattle.std.proofs.Common.{ℕ, Bool, true, false, List, [], ◌∷◌, Option, Some, Result, Ok, Err}
-use Rattle.std.proofs.Common.{ap, arith, length, refl, sym, subst, append-nil, length-append}
+use Rattle.std.proofs.Common.{ap, arith, codes, length, refl, sym, subst, append-nil, length-append}
 use Rattle.std.specs.Prelude.{slice_get}
 use Rattle.std.specs.Io.KnownBytes.{Appends}
 use Rattle.std.specs.List.{concat}
@@ -13,8 +13,9 @@ use Rattle.streams.specs.Sinks.{AppendsFront}
 use Rattle.streams.specs.declared.sink.SinkFault.{SinkFault}
 use Rattle.streams.proofs.SinkLemmas.{Appends-none, Appends-then, AppendsFront-then}
 use Rattle.table_model.specs.Loading.{Record}
-use Rattle.text_commands.specs.PairNotes.{AreNotes, IsNote, IsNoteOf, NotesPairs, PutsNote, counted}
-use Rattle.text_commands.specs.Pairs.{Begins}
+use Rattle.text_commands.specs.Explanations.{HasNone}
+use Rattle.text_commands.specs.PairNotes.{AreNotes, IsNote, IsNoteOf, NotesPairs, NotesText, PutsNote, counted}
+use Rattle.text_commands.specs.Pairs.{Begins, field}
 use Rattle.text_commands.proofs.PairLemmas.{Takes, begins_more, begun}
 
 -- what notes some records notes records of a longer list
@@ -192,3 +193,20 @@ ended_note remaining known reader after fields place count old middle new before
 -- at most 99 are noted if at most 100 are, and not 100
 pub below : (count : ℕ) → count ≤ 100 → count ≢ 100 → count ≤ 99
 below count few other = omega (arith, few, other)
+
+-- ---- the note of one record
+
+-- the first geometry's
+pub noted_first : (number : ℕ) (fields : Record) (word text line : List ℕ) → word ≡ codes "first" → text ≡ field fields 0
+    → NotesText number word text line → IsNote number fields line
+noted_first number fields word text line words is notes =
+    inl (subst (λ w. NotesText number w (field fields 0) line) words (subst (λ t. NotesText number word t line) is notes))
+
+-- the second's, where the first has no fault
+pub noted_second : (number : ℕ) (fields : Record) (first word text line : List ℕ) → first ≡ field fields 0 → HasNone first
+    → word ≡ codes "second" → text ≡ field fields 1 → NotesText number word text line → IsNote number fields line
+noted_second number fields first word text line first_is none words is notes =
+    inr (
+      subst HasNone first_is none,
+      subst (λ w. NotesText number w (field fields 1) line) words (subst (λ t. NotesText number word t line) is notes),
+    )

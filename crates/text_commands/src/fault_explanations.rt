@@ -1,8 +1,8 @@
 //! What is written after the line of a fault of `relate` and `why`, where more is asked for: its place, and what to do. The words give
 //! their texts once more.
 
-ghost use Rattle.std.specs.Prelude.{◌≡◌, ◌⊎◌, IfSome};
-ghost use Rattle.text_commands.specs.Explanations.{Explains, HasFirst, MayExplain, MayExplainBoth, MayExplainWord};
+ghost use Rattle.std.specs.Prelude.{◌≡◌, ◌⊎◌, IfOk, IfSome};
+ghost use Rattle.text_commands.specs.Explanations.{Explains, HasNone, IsFirst, MayExplain, MayExplainBoth, MayExplainWord};
 ghost use Rattle.text_commands.specs.Files.{OpensFile};
 ghost use Rattle.failures.specs.declared.failure.Failure.TheVariants as f;
 ghost use Rattle.geometry_model.specs.declared.geometry_faults.GeometryFault.TheVariants as g;
@@ -13,7 +13,7 @@ use crate::{geometry_of, geometry_text, reason_of_text};
 use explanations::{text_explained, validity_explained};
 use failures::{Failure, GeometryWord};
 use geometry_model::{GeometryFault, TextFault, ValidityFault};
-use std::alloc::Global;
+use std::alloc::{AllocError, Global};
 use std::io::Read;
 use streams::{Sink, put_all};
 use witnesses::put_verdict;
@@ -58,35 +58,32 @@ pub fn explain_word<R: Read + Drop, F: FnMut(File<'_>) -> Option<R>, E: Sink>(
 
 /// Whether a text spells no geometry.
 fn is_unread(alloc: Global, text: &[u8]) -> bool {
-    matches!(fault_of(alloc, text), Some(GeometryFault::Text(_)))
+    matches!(fault_of(alloc, text), Ok(Some(GeometryFault::Text(_))))
 }
 
-/// Explains the first fault of two texts.
+/// Explains the first fault of two texts: that of the second only where the first has none.
 fn explain_texts<E: Sink>(alloc: Global, first: &[u8], second: &[u8], err: &mut E)
     ensures { MayExplain E.taken E.failures err.old err.new first.now
-        ⊎ MayExplain E.taken E.failures err.old err.new second.now }
+        ⊎ (HasNone first.now × MayExplain E.taken E.failures err.old err.new second.now) }
 {
-    if has_fault(alloc, first) {
-        explain_text(alloc, first, err);
-        return;
+    match fault_of(alloc, first) {
+        Ok(Some(fault)) => explain_fault(alloc, first, fault, err),
+        Ok(None) => explain_text(alloc, second, err),
+        Err(_) => {}
     }
-    explain_text(alloc, second, err);
 }
 
-/// Whether a text has a fault.
-pub(crate) fn has_fault(alloc: Global, text: &[u8]) -> bool {
-    fault_of(alloc, text).is_some()
-}
-
-/// The first fault of a text, if it has one and memory didn't run out.
-pub(crate) fn fault_of(alloc: Global, text: &[u8]) -> Option<GeometryFault>
-    ensures { IfSome result (HasFirst text.now) }
+/// The first fault of a text, or None where it has none. At Err memory ran out.
+pub(crate) fn fault_of(alloc: Global, text: &[u8]) -> Result<Option<GeometryFault>, AllocError>
+    ensures { IfOk result (IsFirst text.now) }
 {
-    let Err(failure) = geometry_of(alloc, GeometryWord::First, text) else {
-        return None;
-    };
-    let refused = refusal(&failure)?;
-    Some(refused.1)
+    match geometry_of(alloc, GeometryWord::First, text) {
+        Ok(_valid) => Ok(None),
+        Err(failure) => match refusal(&failure) {
+            Some(refused) => Ok(Some(refused.1)),
+            None => Err(AllocError),
+        },
+    }
 }
 
 /// The geometry that is refused, and its fault, if a failure is that.
@@ -103,7 +100,7 @@ fn refusal(failure: &Failure<'_>) -> Option<(GeometryWord, GeometryFault)>
 fn explain_text<E: Sink>(alloc: Global, text: &[u8], err: &mut E)
     ensures { MayExplain E.taken E.failures err.old err.new text.now }
 {
-    let Some(fault) = fault_of(alloc, text) else {
+    let Ok(Some(fault)) = fault_of(alloc, text) else {
         return;
     };
     explain_fault(alloc, text, fault, err);

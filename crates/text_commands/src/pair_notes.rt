@@ -4,17 +4,19 @@ ghost use Rattle.std.specs.Prelude.{◌≡◌, ◌≤◌, IfOk, IfSome, List, Op
 ghost use Rattle.csv.specs.Records.{fields_of};
 ghost use Rattle.explanations.specs.Marks.{said};
 ghost use Rattle.feature_table.specs.Reading.{IsSteady};
+ghost use Rattle.text_commands.specs.Explanations.{HasFirst};
 ghost use Rattle.text_commands.specs.Files.{OpensFile};
 ghost use Rattle.text_commands.specs.PairNotes.{IsNote, NotesFile, NotesPairs, NotesText, PutsNote, noted};
 ghost use Rattle.text_commands.specs.PairNotes as spec;
 ghost use Rattle.text_commands.specs.Pairs.{Begins};
 
-use crate::fault_explanations::{fault_of, has_fault};
+use crate::fault_explanations::fault_of;
 use crate::files::File;
 use crate::pair_records::next_record;
 use csv::{ByteRecord, Reader};
 use explanations::{geometry_said, said_line};
 use feature_table::{field_at, record_reader};
+use geometry_model::GeometryFault;
 use itoa::Buffer;
 use std::alloc::{AllocError, Global};
 use std::io::Read;
@@ -93,15 +95,23 @@ fn put_note<E: Sink>(
     Ok(true)
 }
 
-/// The line that notes the pair of a record, if one of its geometries is refused. At Err memory ran out.
+/// The line that notes the pair of a record, if one of its geometries is refused: the second only where the first isn't. At Err memory ran out.
 fn note_of(alloc: Global, number: usize, pair: &ByteRecord) -> Result<Option<Vec<u8>>, AllocError>
     ensures { IfOk result (λ found. IfSome found (λ line. IsNote number (fields_of pair.now) line.items)) }
 {
     let first = field_at(pair, 0);
-    if has_fault(alloc, first) {
-        return note_of_text(alloc, number, "first", first);
+    let second = field_at(pair, 1);
+    match fault_of(alloc, first) {
+        Ok(Some(fault)) => {
+            let line = note_of_fault(alloc, number, "first", first, fault)?;
+            Ok(Some(line))
+        }
+        Ok(None) => {
+            let found = note_of_text(alloc, number, "second", second)?;
+            Ok(found)
+        }
+        Err(_) => Err(AllocError),
     }
-    note_of_text(alloc, number, "second", field_at(pair, 1))
 }
 
 /// The line that notes a text that a word names, if it is refused.
@@ -113,12 +123,29 @@ fn note_of_text(
 ) -> Result<Option<Vec<u8>>, AllocError>
     ensures { IfOk result (λ found. IfSome found (λ line. NotesText number word.now text.now line.items)) }
 {
-    let Some(fault) = fault_of(alloc, text) else {
-        return Ok(None);
-    };
+    match fault_of(alloc, text) {
+        Ok(Some(fault)) => {
+            let line = note_of_fault(alloc, number, word, text, fault)?;
+            Ok(Some(line))
+        }
+        Ok(None) => Ok(None),
+        Err(_) => Err(AllocError),
+    }
+}
+
+/// The line that notes a text that a word names, by its first fault.
+fn note_of_fault(
+    alloc: Global,
+    number: usize,
+    word: &str,
+    text: &[u8],
+    fault: GeometryFault,
+) -> Result<Vec<u8>, AllocError>
+    requires { HasFirst text.now fault }
+    ensures { IfOk result (λ line. NotesText number word.now text.now line.items) }
+{
     let sentence = geometry_said(alloc, text, fault)?;
-    let line = note_line(alloc, number, word, sentence.as_slice())?;
-    Ok(Some(line))
+    note_line(alloc, number, word, sentence.as_slice())
 }
 
 /// The line of the number of a record, a word and a sentence.

@@ -1,0 +1,119 @@
+#!/usr/bin/env python3
+"""Measures a database that is loaded once and asked often: by the C library, by `sqlite3` in memory and by GEOS (`databases.c`).
+
+Points with a number each, in a grid of square parcels, are loaded, and then 1,000 windows are asked for, each of which finds
+some ten points, 100 numbers, 1,000 keys, and the parcels of each point. Each engine asks by a statement or a tree that it made
+before, into which the values are put. Shapes are such that an R*Tree of `sqlite3`, of whole numbers, gives the same answers. It
+compares the answers, and prints the instructions that valgrind counts, and with `--time` the microseconds of processor, as the
+least of runs that alternate: of a row for loading and the join, else of a window, a number or a key. What comes before the
+first turn is left out. With `--profile` it prints on the standard error where the instructions go of what takes more than is
+aimed at.
+
+It needs Python's standard library, valgrind, `gcc`, `libgeos-dev` and `libsqlite3-dev` from the distribution's packages, and the
+library: run `./build --library` once. It is no test: the gate doesn't run it.
+"""
+
+import argparse
+import math
+import pathlib
+import random
+import subprocess
+import sys
+import tempfile
+
+from peers import FOLDER
+from timing import ROOT, counted_shares, figure, marked, measure, print_columns, print_heads
+
+SIZES = (1_000, 10_000, 100_000)
+ENGINES = ("sfq", "sqlite", "geos")
+# What is done, how often in a turn, where that isn't once for each row, and which engines do it.
+WINDOWS, FILTERS, KEYS = 1_000, 100, 1_000
+WHAT = {
+    "load": (None, ENGINES), "windows": (WINDOWS, ENGINES), "filters": (FILTERS, ENGINES[:2]), "keys": (KEYS, ENGINES[:2]),
+    "join": (None, ENGINES),
+}
+# How many turns are timed.
+TURNS = 5
+# How many times what the best takes is aimed at, where that isn't once.
+AIMS = {"keys": 2}
+# A parcel has sides of so many steps, and some ten points.
+SIDE = 1_000
+
+
+def write_tables(folder, size):
+    """Points anywhere over a grid of parcels, each with one of the numbers that some ten others have, and windows as large as a parcel."""
+    chance = random.Random(size)
+    across = max(1, math.isqrt(size // 10))
+    most = across * SIDE
+    points = [f"{key},{chance.randrange(max(FILTERS, size // 10))},POINT({chance.randint(0, most)} {chance.randint(0, most)})"
+              for key in range(size)]
+    corners = [(x * SIDE, y * SIDE, (x + 1) * SIDE, (y + 1) * SIDE) for x in range(across) for y in range(across)]
+    parcels = [f'{key},"POLYGON(({a} {b},{c} {b},{c} {d},{a} {d},{a} {b}))"' for key, (a, b, c, d) in enumerate(corners)]
+    places = [(chance.randint(0, most - SIDE), chance.randint(0, most - SIDE)) for _ in range(WINDOWS)]
+    (folder / "point.csv").write_text("\n".join(["id,n,geom", *points]) + "\n")
+    (folder / "parcel.csv").write_text("\n".join(["id,geom", *parcels]) + "\n")
+    (folder / "windows").write_text("".join(f"{x} {y} {x + SIDE} {y + SIDE}\n" for x, y in places))
+
+
+def built(folder):
+    """Compiles the program over the libraries, and returns its path."""
+    library = ROOT / "bindings" / "c" / "out" / "libsfq_tables.a"
+    if not library.exists():
+        sys.exit("the library isn't there: run ./build --library once")
+    program = folder / "databases"
+    words = ["gcc", "-O2", "-Wall", "-o", program, FOLDER / "databases.c", f"-I{ROOT}/bindings/c", library, "-lgeos_c", "-lsqlite3"]
+    subprocess.run([str(it) for it in words], check=True)
+    return program
+
+
+def main():
+    parser = argparse.ArgumentParser(description=__doc__.splitlines()[0])
+    parser.add_argument("what", nargs="*", help=f"what is measured, of {', '.join(WHAT)}: all of it, if nothing is named")
+    parser.add_argument("--time", action="store_true", help="microseconds too")
+    parser.add_argument("--profile", action="store_true", help="where the instructions go of what takes more than is aimed at")
+    options = parser.parse_args()
+    if not WHAT.keys() >= set(options.what):
+        parser.error(f"what is measured is of {', '.join(WHAT)}")
+    units = ["instructions", "microseconds"] if options.time else ["instructions"]
+    with tempfile.TemporaryDirectory() as room:
+        folder = pathlib.Path(room)
+        program = built(folder)
+
+        def words(engine, what, turns):
+            return [program, engine, what, turns, folder]
+
+        def timed(engines, what):
+            """What a turn takes by each engine, which alternate."""
+            least = {it: [math.inf, math.inf] for it in engines}
+            for _ in range(5):
+                for it, times in least.items():
+                    times[:] = [min(old, measure(words(it, what, many), folder)[1]) for old, many in zip(times, (0, TURNS))]
+            return [(least[it][1] - least[it][0]) / TURNS * 1e6 for it in engines]
+
+        print_heads(["what", "rows", "found", "unit", "sfq", "sqlite3", "GEOS", "to the best"])
+        for what in options.what or WHAT:
+            count, engines = WHAT[what]
+            for size in SIZES:
+                write_tables(folder, size)
+                said, behind = [], ""
+                for it in engines if what != "load" else ():
+                    measure(words(it, what, 1), folder)
+                    said.append((folder / "output").read_text())
+                if len(set(said)) > 1:
+                    sys.exit(f"{what}, {size}: {said}")
+                for unit in units:
+                    # The last one that is counted is sfq, of which callgrind's file says where its instructions go.
+                    counts = [marked(words(it, what, 1), folder) for it in reversed(engines)] if unit == "instructions" else []
+                    taken = counts[::-1] or timed(engines, what)
+                    each = [it / (count or size) for it in taken]
+                    found = f"{int(said[0].split()[0]) / (count or size):.3g}" if said else ""
+                    ratio = each[0] / min(each[1:])
+                    if unit == "instructions" and ratio > AIMS.get(what, 1):
+                        behind = ", ".join(f"`{name}` {share:.0f}" for name, share in counted_shares(folder)[:8])
+                    print_columns([what, f"{size:,}", found, unit, *map(figure, each), *[""] * (3 - len(each)), f"{ratio:.2g}"])
+                if behind and options.profile:
+                    print(f"{what}: of 100 instructions {behind}", file=sys.stderr, flush=True)
+
+
+if __name__ == "__main__":
+    main()

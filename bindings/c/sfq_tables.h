@@ -1,0 +1,249 @@
+/*
+ * sfq_tables: databases of spatial tables that a program keeps (OGC 06-104r4, feature tables).
+ *
+ * A database has the tables of a schema. Each table is loaded by itself, from CSV, when it is needed, and stays loaded until the
+ * database is closed. A statement is a query that is read, bound and planned once, whose rows are found step by step. The proof
+ * ends at the calls of the crate sfq_tables, by which bindings/c/sfq_tables.c makes those of this header: sfq_tables.c itself is
+ * tested, not proved. They are in a library of their own, libsfq_tables.so.0, beside libsfq.so.0, whose header says what SFQ_OK to
+ * SFQ_NO_GEOMETRY are, and what an sfq_fault is.
+ *
+ * Statuses. Each call returns one of the statuses of sfq.h or below. Unless it is SFQ_OK, what the call would have written is as it
+ * was before; what differs from that is said at the call. SFQ_NO_GEOMETRY: a database is empty that has to be open, or is open that
+ * has to be empty. SFQ_UNKNOWN: there is no table, column, constant or open statement with this number or name.
+ *
+ * Pointers. A pointer to what a call writes must not be null, but for `fault`, which may be null where it isn't wanted. A text that
+ * is null is empty, whatever its length. A text needs no 0 at its end, and is the caller's: a database keeps nothing of it. What a
+ * call writes must not overlap anything else that it is handed. A room of `size` bytes that is null has none. `length` is how many
+ * bytes the text has: it is written where the status is SFQ_OK or SFQ_TOO_SMALL. Bytes of the room after the text are left as they
+ * were. To ask for the length first, pass a null room.
+ *
+ * Databases. An `sfq_database` is either empty, as SFQ_EMPTY makes it, or open, from sfq_open until sfq_close. A copy of the struct
+ * isn't a second database: use one of the two only. Tables and columns are numbered from 0, in the order of the schema.
+ *
+ * Statements. sfq_prepare opens a statement and gives it a number, which is its own until sfq_finalize. Each has its own rows. While
+ * statements are open, no table is loaded and the database isn't closed: the status is SFQ_OPEN.
+ *
+ * Threads. A database serves one call at a time. Different ones may serve calls in different threads at once, and each may go from
+ * one thread to another; this is tested, not proved. There is no other state.
+ *
+ * Memory. Calls take memory by malloc and realloc, and give it back by free before they return, but for what a database holds. Where
+ * memory is refused, the status is SFQ_OUT_OF_MEMORY, and the database is as it was before, but for what is said at sfq_step and at
+ * constants. While a table is loaded in place of another, both are in memory. Calls were tested on stacks of 128 KB. No call may be
+ * made from a signal handler, or in the forked child of a process that has threads.
+ *
+ * Files. sfq_load_file maps a regular file for itself while it loads it, so the file isn't copied; anything else, such as a pipe, it
+ * reads to the end first. A file that another program makes shorter meanwhile ends the process with SIGBUS: where that may happen,
+ * read it yourself and use sfq_load.
+ *
+ * Versions. The number in the library's name, libsfq_tables.so.0, changes when a call, a struct or a number below changes or goes. A
+ * later version with the same number may add calls, and statuses for calls that are new.
+ */
+#ifndef SFQ_TABLES_H
+#define SFQ_TABLES_H
+
+#include "sfq.h"
+
+#ifdef __cplusplus
+extern "C" {
+#endif
+
+/* What a call returns beside the statuses of sfq.h. SFQ_NONE, of sfq_step: no row is left; of a field: it is NULL. */
+enum sfq_tables_status {
+    SFQ_BUSY = 8,        /* sfq_step has looked at as much as it was allowed to; what is to come is unchanged */
+    SFQ_NOT_LOADED = 9,  /* the query names a table that isn't loaded */
+    SFQ_OPEN = 10,       /* statements are open */
+    SFQ_UNREADABLE = 11, /* the file can't be opened or read; errno says why */
+    SFQ_NO_ROW = 12      /* no row is there: before the first step, after a busy one or one that failed, and after the last row */
+};
+
+/* A database that a program keeps. */
+typedef struct sfq_database {
+    void *kept;
+} sfq_database;
+
+/*
+ * Why a text is refused: its first fault. `letter` is 'S' for a fault of a schema, 'L' for one of a table and 'Q' for one of a query;
+ * `at` is the byte, from 0, of S1 to S5 and of queries, and the record, 1 for the first after the header, of L3 to L9. `geometry` is
+ * the fault of the geometry's text, of L6 and Q8. What a fault doesn't use is 0. Where the status is SFQ_NOT_LOADED, `at` is the
+ * number of the table, and all else is 0.
+ *
+ *     S1  a token that can't be there, or the end of a text that ends too soon
+ *     S2  the name of a table, or of a column of a table, that an earlier one has
+ *     S3  a table without PRIMARY KEY
+ *     S4  PRIMARY on a second column of a table
+ *     S5  the name of the 17th table, or of the 33rd column of a table
+ *     S6  more than 65,536 bytes
+ *     L1  the header lacks the name of a column
+ *     L2  the header has the name of a column more than once
+ *     L3  the record has more or fewer fields than the header
+ *     L4  a TEXT field isn't UTF-8
+ *     L5  an INTEGER field isn't a whole number of 64 bits
+ *     L6  a geometry field isn't the text of a valid geometry
+ *     L7  a geometry isn't of its column's type
+ *     L8  a field is empty whose column takes no null
+ *     L9  the record has a key that an earlier one has
+ *     L10 more than 100,000 records after the header
+ *     Q1  bytes that are no token
+ *     Q2  a token that can't be there, or the end of a text that ends too soon
+ *     Q3  a table that the schema lacks
+ *     Q4  a name in FROM that an earlier one has
+ *     Q5  a column that the tables lack
+ *     Q6  a column that both tables have, without the table's name
+ *     Q7  a value of the wrong type
+ *     Q8  a text that isn't that of a valid geometry
+ *     Q9  a text that is no pattern of a matrix
+ *     Q10 conditions that are nested too deep
+ *     Q11 more than 65,536 bytes
+ *     Q12 a number of more than 64 bits
+ */
+typedef struct sfq_tables_fault {
+    uint8_t letter;
+    uint8_t number;
+    size_t at;
+    sfq_fault geometry;
+} sfq_tables_fault;
+
+/* The types of columns and of constants. Only a constant can be SFQ_NULL. */
+enum sfq_column_type {
+    SFQ_INTEGER = 0,
+    SFQ_TEXT = 1,
+    SFQ_GEOMETRY = 2,
+    SFQ_NULL = 3
+};
+
+/* Opens a database of the schema that a text spells, in `database`, which has to be empty. No table is loaded. */
+int sfq_open(const char *schema, size_t length, sfq_database *database, sfq_tables_fault *fault);
+
+/* Closes a database, and leaves it empty. SFQ_OPEN where statements are open, and then it stays open. */
+int sfq_close(sfq_database *database);
+
+/* How many tables the schema has. */
+int sfq_table_count(sfq_database *database, size_t *count);
+
+/* The number of the table of this name, without regard to ASCII case. */
+int sfq_find_table(sfq_database *database, const char *name, size_t length, size_t *table);
+
+/* The name of a table, as the schema spells it, without a 0 at its end. */
+int sfq_table_name(sfq_database *database, size_t table, char *room, size_t size, size_t *length);
+
+/* How many columns a table has. */
+int sfq_table_columns(sfq_database *database, size_t table, size_t *count);
+
+/* The name of a column, as the schema spells it, and its `sfq_column_type`, which is written where `length` is. */
+int sfq_table_column(sfq_database *database, size_t table, size_t column, char *room, size_t size, size_t *length, uint32_t *type);
+
+/* Whether a table is loaded. */
+int sfq_is_loaded(sfq_database *database, size_t table, bool *loaded);
+
+/*
+ * Loads a table from its CSV text: the first record is the header, which names the columns in any order. SFQ_REFUSED with the first
+ * fault where the text isn't that of the table. A table that was there is replaced, but only once the new one is loaded.
+ */
+int sfq_load(sfq_database *database, size_t table, const char *bytes, size_t length, sfq_tables_fault *fault);
+
+/* The same from a file. SFQ_UNREADABLE where it can't be opened or read. `path` ends with a 0. */
+int sfq_load_file(sfq_database *database, size_t table, const char *path, sfq_tables_fault *fault);
+
+/*
+ * Opens a statement of a query: reads and binds it, and chooses its plan. SFQ_REFUSED with the query's first fault; SFQ_NOT_LOADED with
+ * the number of the first table that it names and that isn't loaded; SFQ_UNKNOWN where its bytes aren't UTF-8.
+ */
+int sfq_prepare(sfq_database *database, const char *query, size_t length, size_t *statement, sfq_tables_fault *fault);
+
+/*
+ * Finds the next row. SFQ_OK: a row is there. SFQ_NONE: none is left. SFQ_OUT_OF_MEMORY: no row is left either, until sfq_reset.
+ * SFQ_BUSY: it has looked at `most` candidates, none of which gave a row, and the same rows are to come. A candidate is a row or a pair
+ * of rows; turning to the next row of the table that is walked first counts as one too. Under COUNT(*) and EXPLAIN ANALYZE the rows
+ * among them are counted. UINT64_MAX is no bound. With 0 it looks at nothing, and from 1 on the steps come to an end. Some steps are
+ * never busy, whatever `most` is: those of EXPLAIN, and those of a query whose pairs of rows have to be sorted.
+ */
+int sfq_step(sfq_database *database, size_t statement, uint64_t most);
+
+/* Begins a statement anew, before its first row. It takes no memory. */
+int sfq_reset(sfq_database *database, size_t statement);
+
+/* How many matrices a statement has computed since it began: the work so far, as EXPLAIN ANALYZE counts it. */
+int sfq_work(sfq_database *database, size_t statement, uint64_t *work);
+
+/* Ends a statement. Its number is then free for another one. */
+int sfq_finalize(sfq_database *database, size_t statement);
+
+/*
+ * Columns. They are numbered from 0, and are the same from sfq_prepare on. COUNT(*) has one of an integer; EXPLAIN has one of a text,
+ * whose rows are the lines of the plan. SFQ_UNKNOWN where there is no such statement or column.
+ */
+
+/* How many columns the rows of a statement have. */
+int sfq_columns(sfq_database *database, size_t statement, size_t *count);
+
+/* The name of a column, as the header of the program sfq has it. */
+int sfq_column_name(sfq_database *database, size_t statement, size_t column, char *room, size_t size, size_t *length);
+
+/* The `sfq_column_type` of a column. That of ST_AsText is SFQ_TEXT, that of ST_Dimension and ST_IsEmpty SFQ_INTEGER. */
+int sfq_column_type(sfq_database *database, size_t statement, size_t column, uint32_t *type);
+
+/* The header as the program sfq writes it, a record of CSV with its line end. EXPLAIN has none: its text is empty. */
+int sfq_header_text(sfq_database *database, size_t statement, char *room, size_t size, size_t *length);
+
+/* The plan, as EXPLAIN writes it, of a query that may ask for its rows. Each line ends with a line feed. */
+int sfq_plan_text(sfq_database *database, size_t statement, char *room, size_t size, size_t *length);
+
+/*
+ * The row that is there: the one that the last sfq_step found. SFQ_NO_ROW where none is. SFQ_NONE where the field is NULL.
+ */
+
+/* The number in a column. SFQ_NONE also where the column isn't of integers. It takes no memory. */
+int sfq_column_integer(sfq_database *database, size_t statement, size_t column, int64_t *value);
+
+/*
+ * The field of a column of any type, without quotes: the digits of a number, a text, the canonical well-known text of a geometry, or
+ * a line of EXPLAIN without its line feed.
+ */
+int sfq_column_text(sfq_database *database, size_t statement, size_t column, char *room, size_t size, size_t *length);
+
+/* The row as the program sfq writes it: a record of CSV, or a line of EXPLAIN, with its line end. */
+int sfq_row_text(sfq_database *database, size_t statement, char *room, size_t size, size_t *length);
+
+/*
+ * Constants. These are the numbers, texts and NULLs that are compared in ON and WHERE, and the geometries of ST_GeomFromText. They are
+ * numbered from 0, from the left. The pattern of ST_Relate is none of them, nor is the number of LIMIT, nor the 0 or 1 behind a
+ * predicate.
+ *
+ * To bind a constant is to put another value in its place. The statement is then that of the query with this value, with the plan that
+ * is chosen for it, and is before its first row. What was bound stays bound, also after sfq_reset, until it is bound again.
+ *
+ * A number takes the place of a number, a text that of a text, a geometry that of a geometry, and NULL that of a number or a text. A
+ * constant that is NULL, or that was bound to NULL, stays NULL: nothing else takes its place. A geometry can't be bound to NULL.
+ *
+ * SFQ_UNKNOWN: there is no such statement, or no such constant that takes the value. Then nothing changes: a row that was there is still
+ * there, and the same rows are to come. SFQ_OUT_OF_MEMORY: the statement may have no rows from then on, also after sfq_reset, and other
+ * columns, so end it. Other statements don't change.
+ */
+
+/* How many constants the query of a statement has. It takes no memory. */
+int sfq_constants(sfq_database *database, size_t statement, size_t *count);
+
+/* The `sfq_column_type` of a constant. It takes no memory. */
+int sfq_constant_type(sfq_database *database, size_t statement, size_t constant, uint32_t *type);
+
+/* Binds a constant to a number. */
+int sfq_bind_integer(sfq_database *database, size_t statement, size_t constant, int64_t value);
+
+/* Binds a constant to a text, which may be empty. SFQ_UNKNOWN also where its bytes aren't UTF-8. */
+int sfq_bind_text(sfq_database *database, size_t statement, size_t constant, const char *text, size_t length);
+
+/*
+ * Binds a constant to the geometry of a well-known text. SFQ_REFUSED where that isn't the text of a valid one, also where there is no
+ * such constant: the fault is Q8 with `at` 0 and the geometry's first fault, and nothing changes.
+ */
+int sfq_bind_geometry(sfq_database *database, size_t statement, size_t constant, const char *text, size_t length,
+                      sfq_tables_fault *fault);
+
+/* Binds a constant to NULL. */
+int sfq_bind_null(sfq_database *database, size_t statement, size_t constant);
+
+#ifdef __cplusplus
+}
+#endif
+
+#endif

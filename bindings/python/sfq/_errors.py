@@ -1,0 +1,122 @@
+"""The exceptions of databases, by PEP 249, and the words of faults of a schema, of tables and of queries.
+
+None of them is a FaultError, which a relation of two geometries raises: a caller of `connect` needs Error alone. The fault of a
+geometry's text within a table or a query is the same Fault here, in `fault`.
+"""
+from __future__ import annotations
+
+from typing import Any, Optional
+
+from ._faults import Fault
+
+# What each fault means and what to do. docs/FAULTS.md has them with examples.
+MEANINGS = {
+    "S1": "the schema can't go on like this at this byte: write tables as CREATE TABLE name (column type, ..), with NOT NULL or "
+          "PRIMARY KEY after a type",
+    "S2": "the name of a table or a column comes a second time: rename one of the two",
+    "S3": "the table has no key: mark one INTEGER column PRIMARY KEY",
+    "S4": "the table has a second PRIMARY KEY: leave one key",
+    "S5": "a 17th table or a 33rd column begins at this byte: split the schema or the table",
+    "S6": "the schema is longer than 65,536 bytes: shorten it",
+    "L1": "the table lacks a column of the schema: add the column, or take it out of the schema",
+    "L2": "the table has a column of the schema twice: rename one",
+    "L3": "the record has more or fewer fields than the header: write one for each column, in quotes if it has a comma",
+    "L4": "a text isn't UTF-8: save the table as UTF-8",
+    "L5": "a value of an INTEGER column isn't a whole number of 64 bits: write digits with a sign or none, and nothing for NULL",
+    "L6": "a geometry is refused",
+    "L7": "a geometry isn't of the column's type: declare the column GEOMETRY, which takes every type",
+    "L8": "the key or a NOT NULL column is empty: give it a value",
+    "L9": "an earlier record has this key: keys are unique",
+    "L10": "the table has more than 100,000 records: split it, or ask by sfq-scale, which takes more",
+    "L11": "reading the table failed on the way, or a record is past the limits: check the disk, and whether each quote is closed",
+    "Q1": "the byte begins no token, or a string isn't closed: write names without quotes and texts in single quotes",
+    "Q2": "the query can't go on like this at this byte; if the byte is the query's length, the query ends too soon",
+    "Q3": "the schema has no table of this name",
+    "Q4": "both tables have the same name here: give one an alias",
+    "Q5": "no table of the query has a column of this name, or the query has no table of the name before the point",
+    "Q6": "both tables have a column of this name: write the table and a point before it",
+    "Q7": "values of these types can't be compared, or a function takes no column of this type",
+    "Q8": "a geometry is refused",
+    "Q9": "the pattern isn't nine characters of T, F, *, 0, 1 and 2",
+    "Q10": "the 65th level of parentheses and NOTs begins here: nest the condition less deeply",
+    "Q11": "the query is longer than 65,536 bytes: shorten it",
+    "Q12": "a number has more than 64 bits with its sign: no field is outside these, so leave the test out",
+}
+# The faults that have no place.
+WITHOUT_PLACE = ("S6", "L1", "L2", "L10", "L11", "Q11")
+
+
+class Warning(Exception):
+    """PEP 249's warnings: sfq has none."""
+
+
+class Error(Exception):
+    """What a database refused.
+
+    `code` is that of docs/FAULTS.md, S1 to S6, L1 to L11 or Q1 to Q12; `at` the byte of the schema or of the query in UTF-8, from
+    0, or the record of a table, from 1; `table` the table's name; `fault` that of a geometry's text; `reason` what it means and
+    what to do. What an error doesn't have is None.
+    """
+
+    def __init__(
+        self, reason: str, code: Optional[str] = None, at: Optional[int] = None, table: Optional[str] = None, fault: Optional[Fault] = None
+    ) -> None:
+        self.reason, self.code, self.at, self.table, self.fault = reason, code, at, table, fault
+        head = self.place or table
+        super().__init__(f"sfq: {head}: {reason}" if head else f"sfq: {reason}")
+
+    def __reduce__(self) -> tuple[type[Error], tuple[Any, ...]]:
+        return type(self), (self.reason, self.code, self.at, self.table, self.fault)
+
+    @property
+    def place(self) -> Optional[str]:
+        """The table, the code and the places, as the program `sfq` prints them: `Q5 at 7`, `parcel L6 record 2 V3 0`."""
+        if self.code is None:
+            return None
+        words = [self.table, self.code, self.fault and self.fault.place]
+        if self.at is not None:
+            words.insert(2, f"record {self.at}" if self.code[0] == "L" else f"at {self.at}")
+        return " ".join(it for it in words if it)
+
+
+class InterfaceError(Error):
+    """The package is used in a way that has no meaning to the database: a value of a type that sfq doesn't have."""
+
+
+class DatabaseError(Error):
+    """An error of the database itself."""
+
+
+class DataError(DatabaseError):
+    """A table's data, or a value for a `?`, is refused: L1 to L11, and Q8 or Q12 of a value."""
+
+
+class OperationalError(DatabaseError):
+    """A file can't be read, or no table was handed in."""
+
+
+class IntegrityError(DatabaseError):
+    """PEP 249's error of related tables: sfq has none. A key that comes twice is a DataError, L9."""
+
+
+class InternalError(DatabaseError):
+    """The library returned a status that isn't one of the call's."""
+
+
+class ProgrammingError(DatabaseError):
+    """The schema or the query is refused, S1 to S6 and Q1 to Q12; or something closed is asked."""
+
+
+class NotSupportedError(DatabaseError):
+    """What sfq doesn't have: to roll back."""
+
+
+def meaning(code: str, fault: Optional[Fault]) -> str:
+    """Returns what a fault means and what to do, with that of the geometry's text."""
+    return f"{MEANINGS[code]}: {fault.meaning}" if fault else MEANINGS[code]
+
+
+def of_fault(code: str, at: int, table: Optional[str], fault: Optional[Fault]) -> Error:
+    """Returns the error of a fault of a schema, a table or a query."""
+    kind = DataError if code[0] == "L" else ProgrammingError
+    return kind(meaning(code, fault), code, None if code in WITHOUT_PLACE else at, table, fault)

@@ -1,0 +1,155 @@
+"""Where queries end in a text, and what a schema and a query name, by the language's own tokens: none of it is proved.
+
+A text may be anything: what can't be read is passed on, and sfq says what is wrong with it.
+"""
+from __future__ import annotations
+
+import re
+from typing import Iterator, NamedTuple, Optional
+
+from . import _parameters, _tables
+
+# What is looked at of a line to find where a query ends, and the end of a string that began in a line before.
+REST_OF_STRING = re.compile(r"[^']*(?:''[^']*)*'(?!')")
+PIECE = re.compile(rf"[^;'-]+|--[^\n]*|'{REST_OF_STRING.pattern}|.", re.S)
+WORD = re.compile(r"[A-Za-z_][A-Za-z0-9_]*")
+
+
+class Statement(NamedTuple):
+    """A query without the `;` behind it, from its first token on, and the line in which it begins, from 1."""
+
+    text: str
+    line: int
+
+
+class Splitter:
+    """Takes the lines of a text one after another, and gives each query once its `;` has come."""
+
+    def __init__(self) -> None:
+        self.parts: list[str] = []
+        self.is_in_string, self.line, self.begun = False, 0, 0
+
+    @property
+    def is_begun(self) -> bool:
+        """Whether a query has begun that hasn't ended."""
+        return bool(self.parts)
+
+    def add(self, line: str) -> Iterator[Statement]:
+        """Takes a line in, with its line end, and gives the queries that end in it."""
+        self.line += 1
+        at = self.closed(line) if self.is_in_string else 0
+        while at < len(line):
+            found = PIECE.match(line, at)
+            piece = found[0] if found else ""
+            at += len(piece)
+            if piece == ";":
+                statement = self.taken()
+                if statement:
+                    yield statement
+            elif piece == "'":
+                # A string that isn't closed in this line.
+                self.keep(line[at - 1 :])
+                self.is_in_string, at = True, len(line)
+            else:
+                self.keep(piece)
+
+    def closed(self, line: str) -> int:
+        """Takes in the line up to the end of the string that began before it, and returns the place behind that."""
+        found = REST_OF_STRING.match(line)
+        self.is_in_string = not found
+        self.parts.append(found[0] if found else line)
+        return len(self.parts[-1])
+
+    def keep(self, piece: str) -> None:
+        """Keeps a piece of a query: blanks and comments before its first token aren't of it."""
+        if not self.parts:
+            piece = "" if piece.startswith("--") else piece.lstrip(" \t\n\r")
+            self.begun = self.line
+        if piece:
+            self.parts.append(piece)
+
+    def taken(self) -> Optional[Statement]:
+        """Returns what was kept, if there is something, and begins anew."""
+        text = "".join(self.parts)
+        if not self.is_in_string:
+            text = text.rstrip(" \t\n\r")
+        self.parts, self.is_in_string = [], False
+        return Statement(text, self.begun) if text else None
+
+
+def tokens(text: str) -> Iterator["re.Match[str]"]:
+    """Returns the tokens of a text, without blanks and comments."""
+    return (it for it in _parameters.TOKENS.finditer(text) if not _parameters.BLANK.match(it[0]))
+
+
+def is_plan(query: str) -> bool:
+    """Whether a query asks for its plan."""
+    first = next(tokens(query), None)
+    return first is not None and first[0].upper() == "EXPLAIN"
+
+
+class Table(NamedTuple):
+    """A table of a schema: its name, its columns with their types, and its CREATE TABLE."""
+
+    name: str
+    columns: list[tuple[str, str]]
+    text: str
+
+    def type_of(self, column: str) -> str:
+        """Returns the type of a column; TEXT where there is none."""
+        return next((kind for name, kind in self.columns if name.lower() == column.lower()), "TEXT")
+
+
+def tables(schema: str) -> list[Table]:
+    """Returns the tables of a schema."""
+    found = []
+    for it in re.finditer(r"\bCREATE\s+TABLE\b", without_comments(schema), re.I):
+        words = [token for token in tokens(schema[it.start() :])][2:]
+        ended = next((at for at, token in enumerate(words) if token[0] == ")"), len(words))
+        if ended == len(words) or not WORD.match(words[0][0]):
+            continue
+        columns, begins = [], True
+        for token, after in zip(words[2:ended], words[3:]):
+            if begins and WORD.match(token[0]):
+                kind = after[0].upper()
+                columns.append((token[0], "INTEGER" if kind in ("INT", "BIGINT") else kind))
+            begins = token[0] == ","
+        found.append(Table(words[0][0], columns, schema[it.start() : it.start() + words[ended].end()] + ";\n"))
+    return found
+
+
+def without_comments(text: str) -> str:
+    """Returns a text of the same length with blanks in place of comments."""
+    return re.sub(r"--[^\n]*", lambda it: " " * len(it[0]), text)
+
+
+def references(query: str, known: list[Table]) -> dict[str, Table]:
+    """Returns the tables that a query names behind FROM and JOIN and that are there, by their aliases in lower case."""
+    words, of_name = [it[0] for it in tokens(query)], {it.name.lower(): it for it in known}
+    found: dict[str, Table] = {}
+    is_next = is_listed = False
+    for at, word in enumerate(words):
+        is_join, is_from = word.upper() == "JOIN", word.upper() == "FROM"
+        if is_next and word.lower() in of_name:
+            behind = words[at + 1 : at + 3]
+            alias = behind[1:] if behind[:1] and behind[0].upper() == "AS" else behind[:1]
+            is_alias = alias and WORD.fullmatch(alias[0]) and alias[0].lower() not in _tables.RESERVED
+            found.setdefault(alias[0].lower() if is_alias else word.lower(), of_name[word.lower()])
+        is_listed = (is_listed or is_from) and word.upper() not in ("WHERE", "ON", "LIMIT")
+        is_next = is_join or is_from or (is_listed and word == ",")
+    return found
+
+
+def types(headers: list[str], query: str, known: list[Table]) -> list[str]:
+    """Returns the types of an answer's columns by their headers: of ST_AsText that of its argument."""
+    named = references(query, known)
+    return [type_of(it, named) for it in headers]
+
+
+def type_of(header: str, named: dict[str, Table]) -> str:
+    """Returns the type of a column by its header."""
+    found = re.fullmatch(r"(?:(\w+)\()?(?:(\w+)\.)?(\w+|\*)\)?", header)
+    if not found or (found[1] and found[1] != "ST_AsText"):
+        return "INTEGER" if found else "TEXT"
+    several = [it for name, it in named.items() if found[2] is None or name == found[2].lower()]
+    return several[0].type_of(found[3]) if several else "TEXT"

@@ -1,0 +1,112 @@
+//! Constants of a bound query, with values in place of them.
+
+use spatial_sql::{Bound, bind_to_tables, read_query, read_schema};
+use sqlite_items::Boxed;
+use statements::{Constant, Put, count_of_constants, put_constant, type_of_constant};
+use std::alloc::Global;
+use std::test::Fail;
+use table_model::conditions::{Cond, GeometryArgument, Operand};
+use table_model::texts::OwnedText;
+use table_model::typing::OperandType;
+use table_model::values::Value;
+use validity::read_valid;
+
+const SCHEMA: &[u8] =
+    b"CREATE TABLE t (id INTEGER PRIMARY KEY, pop INTEGER, name TEXT, geom GEOMETRY);";
+
+/// A number in an OR, a text behind a NOT, a geometry, and what is no constant: a pattern, the 0 behind a predicate, a limit.
+const QUERY: &str = "SELECT id FROM t WHERE (id = pop OR pop > 5) AND NOT name = 'a' \
+    AND ST_Within(geom, ST_GeomFromText('POINT(1 2)')) AND ST_Relate(geom, geom, 'T********') = 0 LIMIT 3";
+
+fn bound(alloc: Global, text: &str) -> Result<Bound, Fail> {
+    let schema = read_schema(alloc, SCHEMA)?;
+    let query = read_query(alloc, text)?;
+    Ok(bind_to_tables(alloc, &query, schema.tables())?)
+}
+
+/// Whether a value was put.
+fn is_put(alloc: Global, query: &mut Bound, k: usize, value: Constant) -> Result<bool, Fail> {
+    Ok(matches!(put_constant(alloc, query, k, value)?, Put::Done))
+}
+
+/// A text as the value of a constant.
+fn text(alloc: Global, text: &str) -> Result<Constant, Fail> {
+    Ok(Value::Text(OwnedText::copy_of(alloc, text)?))
+}
+
+/// The number that a query's OR compares with.
+fn number(query: &Bound) -> Option<i64> {
+    let [Cond::Or(parts), ..] = query.conjuncts.as_slice() else {
+        return None;
+    };
+    match parts.as_slice() {
+        [_, Cond::Compare(_, _, Operand::Integer(number))] => Some(*number),
+        _ => None,
+    }
+}
+
+/// Whether the literal of a query's third conjunct is empty.
+fn is_empty(query: &Bound) -> Option<bool> {
+    match query.conjuncts.as_slice() {
+        [
+            _,
+            _,
+            Cond::Relates(_, _, GeometryArgument::Literal(literal)),
+            _,
+        ] => { Some(literal.get().is_empty()) }
+        _ => None,
+    }
+}
+
+#[test]
+fn constants_are_counted_from_the_left(rt: HostRuntime) -> Result<(), Fail> {
+    let query = bound(rt.alloc(), QUERY)?;
+    assert!(rt; count_of_constants(&query) == 3);
+    assert!(rt; type_of_constant(&query, 0) == Some(OperandType::Integer));
+    assert!(rt; type_of_constant(&query, 1) == Some(OperandType::Text));
+    assert!(rt; type_of_constant(&query, 2) == Some(OperandType::Geometry));
+    assert!(rt; type_of_constant(&query, 3).is_none());
+    Ok(())
+}
+
+#[test]
+fn values_take_the_place_of_constants(rt: HostRuntime) -> Result<(), Fail> {
+    let alloc = rt.alloc();
+    let mut query = bound(alloc, QUERY)?;
+    assert!(rt; is_put(alloc, &mut query, 0, Value::Integer(7))?);
+    assert!(rt; number(&query) == Some(7));
+    assert!(rt; is_put(alloc, &mut query, 1, Value::Null)?);
+    assert!(rt; type_of_constant(&query, 1) == Some(OperandType::Null));
+    let Ok(empty) = read_valid(alloc, b"POINT EMPTY")? else {
+        panic!(rt; "a fault")
+    };
+    assert!(rt; is_empty(&query) == Some(false));
+    assert!(rt;
+        is_put(
+            alloc,
+            &mut query,
+            2,
+            Value::Geometry(Boxed::new(alloc, empty)?)
+        )?
+    );
+    assert!(rt; is_empty(&query) == Some(true));
+    assert!(rt; number(&query) == Some(7));
+    assert!(rt; count_of_constants(&query) == 3);
+    Ok(())
+}
+
+#[test]
+fn other_values_are_given_back(rt: HostRuntime) -> Result<(), Fail> {
+    let alloc = rt.alloc();
+    let mut query = bound(alloc, QUERY)?;
+    let Put::Refused(Value::Text(given)) = put_constant(alloc, &mut query, 0, text(alloc, "b")?)?
+    else {
+        panic!(rt; "a text in place of a number")
+    };
+    assert!(rt; given.as_str() == "b");
+    assert!(rt; !is_put(alloc, &mut query, 2, Value::Null)?);
+    assert!(rt; !is_put(alloc, &mut query, 3, Value::Integer(7))?);
+    assert!(rt; number(&query) == Some(5));
+    assert!(rt; count_of_constants(&query) == 3);
+    Ok(())
+}

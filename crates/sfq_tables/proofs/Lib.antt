@@ -1,0 +1,7 @@
+pub mod ConnectionParts
+pub mod ConstantLemmas
+pub mod HandedTexts
+pub mod Reports
+pub mod SlotLemmas
+pub mod SteppedRows
+pub mod TextsOfTables

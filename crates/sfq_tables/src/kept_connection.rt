@@ -1,0 +1,97 @@
+//! A database behind the pointer that a caller in C keeps.
+
+ghost use Rattle.std.specs.Prelude.{◌≡◌, Option, Some};
+ghost use Rattle.sfq_tables.specs.KeptConnections.{HeldDatabase, connection_coded, connection_owns, connection_slot_coded, connection_slot_owns};
+
+use crate::connections::Connection;
+use library_calls::parts::Parts;
+use std::alloc::Global;
+use std::marker::Model;
+
+/// A database behind one pointer. C holds that pointer. It hands the database to one call at a time, which hands it back, and at the
+/// end to the one that frees it. Contracts see which database it is.
+#[repr(C)]
+pub struct KeptConnection {
+    at: *mut u8,
+    alloc: Global,
+    pub ghost connection: { HeldDatabase } by { connection_coded },
+}
+
+impl Model for KeptConnection {
+    ghost also_owns = { λ k. connection_owns k.alloc k.at k.connection };
+}
+
+impl KeptConnection {
+    /// Keeps the database of a box.
+    pub fn of(whole: Box<Connection>) -> KeptConnection
+        ensures { result.connection ≡ whole.value }
+    {
+        KeptConnection::of_parts(Parts::of(whole))
+    }
+
+    /// The box with the database.
+    pub fn into_box(self) -> Box<Connection>
+        ensures { result.value ≡ self.connection }
+    {
+        self.into_parts().into_box()
+    }
+
+    fn of_parts(parts: Parts<Connection, Global>) -> KeptConnection
+        ensures { result.connection ≡ parts.value }
+    {
+        let Parts { at, alloc } = parts;
+        KeptConnection {
+            at: at as *mut u8,
+            alloc,
+        }
+    }
+
+    fn into_parts(self) -> Parts<Connection, Global>
+        ensures { result.value ≡ self.connection }
+    {
+        let KeptConnection { at, alloc } = self;
+        Parts {
+            at: at as *mut Connection,
+            alloc,
+        }
+    }
+}
+
+impl Drop for KeptConnection {
+    fn drop(self) {
+        drop(self.into_box());
+    }
+}
+
+/// A kept database, or none. It has the form of a [`KeptConnection`]: C takes the pointer out of it where a call has written one there.
+/// A slot that is written over forgets what it had, so C hands in only empty ones.
+#[derive(Drop)]
+#[repr(C)]
+pub struct ConnectionSlot {
+    at: *mut u8,
+    alloc: Global,
+    pub ghost connection: { Option HeldDatabase } by { connection_slot_coded },
+}
+
+impl Model for ConnectionSlot {
+    ghost also_owns = { λ s. connection_slot_owns s.alloc s.at s.connection };
+}
+
+impl ConnectionSlot {
+    /// A slot with this database.
+    pub fn of(kept: KeptConnection) -> ConnectionSlot
+        ensures { result.connection ≡ Some kept.connection }
+    {
+        ConnectionSlot::of_parts(kept.into_parts())
+    }
+
+    fn of_parts(parts: Parts<Connection, Global>) -> ConnectionSlot
+        ensures { result.connection ≡ Some parts.value }
+    {
+        let Parts { at, alloc } = parts;
+        ConnectionSlot {
+            at: at as *mut u8,
+            alloc,
+        }
+    }
+}

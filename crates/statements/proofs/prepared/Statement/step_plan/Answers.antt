@@ -1,0 +1,31 @@
+-- The lines are those of the plan's text.
+use Rattle.std.proofs.Common.{◌≤◌, Ok, arith, drop, refl}
+use Rattle.executor.specs.Streams.{Stream, to_come, work_at_end}
+use Rattle.statements.proofs.StepLemmas.{plan_lines, plan_work, steps_from}
+use Rattle.statements.specs.Statements.{stream, work_so_far}
+use Rattle.statements.specs.declared.current_rows.CurrentRow.TheVariants as current
+use Rattle.statements.specs.declared.phases.Phase.TheVariants as phases
+use Rattle.statements.specs.declared.prepared.Statement.{Statement}
+use Rattle.streams.specs.MemorySinks.{memory_bytes}
+use Rattle.statements.proofs.prepared.Statement.step_plan.Goals as goal
+
+pub returns : goal.returns
+returns g c =
+    let database = c.args.database.now in
+    let old = c.args.self.now in
+    let before : Stream = stream database old in
+    let mid : Statement = record {
+      bound = old.bound;
+      plan = old.plan;
+      rows = old.rows;
+      phase = phases.Lines;
+      text = c.in_ok-self.field-0;
+      given = 0;
+      row = current.Absent;
+    } in
+    let kept : work_so_far old ≤ work_so_far mid = omega arith in
+    steps_from database old mid c.step_line.new.self (Ok c.step_line.result)
+    (λ matrix m. plan_lines old.phase database old.bound old.plan (to_come matrix before) (work_at_end matrix before)
+    (drop old.given (memory_bytes old.text)) (memory_bytes c.in_ok-self.field-0) c.requires.phase c.in_ok-self.ensures)
+    (λ matrix m. plan_work old.phase old.rows.progress.work (work_at_end matrix before) c.requires.phase)
+    kept refl refl c.step_line.ensures

@@ -1,0 +1,10 @@
+pub mod BoundConstants
+pub mod Columns
+pub mod ConstantLaws
+pub mod Constants
+pub mod Preparing
+pub mod Searching
+pub mod StatementLaws
+pub mod StatementRows
+pub mod StatementTexts
+pub mod Statements

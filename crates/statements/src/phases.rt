@@ -1,0 +1,34 @@
+//! What a statement gives next.
+
+ghost use Rattle.std.specs.Prelude.{◌≡◌};
+ghost use Rattle.statements.specs.StatementRows.{first_phase};
+
+use table_model::queries::Explain;
+
+/// What a statement gives next.
+#[derive(Clone, Copy)]
+pub enum Phase {
+    /// The rows or pairs of rows that its query means.
+    Rows,
+    /// Their number, of which so many are counted already.
+    Count(u64),
+    /// The lines of its plan, which isn't written yet.
+    Plan,
+    /// The same, and the line of the work, which isn't done yet.
+    Analysis,
+    /// What is left of these lines.
+    Lines,
+    /// Nothing.
+    Nothing,
+}
+
+/// What comes first.
+pub(crate) fn first_phase(explain: Explain, counts: bool) -> Phase
+    ensures { result ≡ first_phase explain counts }
+{
+    match explain {
+        Explain::No => { if counts { Phase::Count(0) } else { Phase::Rows } }
+        Explain::Plan => Phase::Plan,
+        Explain::Analyze => Phase::Analysis,
+    }
+}

@@ -1,0 +1,383 @@
+//! Statements.
+
+ghost use Rattle.std.specs.Prelude.{◌≡◌, IfOk, Ok, Some};
+ghost use Rattle.kept_tables.specs.KeptTables.{lent};
+ghost use Rattle.statements.specs.Preparing.{bound_of, or_fault, out_of_memory};
+ghost use Rattle.statements.specs.Statements.{BusyStep, HasBegun, IsOver, Steps, UnlessBusy, WhereBusy, work_so_far};
+ghost use Rattle.table_model.specs.Binding as spec;
+ghost use Rattle.table_model.specs.BoundQueries.{IsBound, geometry_fits};
+ghost use Rattle.table_model.specs.GeometryColumns.{geometry_binding};
+ghost use Rattle.table_model.specs.Outcomes.{Gives};
+ghost use Rattle.table_model.specs.Plans.{IsLawful, chosen};
+
+use crate::found_rows::{begun, count_rows, count_rows_within, next_row, next_row_within, sum};
+use crate::lines::first_line;
+use crate::phases::first_phase;
+use crate::plan_texts::analysis_text;
+use crate::unloaded_tables::unloaded_table;
+use crate::{CurrentRow, Phase, PrepareFault, StatementStep};
+use executor::{CountStep, PausedRows, Step, Work};
+use feature_table::Database;
+use kept_tables::KeptDatabase;
+use planner::choose;
+use rtree::EnvelopeIndex;
+use spatial_sql::{Bound, Query, bind, read_query};
+use std::alloc::{AllocError, Global};
+use streams::MemorySink;
+use table_model::plans::Plan;
+
+/// A query that was read, bound to the tables of a database and planned, and how far its rows were found. It borrows nothing: each
+/// step is lent the database, which has to be the same.
+#[derive(Drop)]
+pub struct Statement {
+    /// The query.
+    pub bound: Bound,
+    /// Its plan.
+    pub plan: Plan,
+    /// How far the rows or pairs of rows were found, and the work so far.
+    pub rows: PausedRows,
+    /// What is given next.
+    pub phase: Phase,
+    /// The text of EXPLAIN, once it is written.
+    pub text: MemorySink,
+    /// How many bytes of it were given.
+    pub given: usize,
+    /// The row that is there.
+    pub row: CurrentRow,
+}
+
+impl Statement {
+    /// Reads the text of a query, binds it to the tables of a database and chooses its plan. The first fault of these is returned:
+    /// of reading the text, as `read_query` has it; the first table that the query names and that isn't loaded; of binding, as
+    /// `bind` has it. `OutOfMemory` may come in place of any result (SQL, the query).
+    pub fn prepare<I: EnvelopeIndex + Drop>(
+        alloc: Global,
+        kept: &KeptDatabase<I>,
+        text: &str,
+    ) -> Result<Statement, PrepareFault>
+        ensures bound { Gives out_of_memory (λ s. s.bound) result
+            (bound_of kept.now text.now) }
+        ensures chosen { IfOk result (λ s. chosen kept.now.tables s.bound ≡ Some s.plan) }
+        ensures over { IfOk result (IsOver (lent kept.now)) }
+        ensures begun { IfOk result (HasBegun (lent kept.now)) }
+    {
+        let query = read_query(alloc, text)?;
+        match unloaded_table(kept, &query) {
+            Some(place) => Err(PrepareFault::NotLoaded(place)),
+            None => Statement::of_query(alloc, kept, &query),
+        }
+    }
+
+    /// Binds a query to the tables of a database and chooses its plan.
+    fn of_query<I: EnvelopeIndex + Drop>(
+        alloc: Global,
+        kept: &KeptDatabase<I>,
+        query: &Query<'_>,
+    ) -> Result<Statement, PrepareFault>
+        ensures bound { Gives out_of_memory (λ s. s.bound) result
+            (or_fault (spec.binding geometry_binding kept.now.definitions query.now)) }
+        ensures chosen { IfOk result (λ s. chosen kept.now.tables s.bound ≡ Some s.plan) }
+        ensures over { IfOk result (IsOver (lent kept.now)) }
+        ensures begun { IfOk result (HasBegun (lent kept.now)) }
+    {
+        let database = kept.database();
+        let bound = bind(alloc, query, &database)?;
+        let statement = Statement::planned(alloc, &database, bound)?;
+        Ok(statement)
+    }
+
+    /// The statement of a query that is bound to a database, with its chosen plan. It fails only when memory runs out.
+    pub fn planned<I: EnvelopeIndex + Drop>(
+        alloc: Global,
+        database: &Database<'_, I>,
+        bound: Bound,
+    ) -> Result<Statement, AllocError>
+        requires { IsBound geometry_fits database.now.definitions bound }
+        ensures bound { IfOk result (λ s. s.bound ≡ bound) }
+        ensures chosen { IfOk result (λ s. chosen database.now.tables bound ≡ Some s.plan) }
+        ensures over { IfOk result (IsOver database.now) }
+        ensures begun { IfOk result (HasBegun database.now) }
+    {
+        let plan = choose(alloc, database, &bound)?;
+        let rows = begun(alloc, database, &bound, &plan, Work::new());
+        let phase = first_phase(bound.explain, bound.counts);
+        Ok(Statement {
+            bound,
+            plan,
+            rows,
+            phase,
+            text: MemorySink::new(alloc),
+            given: 0,
+            row: CurrentRow::Absent,
+        })
+    }
+
+    /// Begins anew, before the first row: no work is done yet. It takes no memory.
+    pub fn reset<I: EnvelopeIndex + Drop>(&mut self, alloc: Global, database: &Database<'_, I>)
+        requires { IsOver database.now self.old }
+        ensures over { IsOver database.now self.new }
+        ensures begun { HasBegun database.now self.new }
+        ensures bound { self.new.bound ≡ self.old.bound }
+        ensures plan { self.new.plan ≡ self.old.plan }
+    {
+        self.begin(alloc, database);
+    }
+
+    /// The same, whatever the rows before.
+    pub(crate) fn begin<I: EnvelopeIndex + Drop>(
+        &mut self,
+        alloc: Global,
+        database: &Database<'_, I>,
+    )
+        requires bound { IsBound geometry_fits database.now.definitions self.old.bound }
+        requires lawful { IsLawful database.now.tables self.old.bound self.old.plan }
+        ensures over { IsOver database.now self.new }
+        ensures begun { HasBegun database.now self.new }
+        ensures bound { self.new.bound ≡ self.old.bound }
+        ensures plan { self.new.plan ≡ self.old.plan }
+    {
+        self.rows = begun(alloc, database, &self.bound, &self.plan, Work::new());
+        self.phase = first_phase(self.bound.explain, self.bound.counts);
+        self.text = MemorySink::new(alloc);
+        self.given = 0;
+        self.row = CurrentRow::Absent;
+    }
+
+    /// The work so far: how many matrices were computed since the statement began (06-103r4, 6.1.15).
+    pub fn work(&self) -> &Work
+        ensures { result.now ≡ work_so_far self.now }
+    {
+        &self.rows.progress.work
+    }
+
+    /// Finds the next row, where one is to come. The error is that memory ran out, and then none is to come any more, until the
+    /// statement is reset (SQL, the query).
+    pub fn step<I: EnvelopeIndex + Drop>(
+        &mut self,
+        alloc: Global,
+        database: &Database<'_, I>,
+    ) -> Result<StatementStep, AllocError>
+        requires { IsOver database.now self.old }
+        ensures { Steps database.now self.old result self.new }
+    {
+        match self.phase {
+            Phase::Rows => self.step_row(alloc, database),
+            Phase::Count(counted) => self.step_count(alloc, database, counted),
+            Phase::Plan => self.step_plan(alloc, database),
+            Phase::Analysis => self.step_analysis(alloc, database),
+            Phase::Lines => Ok(self.step_line(database)),
+            Phase::Nothing => Ok(self.end(database)),
+        }
+    }
+
+    /// The same, within so many looks: where none of so many candidates and rows of the outer reference gave a row, it is busy, and
+    /// the same rows are to come. From 1 look a step on, the steps come to an end. The first step of a plan that needs a list isn't
+    /// busy (this project's choice).
+    pub fn step_within<I: EnvelopeIndex + Drop>(
+        &mut self,
+        alloc: Global,
+        database: &Database<'_, I>,
+        most: u64,
+    ) -> Result<StatementStep, AllocError>
+        requires { IsOver database.now self.old }
+        ensures steps { UnlessBusy result (Steps database.now self.old result self.new) }
+        ensures busy { WhereBusy result (BusyStep most database.now self.old self.new) }
+        ensures over { IsOver database.now self.new }
+    {
+        match self.phase {
+            Phase::Rows => self.step_row_within(alloc, database, most),
+            Phase::Count(counted) => self.step_count_within(alloc, database, counted, most),
+            Phase::Analysis => self.step_analysis_within(alloc, database, most),
+            Phase::Plan | Phase::Lines | Phase::Nothing => self.step(alloc, database),
+        }
+    }
+
+    /// The next row or pair of rows, within so many looks.
+    fn step_row_within<I: EnvelopeIndex + Drop>(
+        &mut self,
+        alloc: Global,
+        database: &Database<'_, I>,
+        most: u64,
+    ) -> Result<StatementStep, AllocError>
+        requires over { IsOver database.now self.old }
+        requires phase { self.old.phase ≡ Phase.Rows }
+        ensures steps { UnlessBusy result (Steps database.now self.old result self.new) }
+        ensures busy { WhereBusy result (BusyStep most database.now self.old self.new) }
+        ensures over { IsOver database.now self.new }
+    {
+        self.row = CurrentRow::Absent;
+        let found = &mut self.rows;
+        match next_row_within(alloc, database, &self.bound, &self.plan, most, found)? {
+            Step::Row(pair) => {
+                self.row = CurrentRow::Pair(pair);
+                Ok(StatementStep::Row)
+            }
+            Step::Busy => Ok(StatementStep::Busy),
+            Step::End => Ok(StatementStep::End),
+        }
+    }
+
+    /// The next row or pair of rows.
+    fn step_row<I: EnvelopeIndex + Drop>(
+        &mut self,
+        alloc: Global,
+        database: &Database<'_, I>,
+    ) -> Result<StatementStep, AllocError>
+        requires over { IsOver database.now self.old }
+        requires phase { self.old.phase ≡ Phase.Rows }
+        ensures { Steps database.now self.old result self.new }
+    {
+        self.row = CurrentRow::Absent;
+        let Some(found) = next_row(alloc, database, &self.bound, &self.plan, &mut self.rows) else {
+            return Ok(StatementStep::End);
+        };
+        let pair = found?;
+        self.row = CurrentRow::Pair(pair);
+        Ok(StatementStep::Row)
+    }
+
+    /// The number of rows, but under LIMIT 0.
+    fn step_count<I: EnvelopeIndex + Drop>(
+        &mut self,
+        alloc: Global,
+        database: &Database<'_, I>,
+        counted: u64,
+    ) -> Result<StatementStep, AllocError>
+        requires over { IsOver database.now self.old }
+        requires phase { self.old.phase ≡ Phase.Count counted }
+        ensures { Steps database.now self.old result self.new }
+    {
+        self.row = CurrentRow::Absent;
+        self.phase = Phase::Nothing;
+        let others = count_rows(alloc, database, &self.bound, &self.plan, &mut self.rows)?;
+        let count = sum(counted, others)?;
+        if self.bound.limit == Some(0) {
+            return Ok(StatementStep::End);
+        }
+        self.row = CurrentRow::Count(count);
+        Ok(StatementStep::Row)
+    }
+
+    /// The same, within so many looks.
+    fn step_count_within<I: EnvelopeIndex + Drop>(
+        &mut self,
+        alloc: Global,
+        database: &Database<'_, I>,
+        counted: u64,
+        most: u64,
+    ) -> Result<StatementStep, AllocError>
+        requires over { IsOver database.now self.old }
+        requires phase { self.old.phase ≡ Phase.Count counted }
+        ensures steps { UnlessBusy result (Steps database.now self.old result self.new) }
+        ensures busy { WhereBusy result (BusyStep most database.now self.old self.new) }
+        ensures over { IsOver database.now self.new }
+    {
+        self.row = CurrentRow::Absent;
+        self.phase = Phase::Nothing;
+        let found = &mut self.rows;
+        match count_rows_within(alloc, database, &self.bound, &self.plan, most, found)? {
+            CountStep::More(others) => {
+                self.phase = Phase::Count(sum(counted, others)?);
+                Ok(StatementStep::Busy)
+            }
+            CountStep::All(others) => {
+                let count = sum(counted, others)?;
+                self.phase = Phase::Count(count);
+                self.step_count(alloc, database, count)
+            }
+        }
+    }
+
+    /// The first line of EXPLAIN.
+    fn step_plan<I: EnvelopeIndex + Drop>(
+        &mut self,
+        alloc: Global,
+        database: &Database<'_, I>,
+    ) -> Result<StatementStep, AllocError>
+        requires over { IsOver database.now self.old }
+        requires phase { self.old.phase ≡ Phase.Plan }
+        ensures { Steps database.now self.old result self.new }
+    {
+        self.row = CurrentRow::Absent;
+        self.phase = Phase::Nothing;
+        self.text = self.plan_text(alloc)?;
+        self.given = 0;
+        self.phase = Phase::Lines;
+        Ok(self.step_line(database))
+    }
+
+    /// The first line of EXPLAIN ANALYZE, once all rows were found.
+    fn step_analysis<I: EnvelopeIndex + Drop>(
+        &mut self,
+        alloc: Global,
+        database: &Database<'_, I>,
+    ) -> Result<StatementStep, AllocError>
+        requires over { IsOver database.now self.old }
+        requires phase { self.old.phase ≡ Phase.Analysis }
+        ensures { Steps database.now self.old result self.new }
+    {
+        self.row = CurrentRow::Absent;
+        self.phase = Phase::Nothing;
+        count_rows(alloc, database, &self.bound, &self.plan, &mut self.rows)?;
+        self.text = analysis_text(alloc, &self.bound, &self.plan, &self.rows.progress.work)?;
+        self.given = 0;
+        self.phase = Phase::Lines;
+        Ok(self.step_line(database))
+    }
+
+    /// The same, within so many looks.
+    fn step_analysis_within<I: EnvelopeIndex + Drop>(
+        &mut self,
+        alloc: Global,
+        database: &Database<'_, I>,
+        most: u64,
+    ) -> Result<StatementStep, AllocError>
+        requires over { IsOver database.now self.old }
+        requires phase { self.old.phase ≡ Phase.Analysis }
+        ensures steps { UnlessBusy result (Steps database.now self.old result self.new) }
+        ensures busy { WhereBusy result (BusyStep most database.now self.old self.new) }
+        ensures over { IsOver database.now self.new }
+    {
+        self.row = CurrentRow::Absent;
+        self.phase = Phase::Nothing;
+        let found = &mut self.rows;
+        match count_rows_within(alloc, database, &self.bound, &self.plan, most, found)? {
+            CountStep::More(_) => {
+                self.phase = Phase::Analysis;
+                Ok(StatementStep::Busy)
+            }
+            CountStep::All(_) => {
+                self.phase = Phase::Analysis;
+                self.step_analysis(alloc, database)
+            }
+        }
+    }
+
+    /// The next line of EXPLAIN.
+    fn step_line<I: EnvelopeIndex + Drop>(&mut self, database: &Database<'_, I>) -> StatementStep
+        requires over { IsOver database.now self.old }
+        requires phase { self.old.phase ≡ Phase.Lines }
+        ensures { Steps {E = AllocError} database.now self.old (Ok result) self.new }
+    {
+        let text = self.text.bytes();
+        let begin = self.given;
+        if begin >= text.len() {
+            self.row = CurrentRow::Absent;
+            return StatementStep::End;
+        }
+        let end = begin + first_line(&text[begin..]);
+        self.given = end + 1;
+        self.row = CurrentRow::Line(begin, end);
+        StatementStep::Row
+    }
+
+    /// No row.
+    fn end<I: EnvelopeIndex + Drop>(&mut self, database: &Database<'_, I>) -> StatementStep
+        requires over { IsOver database.now self.old }
+        requires phase { self.old.phase ≡ Phase.Nothing }
+        ensures { Steps {E = AllocError} database.now self.old (Ok result) self.new }
+    {
+        self.row = CurrentRow::Absent;
+        StatementStep::End
+    }
+}
