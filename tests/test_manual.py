@@ -24,6 +24,7 @@ OTHERS = {
     "sfq-export": [*python_command(sys.executable, "sfq-export"), "--help"],
     "sfq-schema": [*python_command(sys.executable, "sfq-schema"), "--help"],
     "sfq-shell": [*python_command(sys.executable, "sfq-shell"), "--help"],
+    "sfq-ask": [*python_command(sys.executable, "sfq-ask"), "--help"],
     "sfq-audit": [*python_command(sys.executable, "sfq-audit"), "run", "--help"],
 }
 

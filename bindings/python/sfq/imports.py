@@ -25,6 +25,8 @@ from ._passes import Key, Means, NotAscending, Pass, type_of, written_as_multi
 NAME = "sfq-import"
 # The step or the origin that is to be proposed.
 AUTO = "auto"
+# How an option takes several values: one behind another.
+MANY = {"nargs": "+", "action": "extend"}
 Say = Callable[[str], None]
 
 
@@ -318,26 +320,32 @@ def check(options: Options) -> None:
 # ---- the command ----
 
 
+def add_options(found: argparse.ArgumentParser, many: Mapping[str, Any] = MANY) -> None:
+    """Adds the options of an import to those of a command. `many` says how one takes several values."""
+    add = found.add_argument
+    add("--grid", metavar="STEP", default=AUTO,
+        help="the size of a step of the grid, in units of the source: 0.01; auto proposes the finest that takes all (auto)")
+    add("--origin", metavar="X,Y", default="", help="where the grid's 0 0 is in the source, or auto (0,0; auto where the step is)")
+    add("--to", metavar="EPSG:N", default="", help="move all geometries to this reference system")
+    add("--from", metavar="EPSG:N", default="", dest="of", help="the reference system of sources that say none")
+    add("--layer", metavar="NAME", default=[], **many, help="the layers to take (all)")
+    add("--key", metavar="COLUMN", default="", help="the column of whole numbers that is the key (the FID)")
+    add("--scale", metavar="COLUMN=STEP", default=[], **many,
+        help="make whole numbers of a column, which count steps of this size: width=0.01")
+    add("--xy", metavar="X,Y", default="", help="make points of two columns of a CSV file: lon,lat")
+    add("--wkt", metavar="COLUMN", default="", help="make geometries of a column of well-known text of a CSV file")
+    add("--invalid", choices=("leave-out", "mend", "stop"), default="leave-out", help="what becomes of records that sfq refuses (leave-out)")
+    add("--flat", action="store_true", help="take geometries with Z or M without them")
+
+
 def parser() -> argparse.ArgumentParser:
     found = argparse.ArgumentParser(prog=NAME, description="Makes the tables of sfq from any vector sources that GDAL reads.",
                                     epilog="Statuses: 0 done, 1 GDAL or sfq isn't there, 2 the command line, 4 a record under "
                                     "--invalid stop or --strict, or no record was kept, 6 files, 7 memory. The manual: man sfq-import.")
     add = found.add_argument
     add("source", metavar="SOURCE", nargs="+", help="a file, folder or database that GDAL reads, as ogrinfo takes it")
-    add("--grid", metavar="STEP", default=AUTO,
-        help="the size of a step of the grid, in units of the source: 0.01; auto proposes the finest that takes all (auto)")
-    add("--origin", metavar="X,Y", default="", help="where the grid's 0 0 is in the source, or auto (0,0; auto where the step is)")
     add("--out", metavar="DIR", required=True, help="a folder that isn't there yet, is empty, or gets more tables")
-    add("--to", metavar="EPSG:N", default="", help="move all geometries to this reference system")
-    add("--from", metavar="EPSG:N", default="", dest="of", help="the reference system of sources that say none")
-    add("--layer", metavar="NAME", nargs="+", action="extend", default=[], help="the layers to take (all)")
-    add("--key", metavar="COLUMN", default="", help="the column of whole numbers that is the key (the FID)")
-    add("--scale", metavar="COLUMN=STEP", nargs="+", action="extend", default=[],
-        help="make whole numbers of a column, which count steps of this size: width=0.01")
-    add("--xy", metavar="X,Y", default="", help="make points of two columns of a CSV file: lon,lat")
-    add("--wkt", metavar="COLUMN", default="", help="make geometries of a column of well-known text of a CSV file")
-    add("--invalid", choices=("leave-out", "mend", "stop"), default="leave-out", help="what becomes of records that sfq refuses (leave-out)")
-    add("--flat", action="store_true", help="take geometries with Z or M without them")
+    add_options(found)
     add("--replace", action="store_true", help="make tables anew that the folder has already")
     add("--strict", action="store_true", help="end with status 4 where a record was left out")
     add("--allow-empty", action="store_true", help="end with status 0 where no record is kept, too")
@@ -359,30 +367,40 @@ def steps_of(words: list[str], key: str) -> dict[str, str]:
     return found
 
 
-def parsed(words: list[str]) -> tuple[argparse.Namespace, Options]:
-    """Returns the words of the command, and the options of the import. An origin that begins with a minus is an option's value too."""
-    joined: list[str] = []
-    found = parser()
+def joined(words: Sequence[str]) -> list[str]:
+    """Returns the words of a command. An origin that begins with a minus is an option's value too."""
+    found: list[str] = []
     for it in words:
-        if joined and joined[-1] == "--origin":
-            joined[-1] = f"--origin={it}"
+        if found and found[-1] == "--origin":
+            found[-1] = f"--origin={it}"
         else:
-            joined.append(it)
-    given = found.parse_args(joined)
+            found.append(it)
+    return found
+
+
+def options_of(given: argparse.Namespace, found: argparse.ArgumentParser) -> Options:
+    """Returns the options of the import that a command was given. One that is wrong ends the command."""
     try:
         steps = steps_of(given.scale, given.key)
     except ValueError as error:
         found.error(f"argument --scale: {error}")
     options = Options(
         grid=given.grid, origin=given.origin, to=given.to, of=given.of, layers=given.layer, key=given.key, steps=steps,
-        xy=given.xy.split(",") if given.xy else (), wkt=given.wkt, invalid=given.invalid, is_flat=given.flat, replaces=given.replace,
+        xy=given.xy.split(",") if given.xy else (), wkt=given.wkt, invalid=given.invalid, is_flat=given.flat, replaces=getattr(given, "replace", False),
         program=given.sfq,
     )
     try:
         check(options)
     except ValueError as error:
         found.error(f"argument {error}")
-    return given, options
+    return options
+
+
+def parsed(words: list[str]) -> tuple[argparse.Namespace, Options]:
+    """Returns the words of the command, and the options of the import."""
+    found = parser()
+    given = found.parse_args(joined(words))
+    return given, options_of(given, found)
 
 
 def run(given: argparse.Namespace, options: Options) -> int:
