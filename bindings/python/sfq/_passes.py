@@ -6,9 +6,9 @@ import os
 import re
 import sys
 from collections import Counter
-from typing import Any, Callable, Mapping, NamedTuple, Optional
+from typing import Any, Callable, Mapping, NamedTuple, Optional, Sequence
 
-from . import _checking, _grid, _reading, _tables, _wkb
+from . import _checking, _grid, _parting, _reading, _tables, _wkb
 from ._columns import Refused
 from ._endings import DATA, Stopped
 from ._faults import MEANINGS
@@ -26,13 +26,19 @@ class NotAscending(Exception):
     """A key isn't greater than the one before it."""
 
 
+class HasParts(Exception):
+    """A record has to be parted, and its table has no columns for that."""
+
+
 class Record:
     """A record on its way: its number in the layer, its FID, its fields, its geometries' texts, and why it is refused or was mended."""
 
-    __slots__ = ("number", "fid", "fields", "texts", "reasons")
+    __slots__ = ("number", "fid", "fields", "texts", "parts", "reasons")
 
     def __init__(self, number: int, fid: int, fields: list[str], texts: list[Optional[str]]) -> None:
         self.number, self.fid, self.fields, self.texts = number, fid, fields, texts
+        # The texts of the parts of the one geometry of a record that is parted.
+        self.parts: list[str] = []
         # Each with what is before it in the list: the column, where a layer has several geometries.
         self.reasons: tuple[tuple[str, str], ...] = ()
 
@@ -45,6 +51,8 @@ class Means(NamedTuple):
     grid: _grid.Grid
     invalid: str
     is_flat: bool
+    # Whether records with more positions than sfq takes are parted.
+    parts: bool
     # The size of a step of each column whose numbers are to be whole.
     steps: Mapping[str, str]
     # The name of the command, for the line that says how far it is.
@@ -61,14 +69,18 @@ class Key(NamedTuple):
 class Pass:
     """One pass over a layer, which writes its table."""
 
-    def __init__(self, means: Means, layer: _reading.Layer, key: Key, name: str, files: tuple[Any, Any]) -> None:
-        self.means, self.layer, self.key, self.name = means, layer, key, name
+    def __init__(
+        self, means: Means, layer: _reading.Layer, key: Key, name: str, files: tuple[Any, Any], has_parts: bool = False,
+    ) -> None:
+        self.means, self.layer, self.key, self.name, self.has_parts = means, layer, key, name, has_parts
         self.table, self.left_out = files
-        self.shift, self.rows, self.records, self.flattened = _grid.Shift(), 0, 0, 0
+        self.shift, self.rows, self.records, self.kept, self.flattened = _grid.Shift(), 0, 0, 0, 0
+        # Records that are parted, their parts, and what cuts put in.
+        self.parted, self.parts, self.put_in, self.bend = 0, 0, 0, 0.0
         self.counts: Counter[Any] = Counter()
         self.empty: Counter[str] = Counter()
         self.words: list[set[str]] = [set() for _ in layer.shapes]
-        self.columns = columns(layer, key, means.steps)
+        self.columns = columns(layer, key, means.steps, has_parts)
         self.scales = {it.source: _grid.Scale(it.step) for it in self.columns if it.step}
         self.readers, self.key_of, self.takes = self.in_order(), self.key_reader(), [it.read for it in layer.shapes]
         self.forms: dict[str, str] = {}
@@ -186,18 +198,20 @@ class Pass:
         for (record, at), reason in zip(asked, reasons):
             if reason:
                 self.refuse(record, at, reason)
-        rows = []
         for record in batch:
-            row = self.row(record) if record.fields else None
+            rows = self.lines(record) if record.fields else None
             if record.reasons:
-                self.note(record, "left out" if row is None else "mended")
-            if row is not None:
-                rows.append(row)
-        self.table.writelines(rows)
-        self.rows += len(rows)
+                self.note(record, "left out" if rows is None else "mended")
+            if rows is not None:
+                self.table.writelines(rows)
+                self.rows += len(rows)
+                self.kept += 1
 
     def refuse(self, record: Record, at: int, reason: str) -> None:
         """Mends a geometry that sfq refuses where that is wanted and can be done; else refuses the record."""
+        if self.means.parts and reason[:2] == "W4" and len(self.takes) == 1:
+            self.part(record, reason)
+            return
         if self.means.invalid == "mend" and reason[0] == "V":
             text, behind = self.mended(record.texts[at] or "")
             if text is None:
@@ -222,26 +236,69 @@ class Pass:
             text, behind = made, f"; after make-valid {reason}"
         return None, behind
 
-    def row(self, record: Record) -> Optional[bytes]:
-        """Returns the line of a record, or None where it is refused."""
-        fields = record.fields
-        for text in record.texts:
-            fields.append("" if text is None else f'"{text}"' if "," in text else text)
-        line = ",".join(fields) + "\n"
+    def part(self, record: Record, reason: str) -> None:
+        """Parts a record, or refuses it. HasParts where the table has no columns for parts."""
+        if not self.has_parts:
+            raise HasParts()
+        text = record.texts[0] or ""
+        found, behind = self.parts_of(text)
+        if found is None and self.means.invalid == "mend":
+            made = _reading.mended(self.means.modules, text)
+            found, further = self.parts_of(made) if made else (None, "; make-valid leaves nothing of it")
+            behind = f"{behind}{further}"
+        if behind:
+            record.reasons += (("", reason + behind),)
+        if found is None:
+            record.fields = []
+            return
+        record.parts = found.texts
+        self.parted, self.parts = self.parted + 1, self.parts + len(found.texts)
+        self.put_in, self.bend = self.put_in + found.put_in, max(self.bend, found.greatest)
+
+    def parts_of(self, text: str) -> tuple[Optional[_parting.Parted], str]:
+        """Returns the parts of a text, each valid; else None and what is said of it."""
+        behind = ""
+        for choice in range(TIMES):
+            try:
+                found = _parting.parted(self.means.modules.ogr, text, choice)
+            except _parting.Undivided as it:
+                return None, f"; it can't be parted: {it}"
+            refused = [it for it in self.means.checker.reasons(found.texts) if it]
+            if not refused:
+                return found, ""
+            behind = f"; one of its {len(found.texts):,} parts {refused[0]}"
+        return None, behind
+
+    def lines(self, record: Record) -> Optional[list[bytes]]:
+        """Returns the lines of a record, one unless it is parted; None where it is refused."""
         try:
-            found = line.encode()
+            "".join(record.fields).encode()
         except UnicodeEncodeError:
             record.reasons += (("", "L4: a text isn't UTF-8"),)
             if self.means.invalid != "mend":
                 return None
-            fields = [it.encode("utf-8", "replace").decode() for it in fields]
-            found = (",".join(fields) + "\n").encode()
+            record.fields = [it.encode("utf-8", "replace").decode() for it in record.fields]
+        found = []
+        rows: list[list[Optional[str]]] = [[it] for it in record.parts] or [record.texts]
+        for number, texts in enumerate(rows):
+            line = self.line(record, [str(self.rows + number + 1)] if self.has_parts else [], texts)
+            if line is None:
+                return None
+            found.append(line)
+        return found
+
+    def line(self, record: Record, first: list[str], texts: Sequence[Optional[str]]) -> Optional[bytes]:
+        """Returns a line of a record behind its first fields, or None where it is refused."""
+        fields = first + record.fields
+        for text in texts:
+            fields.append("" if text is None else f'"{text}"' if "," in text else text)
+        found = (",".join(fields) + "\n").encode()
         if len(found) > _tables.MOST_BYTES:
             reason = _tables.too_long(found, [it.name for it in self.columns], fields)
             if reason:
                 record.reasons += (("", reason),)
                 return None
-        for words, text in zip(self.words, record.texts):
+        for words, text in zip(self.words, texts):
             if text is not None:
                 words.add(text.partition("(")[0])
         return found
@@ -263,10 +320,16 @@ def kind(reason: str) -> str:
     return f"{code}: {MEANINGS[code] if code[0] == 'V' or code in ('W3', 'W4') else text}"
 
 
-def columns(layer: _reading.Layer, key: Key, steps: Mapping[str, str]) -> list[_tables.Column]:
-    """Returns the columns of a table: the key, those of the layer in their order, and the geometries."""
+def columns(layer: _reading.Layer, key: Key, steps: Mapping[str, str], has_parts: bool) -> list[_tables.Column]:
+    """Returns the columns of a table: the key, those of the layer in their order, and the geometries.
+
+    Where a record may be several rows the key is a number of the row, and the record's own key is in a column `whole`.
+    """
     names, fid = _tables.Names(), layer.layer.GetFIDColumn()
-    if key.source == "#":
+    if has_parts:
+        source = "" if key.source == "#" else key.source or fid
+        found = [_tables.Column(names.of("part", "part"), "", "INTEGER"), _tables.Column(names.of("whole", "whole"), source, "INTEGER")]
+    elif key.source == "#":
         found = [_tables.Column(names.of("id", "id"), "", "INTEGER")]
     elif not key.source:
         found = [_tables.Column(names.of(fid or "fid", "fid"), fid, "INTEGER")]

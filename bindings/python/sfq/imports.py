@@ -1,7 +1,8 @@
 """The command sfq-import: makes the tables of sfq from any vector sources that GDAL reads.
 
     sfq-import SOURCE .. --out DIR [--grid STEP] [--origin X,Y] [--to EPSG:N] [--layer NAME ..] [--key COLUMN] [--scale COLUMN=STEP ..]
-               [--xy X,Y] [--wkt COLUMN] [--invalid leave-out|mend|stop] [--flat] [--replace] [--strict] [--allow-empty]
+               [--xy X,Y] [--wkt COLUMN] [--invalid leave-out|mend|stop] [--flat] [--part] [--replace]
+               [--strict] [--allow-empty]
 
 DIR then has schema.sql, a CSV file for each layer, grid.json, which remembers step and origin for sfq-export, and left-out.csv, which
 lists each record that was left out or mended, with sfq's own reason. None of it is proved; what sfq accepts of it is.
@@ -20,7 +21,7 @@ from typing import Any, Callable, Mapping, NamedTuple, Optional, Sequence
 from . import __version__, _checking, _endings, _folders, _grid, _proposing, _reading, _reports, _systems, _tables
 from ._endings import DATA, DONE, MISSING, USAGE, Stopped
 from ._faults import LibraryError
-from ._passes import Key, Means, NotAscending, Pass, type_of, written_as_multi
+from ._passes import HasParts, Key, Means, NotAscending, Pass, type_of, written_as_multi
 
 NAME = "sfq-import"
 # The step or the origin that is to be proposed.
@@ -51,6 +52,8 @@ class Options:
     # What becomes of records that are refused: leave-out, mend or stop.
     invalid: str = "leave-out"
     is_flat: bool = False
+    # Whether records of more positions than sfq takes become several rows.
+    is_parted: bool = False
     # Whether tables that are there by the names of new ones are replaced.
     replaces: bool = False
     # The program that checks in place of the library.
@@ -100,17 +103,19 @@ class Import:
 
     def take(self, layer: _reading.Layer, name: str) -> None:
         """Makes the table of a layer."""
-        key, place = self.first_key(layer), self.left_out.tell()
+        key, place, has_parts = self.first_key(layer), self.left_out.tell(), False
         while True:
             self.left_out.seek(place)
             self.left_out.truncate()
             with open(self.folder.new(f"{name}.csv"), "wb", buffering=1 << 20) as table:
-                found = Pass(self.means, layer, key, name, (table, self.left_out))
+                found = Pass(self.means, layer, key, name, (table, self.left_out), has_parts)
                 try:
                     found.run()
                     break
                 except NotAscending:
                     key = self.next_key(layer)
+                except HasParts:
+                    has_parts = True
         self.finish(layer, name, found)
 
     def next_key(self, layer: _reading.Layer) -> Key:
@@ -272,7 +277,8 @@ def imported(sources: Sequence[str], folder: _folders.Folder, options: Options, 
         names, replaced = names_of(layers, folder, options)
         grid = grid_of(shaped, folder, system, options, say)
         folder.begin(replaced)
-        work = Import(Means(found, checker, grid, options.invalid, options.is_flat, options.steps, name), folder, options.key, say)
+        work = Import(Means(
+            found, checker, grid, options.invalid, options.is_flat, options.is_parted, options.steps, name), folder, options.key, say)
         for it, table in zip(layers, names):
             work.take(it, table)
         work.close()
@@ -336,6 +342,7 @@ def add_options(found: argparse.ArgumentParser, many: Mapping[str, Any] = MANY) 
     add("--wkt", metavar="COLUMN", default="", help="make geometries of a column of well-known text of a CSV file")
     add("--invalid", choices=("leave-out", "mend", "stop"), default="leave-out", help="what becomes of records that sfq refuses (leave-out)")
     add("--flat", action="store_true", help="take geometries with Z or M without them")
+    add("--part", action="store_true", help="make several rows of a record with more than 10,000 positions")
 
 
 def parser() -> argparse.ArgumentParser:
@@ -386,8 +393,8 @@ def options_of(given: argparse.Namespace, found: argparse.ArgumentParser) -> Opt
         found.error(f"argument --scale: {error}")
     options = Options(
         grid=given.grid, origin=given.origin, to=given.to, of=given.of, layers=given.layer, key=given.key, steps=steps,
-        xy=given.xy.split(",") if given.xy else (), wkt=given.wkt, invalid=given.invalid, is_flat=given.flat, replaces=getattr(given, "replace", False),
-        program=given.sfq,
+        xy=given.xy.split(",") if given.xy else (), wkt=given.wkt, invalid=given.invalid, is_flat=given.flat, is_parted=given.part,
+        replaces=getattr(given, "replace", False), program=given.sfq,
     )
     try:
         check(options)
