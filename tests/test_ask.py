@@ -1,5 +1,6 @@
 """sfq-ask: constants and answers in the coordinates of the source, places of faults, the tables that are kept, outputs and how it ends;
 over a stand-in for the program, and over the library where it is made, also on layers that others made."""
+import contextlib
 import csv
 import io
 import json
@@ -20,10 +21,11 @@ from unittest import mock
 
 from support import ROOT, needs, python_command, python_with, read, write
 
+import engine_rows
 import library
 import test_databases_python as databases
 from shell_sessions import Program
-from sfq import _asking, _cache, _conditions, _constants, _endings, _errors, _grid, _units, ask
+from sfq import _asking, _cache, _conditions, _constants, _endings, _errors, _grid, _units, ask, imports
 from sfq._faults import MEANINGS
 
 GRID = _grid.Grid("0.5", ("100", "-50"))
@@ -112,6 +114,18 @@ class Constants(unittest.TestCase):
         written = _constants.Written(query, GRID)
         self.assertEqual(written.made, query.replace("100 -50", "0 0"))
         self.assertEqual(_constants.place(written.constants[0].value.pieces, 10), 14)
+
+    def test_on_a_grid_of_units_faults_stay(self):
+        """Those of all queries of the scripts: a grid of steps of 1 from 0 0 changes no number but for how it is spelled."""
+        grid, count = _grid.Grid("1"), 0
+        for name in databases.Engine.SCRIPTS:
+            for row in engine_rows.rows_of(name):
+                written = _constants.Written(row.command, grid)
+                if re.match("SELECT|EXPLAIN", row.command) and re.match("! sfq: Q", row.output) and written.made == row.command:
+                    count += 1
+                    line = row.output.removeprefix("! ").partition("\n")[0]
+                    self.assertEqual(written.refused(_asking.Refused(f"{line}\nsfq: x\n", 5), "sfq-ask").text.partition("\n")[0], line)
+        self.assertGreaterEqual(count, 30)
 
     def test_faults_of_other_things_stay(self):
         written = _constants.Written("SELECT 1", GRID)
@@ -217,7 +231,7 @@ class Conditions(WithRoom):
                       "SELECT id FROM u WHERE ST_IsEmpty(geom) AND ST_Within = 'ST_Within(geom, geom)'", "SELECT id FROM u WHERE"):
             conditions = self.conditions(query, **parted)
             conditions.need_lawful("sfq-ask")
-            self.assertEqual(conditions.notes()[:1], ["2 records of u are in 31 parts, each a row: those of one have the same number in whole"])
+            self.assertEqual(conditions.notes()[:1], ["2 records of u are in 31 parts, each a row: those of one have the same number in whole, and one is disjoint from another where all its parts are"])
 
     def test_two_reference_systems(self):
         other = {"u": {"coordinate_system": {"authority": "EPSG:4326", "wkt": "EPSG:4326"}}}
@@ -301,6 +315,127 @@ class Cache(WithRoom):
         self.assertEqual(found(), _cache.sum_of([f"{self.room}/copy/a.shp"], ["said"]))
         self.assertNotEqual(_cache.sum_of([f"{self.room}/s"], 1), _cache.sum_of([f"{self.room}/s", f"{self.room}/s"], 1))
         self.assertIsNone(_cache.sum_of([f"{self.room}/s/a.shp", "PG:dbname=x"], 1))
+
+
+class Kept(WithRoom):
+    """The tables of sources, over a stand-in for the import, which copies a folder that was imported."""
+
+    def setUp(self):
+        super().setUp()
+        self.source, self.count = f"{self.room}/t.shp", 0
+        write(self.source, "a")
+        folder_of(self.room)
+        self.enter = contextlib.ExitStack()
+        self.addCleanup(self.enter.close)
+        self.enter.enter_context(mock.patch.object(imports, "import_sources", side_effect=self.imported))
+        self.enter.enter_context(mock.patch.object(ask, "is_of_its_files", return_value=True))
+        self.enter.enter_context(mock.patch.dict(os.environ, {"XDG_CACHE_HOME": f"{self.room}/cache"}))
+        self.meanwhile = lambda path: None
+
+    def imported(self, sources, path, options, name, say):
+        self.count += 1
+        shutil.copytree(f"{self.room}/folder", path)
+        write(f"{path}/t.csv", read(f"{path}/t.csv") + f"9,{read(sources[0])},,,\n")
+        self.meanwhile(path)
+
+    def made(self, *words):
+        """Returns the folder of the tables as the command makes it, whether it is kept, and what was said."""
+        options = ask.parsed([self.source, *words, "SELECT id FROM t"])
+        said = io.StringIO()
+        with contextlib.redirect_stderr(said):
+            place = ask.place_of(options)
+            try:
+                folder, is_kept = ask.tables(options, place)
+            finally:
+                shutil.rmtree(place.room, ignore_errors=True)
+        return folder.path, is_kept, said.getvalue()
+
+    def entries(self):
+        return os.listdir(f"{self.room}/cache/sfq/tables")
+
+    def test_they_are_made_once(self):
+        path, is_kept, said = self.made()
+        self.assertEqual((is_kept, said), (True, f"sfq-ask: the tables are kept in {path}\n"))
+        self.assertEqual(self.made(), (path, True, f"sfq-ask: --grid 0.5 --origin 100,-50; the tables are in {path}, and what was said of them in its report.txt\n"))
+        self.assertEqual(read(f"{path}/report.txt"), "")
+        self.assertEqual((self.count, self.entries()), (1, [os.path.basename(path)]))
+
+    def test_other_options_and_other_sources_have_others(self):
+        paths = {self.made(*words)[0] for words in ([], ["--grid", "0.5"], ["--grid", "0.5", "--origin", "-1,1"], ["--flat"], ["--layer", "t"], ["--part"], ["--to", "EPSG:4326"])}
+        write(self.source, "b")
+        path = self.made()[0]
+        self.assertIn("9,b", read(f"{path}/t.csv"))
+        write(f"{self.room}/t.prj", "")
+        with mock.patch.dict(os.environ, {"OGR_GEOJSON_MAX_OBJ_SIZE": "1"}):
+            paths |= {path, self.made()[0]}
+        self.assertEqual(len({*paths, self.made()[0]}), 10)
+        write(self.source, "a")
+        os.remove(f"{self.room}/t.prj")
+        self.assertIn("the tables are in", self.made()[2])
+
+    def test_a_source_that_changes_while_it_is_read(self):
+        self.meanwhile = lambda path: write(self.source, "b")
+        for words in ([], ["--no-cache"]):
+            write(self.source, "a")
+            with self.assertRaises(_endings.Stopped) as met:
+                self.made(*words)
+            self.assertEqual((str(met.exception), met.exception.status), ("a source changed while it was read: ask again", 6))
+        self.assertEqual(self.entries(), [])
+
+    def test_an_import_that_fails(self):
+        def full(path):
+            raise OSError(28, "No space left on device")
+
+        self.meanwhile = full
+        with self.assertRaises(OSError):
+            self.made()
+        self.assertEqual(self.entries(), [])
+
+    def test_one_that_another_run_made_meanwhile(self):
+        def other(path):
+            self.meanwhile = lambda path: None
+            self.other = self.made()[0]
+
+        self.meanwhile = other
+        self.assertEqual(self.made()[:2], (self.other, True))
+        self.assertEqual(len(self.entries()), 1)
+
+    def test_a_damaged_one_is_made_anew(self):
+        path = self.made()[0]
+        with open(f"{path}/t.csv", "r+", encoding="utf-8") as file:
+            file.truncate(20)
+        self.assertEqual(self.made()[2], f"sfq-ask: the tables are kept in {path}\n")
+        self.assertIn("9,a", read(f"{path}/t.csv"))
+
+    def test_not_kept(self):
+        self.assertEqual(self.made("--no-cache")[1:], (False, ""))
+        self.assertFalse(os.path.exists(f"{self.room}/cache"))
+        with mock.patch.dict(os.environ, {"XDG_CACHE_HOME": "/proc/nothing"}):
+            path, is_kept, said = self.made()
+        self.assertFalse(is_kept or path.startswith("/proc"))
+        self.assertRegex(said, r"\Asfq-ask: the tables aren't kept: /proc/nothing.*\n\Z")
+        with mock.patch.object(ask, "is_of_its_files", return_value=False):
+            self.assertEqual(self.made()[1:], (False, ""))
+        self.assertEqual(self.entries(), [])
+
+    def test_what_was_left_out_is_said_each_time(self):
+        write(f"{self.room}/folder/left-out.csv", "layer,record,fid,reason,done,table\nt,1,1,V1 0,left out,t\nt,2,2,V3 0,mended,t\nt,3,3,V3 0,mended,t\n")
+        path = self.made()[0]
+        self.assertEqual(self.made()[2].splitlines()[1:], [f"sfq-ask: t: 1 left out: {path}/left-out.csv says why", f"sfq-ask: t: 2 mended: {path}/left-out.csv says why"])
+
+    def test_too_few_records(self):
+        folder_of(self.room, t={"records": 6, "left_out": 2})
+        self.assertEqual(self.made()[1], True)
+        with self.assertRaises(_endings.Stopped) as met:
+            self.made("--strict")
+        self.assertEqual((str(met.exception), met.exception.status), ("2 of 7 records were left out", 4))
+        none = {"rows": 0, "left_out": 1, "records": 1}
+        folder_of(self.room, t=none, u=none)
+        write(self.source, "b")
+        with self.assertRaises(_endings.Stopped) as met:
+            self.made()
+        self.assertEqual((str(met.exception), met.exception.status), ("no record was kept; --allow-empty takes that", 4))
+        self.assertTrue(self.made("--allow-empty")[1])
 
 
 ALL = "SELECT * FROM t"
@@ -459,7 +594,8 @@ class Asking(WithProgram):
 
     def test_misuse(self):
         for words, said in (
-            ([ALL], "name a folder or a source, and behind it the query"), ([self.folder, self.folder, ALL], "a folder that sfq-import made is asked alone: sfq-import SOURCE --out FOLDER adds tables to it"),
+            ([ALL], "name a folder or a source, and behind it the query"), (["x.shp", self.folder], "name a folder or a source, and behind it the query"),
+            ([self.folder, ALL, "--output", self.folder], f"--output {self.folder} is a source"), ([self.folder, self.folder, ALL], "a folder that sfq-import made is asked alone: sfq-import SOURCE --out FOLDER adds tables to it"),
             ([self.folder, ALL, "--grid", "1"], f"{self.folder} is imported, so it takes no option of an import"), ([self.folder, ALL, "--out", "gpkg"], "--out gpkg is written into a file: name it by --output FILE.gpkg"),
             ([self.folder, ALL, "--out", "xml"], "argument --out: invalid choice: 'xml'"), (["x.shp", ALL, "--grid", "x"], "'x' isn't a decimal number"),
         ):
@@ -532,6 +668,155 @@ def children(number):
     """Returns the numbers of a process's children."""
     with open(f"/proc/{number}/task/{number}/children", encoding="ascii") as file:
         return file.read().split()
+
+
+class OverTheLibrary(databases.WithTables):
+    """Over the library, with places of its own."""
+
+    def setUp(self):
+        self.room = tempfile.mkdtemp(prefix="sfq-ask-")
+        self.addCleanup(shutil.rmtree, self.room, True)
+
+    def run_words(self, *words, python=sys.executable, cache="cache"):
+        """Runs the command, and returns what it wrote and its status."""
+        known = {**os.environ, "XDG_CACHE_HOME": f"{self.room}/{cache}", "SFQ_LIBRARY": library.SHARED, "PYTHONDONTWRITEBYTECODE": "1"}
+        ran = subprocess.run([*python_command(python, "sfq-ask"), *words], env=known, cwd=self.room, capture_output=True, text=True, timeout=300)
+        return ran.stdout, ran.stderr, ran.returncode
+
+
+class Faults(OverTheLibrary):
+    """Each code of a query and of a geometry in one has its place in what the user wrote."""
+
+    def fault(self, query):
+        """Returns the lines of a query's fault, asked as the command does."""
+        folder = _units.Folder(self.folder)
+        written = _constants.Written(query, folder.grid)
+        written.need_on_grid("sfq-ask")
+        asker = _asking.asker("sfq-ask", "", [folder.schema_file, folder.path], folder.schema)
+        with self.assertRaises(_asking.Refused) as met:
+            asker.ask(written.made)
+        self.assertEqual(met.exception.status, 5)
+        return written.refused(met.exception, "sfq-ask").text
+
+    def setUp(self):
+        super().setUp()
+        self.folder = folder_of(self.room)
+
+    def test_codes_of_queries(self):
+        for code, marked in FAULTS:
+            query, at = byte_of(marked)
+            text = self.fault(query)
+            self.assertEqual(text, f"sfq: {code} at {at}\n{_asking.placed(_asking.encoded(query), at)}sfq: {_errors.MEANINGS[code]}\n", query)
+        self.assertEqual(len({code for code, _ in FAULTS}), 10)
+        self.assertTrue(self.fault(f"SELECT id FROM t WHERE name = '{'x' * 65_536}'").startswith("sfq: Q11\n"))
+
+    def test_codes_of_geometries(self):
+        for code, marked in OF_TEXTS:
+            text, at = byte_of(marked)
+            query = f"SELECT id FROM t WHERE name = 'é' AND ST_Within(geom, ST_GeomFromText('{text}'))"
+            if len(query.encode()) > 65_536:
+                # Of W4 the text is longer than a query may be, but not the one that sfq gets.
+                self.assertLess(len(made(query).encode()), 65_536)
+            quote = len(query.partition("ST_GeomFromText(")[0].encode()) + len("ST_GeomFromText(")
+            place = f" at {at - text.count(chr(39) * 2)}" if code in ("W1", "W3") else ""
+            first, _, more = self.fault(query).partition("\n")
+            self.assertEqual(first, f"sfq: Q8 at {quote} {code}{place}", text[:80])
+            shown = f"{_asking.placed(_asking.encoded(query), quote)}sfq: {_errors.MEANINGS['Q8']}: {MEANINGS[code[:2]]}\n"
+            self.assertEqual(more, shown + ("sfq-ask: the grid reaches from -4999900.0 -5000050.0 to 5000100.0 4999950.0\n" if code == "W3" else ""))
+        self.assertEqual({code[:2] for code, _ in OF_TEXTS}, {*MEANINGS} - {"W2"})
+
+
+GEOS = """
+import csv, json, sys
+import shapely
+from shapely import wkt
+csv.field_size_limit(sys.maxsize)
+def read(folder, table, key, geom):
+    with open(f"{folder}/{table}.csv", newline="") as file:
+        return [wkt.loads(it[geom]) for it in csv.DictReader(file) if it[geom]]
+folder, one, other = sys.argv[1], sys.argv[2].split(","), sys.argv[3].split(",")
+first, second, counts = read(folder, *one), read(folder, *other), {}
+names = ("intersects", "touches", "crosses", "within", "contains", "overlaps", "equals")
+counts = dict.fromkeys(names, 0)
+boxes = [it.bounds for it in second]
+for a in first:
+    if a.is_empty:
+        continue
+    left, low, right, high = a.bounds
+    for b, box in zip(second, boxes):
+        if box and left <= box[2] and box[0] <= right and low <= box[3] and box[1] <= high:
+            for name in names:
+                counts[name] += bool(getattr(a, name)(b))
+print(json.dumps({"counts": counts, "pairs": len(first) * len(second)}))
+"""
+
+
+def layer(package, path):
+    """Returns the path of a layer of a package of R, or of geopandas."""
+    return f"/usr/lib/python3/dist-packages/geopandas/datasets/{path}" if package == "geopandas" else f"/usr/lib/R/site-library/{package}/{path}"
+
+
+@unittest.skipUnless(PYTHON and SHAPELY, "needs the packages python3-gdal and python3-shapely")
+class Layers(OverTheLibrary):
+    """Layers that others made: counts and relations are those of GEOS over the same rounded shapes."""
+
+    def need(self, *paths):
+        for package, path in paths:
+            if not os.path.exists(layer(package, path)):
+                name = {"sf": "r-cran-sf", "spData": "r-cran-spdata", "geopandas": "python3-geopandas"}[package]
+                self.skipTest(f"needs the package {name}")
+        return [layer(*it) for it in paths]
+
+    def agree(self, first, second, *sources):
+        """Has the counts of each predicate over two tables be those of GEOS, the tables being made by the first call and kept."""
+        count = f"SELECT COUNT(*) FROM {first} a JOIN {second} b ON ST_%s(a.geom, b.geom)"
+        found, counts = "", {}
+        out, err, status = self.run_words(*sources, count % "Intersects", python=PYTHON)
+        self.assertEqual(status, 0, err)
+        counts["intersects"] = int(out.split()[1])
+        found = re.search(r"the tables are kept in (.*)\n", err)[1]
+        tables = json.loads(read(f"{found}/grid.json"))["layers"]
+        places = {it["table"]: f"{it['table']},{it['key']},{it['columns'][-1]['name']}" for it in tables}
+        ran = subprocess.run([SHAPELY, "-c", GEOS, found, places[first], places[second]], capture_output=True, text=True, check=True)
+        wanted = json.loads(ran.stdout)
+        for it in ("Touches", "Crosses", "Within", "Contains", "Overlaps", "Equals", "Disjoint"):
+            out, err, status = self.run_words(found, count % it)
+            self.assertEqual((err, status), ("", 0))
+            counts[it.lower()] = int(out.split()[1])
+        self.assertEqual(counts.pop("disjoint"), wanted["pairs"] - wanted["counts"]["intersects"])
+        self.assertEqual(counts, wanted["counts"])
+        return found
+
+    def test_counties(self):
+        source, = self.need(("sf", "shape/nc.shp"))
+        folder = self.agree("nc", "nc", source)
+        out, err, status = self.run_words(source, "SELECT b.NAME FROM nc a JOIN nc b ON ST_Touches(a.geom, b.geom) WHERE a.NAME = 'Ashe'", python=PYTHON)
+        self.assertEqual((out.splitlines(), status), (["b.NAME", "Alleghany", "Wilkes", "Watauga"], 0))
+        self.assertIn(f"the tables are in {folder}, and what was said of them in its report.txt\nsfq-ask: nc: 2 left out: {folder}/left-out.csv says why\n", err)
+        self.assertIn("nc: 98 of 100 records in nc.csv; ", read(f"{folder}/report.txt"))
+
+    def test_cities_in_countries_of_another_source(self):
+        countries, cities = self.need(("spData", "shapes/world.gpkg"), ("geopandas", "naturalearth_cities/naturalearth_cities.shp"))
+        folder = self.agree("naturalearth_cities", "world", cities, countries)
+        out, err, status = self.run_words(cities, countries, "SELECT c.name, w.name_long, c.geom FROM naturalearth_cities c JOIN world w ON ST_Within(c.geom, w.geom) WHERE w.continent = 'Oceania'",
+                                          "--out", "geojson", python=PYTHON)
+        self.assertEqual(status, 0, err)
+        found = {it["properties"]["c.name"]: it for it in json.loads(out)["features"]}
+        self.assertEqual(found["Canberra"]["properties"]["w.name_long"], "Australia")
+        x, y = found["Canberra"]["geometry"]["coordinates"]
+        constant = f"SELECT name_long FROM world WHERE ST_Contains(geom, ST_GeomFromText('POINT({x} {y})'))"
+        self.assertEqual(self.run_words(folder, constant), ("name_long\nAustralia\n", "", 0))
+
+    def test_two_reference_systems(self):
+        one, other = self.need(("spData", "shapes/world.gpkg"), ("spData", "shapes/boston_tracts.shp"))
+        query = "SELECT COUNT(*) FROM world w JOIN boston_tracts b ON ST_Contains(w.geom, b.geom) WHERE w.name_long = 'United States'"
+        out, err, status = self.run_words(one, other, query, python=PYTHON)
+        self.assertEqual((out, status), ("", 2))
+        self.assertIn("EPSG:4326", err)
+        self.assertIn("--to EPSG:N", err)
+        out, err, status = self.run_words(one, other, query, "--to", "EPSG:4326", python=PYTHON)
+        self.assertEqual(status, 0, err)
+        self.assertGreater(int(out.split()[1]), 200)
 
 
 if __name__ == "__main__":

@@ -102,8 +102,8 @@ class Conditions:
         for layer in self.layers.values():
             if layer.has_parts:
                 parted = layer.said["parted"]
-                found.append(f"{parted['records']:,} records of {layer.said['table']} are in {parted['rows']:,} parts, "
-                             f"each a row: those of one have the same number in {parted['whole']}")
+                found.append(f"{parted['records']:,} records of {layer.said['table']} are in {parted['rows']:,} parts, each a row: those of one have the "
+                             f"same number in {parted['whole']}, and one is disjoint from another where all its parts are")
         return list(dict.fromkeys(found))
 
 

@@ -31,7 +31,9 @@ NAME = "sfq-ask"
 MODES = ("csv", "table", "json", "geojson", "gpkg", "svg")
 # Those in which a plan can't be written.
 PICTURES = ("gpkg", "svg")
-# Drivers of GDAL that read files alone, those that they list, and the beginnings of the variables that GDAL and PROJ take.
+# The file of kept tables with the lines that were said when they were made.
+REPORT = "report.txt"
+# Drivers of GDAL that read files alone, all of which they list, and the beginnings of the variables that GDAL and PROJ take.
 OF_FILES = ("ESRI Shapefile", "GPKG", "GeoJSON", "GeoJSONSeq", "TopoJSON", "ESRIJSON", "FlatGeobuf", "CSV", "KML", "LIBKML", "GPX", "MapInfo File", "OpenFileGDB",
             "DXF", "Parquet", "Arrow", "ODS", "XLSX")
 OF_GDAL = ("GDAL_", "OGR_", "SHAPE_", "PROJ_", "CPL_", "OSR_")
@@ -166,16 +168,23 @@ def made(options: argparse.Namespace, place: Place) -> tuple[_units.Folder, bool
     if found:
         folder = _units.Folder(found)
         step, origin = folder.grid.spelled
-        say(f"--grid {step} --origin {','.join(origin)}; the tables are in {found}")
+        say(f"--grid {step} --origin {','.join(origin)}; the tables are in {found}, and what was said of them in its {REPORT}")
         for it in left_out(found):
             say(it)
         return folder, True
-    path = f"{place.room}/tables"
-    imports.import_sources(options.sources, path, options.of_import, NAME, say)
+    path, lines = f"{place.room}/tables", []
+
+    def saying(line: str) -> None:
+        lines.append(f"{line}\n")
+        say(line)
+
+    imports.import_sources(options.sources, path, options.of_import, NAME, saying)
     if name != _cache.sum_of(options.sources, depends_on(options)):
         raise Stopped("a source changed while it was read: ask again", FILES)
     if not place.cache or not name or not all(map(is_of_its_files, options.sources)):
         return _units.Folder(path), False
+    with open(f"{path}/{REPORT}", "w", encoding="utf-8") as file:
+        file.writelines(lines)
     place.cache.clean()
     path = place.cache.keep(path, name)
     say(f"the tables are kept in {path}")
@@ -189,7 +198,7 @@ def depends_on(options: argparse.Namespace) -> Any:
     except importlib.metadata.PackageNotFoundError:
         gdal = ""
     environment = {name: value for name, value in os.environ.items() if name.startswith(OF_GDAL)}
-    return [__version__, gdal, dataclasses.asdict(options.of_import), environment]
+    return [__version__, gdal, dataclasses.asdict(dataclasses.replace(options.of_import, program="")), environment]
 
 
 def is_of_its_files(source: str) -> bool:
@@ -257,8 +266,10 @@ def parsed(words: list[str]) -> argparse.Namespace:
     found = parser()
     options = found.parse_intermixed_args(imports.joined(words))
     *options.sources, options.query = options.words
-    if not options.sources:
+    if not options.sources or os.path.exists(options.query):
         found.error("name a folder or a source, and behind it the query")
+    if options.output and os.path.realpath(options.output) in map(os.path.realpath, options.sources):
+        found.error(f"--output {options.output} is a source")
     ending = os.path.splitext(options.output)[1][1:].lower()
     options.out = options.out or (ending if ending in MODES else "") or ("csv" if options.output or not sys.stdout.isatty() else "table")
     if options.out == "gpkg" and not options.output:
