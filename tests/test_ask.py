@@ -604,10 +604,11 @@ class Asking(WithProgram):
             self.assertIn(said, err)
 
     def test_a_folder_that_was_changed_by_hand(self):
-        write(f"{self.folder}/grid.json", "{}")
-        out, err, status = self.run_words(self.folder, ALL)
-        self.assertEqual((out, status), ("", 4))
-        self.assertIn("grid.json isn't one that sfq-import made", err)
+        for text in ("{}", "[", grid_json().replace('"rows"', '"lines"'), grid_json().replace('"table"', '"tables"'), grid_json().replace("0.5", "x")):
+            write(f"{self.folder}/grid.json", text)
+            out, err, status = self.run_words(self.folder, ALL)
+            self.assertEqual((out, status), ("", 4))
+            self.assertIn("grid.json isn't one that sfq-import made", err)
 
     def test_no_program(self):
         words = [*python_command(sys.executable, "sfq-ask"), "--sfq", "/nothing/sfq", self.folder, ALL]

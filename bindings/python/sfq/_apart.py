@@ -45,6 +45,8 @@ def of_child(work: Callable[[], int]) -> None:
     status = 1
     try:
         os.setpgid(0, 0)
+        # A terminal may stop what isn't of its own group when that writes.
+        signal.signal(signal.SIGTTOU, signal.SIG_IGN)
         ctypes.CDLL(None).prctl(PARENT_DEATH_SIGNAL, signal.SIGKILL)
         status = work()
         for it in (sys.stdout, sys.stderr):

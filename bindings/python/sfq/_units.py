@@ -7,6 +7,7 @@ from typing import Any, Callable, Iterator, NamedTuple, Optional
 
 from . import _grid, _statements, _texts, exports
 from ._asking import Answer
+from ._endings import DATA, Stopped
 
 # A position in the text of a geometry.
 POSITION = re.compile(r"(-?\d+) (-?\d+)")
@@ -23,6 +24,13 @@ class Layer(NamedTuple):
     def has_parts(self) -> bool:
         """Whether rows may be parts of a record."""
         return bool(self.said.get("parted"))
+
+
+def layer_of(said: Any) -> Layer:
+    """Returns what grid.json says of a table. KeyError where it lacks what an import writes."""
+    for it in ("table", "rows", "records", "left_out"):
+        said[it]
+    return Layer({it["name"].lower(): it for it in said["columns"]}, said["coordinate_system"], said)
 
 
 class Column(NamedTuple):
@@ -42,10 +50,10 @@ class Folder:
             self.schema = file.read()
         known = exports.known(path)
         self.grid, self.tables = known.grid, _statements.tables(self.schema)
-        self.layers = {
-            str(it["table"]).lower(): Layer({column["name"].lower(): column for column in it["columns"]}, it["coordinate_system"], it)
-            for it in known.layers
-        }
+        try:
+            self.layers = {str(it["table"]).lower(): layer_of(it) for it in known.layers}
+        except (KeyError, TypeError) as error:
+            raise Stopped(f"{path}/grid.json isn't one that sfq-import made: {error!r}", DATA) from None
 
     def layers_of(self, query: str) -> dict[str, Layer]:
         """Returns the tables that a query names, by their aliases in lower case."""
