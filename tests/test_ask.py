@@ -647,7 +647,7 @@ class Endings(WithProgram):
     def test_ctrl_c_in_a_query(self):
         begun = self.begun(self.folder, "SELECT slow FROM t", "--output", "a.csv")
         number = self.program.waits()
-        self.assertLess(self.interrupted(begun), 5)
+        self.assertLess(self.interrupted(begun), 2)
         with self.assertRaises(ProcessLookupError):
             os.kill(number, 0)
         self.assertEqual(sorted(os.listdir(self.room)), ["folder"])
@@ -661,7 +661,7 @@ class Endings(WithProgram):
         while not children(begun.pid) and time.monotonic() < due:
             time.sleep(0.05)
         time.sleep(1)
-        self.assertLess(self.interrupted(begun), 5)
+        self.assertLess(self.interrupted(begun), 2)
         self.assertEqual(os.listdir(f"{self.room}/cache/sfq/tables"), [])
 
 
@@ -818,6 +818,63 @@ class Layers(OverTheLibrary):
         out, err, status = self.run_words(one, other, query, "--to", "EPSG:4326", python=PYTHON)
         self.assertEqual(status, 0, err)
         self.assertGreater(int(out.split()[1]), 200)
+
+
+class Hostile(OverTheLibrary):
+    """Two runs at once, and one that is broken off."""
+
+    QUERY = "SELECT COUNT(*) FROM nc a JOIN nc b ON ST_Touches(a.geom, b.geom)"
+
+    def setUp(self):
+        super().setUp()
+        if not PYTHON:
+            self.skipTest("needs the package python3-gdal")
+        self.source = layer("sf", "shape/nc.shp")
+        if not os.path.exists(self.source):
+            self.skipTest("needs the package r-cran-sf")
+
+    def begun(self):
+        known = {**os.environ, "XDG_CACHE_HOME": f"{self.room}/cache", "SFQ_LIBRARY": library.SHARED, "PYTHONDONTWRITEBYTECODE": "1"}
+        return subprocess.Popen([*python_command(PYTHON, "sfq-ask"), self.source, self.QUERY], env=known, stdout=subprocess.PIPE, stderr=subprocess.PIPE, text=True)
+
+    def entries(self):
+        folder = f"{self.room}/cache/sfq/tables"
+        return os.listdir(folder) if os.path.isdir(folder) else []
+
+    def test_two_runs_at_once(self):
+        runs = [self.begun() for _ in range(3)]
+        found = [(*it.communicate(timeout=300), it.returncode) for it in runs]
+        self.assertEqual({(out, status) for out, _, status in found}, {(found[0][0], 0)}, found)
+        self.assertEqual(len(self.entries()), 1)
+
+    def test_one_that_is_broken_off(self):
+        """At some moment of each: what is left is no entry, and the next run has its answer."""
+        for wait in (0.2, 0.5, 0.8):
+            broken = self.begun()
+            time.sleep(wait)
+            broken.kill()
+            broken.communicate()
+        out, err, status = self.run_words(self.source, self.QUERY, python=PYTHON)
+        self.assertEqual((status, int(out.split()[1]) > 300), (0, True), err)
+        self.assertEqual(len([it for it in self.entries() if not it.startswith(_cache.NEW)]), 1)
+
+
+class Document(OverTheLibrary):
+    """The section of docs/DATA.md."""
+
+    @unittest.skipUnless(PYTHON, "needs the package python3-gdal")
+    def test_it_prints_what_is_shown(self):
+        text = re.search(r"^## One call$(.*?)^## ", read(f"{ROOT}/docs/DATA.md"), re.M | re.S)[1]
+        blocks = re.findall(r"```sh\n(.*?)```.*?```text\n(.*?)```", text, re.S)
+        self.assertEqual(len(blocks), 2)
+        os.makedirs(f"{self.room}/bin")
+        os.symlink(f"{ROOT}/bindings/python/bin/sfq-ask", f"{self.room}/bin/sfq-ask")
+        os.symlink(f"{ROOT}/examples", f"{self.room}/examples")
+        known = {**os.environ, "PATH": f"{self.room}/bin:{os.environ['PATH']}", "SFQ_LIBRARY": library.SHARED, "PYTHONDONTWRITEBYTECODE": "1", "XDG_CACHE_HOME": f"{self.room}/cache"}
+        for script, shown in blocks:
+            ran = subprocess.run(["bash", "-e", "-c", script], cwd=self.room, env=known, stdout=subprocess.PIPE, stderr=subprocess.STDOUT, text=True)
+            self.assertEqual((ran.returncode, ran.stdout), (0, shown), script)
+        self.assertIn("the tables are in", read(f"{self.room}/said.txt"))
 
 
 if __name__ == "__main__":

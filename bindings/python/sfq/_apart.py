@@ -12,7 +12,7 @@ from typing import Callable, Optional
 from ._endings import INTERRUPTED
 
 # How long a process may take to end by itself, in seconds.
-GRACE = 0.1
+GRACE = 0.08
 # The option of prctl that says which signal a process gets when its parent ends.
 PARENT_DEATH_SIGNAL = 1
 
