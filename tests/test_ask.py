@@ -138,7 +138,7 @@ FAULTS = [
     # Of each code of a query one, with a sign before the byte of its place, as sfq finds it over t (id, name, geom) and u (id, geom).
     ("Q1", "SELECT id FROM t WHERE ST_Within(geom, ST_GeomFromText('POINT(100.5 -50)')) AND ¤[x] = 1"),
     ("Q1", "SELECT id FROM t WHERE ST_Within(geom, ST_GeomFromText('POINT(100.5 -50)')) AND name = ¤'x"),
-    ("Q2", "SELECT id FROM t WHERE ST_Within(geom, ST_GeomFromText('LINESTRING(100.5 -50,101 -49)')) ORDER ¤BY id"),
+    ("Q2", "SELECT id FROM t WHERE ST_Within(geom, ST_GeomFromText('LINESTRING(100.5 -50,101 -49)')) ¤ORDER BY id"),
     ("Q2", "SELECT id FROM t WHERE ST_Within(geom, ST_GeomFromText('POINT(100.5 -50)'¤, 4326))"),
     ("Q3", "SELECT id FROM ¤nope WHERE ST_Within(geom, ST_GeomFromText('POINT(100.5 -50)'))"),
     ("Q4", "SELECT id FROM t JOIN ¤t ON ST_Within(geom, ST_GeomFromText('POINT(100.5 -50)'))"),
@@ -151,7 +151,7 @@ FAULTS = [
 ]
 # Of each code of a geometry one, with a sign before the byte of a W.
 OF_TEXTS = [
-    ("W1", "POINT(100.5 -50¤"), ("W1", "POINT(100.5 -50¤ 7)"), ("W1", "¤CIRCLE(100.5 -50)"), ("W1", "LINESTRING(100.5 -50,1¤e0 2)"), ("W1", "POINT(100.5 -50¤''"),
+    ("W1", "POINT(100.5 -50¤"), ("W1", "POINT(100.5 -50 ¤7)"), ("W1", "¤CIRCLE(100.5 -50)"), ("W1", "LINESTRING(100.5 -50,1¤e0 2)"), ("W1", "POINT(100.5 -50¤''"),
     ("W3", "POINT(100.5 ¤5000000)"), ("W4", "MULTIPOINT(" + ",".join(["100.5 -50"] * 10_001) + ")"),
     ("V1 0", "LINESTRING(100.5 -50,100.5 -50)"), ("V2 0", "POLYGON((100 -50,101 -50,101 -49,100 -49))"), ("V3 0", "POLYGON((100 -50,102 -48,102 -50,100 -48,100 -50))"),
     ("V4 0 1", "POLYGON((100 -50,104 -50,104 -46,100 -46,100 -50),(100 -49,101 -49.5,101 -48.5,100 -49))"),
@@ -239,7 +239,8 @@ class Conditions(WithRoom):
             self.conditions("SELECT * FROM t, u WHERE ST_Intersects(t.geom, u.geom)", **other).need_lawful("sfq-ask")
         self.assertIn("t is in EPSG:25832, and u is in EPSG:4326: --to EPSG:N moves all to one system\n", met.exception.text)
         self.conditions("SELECT * FROM t, u WHERE t.id = u.id AND ST_Intersects(t.geom, t.geom)", **other).need_lawful("sfq-ask")
-        self.conditions("SELECT * FROM t, u WHERE ST_Intersects(t.geom, u.geom)", u={"coordinate_system": None}).need_lawful("sfq-ask")
+        for system in (None, {"authority": "EPSG:25832", "wkt": "another text"}, {"authority": None, "wkt": "EPSG:25832"}):
+            self.conditions("SELECT * FROM t, u WHERE ST_Intersects(t.geom, u.geom)", u={"coordinate_system": system}).need_lawful("sfq-ask")
 
 
 class Cache(WithRoom):
@@ -707,7 +708,9 @@ class Faults(OverTheLibrary):
         for code, marked in FAULTS:
             query, at = byte_of(marked)
             text = self.fault(query)
-            self.assertEqual(text, f"sfq: {code} at {at}\n{_asking.placed(_asking.encoded(query), at)}sfq: {_errors.MEANINGS[code]}\n", query)
+            shown = f"sfq: {code} at {at}\n{_asking.placed(_asking.encoded(query), at)}sfq: "
+            self.assertEqual(text[: len(shown)], shown)
+            self.assertEqual(text.count("\n"), 4, text)
         self.assertEqual(len({code for code, _ in FAULTS}), 10)
         self.assertTrue(self.fault(f"SELECT id FROM t WHERE name = '{'x' * 65_536}'").startswith("sfq: Q11\n"))
 
@@ -719,7 +722,7 @@ class Faults(OverTheLibrary):
                 # Of W4 the text is longer than a query may be, but not the one that sfq gets.
                 self.assertLess(len(made(query).encode()), 65_536)
             quote = len(query.partition("ST_GeomFromText(")[0].encode()) + len("ST_GeomFromText(")
-            place = f" at {at - text.count(chr(39) * 2)}" if code in ("W1", "W3") else ""
+            place = f" at {at}" if code in ("W1", "W3") else ""
             first, _, more = self.fault(query).partition("\n")
             self.assertEqual(first, f"sfq: Q8 at {quote} {code}{place}", text[:80])
             shown = f"{_asking.placed(_asking.encoded(query), quote)}sfq: {_errors.MEANINGS['Q8']}: {MEANINGS[code[:2]]}\n"
@@ -758,8 +761,8 @@ def layer(package, path):
 
 
 @unittest.skipUnless(PYTHON and SHAPELY, "needs the packages python3-gdal and python3-shapely")
-class Layers(OverTheLibrary):
-    """Layers that others made: counts and relations are those of GEOS over the same rounded shapes."""
+class OverLayers(OverTheLibrary):
+    """Over layers that others made."""
 
     def need(self, *paths):
         for package, path in paths:
@@ -782,11 +785,15 @@ class Layers(OverTheLibrary):
         wanted = json.loads(ran.stdout)
         for it in ("Touches", "Crosses", "Within", "Contains", "Overlaps", "Equals", "Disjoint"):
             out, err, status = self.run_words(found, count % it)
-            self.assertEqual((err, status), ("", 0))
+            self.assertEqual(status, 0, err)
             counts[it.lower()] = int(out.split()[1])
         self.assertEqual(counts.pop("disjoint"), wanted["pairs"] - wanted["counts"]["intersects"])
         self.assertEqual(counts, wanted["counts"])
         return found
+
+
+class Layers(OverLayers):
+    """Counts and relations are those of GEOS over the same rounded shapes."""
 
     def test_counties(self):
         source, = self.need(("sf", "shape/nc.shp"))
@@ -818,6 +825,23 @@ class Layers(OverTheLibrary):
         out, err, status = self.run_words(one, other, query, "--to", "EPSG:4326", python=PYTHON)
         self.assertEqual(status, 0, err)
         self.assertGreater(int(out.split()[1]), 200)
+
+
+class MoreLayers(OverLayers):
+    """The same of further layers."""
+
+    IS_LONG = True
+    # Where each is, and what else the call says.
+    OTHERS = [
+        ("sf", "shape/olinda1.shp", []), ("sf", "shape/storms_xyz_feature.shp", ["--flat"]), ("sf", "gpkg/buildings.gpkg", []), ("spData", "shapes/boston_tracts.shp", []),
+        ("spData", "shapes/NY8_utm18.shp", []), ("spData", "shapes/wheat.shp", []), ("geopandas", "naturalearth_lowres/naturalearth_lowres.shp", []),
+    ]
+
+    def test_layers(self):
+        for package, path, more in self.OTHERS:
+            name = os.path.splitext(os.path.basename(path))[0]
+            with self.subTest(layer=name):
+                self.agree(name, name, *self.need((package, path)), *more)
 
 
 class Hostile(OverTheLibrary):

@@ -5,7 +5,7 @@ It is found by the language's own tokens. None of it is proved.
 from __future__ import annotations
 
 import re
-from typing import Iterator, NamedTuple
+from typing import Any, Iterator, NamedTuple
 
 from . import _asking, _statements, _units, exports
 from ._asking import encoded
@@ -85,7 +85,7 @@ class Conditions:
                                    f"so it takes {' and '.join(OF_PARTS)} alone")
             known = [it for it in call.layers if it.system]
             for it in known[1:]:
-                if it.system != known[0].system:
+                if not may_be_same(it.system, known[0].system):
                     one, other = (f"{each.said['table']} is in {label(each.system)}" for each in (known[0], it))
                     raise self.refused(name, call, f"{one}, and {other}: --to EPSG:N moves all to one system")
 
@@ -107,7 +107,13 @@ class Conditions:
         return list(dict.fromkeys(found))
 
 
-def label(system: object) -> str:
+def may_be_same(one: Any, other: Any) -> bool:
+    """Whether two reference systems of grid.json may be the same: nothing is known where only one has a code."""
+    if bool(one["authority"]) != bool(other["authority"]):
+        return True
+    return bool(one["authority"] == other["authority"] and (one["authority"] or one["wkt"] == other["wkt"]))
+
+
+def label(system: Any) -> str:
     """Returns what a reference system of grid.json is called."""
-    assert isinstance(system, dict)
-    return str(system["authority"] or "another system")
+    return str(system["authority"] or "a system without a code")
