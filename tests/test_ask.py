@@ -450,7 +450,7 @@ KNOWN = {
     ALL: (TABLES["t.csv"], "", 0), CONSTANT.replace("101.5 -53.5", "3 -7"): ("id\n1\n", "", 0), COUNTED: ("COUNT(*)\n4\n", "", 0), PLANNED: ("cost 4\nouter t scan\n", "", 0),
     WRONG.replace("101.5 -53.5", "3 -7"): ("", f"sfq: Q2 at {WRONG.replace('101.5 -53.5', '3 -7').index('BY')}\n  1 | SELECT .. ORDER BY id\n    |   ^\nsfq: ORDER BY isn't there: rows come in the order of the key; sort the output\n", 5),
     NOTED.replace("101.5 -53.5", "3 -7"): ("id\n", "  1 | SELECT ..\n    |    ^\nsfq: note: a comparison with NULL never holds: write IS NULL\n", 0),
-    SEVERAL: ('a.geom,b.id,b.geom\nPOINT(3 -7),7,"POLYGON((2 2,8 2,8 8,2 8,2 2))"\n,7,\n', "", 0), MANY: ("id\n" + "1\n" * 100_000, "", 0), OTHER: ("id\n7\n", "", 0),
+    SEVERAL: ('a.geom,b.id,b.geom\nPOINT(3 -7),7,"POLYGON((2 2,8 2,8 8,2 8,2 2))"\n,7,\n', "", 0), MANY: ("id\n" + "1\n" * 40_000, "", 0), OTHER: ("id\n7\n", "", 0),
 }
 SHOWN = [
     ["1", "a", "12.5", "0.25", "POINT(101.5 -53.5)"], ["2", "b,c", "-0.5", "1e-7", "POLYGON((100.0 -50.0,102.0 -50.0,102.0 -48.0,100.0 -48.0,100.0 -50.0))"],
@@ -751,7 +751,7 @@ for a in first:
         if box and left <= box[2] and box[0] <= right and low <= box[3] and box[1] <= high:
             for name in names:
                 counts[name] += bool(getattr(a, name)(b))
-print(json.dumps({"counts": counts, "pairs": len(first) * len(second)}))
+print(json.dumps({**counts, "disjoint": len(first) * len(second) - counts["intersects"]}))
 """
 
 
@@ -771,8 +771,8 @@ class OverLayers(OverTheLibrary):
                 self.skipTest(f"needs the package {name}")
         return [layer(*it) for it in paths]
 
-    def agree(self, first, second, *sources):
-        """Has the counts of each predicate over two tables be those of GEOS, the tables being made by the first call and kept."""
+    def agree(self, first, second, *sources, predicates=("Touches", "Within", "Disjoint")):
+        """Has the counts of predicates over two tables be those of GEOS, the tables being made by the first call and kept."""
         count = f"SELECT COUNT(*) FROM {first} a JOIN {second} b ON ST_%s(a.geom, b.geom)"
         found, counts = "", {}
         out, err, status = self.run_words(*sources, count % "Intersects", python=PYTHON)
@@ -783,12 +783,11 @@ class OverLayers(OverTheLibrary):
         places = {it["table"]: f"{it['table']},{it['key']},{it['columns'][-1]['name']}" for it in tables}
         ran = subprocess.run([SHAPELY, "-c", GEOS, found, places[first], places[second]], capture_output=True, text=True, check=True)
         wanted = json.loads(ran.stdout)
-        for it in ("Touches", "Crosses", "Within", "Contains", "Overlaps", "Equals", "Disjoint"):
+        for it in predicates:
             out, err, status = self.run_words(found, count % it)
             self.assertEqual(status, 0, err)
             counts[it.lower()] = int(out.split()[1])
-        self.assertEqual(counts.pop("disjoint"), wanted["pairs"] - wanted["counts"]["intersects"])
-        self.assertEqual(counts, wanted["counts"])
+        self.assertEqual(counts, {it: wanted[it] for it in counts})
         return found
 
 
@@ -841,7 +840,7 @@ class MoreLayers(OverLayers):
         for package, path, more in self.OTHERS:
             name = os.path.splitext(os.path.basename(path))[0]
             with self.subTest(layer=name):
-                self.agree(name, name, *self.need((package, path)), *more)
+                self.agree(name, name, *self.need((package, path)), *more, predicates=("Touches", "Crosses", "Within", "Contains", "Overlaps", "Equals", "Disjoint"))
 
 
 class Hostile(OverTheLibrary):

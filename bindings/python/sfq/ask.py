@@ -13,7 +13,6 @@ import contextlib
 import csv
 import dataclasses
 import functools
-import importlib.metadata
 import io
 import os
 import shlex
@@ -193,9 +192,12 @@ def made(options: argparse.Namespace, place: Place) -> tuple[_units.Folder, bool
 
 def depends_on(options: argparse.Namespace) -> Any:
     """Returns what an import depends on beside its sources: the versions, the options, and what GDAL takes from the environment."""
+    # It takes longer to load than all else.
+    from importlib import metadata
+
     try:
-        gdal = importlib.metadata.version("GDAL")
-    except importlib.metadata.PackageNotFoundError:
+        gdal = metadata.version("GDAL")
+    except metadata.PackageNotFoundError:
         gdal = ""
     environment = {name: value for name, value in os.environ.items() if name.startswith(OF_GDAL)}
     return [__version__, gdal, dataclasses.asdict(dataclasses.replace(options.of_import, program="")), environment]
