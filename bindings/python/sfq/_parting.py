@@ -15,7 +15,7 @@ from . import _texts
 
 MOST_POSITIONS, MOST_PARTS = 10_000, 1_000
 # How many lines are looked at for a cut, and tried.
-LINES, TRIES = 40, 5
+LINES, TRIES = 40, 3
 # How deep cuts of one polygon go: each halves its positions, or nearly so.
 DEEPEST = 40
 
@@ -102,6 +102,8 @@ class Cuts:
         if fits(polygon):
             yield polygon
             return
+        if not depth and len({(a, b) if a < b else (b, a) for a, b in edges(polygon)}) < sum(len(it) - 1 for it in polygon):
+            raise Undivided("it has an edge twice")
         for it in self.halves(polygon, depth):
             yield from self.pieces(it, depth + 1)
 

@@ -238,8 +238,6 @@ class Pass:
 
     def part(self, record: Record, reason: str) -> None:
         """Parts a record, or refuses it. HasParts where the table has no columns for parts."""
-        if not self.has_parts:
-            raise HasParts()
         text = record.texts[0] or ""
         found, behind = self.parts_of(text)
         if found is None and self.means.invalid == "mend":
@@ -251,6 +249,8 @@ class Pass:
         if found is None:
             record.fields = []
             return
+        if not self.has_parts:
+            raise HasParts()
         record.parts = found.texts
         self.parted, self.parts = self.parted + 1, self.parts + len(found.texts)
         self.put_in, self.bend = self.put_in + found.put_in, max(self.bend, found.greatest)

@@ -28,8 +28,15 @@ def made(osr: Any, text: str) -> Any:
 
 
 def are_same(one: Any, other: Any) -> bool:
-    """Whether two systems are the same but for the order of their axes, which GDAL sees to."""
-    return bool(one.IsSame(other, SAME))
+    """Whether two systems are the same but for heights, and for the order of their axes, which GDAL sees to."""
+    return bool(flat(one).IsSame(flat(other), SAME))
+
+
+def flat(system: Any) -> Any:
+    """Returns a system without its heights: that of GeoJSON has them where a position does."""
+    found = system.Clone()
+    found.DemoteTo2D()
+    return found
 
 
 def code_of(system: Any) -> Optional[str]:
@@ -56,7 +63,9 @@ def mover(osr: Any, system: Any, target: Any) -> Callable[[Any], None]:
     moves = osr.CoordinateTransformation(system, target)
 
     def moved(geometry: Any) -> None:
-        geometry.Transform(moves)
+        # An empty point of some sources has coordinates that are no numbers.
+        if not geometry.IsEmpty():
+            geometry.Transform(moves)
 
     return moved
 
