@@ -41,7 +41,7 @@ exec(open(room + "/behaviour").read())
 
 
 def python_command(python, name):
-    """Returns the words that run sfq-import, sfq-export, sfq-schema, sfq-shell, sfq-audit or sfq-scale of this repository by a Python, as the launcher does by Debian's."""
+    """Returns the words that run sfq-import, sfq-export, sfq-schema, sfq-shell, sfq-ask, sfq-audit or sfq-scale of this repository by a Python, as the launcher does by Debian's."""
     folder = f"{ROOT}/bindings/python"
     return [python, "-B", folder, f"{folder}/bin/{name}"]
 

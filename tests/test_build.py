@@ -242,7 +242,7 @@ class Builds(WithBuild):
         prefix = f"{self.checkout.room}/prefix"
         ran = self.build("--install", prefix)
         self.assertEqual(ran.returncode, 0, ran.stderr)
-        self.assertEqual(sorted(os.listdir(f"{prefix}/bin")), ["sfq", "sfq-audit", "sfq-export", "sfq-import", "sfq-schema", "sfq-shell"])
+        self.assertEqual(sorted(os.listdir(f"{prefix}/bin")), ["sfq", "sfq-ask", "sfq-audit", "sfq-export", "sfq-import", "sfq-schema", "sfq-shell"])
         for it in ("sfq-tiles and sfq-scale, which need ./build --tiles", "the C libraries and what is over them, which need ./build --library"):
             self.assertIn(f"not installed: {it}\n", ran.stdout.decode())
         self.assertEqual(self.build("--uninstall", prefix).returncode, 0)
@@ -471,7 +471,7 @@ class Commands(WithBuild):
     """The commands beside sfq: sfq-tiles, which ./build --tiles makes, sfq-scale over it, and those of the Python package."""
 
     MORE_CRATES = WITH_TILES
-    NAMES = ["sfq", "sfq-audit", "sfq-export", "sfq-import", "sfq-scale", "sfq-schema", "sfq-shell", "sfq-tiles"]
+    NAMES = ["sfq", "sfq-ask", "sfq-audit", "sfq-export", "sfq-import", "sfq-scale", "sfq-schema", "sfq-shell", "sfq-tiles"]
 
     def test_tiles_are_made_of_what_is_proved(self):
         ran = self.build("--tiles")
@@ -515,7 +515,7 @@ class Commands(WithBuild):
                 self.assertIn(f"share/{path.format(it)}", found)
         for it in ("sfq", "sfq-tiles"):
             self.assertEqual(subprocess.run([f"{prefix}/bin/{it}"], capture_output=True).stdout, b"proved\n")
-        for it in ("sfq-audit", "sfq-scale", "sfq-import", "sfq-export", "sfq-schema", "sfq-shell"):
+        for it in ("sfq-ask", "sfq-audit", "sfq-scale", "sfq-import", "sfq-export", "sfq-schema", "sfq-shell"):
             ran = subprocess.run([f"{prefix}/bin/{it}", "--version"], capture_output=True, text=True, cwd="/")
             self.assertEqual((ran.stdout, ran.stderr), (f"{it} {repository.version()}\n", ""))
         self.assertEqual(self.installed(prefix), found)

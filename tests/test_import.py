@@ -17,9 +17,8 @@ import unittest
 import xml.etree.ElementTree as tree
 from fractions import Fraction
 
-from support import ROOT, needs, needs_build, python_command, python_with, read, write
+from support import ROOT, needs, needs_build, python_command, read, write
 
-import answers
 import bindings
 import engine_rows
 import library
@@ -28,6 +27,7 @@ import pairs as drawing
 import postgresql_server
 import repository
 import sfq
+from import_calls import PYTHON, WithImports, collection, feature, square
 from sfq import _checking, _endings, _grid, _reading, _tables, _wkb, exports, imports
 
 # Positions of one polygon whose own reason to be refused is in the key.
@@ -41,24 +41,6 @@ REFUSED = {
     "W3 at 9": [[[30_000_001, 0], [4, 0], [4, 4], [30_000_001, 0]]],
     "W1 at 8: POLYGON Z": [[[0, 0, 7], [4, 0, 7], [4, 4, 7], [0, 0, 7]]],
 }
-
-
-PYTHON = python_with("osgeo.ogr")
-csv.field_size_limit(sys.maxsize)
-
-
-def feature(geometry, **properties):
-    """Returns a feature of GeoJSON; the geometry is a type and its coordinates, or None."""
-    shape = geometry and {"type": geometry[0], "coordinates": geometry[1]}
-    return {"type": "Feature", "properties": properties, "geometry": shape}
-
-
-def square(x, y, side=4):
-    return [[[x, y], [x + side, y], [x + side, y + side], [x, y + side], [x, y]]]
-
-
-def collection(path, features):
-    write(path, json.dumps({"type": "FeatureCollection", "features": features}, ensure_ascii=False))
 
 
 class Rounding(unittest.TestCase):
@@ -211,7 +193,7 @@ class Texts(unittest.TestCase):
 
     def test_a_command_line_that_is_wrong(self):
         for words, said in (
-            (["a", "--out", "b"], "--grid"), (["a", "--grid", "0", "--out", "b"], "isn't greater than 0"),
+            (["a"], "--out"), (["a", "--grid", "0", "--out", "b"], "isn't greater than 0"),
             (["a", "--grid", "1", "--origin", "3", "--out", "b"], "isn't X,Y"), (["a", "--grid", "1", "--out", ROOT], "isn't an empty folder"),
         ):
             errors = io.StringIO()
@@ -308,70 +290,8 @@ class Installation(unittest.TestCase):
                     self.assertTrue(os.path.isfile(f"{room}/share/man/man1/{it}.1"))
 
 
-class Imports(engine_rows.WithLibrary):
-    """Imports by the command over the library that ./build --library made. Each folder that one makes has to load."""
-
-    ASKS_PROGRAM = True
-
-    @classmethod
-    def setUpClass(cls):
-        super().setUpClass()
-        if not PYTHON:
-            raise unittest.SkipTest("needs the package python3-gdal")
-        os.environ["SFQ_LIBRARY"] = library.SHARED
-        cls.room = tempfile.mkdtemp(prefix="sfq-import-")
-        cls.made = []
-
-    @classmethod
-    def tearDownClass(cls):
-        try:
-            # An unproved build would take too long over so many folders.
-            found = answers.ask([["check", f"{it}/schema.sql", it] for it in cls.made]) if repository.is_built() else []
-            for folder, it in zip(cls.made, found):
-                if it.status:
-                    raise AssertionError(f"{folder}: {it.err.decode()}\n{read(f'{folder}/schema.sql')}")
-        finally:
-            shutil.rmtree(cls.room)
-
-    def command(self, name, *words, given=None, **more):
-        known = {**os.environ, "SFQ_LIBRARY": library.SHARED, "PYTHONDONTWRITEBYTECODE": "1", **more}
-        return subprocess.run([*python_command(PYTHON, name), *words], env=known, input=given, capture_output=True, text=True, cwd=self.room)
-
-    def source(self, features, name="t"):
-        """Makes a file of GeoJSON, and returns its path."""
-        path = f"{tempfile.mkdtemp(dir=self.room)}/{name}.geojson"
-        collection(path, features)
-        return path
-
-    def texts(self, *texts):
-        """Makes a file of well-known texts, and returns its path."""
-        path = f"{tempfile.mkdtemp(dir=self.room)}/t.csv"
-        write(path, "WKT,nr\n" + "".join(f'"{it}",{at}\n' for at, it in enumerate(texts)))
-        return path
-
-    def imported(self, source, *words, grid="1"):
-        """Imports a source or features into a folder; returns it and what was said."""
-        path = source if isinstance(source, str) else self.source(source)
-        out = f"{tempfile.mkdtemp(dir=self.room)}/out"
-        ran = self.command("sfq-import", path, "--grid", grid, "--out", out, *words)
-        self.assertEqual((ran.returncode, ran.stdout), (0, ""), ran.stderr)
-        self.made.append(out)
-        return out, ran.stderr
-
-    def table(self, folder, name="t"):
-        with open(f"{folder}/{name}.csv", newline="", encoding="utf-8") as file:
-            return list(csv.reader(file))
-
-    def column(self, folder, name="geom", table="t"):
-        head, *rows = self.table(folder, table)
-        return [it[head.index(name)] for it in rows]
-
-    def left_out(self, folder):
-        with open(f"{folder}/left-out.csv", newline="", encoding="utf-8") as file:
-            return [(it["layer"], it["record"], it["reason"], it["done"]) for it in csv.DictReader(file)]
-
-    def columns(self, folder, table=0):
-        return {it["name"]: it["type"] for it in json.loads(read(f"{folder}/grid.json"))["layers"][table]["columns"]}
+class Imports(WithImports):
+    """Imports of one source: what is rounded, left out, mended and named, and how an import ends."""
 
     def test_each_type(self):
         shapes = [

@@ -24,6 +24,7 @@ OTHERS = {
     "sfq-export": [*python_command(sys.executable, "sfq-export"), "--help"],
     "sfq-schema": [*python_command(sys.executable, "sfq-schema"), "--help"],
     "sfq-shell": [*python_command(sys.executable, "sfq-shell"), "--help"],
+    "sfq-ask": [*python_command(sys.executable, "sfq-ask"), "--help"],
     "sfq-audit": [*python_command(sys.executable, "sfq-audit"), "run", "--help"],
 }
 
@@ -215,6 +216,8 @@ class Completions(unittest.TestCase):
             self.assertEqual(sorted(self.complete("sfq-shell", "--mode", "csv", "", folder=room)), ["schema.sql", "tables"])
             self.assertEqual(self.complete("sfq-shell", "--all", "schema.sql", "-c", ".tables", "t", folder=room), ["tables"])
         self.assertEqual(self.complete("sfq-shell", "--mode", "g"), ["geojson"])
+        self.assertEqual(self.complete("sfq-ask", "--out", "g"), ["geojson", "gpkg"])
+        self.assertEqual(self.complete("sfq-ask", "a.shp", "SEL"), ["SELECT"])
         self.assertEqual(self.complete("sfq-scale", "r"), ["run"])
         self.assertEqual(self.complete("sfq-audit", "run", "--engine", "sh"), ["shapely"])
         self.assertEqual(self.complete("sfq-audit", "run", "--family", "s"), ["slivers"])
@@ -256,7 +259,7 @@ class Completions(unittest.TestCase):
         for line, wanted in (
             ("sfq r", ["relate", "run"]), ("sfq relate ", GEOMETRIES), ("sfq why P", ["POINT(", "POLYGON("]), ("sfq fault ", codes()),
             ("sfq fault W", ["W1", "W2", "W3", "W4"]), ("sfq pairs --w", ["--why"]), ("sfq help wh", ["why"]), ("sfq-tiles --r", ["--rows"]), ("sfq-scale ru", ["run"]), ("sfq-scale run --se", ["--send"]),
-            ("sfq-import --invalid ", ["leave-out", "mend", "stop"]), ("sfq-export --w", ["--wgs84"]), ("sfq-schema --v", ["--version"]), ("sfq-shell --mode j", ["json"]),
+            ("sfq-import --invalid ", ["leave-out", "mend", "stop"]), ("sfq-export --w", ["--wgs84"]), ("sfq-schema --v", ["--version"]), ("sfq-shell --mode j", ["json"]), ("sfq-ask --out s", ["svg"]),
             ("sfq-audit run --format h", ["html"]), ("sfq-audit write --format j", ["jts-xml"]), ("sfq-audit w", ["write"]),
         ):
             script = f"source '{ROOT}/packaging/completions/{line.partition(' ')[0]}.fish'; complete -C '{line}'"

@@ -468,8 +468,8 @@ class Installation(unittest.TestCase):
             *places, last = run(python, "-c", text).splitlines()
             for it in places:
                 self.assertRegex(it, rf"^{room}/venv/lib/.*/__init__.py True$")
-            self.assertEqual(last, f"{repository.version()} sfq-audit sfq-export sfq-import sfq-scale sfq-schema sfq-shell")
-            for it in ("sfq-audit", "sfq-import", "sfq-export", "sfq-scale", "sfq-schema", "sfq-shell"):
+            self.assertEqual(last, f"{repository.version()} sfq-ask sfq-audit sfq-export sfq-import sfq-scale sfq-schema sfq-shell")
+            for it in ("sfq-ask", "sfq-audit", "sfq-import", "sfq-export", "sfq-scale", "sfq-schema", "sfq-shell"):
                 self.assertEqual(run(f"{room}/venv/bin/{it}", "--version"), f"{it} {repository.version()}\n")
             run(python, "-m", "pip", "uninstall", "-q", "-y", "--disable-pip-version-check", "sfq")
             self.assertEqual([it for it in os.listdir(f"{room}/venv/bin") if it.startswith("sfq")], [])

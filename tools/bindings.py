@@ -17,7 +17,7 @@ import repository
 # The Python that installs is the one that gets the package.
 PACKAGES = f"lib/python{sys.version_info[0]}.{sys.version_info[1]}/site-packages"
 # The commands of the package, which are installed without it too.
-COMMANDS = ("sfq-import", "sfq-export", "sfq-schema", "sfq-shell", "sfq-audit")
+COMMANDS = ("sfq-import", "sfq-export", "sfq-schema", "sfq-shell", "sfq-ask", "sfq-audit")
 SQLITE = "lib/sfq0.so"
 # What is copied: where it lies in the repository, where under the prefix, and its mode.
 File = tuple[str, str, int]

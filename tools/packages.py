@@ -152,8 +152,8 @@ def package() -> debian.Package:
         " that the SELECT means. Its spatial predicates are exact, and what it writes is\n"
         " proved by machine. sfq-import and sfq-export, which need GDAL, bring data in\n"
         " and answers out; sfq-schema proposes a schema for CSV files; sfq-shell is a\n"
-        " prompt; sfq-scale runs a query over more rows on a Dask cluster; sfq-audit\n"
-        " compares other engines with sfq.\n",
+        " prompt; sfq-ask asks layers a query in one call; sfq-scale runs a query over\n"
+        " more rows on a Dask cluster; sfq-audit compares other engines with sfq.\n",
         files,
     )
 

@@ -8,7 +8,7 @@ import os
 import sys
 
 # As pyproject.toml lists them.
-COMMANDS = {"sfq-import": "sfq.imports", "sfq-export": "sfq.exports", "sfq-schema": "sfq.schemas", "sfq-shell": "sfq.shell", "sfq-audit": "sfq_audit.command", "sfq-scale": "sfq_scale.command"}
+COMMANDS = {"sfq-import": "sfq.imports", "sfq-export": "sfq.exports", "sfq-schema": "sfq.schemas", "sfq-shell": "sfq.shell", "sfq-ask": "sfq.ask", "sfq-audit": "sfq_audit.command", "sfq-scale": "sfq_scale.command"}
 
 if __name__ == "__main__":
     # From here on the command is the program that runs: it looks for others beside itself.

@@ -1,6 +1,7 @@
 """How a command ends: its statuses, why one ends early, and the line on standard error that says so."""
 from __future__ import annotations
 
+import os
 import sys
 from typing import Callable
 
@@ -14,6 +15,12 @@ class Stopped(Exception):
     def __init__(self, text: str, status: int) -> None:
         super().__init__(text)
         self.status = status
+
+
+def unwritten() -> Stopped:
+    """Returns why a command ends whose standard output takes no more. What is left can't be written at the end either."""
+    os.dup2(os.open(os.devnull, os.O_WRONLY), sys.stdout.fileno())
+    return Stopped("write failed", FILES)
 
 
 def say(name: str, text: str) -> None:

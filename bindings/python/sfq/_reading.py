@@ -1,12 +1,18 @@
-"""Reads the layers of a source by GDAL: fields, keys and geometries of its records, and GEOS's make-valid. None of it is proved."""
+"""Reads the layers of a source by GDAL: fields, keys and geometries of its records, and GEOS's make-valid. None of it is proved.
+
+The geometries of a layer are those that GDAL has of it, or points and texts that are in its columns; and they may be moved to another
+reference system.
+"""
 from __future__ import annotations
 
+import contextlib
 import re
 import sys
 from collections import Counter
-from typing import Any, Callable, Iterator, NamedTuple, Optional
+from typing import Any, Callable, Iterator, NamedTuple, Optional, Sequence
 
-from . import _grid, _tables, _wkb
+from . import _columns, _grid, _systems, _tables, _wkb
+from ._columns import Refused
 
 # Words of a source that are nobody's business but its own.
 SECRET = re.compile(r"(password\s*=\s*)('[^']*'|\S+)|(//[^/:@\s]*:)[^/@\s]*(?=@)", re.I)
@@ -54,45 +60,112 @@ class Warnings:
             self.say(f"GDAL: {text}")
 
 
+@contextlib.contextmanager
+def warnings_said(found: Modules, say: Callable[[str], None]) -> Iterator[None]:
+    """Has GDAL's warnings said meanwhile."""
+    found.gdal.PushErrorHandler(Warnings(say))
+    try:
+        yield
+    finally:
+        found.gdal.PopErrorHandler()
+
+
 class Source:
     """A source that is open for reading."""
 
-    def __init__(self, path: str, say: Callable[[str], None]) -> None:
-        self.modules = modules()
-        gdal = self.modules.gdal
-        gdal.PushErrorHandler(Warnings(say))
+    def __init__(self, found: Modules, path: str) -> None:
+        self.modules, self.path = found, path
+        # What a message and grid.json call it.
+        self.name = without_secrets(path)
+        gdal = found.gdal
         try:
             self.file = gdal.OpenEx(path, gdal.OF_VECTOR | gdal.OF_READONLY)
         except RuntimeError as error:
             raise OSError(without_secrets(f"{path}: {str(error).removeprefix(f'{path}: ')}")) from None
+        self.is_of_texts = self.file.GetDriver().ShortName == "CSV"
 
-    def layers(self, names: list[str]) -> list[Layer]:
-        """Returns the layers of these names, in their order, or all. KeyError for a name that the source doesn't have."""
-        there = [self.file.GetLayer(it) for it in range(self.file.GetLayerCount())]
-        if names:
-            known = {it.GetName(): it for it in there}
-            there = [known.get(it) or self.named(it, known) for it in names]
-        return [Layer(self.modules, it) for it in there]
+    def layers(self, names: Sequence[str]) -> list[Layer]:
+        """Returns the layers of those names that the source has, in their order, or all."""
+        there = {it.GetName(): it for it in (self.file.GetLayer(at) for at in range(self.file.GetLayerCount()))}
+        found = [there.get(it) or self.unlisted(it) for it in names] if names else list(there.values())
+        return [Layer(self, it) for it in found if it is not None]
 
-    def named(self, name: str, known: Any) -> Any:
-        """Returns a layer that the source doesn't list, as those of PostGIS may be."""
+    def names(self) -> list[str]:
+        """Returns the names of the layers that the source lists."""
+        return [self.file.GetLayer(at).GetName() for at in range(self.file.GetLayerCount())]
+
+    def unlisted(self, name: str) -> Any:
+        """Returns a layer that the source doesn't list, as those of PostGIS may be, or None."""
         try:
-            found = self.file.GetLayerByName(name)
+            return self.file.GetLayerByName(name)
         except RuntimeError:
-            found = None
-        if found is None:
-            raise KeyError(f"no layer {name}; there are {', '.join(known) or 'none'}")
-        return found
+            return None
+
+
+class Geometries(NamedTuple):
+    """The geometries of a layer: their column's name, the type that the source says they have, and what reads that of a record.
+
+    What reads it raises Refused where a record has none that can be read.
+    """
+
+    name: str
+    word: str
+    read: Callable[[Any], Any]
 
 
 class Layer:
     """A layer of a source."""
 
-    def __init__(self, found: Modules, layer: Any) -> None:
-        self.modules, self.layer, self.described = found, layer, layer.GetLayerDefn()
-        self.name = layer.GetName()
+    def __init__(self, source: Source, layer: Any) -> None:
+        self.source, self.modules, self.layer, self.described = source, source.modules, layer, layer.GetLayerDefn()
+        self.name = self.label = layer.GetName()
         self.fields = [self.described.GetFieldDefn(it) for it in range(self.described.GetFieldCount())]
-        self.shapes = [self.described.GetGeomFieldDefn(it) for it in range(self.described.GetGeomFieldCount())]
+        self.shapes = [self.own(it) for it in range(self.described.GetGeomFieldCount())]
+        # The reference system, and the column that is read as geometries and is none of the others.
+        self.reference, self.hidden = layer.GetSpatialRef(), ""
+
+    def own(self, at: int) -> Geometries:
+        """Returns the geometries of a column that GDAL has of the layer."""
+        column, take = self.described.GetGeomFieldDefn(at), self.modules.ogr.Feature.GetGeomFieldRef
+        word = _wkb.WORDS.get(self.modules.ogr.GT_Flatten(column.GetType()), "GEOMETRY")
+        return Geometries(column.GetName(), word, lambda it: take(it, at))
+
+    def columns(self) -> list[tuple[int, str]]:
+        """Returns the place and the name of each column that isn't read as geometries."""
+        return [(at, it.GetName()) for at, it in enumerate(self.fields) if it.GetName() != self.hidden]
+
+    def take_points(self, x: str, y: str) -> None:
+        """Has the layer's geometries be points, whose coordinates are in these two columns."""
+        places = [self.described.GetFieldIndex(it) for it in (x, y)]
+        self.shapes = [Geometries("geom", "POINT", _columns.points(self.modules.ogr, self.fields, places))]
+
+    def take_texts(self, column: str) -> None:
+        """Has the layer's geometries be those that a column has as well-known text."""
+        self.hidden = column
+        self.shapes = [Geometries(column, "GEOMETRY", _columns.texts(self.modules.ogr, column, self.described.GetFieldIndex(column)))]
+
+    def take_reference(self, system: Any) -> None:
+        """Has the layer be in this reference system."""
+        self.reference = system
+
+    def move(self, target: Any) -> None:
+        """Has the geometries be moved to another reference system."""
+        moved, name = _systems.mover(self.modules.osr, self.reference, target), _systems.label(target)
+
+        def moving(read: Callable[[Any], Any]) -> Callable[[Any], Any]:
+            def found(it: Any) -> Any:
+                geometry = read(it)
+                try:
+                    if geometry is not None:
+                        moved(geometry)
+                except RuntimeError as error:
+                    raise Refused(f"W1: it can't be moved to {name}: {error}") from None
+                return geometry
+
+            return found
+
+        self.shapes = [it._replace(read=moving(it.read)) for it in self.shapes]
+        self.reference = target
 
     def __iter__(self) -> Iterator[Any]:
         """Reads the records. OSError where GDAL can't: what it would do behind such a record depends on the driver."""
@@ -111,6 +184,10 @@ class Layer:
     def count(self) -> int:
         """Returns how many records there are, or -1 where counting takes a pass."""
         return int(self.layer.GetFeatureCount(0))
+
+    def may_take(self, *columns: str) -> bool:
+        """Whether geometries may be made of these columns: they are there, and the layer has no geometries but those of a file of texts."""
+        return all(self.described.GetFieldIndex(it) >= 0 for it in columns) and (not self.shapes or self.source.is_of_texts)
 
     def has(self, name: str) -> bool:
         """Whether there is a column of this name, that of the FID too."""
@@ -156,25 +233,9 @@ class Layer:
             kept.add(found)
         return None
 
-    def system(self) -> Any:
-        """Returns the coordinate system as grid.json has it, or None: its authority and code, and its text in WKT 2."""
-        found = self.layer.GetSpatialRef()
-        if found is None:
-            return None
-        authority, code = found.GetAuthorityName(None), found.GetAuthorityCode(None)
-        return {"authority": f"{authority}:{code}" if authority and code else None, "wkt": found.ExportToWkt(["FORMAT=WKT2_2019"])}
-
-    def word(self, at: int) -> str:
-        """Returns the type that the source says a geometry column has, or GEOMETRY."""
-        return _wkb.WORDS.get(self.modules.ogr.GT_Flatten(self.shapes[at].GetType()), "GEOMETRY")
-
-    def extent(self) -> Optional[tuple[float, float, float, float]]:
-        """Returns the least x, the greatest x, the least y and the greatest y, or None."""
-        try:
-            left, right, low, high = self.layer.GetExtent()
-            return left, right, low, high
-        except RuntimeError:
-            return None
+    def seeming(self) -> str:
+        """Returns the option that makes geometries of columns of a layer that has none, where their names look so; else nothing."""
+        return "" if self.shapes else _columns.seeming([name for _, name in self.columns()])
 
     def whole(self, at: int) -> Callable[[Any], Optional[int]]:
         """Returns what reads a whole number of a record."""

@@ -109,7 +109,7 @@ def line(fields: list[str], widths: list[int], are_right: list[bool]) -> str:
 
 def as_table(answer: Answer, place: Place) -> None:
     """Writes an aligned table, which on a terminal is no wider than that. Columns may grow wider where a further block of rows needs it."""
-    headers, are_right = list(map(shown, answer.headers)), [it == "INTEGER" for it in answer.types]
+    headers, are_right = list(map(shown, answer.headers)), [it in ("INTEGER", "REAL") for it in answer.types]
     widths, count = list(map(width, headers)), 0
     room = place.width and place.width - len(GAP) * (len(headers) - 1)
 

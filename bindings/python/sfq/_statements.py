@@ -146,10 +146,23 @@ def types(headers: list[str], query: str, known: list[Table]) -> list[str]:
     return [type_of(it, named) for it in headers]
 
 
+# A column, or a function of one: the function, the alias and the name.
+HEADER = re.compile(r"(?:(\w+)\()?(?:(\w+)\.)?(\w+|\*)\)?")
+
+
 def type_of(header: str, named: dict[str, Table]) -> str:
     """Returns the type of a column by its header."""
-    found = re.fullmatch(r"(?:(\w+)\()?(?:(\w+)\.)?(\w+|\*)\)?", header)
-    if not found or (found[1] and found[1] != "ST_AsText"):
-        return "INTEGER" if found else "TEXT"
+    found = HEADER.fullmatch(header)
+    if found and found[1] not in (None, "ST_AsText"):
+        return "INTEGER"
+    column = column_of(header, named)
+    return column[0].type_of(column[1]) if column else "TEXT"
+
+
+def column_of(header: str, named: dict[str, Table]) -> Optional[tuple[Table, str]]:
+    """Returns the table and the name of the column whose values a header names, as they are or by ST_AsText."""
+    found = HEADER.fullmatch(header)
+    if not found or found[1] not in (None, "ST_AsText"):
+        return None
     several = [it for name, it in named.items() if found[2] is None or name == found[2].lower()]
-    return several[0].type_of(found[3]) if several else "TEXT"
+    return (several[0], found[3]) if several else None

@@ -15,7 +15,7 @@ import re
 import sys
 import tempfile
 from html import escape
-from typing import IO, Any, Callable, Iterator, NamedTuple, Optional, TextIO
+from typing import IO, Any, Callable, Iterator, NamedTuple, Optional, Sequence, TextIO
 
 from . import __version__, _endings, _grid, _reading, _texts
 from ._endings import DATA, DONE, MISSING, USAGE, Stopped
@@ -28,11 +28,12 @@ SIZE, MARGIN, COLOUR = 480, 24, "#2a6fb0"
 
 
 class Known(NamedTuple):
-    """What grid.json says: the grid, the columns by their names in lower case, and their tables' coordinate systems."""
+    """What grid.json says: the grid, the columns by their names in lower case, their tables' coordinate systems, and the layers."""
 
     grid: _grid.Grid
     types: dict[str, str]
     systems: dict[str, Any]
+    layers: Sequence[Any] = ()
 
 
 def kind_of(column: Any) -> str:
@@ -54,7 +55,7 @@ def known(folder: str) -> Known:
                     types[name] = kind if types.get(name, kind) == kind else "GEOMETRY" if kind in GEOMETRIC else "TEXT"
                     if kind in GEOMETRIC:
                         systems.setdefault(name, []).append(layer["coordinate_system"])
-            return Known(_grid.Grid.of_file(found), types, systems)
+            return Known(_grid.Grid.of_file(found), types, systems, found["layers"])
         except (KeyError, TypeError, ValueError) as error:
             raise Stopped(f"{path} isn't one that sfq-import made: {error!r}", DATA) from None
 

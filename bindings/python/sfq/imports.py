@@ -1,7 +1,8 @@
-"""The command sfq-import: makes the tables of sfq from any vector source that GDAL reads.
+"""The command sfq-import: makes the tables of sfq from any vector sources that GDAL reads.
 
-    sfq-import SOURCE --grid STEP [--origin X,Y] --out DIR [--layer NAME ..] [--key COLUMN] [--scale COLUMN=STEP ..]
-               [--invalid leave-out|mend|stop] [--flat] [--allow-empty]
+    sfq-import SOURCE .. --out DIR [--grid STEP] [--origin X,Y] [--to EPSG:N] [--layer NAME ..] [--key COLUMN] [--scale COLUMN=STEP ..]
+               [--xy X,Y] [--wkt COLUMN] [--invalid leave-out|mend|stop] [--flat] [--part] [--replace]
+               [--strict] [--allow-empty]
 
 DIR then has schema.sql, a CSV file for each layer, grid.json, which remembers step and origin for sfq-export, and left-out.csv, which
 lists each record that was left out or mended, with sfq's own reason. None of it is proved; what sfq accepts of it is.
@@ -9,339 +10,82 @@ lists each record that was left out or mended, with sfq's own reason. None of it
 from __future__ import annotations
 
 import argparse
+import contextlib
 import csv
 import functools
-import json
 import os
-import re
-import shutil
 import sys
-import tempfile
-from collections import Counter
-from typing import Any, Callable, NamedTuple, Optional
+from dataclasses import dataclass, field
+from typing import Any, Callable, Mapping, NamedTuple, Optional, Sequence
 
-from . import __version__, _checking, _endings, _grid, _reading, _tables, _wkb
+from . import __version__, _checking, _endings, _folders, _grid, _proposing, _reading, _reports, _systems, _tables
 from ._endings import DATA, DONE, MISSING, USAGE, Stopped
-from ._faults import MEANINGS, LibraryError
-from ._progress import Progress
+from ._faults import LibraryError
+from ._passes import HasParts, Key, Means, NotAscending, Pass, type_of, written_as_multi
 
 NAME = "sfq-import"
-# How much is checked at a time: records, and characters of their geometries.
-BATCH, BATCH_SIZE = 2_000, 1_000_000
-# How often a geometry is mended, since what is mended is rounded again.
-TIMES = 3
-
-say = functools.partial(_endings.say, NAME)
-
-
-class NotAscending(Exception):
-    """A key isn't greater than the one before it."""
+# The step or the origin that is to be proposed.
+AUTO = "auto"
+# How an option takes several values: one behind another.
+MANY = {"nargs": "+", "action": "extend"}
+Say = Callable[[str], None]
 
 
-class Refused(Exception):
-    """Why a record isn't taken."""
+@dataclass(frozen=True)
+class Options:
+    """How sources are imported; the options of the command say more of each."""
 
-
-class Record:
-    """A record on its way: its number in the layer, its FID, its fields, its geometries' texts, and why it is refused or was mended."""
-
-    __slots__ = ("number", "fid", "fields", "texts", "reasons")
-
-    def __init__(self, number: int, fid: int, fields: list[str], texts: list[Optional[str]]) -> None:
-        self.number, self.fid, self.fields, self.texts = number, fid, fields, texts
-        # Each with what is before it in the list: the column, where a layer has several geometries.
-        self.reasons: tuple[tuple[str, str], ...] = ()
-
-
-class Means(NamedTuple):
-    """What an import works with."""
-
-    source: _reading.Source
-    checker: Any
-    grid: _grid.Grid
-    invalid: str
-    is_flat: bool
+    # The size of a step, a decimal number, and the place X,Y of 0 0. A step that is "auto" is proposed, and its origin where that is
+    # empty; an empty origin of a step that is given is 0,0.
+    grid: str = AUTO
+    origin: str = ""
+    # The code of the reference system that all geometries are moved to, and of the one that sources are in which say none.
+    to: str = ""
+    of: str = ""
+    layers: Sequence[str] = ()
+    key: str = ""
     # The size of a step of each column whose numbers are to be whole.
-    steps: dict[str, str]
+    steps: Mapping[str, str] = field(default_factory=dict)
+    # The columns of points' coordinates, or of texts of geometries, in layers that have no geometries of their own.
+    xy: Sequence[str] = ()
+    wkt: str = ""
+    # What becomes of records that are refused: leave-out, mend or stop.
+    invalid: str = "leave-out"
+    is_flat: bool = False
+    # Whether records of more positions than sfq takes become several rows.
+    is_parted: bool = False
+    # Whether tables that are there by the names of new ones are replaced.
+    replaces: bool = False
+    # The program that checks in place of the library.
+    program: str = ""
 
 
-class Key(NamedTuple):
-    """The key of a table: the column of the source, or `` for the FID and `#` for a counter."""
+class Imported(NamedTuple):
+    """What an import made: its grid, and what grid.json says of each new table."""
 
-    source: str
-    is_checked: bool = False
+    grid: _grid.Grid
+    layers: list[dict[str, Any]]
 
-
-class Pass:
-    """One pass over a layer, which writes its table."""
-
-    def __init__(self, means: Means, layer: _reading.Layer, key: Key, files: tuple[Any, Any]) -> None:
-        self.means, self.layer, self.key = means, layer, key
-        self.table, self.left_out = files
-        self.shift, self.rows, self.records, self.flattened = _grid.Shift(), 0, 0, 0
-        self.counts: Counter[Any] = Counter()
-        self.empty: Counter[str] = Counter()
-        self.words: list[set[str]] = [set() for _ in layer.shapes]
-        self.columns = columns(layer, key, means.steps)
-        self.scales = {it.source: _grid.Scale(it.step) for it in self.columns if it.step}
-        self.readers, self.key_of, self.places = self.in_order(), self.key_reader(), range(len(layer.shapes))
-        self.forms: dict[str, str] = {}
-        self.last_key = -1
-
-    def in_order(self) -> list[Callable[[Any], str]]:
-        """Returns the readers of the columns after the key: a FID that has a name of its own first."""
-        found = [self.reader(at, it.GetName()) for at, it in enumerate(self.layer.fields) if it.GetName() != self.key.source]
-        if self.key.source and self.layer.layer.GetFIDColumn():
-            found.insert(0, lambda it: str(it.GetFID()))
-        return found
-
-    def reader(self, at: int, name: str) -> Callable[[Any], str]:
-        """Returns the reader of a column. It raises Refused where a number isn't one, or is too large for its steps."""
-        read, scale = self.layer.reader(at, self.empty), self.scales.get(name)
-        if scale is None:
-            return read
-        whole = scale.field
-
-        def scaled(it: Any) -> str:
-            try:
-                return whole(read(it))
-            except _grid.NotANumber as error:
-                raise Refused(f"L5: {name}: {error}") from None
-
-        return scaled
-
-    def key_reader(self) -> Optional[Callable[[Any], Optional[int]]]:
-        """Returns what reads the key, None where it is the FID."""
-        if self.key.source == "#":
-            return lambda _: self.records
-        return self.layer.whole(self.layer.described.GetFieldIndex(self.key.source)) if self.key.source else None
-
-    def run(self) -> None:
-        """Reads all records. NotAscending where the key hasn't been looked at and doesn't ascend."""
-        progress, total = Progress(NAME, wait=0.5), self.layer.count()
-        of = f" of {total:,}" if total >= 0 else ""
-        self.table.write(",".join(it.name for it in self.columns).encode() + b"\n")
-        batch, size = [], 0
-        try:
-            for feature in self.layer:
-                self.records += 1
-                record = self.taken(feature, feature.GetFID())
-                batch.append(record)
-                for text in record.texts:
-                    size += len(text) if text else 0
-                if size > BATCH_SIZE or len(batch) == BATCH:
-                    self.write(batch)
-                    batch, size = [], 0
-                    progress.show(f"{self.layer.name} {self.records:,}{of}")
-            self.write(batch)
-        finally:
-            progress.clear()
-
-    def taken(self, feature: Any, fid: int) -> Record:
-        """Returns the record of a feature, its geometries not yet checked."""
-        key = self.key_of(feature) if self.key_of else fid
-        if not self.key.is_checked:
-            if fid < 0 or fid <= self.last_key:
-                raise NotAscending()
-            self.last_key = fid
-        fields = [str(key)]
-        record = Record(self.records, fid, fields, [])
-        try:
-            for read in self.readers:
-                fields.append(read(feature))
-        except Refused as it:
-            record.reasons, record.fields = (("", str(it)),), []
-            return record
-        for at in self.places:
-            geometry = feature.GetGeomFieldRef(at)
-            try:
-                record.texts.append(None if geometry is None else self.text(geometry, record, at))
-            except Refused as it:
-                record.reasons += ((self.column(at), str(it)),)
-                record.texts.append(None)
-                record.fields = []
-        return record
-
-    def column(self, at: int) -> str:
-        """Returns what a reason begins with: the column, where a layer has several geometries."""
-        return "" if len(self.places) == 1 else f"{self.layer.shapes[at].GetName()}: "
-
-    def text(self, geometry: Any, record: Record, at: int) -> str:
-        """Returns the text of a geometry on the grid. Refused where sfq has none for its form, unless that is mended."""
-        if self.means.is_flat and (geometry.Is3D() or geometry.IsMeasured()):
-            geometry.FlattenTo2D()
-            self.flattened += 1
-        try:
-            shape = _wkb.shape(_reading.binary(geometry))
-        except _wkb.NoText as it:
-            reason = self.reason_of_form(it.form)
-            if self.means.invalid != "mend":
-                raise Refused(reason) from None
-            try:
-                shape = _wkb.shape(_reading.flat(geometry), drops_empty=True)
-            except _wkb.NoText:
-                raise Refused(reason) from None
-            record.reasons += ((self.column(at), reason),)
-        try:
-            return _wkb.text(shape, self.means.grid, self.shift)
-        except _grid.NotANumber as it:
-            raise Refused(f"W1: {it}") from None
-
-    def reason_of_form(self, form: str) -> str:
-        """Returns sfq's reason against the beginning of a text, and the words of it."""
-        if form not in self.forms:
-            self.forms[form] = f"{self.means.checker.reason(form)}: {form.rstrip(' (')}"
-        return self.forms[form]
-
-    def write(self, batch: list[Record]) -> None:
-        """Checks records, and writes them or what they are refused for."""
-        asked = [(record, at) for record in batch if record.fields for at, it in enumerate(record.texts) if it]
-        reasons = self.means.checker.reasons([record.texts[at] for record, at in asked])
-        for (record, at), reason in zip(asked, reasons):
-            if reason:
-                self.refuse(record, at, reason)
-        rows = []
-        for record in batch:
-            row = self.row(record) if record.fields else None
-            if record.reasons:
-                self.note(record, "left out" if row is None else "mended")
-            if row is not None:
-                rows.append(row)
-        self.table.writelines(rows)
-        self.rows += len(rows)
-
-    def refuse(self, record: Record, at: int, reason: str) -> None:
-        """Mends a geometry that sfq refuses where that is wanted and can be done; else refuses the record."""
-        if self.means.invalid == "mend" and reason[0] == "V":
-            text, behind = self.mended(record.texts[at] or "")
-            if text is None:
-                record.fields = []
-            else:
-                record.texts[at] = text
-            reason += behind
-        else:
-            record.fields = []
-        record.reasons += ((self.column(at), reason),)
-
-    def mended(self, text: str) -> tuple[Optional[str], str]:
-        """Returns what make-valid makes of a text, on the grid and valid there; else None and what is said of it."""
-        behind = ""
-        for _ in range(TIMES):
-            made = _reading.mended(self.means.source.modules, text)
-            if made is None:
-                return None, behind or "; make-valid leaves nothing of it"
-            reason = self.means.checker.reasons([made])[0]
-            if reason is None:
-                return made, ""
-            text, behind = made, f"; after make-valid {reason}"
-        return None, behind
-
-    def row(self, record: Record) -> Optional[bytes]:
-        """Returns the line of a record, or None where it is refused."""
-        fields = record.fields
-        for text in record.texts:
-            fields.append("" if text is None else f'"{text}"' if "," in text else text)
-        line = ",".join(fields) + "\n"
-        try:
-            found = line.encode()
-        except UnicodeEncodeError:
-            record.reasons += (("", "L4: a text isn't UTF-8"),)
-            if self.means.invalid != "mend":
-                return None
-            fields = [it.encode("utf-8", "replace").decode() for it in fields]
-            found = (",".join(fields) + "\n").encode()
-        if len(found) > _tables.MOST_BYTES:
-            reason = _tables.too_long(found, [it.name for it in self.columns], fields)
-            if reason:
-                record.reasons += (("", reason),)
-                return None
-        for words, text in zip(self.words, record.texts):
-            if text is not None:
-                words.add(text.partition("(")[0])
-        return found
-
-    def note(self, record: Record, done: str) -> None:
-        """Lists a record that is left out or was mended. Stopped where that ends the import."""
-        for column, reason in record.reasons:
-            if self.means.invalid == "stop":
-                raise Stopped(f"{self.layer.name} record {record.number} (FID {record.fid}): {column}{reason}", DATA)
-            fields = [self.layer.name, str(record.number), str(record.fid), column + reason, done]
-            self.left_out.write(",".join(map(_tables.quoted, fields)).encode("utf-8", "replace") + b"\n")
-        for it in {kind(reason) for _, reason in record.reasons}:
-            self.counts[done, it] += 1
-
-
-def kind(reason: str) -> str:
-    """Returns what a reason has in common with others of its kind, and what it means."""
-    code, text = re.split(r"\W", reason, maxsplit=1)[0], reason.partition(": ")[2]
-    return f"{code}: {MEANINGS[code] if code[0] == 'V' or code in ('W3', 'W4') else text}"
-
-
-def columns(layer: _reading.Layer, key: Key, steps: dict[str, str]) -> list[_tables.Column]:
-    """Returns the columns of a table: the key, those of the layer in their order, and the geometries."""
-    names, fid = _tables.Names(), layer.layer.GetFIDColumn()
-    if key.source == "#":
-        found = [_tables.Column(names.of("id", "id"), "", "INTEGER")]
-    elif not key.source:
-        found = [_tables.Column(names.of(fid or "fid", "fid"), fid, "INTEGER")]
-    else:
-        found = [_tables.Column(names.of(key.source, "key"), key.source, "INTEGER")]
-    if key.source and fid:
-        found.append(_tables.Column(names.of(fid, "fid"), fid, "INTEGER"))
-    for it in layer.fields:
-        name = it.GetName()
-        if name != key.source:
-            step = steps.get(name, "")
-            kind = "INTEGER" if step or layer.is_whole(name) else "TEXT"
-            found.append(_tables.Column(names.of(name, "field"), name, kind, not step and layer.is_real(name), step))
-    for it in layer.shapes:
-        found.append(_tables.Column(names.of(it.GetName() or "geom", "geom"), it.GetName(), "GEOMETRY"))
-    return found
-
-
-def type_of(words: set[str], said: str) -> str:
-    """Returns the type of a geometry column by the types that are in it; `said` where it has none."""
-    words = {it.removesuffix(" EMPTY") for it in words}
-    if not words:
-        return said
-    of_many = {it if it.startswith("MULTI") else f"MULTI{it}" for it in words}
-    return next(iter(words if len(words) == 1 else of_many)) if len(of_many) == 1 else "GEOMETRY"
-
-
-def written_as_multi(path: str, places: set[int]) -> None:
-    """Writes a table anew, with each geometry in these columns as one of its MULTI type."""
-    csv.field_size_limit(sys.maxsize)
-    with open(path, newline="", encoding="utf-8") as old, open(f"{path}.new", "w", newline="", encoding="utf-8") as new:
-        for row in csv.reader(old):
-            for at in places:
-                row[at] = _wkb.as_multi(row[at]) if row[at] and "(" in row[at] or row[at].endswith(" EMPTY") else row[at]
-            new.write(",".join(map(_tables.quoted, row)) + "\n")
-    os.replace(f"{path}.new", path)
+    def count(self, name: str) -> int:
+        """Returns the sum of `records`, `rows` or `left_out` over the new tables."""
+        return sum(it[name] for it in self.layers)
 
 
 class Import:
-    """An import into a folder that is there for it alone."""
+    """An import into the room of a folder."""
 
-    def __init__(self, means: Means, room: str, key: str) -> None:
-        self.means, self.room, self.key = means, room, key
-        self.names = _tables.Names()
+    def __init__(self, means: Means, folder: _folders.Folder, key: str, say: Say) -> None:
+        self.means, self.folder, self.key, self.say = means, folder, key, say
         self.schemas: list[str] = []
         self.layers: list[dict[str, Any]] = []
-        self.left_out = open(f"{room}/left-out.csv", "wb")
-        self.left_out.write(b"layer,record,fid,reason,done\n")
+        self.left_out = open(folder.new("left-out.csv"), "wb")
+        for row in (_folders.LEFT_OUT, *folder.kept_of_left_out()):
+            self.left_out.write(",".join(map(_tables.quoted, row)).encode() + b"\n")
 
-    def close(self, source: str) -> None:
+    def close(self) -> None:
         """Writes what speaks of all tables."""
         self.left_out.close()
-        step, origin = self.means.grid.spelled
-        found = {
-            "made_by": f"{NAME} {__version__}", "source": source, "step": step, "origin": list(origin), "invalid": self.means.invalid,
-            "layers": self.layers,
-        }
-        with open(f"{self.room}/grid.json", "w", encoding="utf-8") as file:
-            file.write(json.dumps(found, ensure_ascii=False, indent=1) + "\n")
-        with open(f"{self.room}/schema.sql", "w", encoding="utf-8") as file:
-            file.write(f"-- Made by {NAME}; grid.json has the step and the origin of the grid.\n\n" + "\n".join(self.schemas))
+        _folders.written(self.folder, f"{NAME} {__version__}", self.means.grid.spelled, self.layers, self.schemas)
 
     def first_key(self, layer: _reading.Layer) -> Key:
         """Returns the key that is asked for where the layer has it and it can be one, else the FID."""
@@ -354,23 +98,24 @@ class Import:
             if reason is None:
                 return Key(self.key, True)
             reason = f"can't be the key ({reason})"
-        say(f"{layer.name}: {self.key} {reason}: the key is the FID")
+        self.say(f"{layer.label}: {self.key} {reason}: the key is the FID")
         return Key("")
 
-    def take(self, layer: _reading.Layer) -> None:
+    def take(self, layer: _reading.Layer, name: str) -> None:
         """Makes the table of a layer."""
-        name = self.names.of(layer.name, "layer")
-        key, place, path = self.first_key(layer), self.left_out.tell(), f"{self.room}/{name}.csv"
+        key, place, has_parts = self.first_key(layer), self.left_out.tell(), False
         while True:
             self.left_out.seek(place)
             self.left_out.truncate()
-            with open(path, "wb", buffering=1 << 20) as table:
-                found = Pass(self.means, layer, key, (table, self.left_out))
+            with open(self.folder.new(f"{name}.csv"), "wb", buffering=1 << 20) as table:
+                found = Pass(self.means, layer, key, name, (table, self.left_out), has_parts)
                 try:
                     found.run()
                     break
                 except NotAscending:
                     key = self.next_key(layer)
+                except HasParts:
+                    has_parts = True
         self.finish(layer, name, found)
 
     def next_key(self, layer: _reading.Layer) -> Key:
@@ -378,7 +123,7 @@ class Import:
         reason = layer.repeated(lambda it: it.GetFID() if it.GetFID() >= 0 else None)
         if reason is None:
             return Key("", True)
-        say(f"{layer.name}: the FID can't be the key ({reason}): the key is a counter")
+        self.say(f"{layer.label}: the FID can't be the key ({reason}): the key is a counter")
         return Key("#", True)
 
     def finish(self, layer: _reading.Layer, name: str, found: Pass) -> None:
@@ -387,84 +132,229 @@ class Import:
         multi = set()
         for at, words in enumerate(found.words):
             column = found.columns[first + at]
-            found.columns[first + at] = column._replace(type=type_of(words, layer.word(at)))
+            found.columns[first + at] = column._replace(type=type_of(words, layer.shapes[at].word))
             if found.columns[first + at].type.startswith("MULTI") and any(not it.startswith("MULTI") for it in words):
                 multi.add(first + at)
         if multi:
-            written_as_multi(f"{self.room}/{name}.csv", multi)
+            written_as_multi(f"{self.folder.room}/{name}.csv", multi)
         self.schemas.append(_tables.schema(name, found.columns, found.columns[0].name))
-        self.layers.append(described(layer, name, found))
-        report(layer, name, found, self.means)
+        self.layers.append(_reports.described(layer, name, found))
+        _reports.report(layer, name, found, self.say)
 
 
-def described(layer: _reading.Layer, name: str, found: Pass) -> dict[str, Any]:
-    """Returns what grid.json says of a layer."""
-    shift = found.shift
-    return {
-        "layer": layer.name, "table": name, "key": found.columns[0].name, "records": found.records, "rows": found.rows,
-        "columns": [it.described() for it in found.columns], "coordinate_system": layer.system(),
-        "shift": {"greatest": float(f"{shift.greatest:.3g}"), "mean": float(f"{shift.mean:.3g}"), "positions": shift.positions},
-        "merged": shift.merged, "flattened": found.flattened, "left_out": found.records - found.rows,
-        "empty_texts": dict(found.empty),
-    }
+# ---- what is imported ----
 
 
-def report(layer: _reading.Layer, name: str, found: Pass, means: Means) -> None:
-    """Says what became of a layer: a line for the table, and one for each kind of thing that isn't as in the source."""
-    label, shift = layer.name, found.shift
-    say(f"{label}: {found.rows:,} of {found.records:,} records in {name}.csv; {shift.positions:,} positions moved by at most "
-        f"{shift.greatest:.3g}, {shift.mean:.3g} in the mean, {shift.merged:,} merged")
-    for (done, what), count in sorted(found.counts.items()):
-        say(f"{label}: {count:,} {done}: {what}{beyond(layer, means.grid) if what.startswith('W3') else ''}")
-    for column, scale in found.scales.items():
-        say(f"{label}: {column} counts steps of {scale.spelled}: {scale.moved:,} numbers moved by at most {float(scale.greatest):.3g}")
-    reals = [it.source for it in found.columns if it.is_real]
-    if reals:
-        say(f"{label}: numbers with a point are TEXT, which sfq compares as texts: {', '.join(reals)}; --scale {reals[0]}=STEP makes whole ones")
-    for column, count in found.empty.items():
-        say(f"{label}: {count:,} empty texts in {column}: sfq reads an empty field as NULL")
-    renamed = [f"{it.source} is {it.name}" for it in found.columns if it.source and it.source != it.name]
-    renamed = [f"the layer is {name}"] * (name != label) + renamed
-    if renamed:
-        say(f"{label}: {', '.join(renamed)}")
-    if found.flattened:
-        say(f"{label}: {found.flattened:,} geometries without their Z or M")
-    if len(found.columns) > _tables.MOST_COLUMNS:
-        say(f"{label}: schema.sql has {_tables.MOST_COLUMNS} of {len(found.columns)} columns, and the CSV all: sfq takes no more")
-    if found.rows > _tables.MOST_ROWS:
-        say(f"{label}: one run of sfq takes at most {_tables.MOST_ROWS:,} rows; sfq-scale takes more (docs/SCALE.md)")
+def need_apart(sources: Sequence[str]) -> None:
+    """Stopped where a source is named twice."""
+    places = [os.path.realpath(it) if os.path.lexists(it) else it for it in sources]
+    for at, it in enumerate(places):
+        if it in places[:at]:
+            raise Stopped(f"{_reading.without_secrets(sources[at])} is named twice", USAGE)
 
 
-def beyond(layer: _reading.Layer, grid: _grid.Grid) -> str:
-    """Returns where a layer lies, and which origin or step would take it."""
-    extent = layer.extent()
-    if extent is None:
-        return ""
-    left, right, low, high = extent
-    step = float(grid.x.step)
-    middle = [round((a + b) / 2 / (1000 * step)) * 1000 * grid.x.step for a, b in ((left, right), (low, high))]
-    half = max(right - left, high - low) / 2 / (_grid.MOST - 1000)
-    where = f" (x from {left:.10g} to {right:.10g}, y from {low:.10g} to {high:.10g}; "
-    if half <= step:
-        return where + "--origin " + ",".join(_tables.real(float(it)) for it in middle) + " takes all)"
-    return where + f"no origin takes all with a step below {half:.3g})"
+def chosen(sources: Sequence[_reading.Source], options: Options) -> list[_reading.Layer]:
+    """Returns the layers that are asked for. Stopped where one isn't there, a source has none of them, or a column is in none."""
+    found, names = [it.layers(options.layers) for it in sources], set(options.layers)
+    there = ", ".join(name for it in sources for name in it.names()) or "none"
+    for name in options.layers:
+        if not any(it.name == name or it.layer.GetName() == name for each in found for it in each):
+            raise Stopped(f"no layer {name}; there are {there}", USAGE)
+    for source, each in zip(sources, found):
+        if names and not each:
+            raise Stopped(f"{source.name} has no layer {' or '.join(options.layers)}; it has {', '.join(source.names()) or 'none'}", USAGE)
+    layers = [it for each in found for it in each]
+    many = {it.name for at, it in enumerate(layers) if any(other.name == it.name for other in layers[:at])}
+    for it in layers:
+        if it.name in many:
+            it.label = f"{os.path.basename(it.source.name)}: {it.name}"
+    if options.key and not any(it.has(options.key) for it in layers):
+        raise Stopped(f"no layer has a column {options.key}", USAGE)
+    for column in options.steps:
+        if not any(it.has(column) for it in layers):
+            raise Stopped(f"--scale: no layer has a column {column}", USAGE)
+    return layers
+
+
+def take_columns(layers: Sequence[_reading.Layer], options: Options) -> None:
+    """Has layers take their geometries from the columns that are asked for. Stopped where no layer can."""
+    by_xy = [it for it in layers if options.xy and it.may_take(*options.xy)]
+    by_wkt = [it for it in layers if options.wkt and it.may_take(options.wkt) and it not in by_xy]
+    if options.xy and not by_xy:
+        raise Stopped(f"--xy: no layer without geometries has the columns {options.xy[0]} and {options.xy[1]}", USAGE)
+    if options.wkt and not by_wkt:
+        raise Stopped(f"--wkt: no layer without geometries has a column {options.wkt}", USAGE)
+    for it in by_xy:
+        it.take_points(*options.xy)
+    for it in by_wkt:
+        it.take_texts(options.wkt)
+
+
+def move(layers: Sequence[_reading.Layer], osr: Any, options: Options) -> None:
+    """Has layers be in the reference system that is asked for. Stopped where one says none."""
+    if options.of:
+        for it in layers:
+            if it.reference is None:
+                it.take_reference(_systems.named(osr, options.of))
+    if not options.to:
+        return
+    target = _systems.named(osr, options.to)
+    for it in layers:
+        if it.reference is None:
+            raise Stopped(f"{it.source.name}: {it.name} says no reference system, so it can't be moved to {options.to}: --from names it", USAGE)
+        if _systems.are_same(it.reference, target):
+            it.take_reference(target)
+        else:
+            it.move(target)
+
+
+def need_one_system(layers: Sequence[_reading.Layer], folder: _folders.Folder, osr: Any, say: Say) -> Any:
+    """Returns the reference system of all layers and of the folder, None where nothing says one. Stopped where there are two.
+
+    Two in one source were always taken: a line says so.
+    """
+    known = [(folder.name, _systems.made(osr, it["coordinate_system"]["wkt"])) for it in folder.layers if it["coordinate_system"]]
+    known += [(it.source.name, it.reference) for it in layers if it.reference is not None]
+    for whose, system in known[1:]:
+        if not _systems.are_same(known[0][1], system):
+            if folder.found or len({it.source.name for it in layers}) > 1:
+                one, other = (_systems.label(it) for it in (known[0][1], system))
+                raise Stopped(f"{known[0][0]} is in {one}, and {whose} in {other}: --to {one if folder.found else 'EPSG:N'} moves all to one system", USAGE)
+            say("the layers have different coordinate systems: don't compare their geometries")
+            break
+    for it in layers:
+        if known and it.reference is None:
+            say(f"{it.label}: it says no reference system, and is taken to be in {_systems.label(known[0][1])} as the others")
+    return known[0][1] if known else None
+
+
+def grid_of(layers: Sequence[_reading.Layer], folder: _folders.Folder, system: Any, options: Options, say: Say) -> _grid.Grid:
+    """Returns the grid that the folder has, or is given, or is proposed; a line says of one that is proposed what it is.
+
+    Stopped where the folder has another one than is given.
+    """
+    step, origin = ("" if it == AUTO else it for it in (options.grid, options.origin))
+    if folder.found:
+        found = _grid.Grid.of_file(folder.found)
+        spelled = found.spelled[0], ",".join(found.spelled[1])
+        given = _grid.Grid(step or spelled[0], (origin or spelled[1]).split(","))
+        if (given.x.step, given.x.origin, given.y.origin) != (found.x.step, found.x.origin, found.y.origin):
+            raise Stopped(f"{folder.name} has the grid --grid {spelled[0]} --origin {spelled[1]}, which new tables get too", USAGE)
+        return found
+    if step and options.origin != AUTO:
+        return _grid.Grid(step, (origin or "0,0").split(","))
+    extent = _proposing.extent(layers)
+    found = _proposing.proposed(extent, system, step, origin)
+    spelled = found.spelled[0], ",".join(found.spelled[1])
+    unit = _systems.unit(system)
+    say(f"--grid {spelled[0]} --origin {spelled[1]} takes all (steps of {spelled[0]} {unit}" + ("" if extent else "; there is no geometry") + ")")
+    return found
+
+
+def names_of(layers: Sequence[_reading.Layer], folder: _folders.Folder, options: Options) -> tuple[list[str], set[str]]:
+    """Returns the names of the new tables, and those of the tables that they replace, in lower case. Stopped where none are to be."""
+    names = _tables.Names()
+    found, there = [names.of(it.name, "layer") for it in layers], folder.tables()
+    replaced = {it.lower() for it in found} & there
+    if replaced and not options.replaces:
+        name = next(it for it in found if it.lower() in there)
+        raise Stopped(f"{folder.name} has a table {name} already: --replace makes it anew", USAGE)
+    _folders.most_tables(folder, replaced, found)
+    return found, replaced
+
+
+def imported(sources: Sequence[str], folder: _folders.Folder, options: Options, means: tuple[str, Say]) -> Imported:
+    """Imports sources into a folder, which takes its place at the end."""
+    (name, say), found = means, _reading.modules()
+    with _reading.warnings_said(found, say):
+        opened = [_reading.Source(found, it) for it in sources]
+        checker = _checking.checker(options.program)
+        layers = chosen(opened, options)
+        take_columns(layers, options)
+        shaped = [it for it in layers if it.shapes]
+        move(shaped, found.osr, options)
+        system = need_one_system(shaped, folder, found.osr, say)
+        names, replaced = names_of(layers, folder, options)
+        grid = grid_of(shaped, folder, system, options, say)
+        folder.begin(replaced)
+        work = Import(Means(
+            found, checker, grid, options.invalid, options.is_flat, options.is_parted, options.steps, name), folder, options.key, say)
+        for it, table in zip(layers, names):
+            work.take(it, table)
+        work.close()
+        folder.put()
+        return Imported(grid, work.layers)
+
+
+def import_sources(
+    sources: Sequence[str], out: str, options: Options = Options(), name: str = NAME, say: Optional[Say] = None,
+) -> Imported:
+    """Imports sources into one folder, which is new, or one that an import made and that gets more tables.
+
+    The folder is there as a whole at the end, or is as it was. What there is to say goes to `say`, by default a line each on standard
+    error that begins with `name`, as the line of progress does. Stopped, with the status that a command would end with, where an option
+    is wrong, or what it needs isn't there; OSError and RuntimeError where a file can't be read or written.
+    """
+    try:
+        need_apart(sources)
+        check(options)
+        folder = _folders.Folder(out)
+        with contextlib.closing(folder):
+            return imported(sources, folder, options, (name, say or functools.partial(_endings.say, name)))
+    except (_reading.Missing, LibraryError) as error:
+        raise Stopped(str(error).removeprefix("sfq: "), MISSING) from None
+    except ValueError as error:
+        raise Stopped(str(error), USAGE) from None
+
+
+def check(options: Options) -> None:
+    """ValueError where an option is wrong."""
+    origin = options.origin if options.origin not in ("", AUTO) else "0,0"
+    if origin.count(",") != 1:
+        raise ValueError(f"--origin: {options.origin!r} isn't X,Y")
+    try:
+        _grid.Grid("1" if options.grid == AUTO else options.grid, origin.split(","))
+    except ValueError as error:
+        raise ValueError(f"--grid or --origin: {error}") from None
+    for option, code in (("--to", options.to), ("--from", options.of)):
+        if code and not _systems.CODE.fullmatch(code):
+            raise ValueError(f"{option}: {code!r} isn't the code of a reference system, such as EPSG:25832")
+    if options.xy and (len(options.xy) != 2 or not all(options.xy) or options.xy[0] == options.xy[1]):
+        raise ValueError(f"--xy: {','.join(options.xy)!r} isn't two columns, X,Y")
+
+
+# ---- the command ----
+
+
+def add_options(found: argparse.ArgumentParser, many: Mapping[str, Any] = MANY) -> None:
+    """Adds the options of an import to those of a command. `many` says how one takes several values."""
+    add = found.add_argument
+    add("--grid", metavar="STEP", default=AUTO,
+        help="the size of a step of the grid, in units of the source: 0.01; auto proposes the finest that takes all (auto)")
+    add("--origin", metavar="X,Y", default="", help="where the grid's 0 0 is in the source, or auto (0,0; auto where the step is)")
+    add("--to", metavar="EPSG:N", default="", help="move all geometries to this reference system")
+    add("--from", metavar="EPSG:N", default="", dest="of", help="the reference system of sources that say none")
+    add("--layer", metavar="NAME", default=[], **many, help="the layers to take (all)")
+    add("--key", metavar="COLUMN", default="", help="the column of whole numbers that is the key (the FID)")
+    add("--scale", metavar="COLUMN=STEP", default=[], **many,
+        help="make whole numbers of a column, which count steps of this size: width=0.01")
+    add("--xy", metavar="X,Y", default="", help="make points of two columns of a CSV file: lon,lat")
+    add("--wkt", metavar="COLUMN", default="", help="make geometries of a column of well-known text of a CSV file")
+    add("--invalid", choices=("leave-out", "mend", "stop"), default="leave-out", help="what becomes of records that sfq refuses (leave-out)")
+    add("--flat", action="store_true", help="take geometries with Z or M without them")
+    add("--part", action="store_true", help="make several rows of a record with more than 10,000 positions")
 
 
 def parser() -> argparse.ArgumentParser:
-    found = argparse.ArgumentParser(prog=NAME, description="Makes the tables of sfq from any vector source that GDAL reads.",
+    found = argparse.ArgumentParser(prog=NAME, description="Makes the tables of sfq from any vector sources that GDAL reads.",
                                     epilog="Statuses: 0 done, 1 GDAL or sfq isn't there, 2 the command line, 4 a record under "
-                                    "--invalid stop, or no record was kept, 6 files, 7 memory. The manual: man sfq-import.")
+                                    "--invalid stop or --strict, or no record was kept, 6 files, 7 memory. The manual: man sfq-import.")
     add = found.add_argument
-    add("source", metavar="SOURCE", help="a file, folder or database that GDAL reads, as ogrinfo takes it")
-    add("--grid", metavar="STEP", required=True, help="the size of a step of the grid, in units of the source: 0.01")
-    add("--origin", metavar="X,Y", default="0,0", help="where the grid's 0 0 is in the source (0,0)")
-    add("--out", metavar="DIR", required=True, help="a folder that isn't there yet or is empty")
-    add("--layer", metavar="NAME", nargs="+", action="extend", default=[], help="the layers to take (all)")
-    add("--key", metavar="COLUMN", default="", help="the column of whole numbers that is the key (the FID)")
-    add("--scale", metavar="COLUMN=STEP", nargs="+", action="extend", default=[],
-        help="make whole numbers of a column, which count steps of this size: width=0.01")
-    add("--invalid", choices=("leave-out", "mend", "stop"), default="leave-out", help="what becomes of records that sfq refuses (leave-out)")
-    add("--flat", action="store_true", help="take geometries with Z or M without them")
+    add("source", metavar="SOURCE", nargs="+", help="a file, folder or database that GDAL reads, as ogrinfo takes it")
+    add("--out", metavar="DIR", required=True, help="a folder that isn't there yet, is empty, or gets more tables")
+    add_options(found)
+    add("--replace", action="store_true", help="make tables anew that the folder has already")
+    add("--strict", action="store_true", help="end with status 4 where a record was left out")
     add("--allow-empty", action="store_true", help="end with status 0 where no record is kept, too")
     add("--sfq", metavar="PROGRAM", default="", help="check by this program in place of the library libsfq")
     add("--version", action="version", version=f"{NAME} {__version__}")
@@ -484,86 +374,58 @@ def steps_of(words: list[str], key: str) -> dict[str, str]:
     return found
 
 
-def parsed(words: list[str]) -> tuple[argparse.Namespace, _grid.Grid]:
-    """Returns the options and the grid. An origin that begins with a minus is an option's value too."""
-    joined: list[str] = []
-    found = parser()
+def joined(words: Sequence[str]) -> list[str]:
+    """Returns the words of a command. An origin that begins with a minus is an option's value too."""
+    found: list[str] = []
     for it in words:
-        if joined and joined[-1] == "--origin":
-            joined[-1] = f"--origin={it}"
+        if found and found[-1] == "--origin":
+            found[-1] = f"--origin={it}"
         else:
-            joined.append(it)
-    options = found.parse_args(joined)
-    parts = options.origin.split(",")
-    if len(parts) != 2:
-        found.error(f"argument --origin: {options.origin!r} isn't X,Y")
+            found.append(it)
+    return found
+
+
+def options_of(given: argparse.Namespace, found: argparse.ArgumentParser) -> Options:
+    """Returns the options of the import that a command was given. One that is wrong ends the command."""
     try:
-        options.steps = steps_of(options.scale, options.key)
+        steps = steps_of(given.scale, given.key)
     except ValueError as error:
         found.error(f"argument --scale: {error}")
+    options = Options(
+        grid=given.grid, origin=given.origin, to=given.to, of=given.of, layers=given.layer, key=given.key, steps=steps,
+        xy=given.xy.split(",") if given.xy else (), wkt=given.wkt, invalid=given.invalid, is_flat=given.flat, is_parted=given.part,
+        replaces=getattr(given, "replace", False), program=given.sfq,
+    )
     try:
-        return options, _grid.Grid(options.grid, parts)
+        check(options)
     except ValueError as error:
-        found.error(f"argument --grid or --origin: {error}")
+        found.error(f"argument {error}")
+    return options
 
 
-def is_free(folder: str) -> bool:
-    """Whether a folder isn't there or is empty."""
-    return not os.path.lexists(folder) or os.path.isdir(folder) and not os.listdir(folder)
+def parsed(words: list[str]) -> tuple[argparse.Namespace, Options]:
+    """Returns the words of the command, and the options of the import."""
+    found = parser()
+    given = found.parse_args(joined(words))
+    return given, options_of(given, found)
 
 
-def run(options: argparse.Namespace, grid: _grid.Grid) -> None:
-    """Does an import: the folder is there as a whole at the end, or not at all."""
-    if not is_free(options.out):
-        raise Stopped(f"{options.out} isn't an empty folder", USAGE)
-    source = _reading.Source(options.source, say)
-    means = Means(source, _checking.checker(options.sfq), grid, options.invalid, options.flat, options.steps)
-    layers = source.layers(options.layer)
-    if not 0 < len(layers) <= _tables.MOST_TABLES:
-        raise Stopped(f"{len(layers)} layers, and sfq takes 1 to {_tables.MOST_TABLES}: choose by --layer", USAGE)
-    if options.key and not any(it.has(options.key) for it in layers):
-        raise Stopped(f"no layer has a column {options.key}", USAGE)
-    for column in options.steps:
-        if not any(it.has(column) for it in layers):
-            raise Stopped(f"--scale: no layer has a column {column}", USAGE)
-    out = os.path.abspath(options.out)
-    os.makedirs(os.path.dirname(out), exist_ok=True)
-    room = tempfile.mkdtemp(prefix=f".{os.path.basename(out)}-", dir=os.path.dirname(out))
-    try:
-        work = Import(means, room, options.key)
-        for it in layers:
-            work.take(it)
-        work.close(_reading.without_secrets(options.source))
-        systems = {json.dumps(it["coordinate_system"]) for it, layer in zip(work.layers, layers) if layer.shapes}
-        if len(systems) > 1:
-            say("the layers have different coordinate systems: don't compare their geometries")
-        mask = os.umask(0)
-        os.umask(mask)
-        os.chmod(room, 0o777 & ~mask)
-        os.rename(room, out)
-    except BaseException:
-        shutil.rmtree(room, ignore_errors=True)
-        raise
-    if not options.allow_empty and not any(it["rows"] for it in work.layers):
-        why = f"{options.out}/left-out.csv says why" if any(it["records"] for it in work.layers) else "the source has none"
+def run(given: argparse.Namespace, options: Options) -> int:
+    """Does an import, and returns its status. Stopped where it keeps too little."""
+    found = import_sources(given.source, given.out, options)
+    if not given.allow_empty and not found.count("rows"):
+        why = f"{given.out}/left-out.csv says why" if found.count("records") else "the source has none"
         raise Stopped(f"no record was kept: {why}; --allow-empty takes that", DATA)
-
-
-def run_words(options: argparse.Namespace, grid: _grid.Grid) -> int:
-    """Does an import, and returns its status. Stopped also where what it needs isn't there."""
-    try:
-        run(options, grid)
-    except (_reading.Missing, LibraryError) as error:
-        raise Stopped(str(error).removeprefix("sfq: "), MISSING) from None
-    except KeyError as error:
-        raise Stopped(error.args[0], USAGE) from None
+    if given.strict and found.count("left_out"):
+        count = found.count("left_out")
+        raise Stopped(f"{count:,} record{'s were' if count > 1 else ' was'} left out: {given.out}/left-out.csv says why", DATA)
     return DONE
 
 
 def main(words: Optional[list[str]] = None) -> int:
     """Runs the command, and returns its status."""
-    options, grid = parsed(sys.argv[1:] if words is None else words)
-    return _endings.ended(NAME, lambda: run_words(options, grid), (OSError, RuntimeError))
+    given, options = parsed(sys.argv[1:] if words is None else words)
+    return _endings.ended(NAME, lambda: run(given, options), (OSError, RuntimeError))
 
 
 if __name__ == "__main__":

@@ -20,7 +20,7 @@ from typing import Iterable, NamedTuple, Optional, TextIO
 
 from . import __version__, _asking, _endings, _prompt, _showing, _statements
 from ._asking import Refused
-from ._endings import DONE, FILES, MISSING, USAGE, Stopped
+from ._endings import DONE, MISSING, USAGE, Stopped
 from ._faults import LibraryError
 
 NAME = "sfq-shell"
@@ -359,9 +359,7 @@ def run_words(options: argparse.Namespace) -> int:
     except OSError as error:
         if error.filename is not None:
             raise
-        # What is left can't be written at the end either.
-        os.dup2(os.open(os.devnull, os.O_WRONLY), sys.stdout.fileno())
-        raise Stopped("write failed", FILES) from None
+        raise _endings.unwritten() from None
 
 
 def main(words: Optional[list[str]] = None) -> int:

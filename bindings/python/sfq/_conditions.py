@@ -1,0 +1,119 @@
+"""What a query over imported tables has to know: columns that count steps, texts on the grid, rows that are parts, reference systems.
+
+It is found by the language's own tokens. None of it is proved.
+"""
+from __future__ import annotations
+
+import re
+from typing import Any, Iterator, NamedTuple
+
+from . import _asking, _statements, _units, exports
+from ._asking import encoded
+
+# The predicates by their names in capitals; those of parts that say what they say of the whole.
+PREDICATES = {it.upper(): it for it in (
+    "ST_Equals", "ST_Disjoint", "ST_Intersects", "ST_Touches", "ST_Crosses", "ST_Within", "ST_Contains", "ST_Overlaps", "ST_Relate",
+)}
+OF_PARTS = ("ST_Intersects", "ST_Disjoint")
+# What comes behind a column that is compared with a number, and before one, in tokens without blanks between.
+BEHIND, BEFORE = re.compile(r"[=<>!]+[+-]?[0-9]"), re.compile(r"[0-9][=<>!]+\Z")
+
+
+class Named(NamedTuple):
+    """A column that a query names: the first and the last of its tokens, its name in lower case, and its table."""
+
+    first: int
+    last: int
+    name: str
+    layer: _units.Layer
+
+
+class Call(NamedTuple):
+    """A call of a predicate: its name, its byte, and the tables of the columns with geometries in it."""
+
+    name: str
+    at: int
+    layers: list[_units.Layer]
+
+
+class Conditions:
+    """The tokens of a query, and what they name of a folder that was imported."""
+
+    def __init__(self, query: str, folder: _units.Folder) -> None:
+        self.query, self.layers = query, folder.layers_of(query)
+        self.tokens = list(_statements.tokens(query))
+        self.words = [it[0] for it in self.tokens]
+        # Items are before it, and conditions behind it.
+        self.begin = next((at for at, it in enumerate(self.words) if it.upper() == "FROM"), len(self.words))
+
+    def columns(self, first: int, last: int) -> Iterator[Named]:
+        """Returns the columns of the tokens from a place on and before another. A name alone is that of each table that has it."""
+        for at in range(first, last):
+            name, is_behind_point = self.words[at].lower(), at > 1 and self.words[at - 1] == "."
+            aliases = [self.words[at - 2].lower()] if is_behind_point else list(self.layers)
+            for it in aliases:
+                if it in self.layers and name in self.layers[it].columns and self.words[at + 1 : at + 2] != ["."]:
+                    yield Named(at - 2 * is_behind_point, at, name, self.layers[it])
+
+    def calls(self) -> Iterator[Call]:
+        """Returns the calls of predicates."""
+        for at, word in enumerate(self.words):
+            if word.upper() in PREDICATES and self.words[at + 1 : at + 2] == ["("]:
+                named = self.columns(at + 1, self.closed(at + 1))
+                layers = [it.layer for it in named if it.layer.columns[it.name]["type"] in exports.GEOMETRIC]
+                yield Call(PREDICATES[word.upper()], len(encoded(self.query[: self.tokens[at].start()])), layers)
+
+    def closed(self, at: int) -> int:
+        """Returns the place of the parenthesis that closes the one at a place, or the end."""
+        depth = 0
+        for place in range(at, len(self.words)):
+            depth += (self.words[place] == "(") - (self.words[place] == ")")
+            if not depth:
+                return place
+        return len(self.words)
+
+    def refused(self, name: str, call: Call, reason: str) -> _asking.Refused:
+        """Returns why a command of this name asks no call."""
+        return _asking.Refused(f"{name}: {reason}\n{_asking.placed(encoded(self.query), call.at)}", _asking.QUERY)
+
+    def need_lawful(self, name: str) -> None:
+        """Refused where a predicate is asked of parts that says nothing of the whole, or of geometries in two reference systems."""
+        for call in self.calls():
+            parted = [it.said["table"] for it in call.layers if it.has_parts]
+            if parted and call.name not in OF_PARTS:
+                raise self.refused(name, call, f"{call.name} of a part says nothing of the whole: {parted[0]} was imported by --part, "
+                                   f"so it takes {' and '.join(OF_PARTS)} alone")
+            known = [it for it in call.layers if it.system]
+            for it in known[1:]:
+                if not may_be_same(it.system, known[0].system):
+                    one, other = (f"{each.said['table']} is in {label(each.system)}" for each in (known[0], it))
+                    raise self.refused(name, call, f"{one}, and {other}: --to EPSG:N moves all to one system")
+
+    def notes(self) -> list[str]:
+        """Returns what may be taken otherwise than it is meant."""
+        found = []
+        for it in self.columns(self.begin, len(self.words)):
+            step = it.layer.columns[it.name].get("step")
+            behind, before = "".join(self.words[it.last + 1 : it.last + 5]), "".join(self.words[max(it.first - 3, 0) : it.first])
+            if step and (BEHIND.match(behind) or BEFORE.search(before)):
+                found.append(f"{it.name} counts steps of {step} in a condition")
+        if any(it.upper() == "ST_ASTEXT" for it in self.words[self.begin :]):
+            found.append("ST_AsText in a condition is the text on the grid, in whole steps")
+        for layer in self.layers.values():
+            if layer.has_parts:
+                parted = layer.said["parted"]
+                found.append(f"{parted['records']:,} records of {layer.said['table']} are in {parted['rows']:,} parts, each a row: those of one have the "
+                             f"same number in {parted['whole']}, and one is disjoint from another where all its parts are")
+        return list(dict.fromkeys(found))
+
+
+def may_be_same(one: Any, other: Any) -> bool:
+    """Whether two reference systems of grid.json may be the same: nothing is known where only one has a code."""
+    if bool(one["authority"]) != bool(other["authority"]):
+        return True
+    return bool(one["authority"] == other["authority"] and (one["authority"] or one["wkt"] == other["wkt"]))
+
+
+def label(system: Any) -> str:
+    """Returns what a reference system of grid.json is called."""
+    return str(system["authority"] or "a system without a code")

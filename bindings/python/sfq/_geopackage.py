@@ -1,0 +1,114 @@
+"""Writes an answer as a GeoPackage, by GDAL. None of it is proved."""
+from __future__ import annotations
+
+import contextlib
+import os
+from typing import Any, Callable
+
+from . import _reading, _texts, _units
+
+LAYER = "answer"
+# When GDAL writes that the contents changed: the same answer has the same bytes.
+DATE = "1970-01-01T00:00:00.000Z"
+
+
+def left(path: str) -> list[str]:
+    """Returns the files that are there while one is written, which GDAL wants to end so."""
+    return [f"{path}.new.gpkg", f"{path}.new.gpkg-journal"]
+
+
+def write(returned: _units.Returned, path: str) -> None:
+    """Writes an answer into a file, which is there as a whole at the end or not at all. Missing without GDAL, OSError where it can't write."""
+    found, files = _reading.modules(), left(path)
+    try:
+        for it in files:
+            with contextlib.suppress(FileNotFoundError):
+                os.remove(it)
+        Writer(found, returned, files[0]).run()
+        os.replace(files[0], path)
+    except RuntimeError as error:
+        # When GDAL closes the file it fails once more. The modules give exceptions up in the other order.
+        for module in reversed(found):
+            module.DontUseExceptions()
+        found.gdal.PushErrorHandler("CPLQuietErrorHandler")
+        raise OSError(f"{path}: GDAL can't write it{f': {error}' if str(error) else ''}") from None
+    finally:
+        for it in files:
+            with contextlib.suppress(FileNotFoundError):
+                os.remove(it)
+
+
+class Writer:
+    """A GeoPackage that is written: one layer, whose geometries are those of the answer's first column that has some."""
+
+    def __init__(self, found: _reading.Modules, returned: _units.Returned, path: str) -> None:
+        self.found, self.returned, self.path = found, returned, path
+        self.names = unique(returned.headers)
+
+    def run(self) -> None:
+        """Writes all rows in one transaction. RuntimeError where GDAL can't: also what it fails at when it closes the file is one."""
+        gdal = self.found.gdal
+        gdal.SetConfigOption("OGR_CURRENT_DATE", DATE)
+        source = gdal.GetDriverByName("GPKG").Create(self.path, 0, 0, 0, gdal.GDT_Unknown)
+        count = self.rows(source, self.layer(source))
+        source.FlushCache()
+        # A source goes with the last name for it, and layers with it.
+        del source
+        source = gdal.OpenEx(self.path)
+        if source.GetLayer(0).GetFeatureCount() != count:
+            raise RuntimeError(f"it has fewer rows than {count:,}")
+
+    def layer(self, source: Any) -> Any:
+        """Makes the layer, without columns. The key gets a name that no column has."""
+        ogr, at = self.found.ogr, self.returned.place
+        options, kind, system = [f"FID={unique([*self.names, 'row'])[-1]}"], ogr.wkbNone, None
+        if at is not None:
+            column = self.returned.columns[at]
+            options.append(f"GEOMETRY_NAME={self.names[at]}")
+            kind = getattr(ogr, f"wkb{_texts.OF_WORD.get(column.kind, 'Unknown')}")
+            system = self.system(column.system) if column.system else None
+        return source.CreateLayer(LAYER, system, kind, options)
+
+    def system(self, said: Any) -> Any:
+        """Returns the coordinate system of grid.json, with x before y whatever it says."""
+        osr = self.found.osr
+        made = osr.SpatialReference()
+        made.SetFromUserInput(said["wkt"])
+        made.SetAxisMappingStrategy(osr.OAMS_TRADITIONAL_GIS_ORDER)
+        return made
+
+    def rows(self, source: Any, layer: Any) -> int:
+        """Writes the columns and the rows, and returns how many rows there are."""
+        setters, count = [self.setter(layer, at) for at in range(len(self.names))], 0
+        source.StartTransaction()
+        for fields in self.returned.shown().rows:
+            feature = self.found.ogr.Feature(layer.GetLayerDefn())
+            for sets, text in zip(setters, fields):
+                if text:
+                    sets(feature, text)
+            layer.CreateFeature(feature)
+            count += 1
+        source.CommitTransaction()
+        return count
+
+    def setter(self, layer: Any, at: int) -> Callable[[Any, str], Any]:
+        """Makes the column at a place, and returns what sets a field of it."""
+        ogr, kind = self.found.ogr, self.returned.columns[at].kind
+        if at == self.returned.place:
+            return lambda feature, text: feature.SetGeometryDirectly(ogr.CreateGeometryFromWkt(text))
+        number = layer.GetLayerDefn().GetFieldCount()
+        layer.CreateField(ogr.FieldDefn(self.names[at], {"INTEGER": ogr.OFTInteger64, "REAL": ogr.OFTReal}.get(kind, ogr.OFTString)))
+        if kind == "INTEGER":
+            return lambda feature, text: feature.SetFieldInteger64(number, int(text))
+        return lambda feature, text: feature.SetField(number, float(text) if kind == "REAL" else text)
+
+
+def unique(names: list[str]) -> list[str]:
+    """Returns names of which no two are the same, case apart: a number makes one differ from those before it."""
+    found: list[str] = []
+    for it in names:
+        name, number = it, 2
+        while any(name.lower() == other.lower() for other in found):
+            name, number = f"{it}_{number}", number + 1
+        found.append(name)
+    return found

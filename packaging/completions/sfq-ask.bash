@@ -1,0 +1,22 @@
+# Completion of sfq-ask for bash.
+_sfq_ask() {
+    local word=${COMP_WORDS[COMP_CWORD]}
+    COMPREPLY=()
+    case ${COMP_WORDS[COMP_CWORD-1]} in
+    --out) mapfile -t COMPREPLY < <(compgen -W 'csv table json geojson gpkg svg' -- "$word") ;;
+    --invalid) mapfile -t COMPREPLY < <(compgen -W 'leave-out mend stop' -- "$word") ;;
+    --grid | --origin) mapfile -t COMPREPLY < <(compgen -W 'auto' -- "$word") ;;
+    --to | --from | --layer | --key | --scale | --xy | --wkt) ;;
+    *)
+        if [[ $word == -* ]]; then
+            mapfile -t COMPREPLY < <(compgen -W '--out --output --no-cache --grid --origin --to --from --layer --key --scale --xy --wkt --invalid --flat --part --strict --allow-empty --sfq -h --help --version' -- "$word")
+        elif [[ $word == [SE]* ]]; then
+            mapfile -t COMPREPLY < <(compgen -W 'SELECT EXPLAIN' -- "$word"; compgen -f -- "$word")
+        else
+            compopt -o filenames
+            mapfile -t COMPREPLY < <(compgen -f -- "$word")
+        fi
+        ;;
+    esac
+}
+complete -F _sfq_ask sfq-ask
