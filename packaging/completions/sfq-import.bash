@@ -8,10 +8,11 @@ _sfq_import() {
         compopt -o filenames
         mapfile -t COMPREPLY < <(compgen -d -- "$word")
         ;;
-    --grid | --origin | --layer | --key | --scale) ;;
+    --grid | --origin) mapfile -t COMPREPLY < <(compgen -W 'auto' -- "$word") ;;
+    --to | --from | --layer | --key | --scale | --xy | --wkt) ;;
     *)
         if [[ $word == -* ]]; then
-            mapfile -t COMPREPLY < <(compgen -W '--grid --origin --out --layer --key --scale --invalid --flat --allow-empty --sfq -h --help --version' -- "$word")
+            mapfile -t COMPREPLY < <(compgen -W '--grid --origin --out --to --from --layer --key --scale --xy --wkt --invalid --flat --part --replace --strict --allow-empty --sfq -h --help --version' -- "$word")
         else
             compopt -o filenames
             mapfile -t COMPREPLY < <(compgen -f -- "$word")

@@ -1,10 +1,17 @@
 # Completion of sfq-import for fish.
-complete -c sfq-import -l grid -x -d 'The size of a step, in units of the source'
-complete -c sfq-import -l origin -x -d "Where the grid's 0 0 is in the source: X,Y"
+complete -c sfq-import -l grid -x -a 'auto' -d 'The size of a step, in units of the source'
+complete -c sfq-import -l origin -x -a 'auto' -d "Where the grid's 0 0 is in the source: X,Y"
 complete -c sfq-import -l out -x -a '(__fish_complete_directories)' -d 'The folder of the tables'
+complete -c sfq-import -l to -x -d 'Move all geometries to this reference system: EPSG:N'
+complete -c sfq-import -l from -x -d 'The reference system of sources that say none: EPSG:N'
 complete -c sfq-import -l layer -x -d 'The layers to take'
 complete -c sfq-import -l key -x -d 'The column that is the key'
 complete -c sfq-import -l scale -x -d 'Make whole numbers of a column: COLUMN=STEP'
+complete -c sfq-import -l xy -x -d 'Make points of two columns: lon,lat'
+complete -c sfq-import -l wkt -x -d 'Make geometries of a column of well-known text'
+complete -c sfq-import -l part -d 'Make several rows of a record with more than 10,000 positions'
+complete -c sfq-import -l replace -d 'Make tables anew that the folder has already'
+complete -c sfq-import -l strict -d 'End with status 4 where a record was left out'
 complete -c sfq-import -l allow-empty -d 'End with status 0 where no record is kept, too'
 complete -c sfq-import -l invalid -x -a 'leave-out mend stop' -d 'What becomes of records that sfq refuses'
 complete -c sfq-import -l flat -d 'Take geometries without Z and M'
