@@ -4,7 +4,7 @@ import io
 import os
 import re
 import unittest
-from typing import List, NamedTuple
+from typing import Dict, List, NamedTuple
 
 import library
 import printed
@@ -26,11 +26,13 @@ class Pair(NamedTuple):
 
 
 class Query(NamedTuple):
-    """A query, the SQL that makes its tables, and its rows, sorted."""
+    """A query, the SQL that makes its tables, and its rows, sorted; and the schema and the text of CSV of each table by its name."""
 
     tables: str
     text: str
     rows: List[tuple]
+    schema: str
+    files: Dict[str, str]
 
 
 class WithLibrary(unittest.TestCase):
@@ -113,10 +115,11 @@ def example_queries():
             return file.read()
 
     names = sorted(it for it in os.listdir(f"{repository.ROOT}/{folder}") if it.endswith(".csv"))
-    tables = as_sql(read("schema.sql"), {it[:-4]: read(it) for it in names})
+    schema, files = read("schema.sql"), {it[:-4]: read(it) for it in names}
+    tables = as_sql(schema, files)
     shown = printed.of_queries(f"{folder}/README.md", read("README.md"))
     kept = [it for it in shown if not OTHERS.search(it.words[3])]
-    return [Query(tables, standard(it.words[3]), sorted_rows(it.text.partition("\n")[2])) for it in kept]
+    return [Query(tables, standard(it.words[3]), sorted_rows(it.text.partition("\n")[2]), schema, files) for it in kept]
 
 
 def predicate_queries():
@@ -124,6 +127,7 @@ def predicate_queries():
     found = []
     for row in rows_of("predicates"):
         if row.command.startswith("SELECT") and not OTHERS.search(row.command) and not row.output.startswith("!"):
-            tables = as_sql(row.files["schema"], {it[6:]: text for it, text in row.files.items() if it != "schema"})
-            found.append(Query(tables, standard(row.command), sorted_rows(row.output.partition("\n")[2])))
+            schema, files = row.files["schema"], {it[6:]: text for it, text in row.files.items() if it != "schema"}
+            rows = sorted_rows(row.output.partition("\n")[2])
+            found.append(Query(as_sql(schema, files), standard(row.command), rows, schema, files))
     return found

@@ -2,38 +2,19 @@
 import csv
 import re
 import subprocess
-import tempfile
 import unittest
 
 from support import ROOT, needs, read
 
-import bindings
 import engine_rows
+import sqlite_sessions
 
 # What a fault calls the two texts.
 NAMES = ("first", "second")
 
 
-@needs("sqlite3", "sqlite3")
-@unittest.skipUnless(bindings.has_sqlite(), "needs the package libsqlite3-dev")
-class Sqlite(engine_rows.WithLibrary):
+class Sqlite(sqlite_sessions.WithExtension):
     """The command sqlite3 with the extension, which is made for this."""
-
-    @classmethod
-    def setUpClass(cls):
-        super().setUpClass()
-        cls.room = tempfile.TemporaryDirectory(prefix="sfq-sqlite-")
-        bindings.make_sqlite(f"{cls.room.name}/sfq0.so")
-
-    @classmethod
-    def tearDownClass(cls):
-        cls.room.cleanup()
-
-    def asked(self, text):
-        """Runs SQL with the extension loaded, and returns what sqlite3 prints, its faults, and its status."""
-        words = ["sqlite3", "-batch", "-bail", "-csv", ":memory:"]
-        ran = subprocess.run(words, input=f".load {self.room.name}/sfq0\n{text}\n", capture_output=True, text=True)
-        return ran.stdout, ran.stderr, ran.returncode
 
     def value(self, expression):
         """Returns the value of an expression, or the text of its error."""
@@ -122,17 +103,7 @@ class Sqlite(engine_rows.WithLibrary):
         text = re.search(r"^## SQLite$(.*?)^## ", read(f"{ROOT}/docs/LIBRARY.md"), re.M | re.S)[1]
         shown = re.findall(r"```sql\n(.*?)```.*?```text\n(.*?)```", text, re.S)
         self.assertGreaterEqual(len(shown), 1)
-        for source, output in shown:
-            given = source.replace(".load sfq0", f".load {self.room.name}/sfq0")
-            ran = subprocess.run(["sqlite3", "-batch", ":memory:"], input=given, capture_output=True, text=True, cwd=ROOT)
-            self.assertEqual((ran.stdout, ran.stderr), (output, ""), source)
-
-    def program(self, name):
-        """Compiles a program of tests/sqlite, and returns its path."""
-        to = f"{self.room.name}/{name}"
-        words = ["cc", "-std=gnu99", "-Wall", "-Wextra", "-Werror", "-g", "-pthread", f"{ROOT}/tests/sqlite/{name}.c"]
-        subprocess.run([*words, "-lsqlite3", "-o", to], check=True)
-        return to
+        self.check_shown(shown)
 
     def test_each_allocation_refused_in_turn(self):
         pairs = [it for it in engine_rows.pairs() if self.is_line(it)][::3]
