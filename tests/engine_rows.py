@@ -81,6 +81,17 @@ def canonical_texts():
     return [(one[1], other[1]) for one, other in zip(spelled, canonical, strict=True)]
 
 
+def measures():
+    """Returns texts of geometries, each with its dimension, whether it is empty, and its bounds, least and greatest x, least and greatest y."""
+    found = []
+    for _, text in canonical_texts():
+        numbers = list(map(int, re.findall(r"-?\d+", text)))
+        dimension = "210"[["POLYGON" in text, "LINE" in text, True].index(True)]
+        bounds = [str(pick(part)) for part in (numbers[::2], numbers[1::2]) for pick in (min, max)] if numbers else [""] * 4
+        found.append((text, dimension, not numbers, bounds))
+    return found
+
+
 def quoted(field):
     """Returns a field of CSV as SQL has it: an empty one is NULL."""
     return "'" + field.replace("'", "''") + "'" if field else "NULL"

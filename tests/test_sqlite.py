@@ -1,5 +1,6 @@
 """SQLite's extension: the rows of the engine's own scripts and of the land register, NULL, faults, threads, and memory."""
 import csv
+import io
 import re
 import subprocess
 import unittest
@@ -74,9 +75,25 @@ class Sqlite(sqlite_sessions.WithExtension):
         ):
             self.assertEqual(self.value(call), wanted, call)
 
+    def test_why_is_what_the_program_prints(self):
+        reasons = engine_rows.reasons()
+        self.assertGreater(len(reasons), 40)
+        calls = ["ST_Why(" + ",".join("'" + text.replace("'", "''") + "'" for text in words) + ")" for words, _ in reasons]
+        out, err, status = self.asked("".join(f"SELECT {it};\n" for it in calls))
+        self.assertEqual((err, status), ("", 0))
+        found = [it for it, in csv.reader(io.StringIO(out, newline=""))]
+        self.assertEqual(found, [lines.rstrip("\n") for _, lines in reasons])
+
+    def test_dimensions_and_bounds(self):
+        for text, dimension, is_empty, bounds in engine_rows.measures():
+            call = ", ".join(f"{it}(geom)" for it in ("ST_Dimension", "ST_IsEmpty", "ST_XMin", "ST_XMax", "ST_YMin", "ST_YMax"))
+            out, err, status = self.asked(f"SELECT {call} FROM (SELECT '{text}' AS geom);")
+            self.assertEqual((out, err, status), (",".join([dimension, str(int(is_empty)), *bounds]) + "\n", "", 0), text)
+
     def test_null_in_null_out(self):
         for call in ("ST_Touches(NULL, 'POINT(1 1)')", "ST_Touches('POINT(1.5 1)', NULL)", "ST_Relate(NULL, NULL)",
-                     "ST_Relate('POINT(1 1)', 'POINT(1 1)', NULL)", "ST_IsValid(NULL)", "ST_IsValidReason(NULL)"):
+                     "ST_Relate('POINT(1 1)', 'POINT(1 1)', NULL)", "ST_IsValid(NULL)", "ST_IsValidReason(NULL)",
+                     "ST_Why(NULL)", "ST_Why('POINT(1 1)', NULL)", "ST_Dimension(NULL)", "ST_IsEmpty(NULL)", "ST_XMin(NULL)"):
             self.assertEqual(self.value(f"{call} IS NULL"), "1", call)
 
     def test_faults_are_errors_and_values(self):
@@ -87,6 +104,13 @@ class Sqlite(sqlite_sessions.WithExtension):
             ("ST_Relate('POINT(1 2)', 'POINT(1 2)', 'TTTTTTTT' || char(0))", "a pattern is nine characters"),
             ("ST_Touches(x'00', 'POINT(1 2)')", "first isn't a text"),
             ("ST_Touches('POINT(1 2)', 7)", "second isn't a text"),
+            ("ST_Why('POINT(1 2', 'CIRCLE')", "first W1 at 9: "),
+            ("ST_Why('POINT(1 2)', 'POINT(1.5 2)')", "second W2 at 6: "),
+            ("ST_Why('POINT(1.5 2)')", "first W2 at 6: "),
+            ("ST_Dimension('POLYGON((0 0,4 4,4 0,0 4,0 0))')", "first V3 0: "),
+            ("ST_IsEmpty('POINT')", "first W1 at 5: "),
+            ("ST_YMax('LINESTRING(1 1,1 1)')", "first V1 0: "),
+            ("ST_XMin(7)", "first isn't a text"),
             ("ST_IsValid('POINT(1.5 2)')", "0"),
             ("ST_IsValid('POINT(1 2)')", "1"),
             ("ST_IsValidReason('POINT(1.5 2)')", "W2 at 6: the number at this byte isn't whole: scale"),
@@ -110,7 +134,9 @@ class Sqlite(sqlite_sessions.WithExtension):
         quote = lambda text: "'" + text.replace("'", "''") + "'"
         calls = [f"ST_Relate({quote(it.first)}, {quote(it.second)})" for it in pairs]
         calls += ["ST_Relate('POINT(1 1)', 'LINESTRING(0 0,2 2)', '0********')", "ST_Touches('LINESTRING(0 0,2 2)', 'POINT(2 2)')",
-                  "ST_Touches('POINT(1 1)', 'POINT(1.5 1)')", "ST_IsValid('POINT(1 1)')", "ST_IsValidReason('LINESTRING(1 1,1 1)')"]
+                  "ST_Touches('POINT(1 1)', 'POINT(1.5 1)')", "ST_IsValid('POINT(1 1)')", "ST_IsValidReason('LINESTRING(1 1,1 1)')",
+                  "ST_Why('LINESTRING(0 0,3 1)', 'LINESTRING(0 1,2 0)')", "ST_Why('POLYGON((0 0,4 4,4 0,0 4,0 0))')",
+                  "ST_Dimension('POINT(2 1)')", "ST_IsEmpty('POINT(3 1)')", "ST_XMin('POINT(4 1)')", "ST_YMax('POINT EMPTY')"]
         lines = "".join(f"SELECT {it};\n" for it in calls)
         ran = subprocess.run([self.program("refusing"), f"{self.room.name}/sfq0"], input=lines, capture_output=True, text=True)
         self.assertEqual((ran.returncode, ran.stderr), (0, ""), ran.stdout)

@@ -130,6 +130,8 @@ class Rows(WithFolders):
             "SELECT id, typeof(id), typeof(n), typeof(name), typeof(geom), length(geom), geom || '', substr(geom, 1, 5) FROM c ORDER BY id",
             "WITH s AS MATERIALIZED (SELECT * FROM a) SELECT s.id, b.id FROM s JOIN b ON ST_Within(s.geom, b.geom) ORDER BY 1, 2",
             "SELECT a.id FROM a WHERE ST_Equals(a.geom, trim(a.geom)) AND ST_Equals(a.geom || '', substr(a.geom, 1)) ORDER BY 1",
+            "SELECT typeof(g), ST_Dimension(g), typeof(g), g = g || '', hex(g), g FROM (SELECT geom AS g FROM a ORDER BY id LIMIT 50)",
+            "SELECT s, typeof(s), ST_Touches(a.geom, s), typeof(s), s FROM a, (SELECT 'POINT(1 1)' AS s) ORDER BY id",
             "SELECT id, ST_Dimension(geom), ST_IsEmpty(geom), ST_XMin(geom), ST_XMax(geom), ST_YMin(geom), ST_YMax(geom) FROM a ORDER BY id",
         ]
         text = "".join(f"SELECT {at};\n{it};\n" for at, it in enumerate(queries))

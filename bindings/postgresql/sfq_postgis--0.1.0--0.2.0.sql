@@ -1,5 +1,5 @@
--- What the extension sfq_postgis has from 0.2.0 on: the functions of sfq that PostGIS hasn't in the same way, over its geometry. Each
--- takes the text with 17 digits, so that nothing is rounded.
+-- What the extension sfq_postgis has from 0.2.0 on: what sfq has over texts since then, over PostGIS's geometry. Each takes the text
+-- with 17 digits, so nothing is rounded.
 \echo Use "ALTER EXTENSION sfq_postgis UPDATE" to load this file. \quit
 
 CREATE FUNCTION @extschema@.ST_Why(a geometry, b geometry) RETURNS text
