@@ -291,15 +291,19 @@ class Faults(WithFolders):
     def test_faults_of_the_engines_rows(self):
         compared = set()
         for name in ("tables", "schemas", "files", "reasons", "language"):
-            for at, row in enumerate(engine_rows.rows_of(name)):
+            with open(f"{engine_rows.DATA}/{name}.txt", encoding="latin-1") as file:
+                # Each character is a byte.
+                rows = required_rows.rows_of(file.read())
+            for at, row in enumerate(rows):
                 line = row.output.splitlines()[0] if row.output else ""
                 place = re.match(r"! sfq: ((?:(\w+) )?([SL]\d+).*)", line)
-                if row.command != "check" or not place or "schema" not in row.files:
+                if not re.match("check|SELECT", row.command) or not place or "schema" not in row.files:
                     continue
-                files = {f"{it[6:]}.csv": text for it, text in row.files.items() if it != "schema"}
-                folder = self.folder(f"{name}{at}", {"schema.sql": row.files["schema"], **files})
-                with open(f"{folder}/schema.sql", "w", encoding="latin-1") as file:
-                    file.write(row.files["schema"])
+                files = {"schema.sql" if it == "schema" else f"{it[6:]}.csv": text for it, text in row.files.items()}
+                folder = self.folder(f"{name}{at}", dict.fromkeys(files, ""))
+                for path, text in files.items():
+                    with open(f"{folder}/{path}", "w", encoding="latin-1", newline="") as file:
+                        file.write(text)
                 found = self.fault(f"CREATE VIRTUAL TABLE v USING sfq(folder='{folder}', table='{place[2] or 't'}');")
                 where = place[1] if place[2] else f"{folder}/schema.sql {place[1]}"
                 self.assertEqual(found[: len(where) + 2], f"{where}: ", row.files)

@@ -106,14 +106,16 @@ static int refuse_all(void)
 {
     static struct run wanted, found;
     long number = 0, count = run_once(&wanted, 0), bad = count < 0 || is_out_of_memory(wanted.status);
-    for (number = 1; count >= number && bad < 10; number++) {
-        count = run_once(&found, number);
+    bool is_met = true;
+    while (is_met && bad < 10) {
+        count = run_once(&found, ++number);
+        is_met = count >= number;
         if (count < 0 || (!is_out_of_memory(found.status) && !is_same(&found, &wanted))) {
             printf("allocation %ld: %d %s\n", number, found.status, found.text);
             bad++;
         }
     }
-    number -= 2;
+    number -= !is_met;
     printf("%ld refused, %ld bad\n%s", number, bad, wanted.text);
     return bad != 0;
 }
