@@ -6,8 +6,8 @@ side), the parcels against themselves by ST_Touches, and lines by ST_Crosses acr
 1,000) and across the parcels (300 to 30,000). Each run is one process: start, load, index, answer. It compares the answers, and
 prints a Markdown table: the processor time of each, its start-up left out (its run over tables without rows), the ratio to each
 peer and to the best, the exponent by which the time of `sfq` grows in rows of the first table, and peak memory. Times are the
-least of several runs. Under `--instructions` it counts the instructions of `sfq` and of GEOS instead, by valgrind. The peers
-don't test validity.
+least of several runs. Under `--instructions` it counts the instructions of `sfq` and of GEOS instead, by valgrind. Under
+`--sqlite` it measures `sqlite3` with virtual tables of the extension sfq0 in place of `sfq run`. The peers don't test validity.
 
 It needs Python's standard library, the built program (run ./build), and from the distribution's packages `gcc`,
 `libgeos-dev`, `sqlite3` and `libsqlite3-mod-spatialite`. It is no test: the gate doesn't run it.
@@ -20,7 +20,7 @@ import random
 import tempfile
 from typing import Callable, NamedTuple, Optional
 
-from peers import Comparison, add_options, build_geos, is_ready, print_table_heads, spatialite_command
+from peers import Comparison, add_options, build_extension, build_geos, is_ready, print_table_heads, spatialite_command
 from timing import PROGRAM
 
 SPAN = 1_000_000
@@ -114,8 +114,14 @@ def write_table(folder, table, texts):
     (folder / f"{table}.csv").write_text("\n".join(["id,geom", *rows]) + "\n")
 
 
-def commands(geos, predicate, second):
-    """The command of each program, for the pairs of the table `first` and the second one."""
+def extension_command(extension, tables, query):
+    """sqlite3 with a virtual table of each table, which it loads, and the rows of a query."""
+    made = [f"CREATE VIRTUAL TABLE {table} USING sfq(folder='.', table='{table}');" for table in tables]
+    return ["sqlite3", ":memory:", f".load {extension.with_suffix('')}", *made, ".headers on", ".separator , \\n", query]
+
+
+def commands(geos, predicate, second, extension=None):
+    """The command of each program, for the pairs of the table `first` and the second one; of sfq by SQLite, if there is an extension."""
     function = f"ST_{predicate.capitalize()}"
     query = f"SELECT a.id, b.id FROM first a JOIN {second} b ON {function}(a.geom, b.geom)"
     tables = ["first"] if second == "first" else ["first", second]
@@ -131,8 +137,9 @@ def commands(geos, predicate, second):
         f'SELECT a.id AS "a.id", b.id AS "b.id" FROM first a CROSS JOIN tree t ON {meet} CROSS JOIN {second} b ON b.id = t.id '
         f"WHERE {function}(a.geom, b.geom) ORDER BY a.id, b.id;"
     )
+    by_sqlite = f'SELECT a.id AS "a.id", b.id AS "b.id"{query[query.index(" FROM"):]} ORDER BY a.id, b.id;'
     return {
-        "sfq": [str(PROGRAM), "run", "schema.sql", ".", query],
+        "sfq": extension_command(extension, tables, by_sqlite) if extension else [str(PROGRAM), "run", "schema.sql", ".", query],
         "spatialite": spatialite_command(tables, *made, spatial),
         "geos": [str(geos), "join", predicate, "first.csv", f"{second}.csv"],
     }
@@ -156,21 +163,23 @@ def main():
     parser = argparse.ArgumentParser(description=__doc__.splitlines()[0])
     add_options(parser)
     parser.add_argument("--only", default="", help="the joins whose name has this word")
+    parser.add_argument("--sqlite", action="store_true", help="sqlite3 with the extension sfq0 in place of the program sfq")
     options = parser.parse_args()
     is_ready()
     with tempfile.TemporaryDirectory() as name:
         geos = build_geos(pathlib.Path(name))
+        extension = build_extension(pathlib.Path(name)) if options.sqlite else None
         print_table_heads("joins", options)
         for number, case in enumerate(CASES):
             if options.only in case.label:
                 folder = pathlib.Path(name) / str(number)
                 folder.mkdir()
-                measure_case(case, geos, folder, options)
+                measure_case(case, geos, folder, options, extension)
 
 
-def measure_case(case, geos, folder, options):
+def measure_case(case, geos, folder, options, extension):
     """Measures a join at its sizes, and prints its rows."""
-    runs = commands(geos, case.predicate, "first" if case.second is None else "second")
+    runs = commands(geos, case.predicate, "first" if case.second is None else "second", extension)
     make_tables(folder / "bare", case, None)
     comparison = Comparison(runs, folder / "bare", options)
     for size in case.sizes:

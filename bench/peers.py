@@ -42,6 +42,17 @@ def build_beside_geos(name, folder):
     return program
 
 
+def build_extension(folder):
+    """Compiles the extension of SQLite over the C libraries, and returns its path."""
+    archives = [LIBRARY, LIBRARY.with_name("libsfq_tables.a")]
+    if not all(it.exists() for it in archives):
+        sys.exit("the libraries aren't there: run ./build --library once")
+    extension = folder / "sfq0.so"
+    words = ["gcc", "-O2", "-fPIC", "-shared", "-fvisibility=hidden", "-o", extension, ROOT / "bindings" / "sqlite" / "sfq0.c"]
+    subprocess.run([str(it) for it in [*words, f"-I{ROOT}/bindings/c", *archives, "-Wl,--exclude-libs,ALL"]], check=True)
+    return extension
+
+
 def spatialite_command(tables, *statements):
     """sqlite3 with SpatiaLite, which imports the CSV of each table, its geometry as text, and runs the statements."""
     script = [".load mod_spatialite", ".mode csv"]

@@ -4,7 +4,7 @@ import io
 import os
 import re
 import unittest
-from typing import List, NamedTuple
+from typing import Dict, List, NamedTuple
 
 import library
 import printed
@@ -26,11 +26,13 @@ class Pair(NamedTuple):
 
 
 class Query(NamedTuple):
-    """A query, the SQL that makes its tables, and its rows, sorted."""
+    """A query, the SQL that makes its tables, and its rows, sorted; and the schema and the text of CSV of each table by its name."""
 
     tables: str
     text: str
     rows: List[tuple]
+    schema: str
+    files: Dict[str, str]
 
 
 class WithLibrary(unittest.TestCase):
@@ -79,6 +81,17 @@ def canonical_texts():
     return [(one[1], other[1]) for one, other in zip(spelled, canonical, strict=True)]
 
 
+def measures():
+    """Returns texts of geometries, each with its dimension, whether it is empty, and its bounds, least and greatest x, least and greatest y."""
+    found = []
+    for _, text in canonical_texts():
+        numbers = list(map(int, re.findall(r"-?\d+", text)))
+        dimension = "210"[["POLYGON" in text, "LINE" in text, True].index(True)]
+        bounds = [str(pick(part)) for part in (numbers[::2], numbers[1::2]) for pick in (min, max)] if numbers else [""] * 4
+        found.append((text, dimension, not numbers, bounds))
+    return found
+
+
 def quoted(field):
     """Returns a field of CSV as SQL has it: an empty one is NULL."""
     return "'" + field.replace("'", "''") + "'" if field else "NULL"
@@ -113,10 +126,11 @@ def example_queries():
             return file.read()
 
     names = sorted(it for it in os.listdir(f"{repository.ROOT}/{folder}") if it.endswith(".csv"))
-    tables = as_sql(read("schema.sql"), {it[:-4]: read(it) for it in names})
+    schema, files = read("schema.sql"), {it[:-4]: read(it) for it in names}
+    tables = as_sql(schema, files)
     shown = printed.of_queries(f"{folder}/README.md", read("README.md"))
     kept = [it for it in shown if not OTHERS.search(it.words[3])]
-    return [Query(tables, standard(it.words[3]), sorted_rows(it.text.partition("\n")[2])) for it in kept]
+    return [Query(tables, standard(it.words[3]), sorted_rows(it.text.partition("\n")[2]), schema, files) for it in kept]
 
 
 def predicate_queries():
@@ -124,6 +138,7 @@ def predicate_queries():
     found = []
     for row in rows_of("predicates"):
         if row.command.startswith("SELECT") and not OTHERS.search(row.command) and not row.output.startswith("!"):
-            tables = as_sql(row.files["schema"], {it[6:]: text for it, text in row.files.items() if it != "schema"})
-            found.append(Query(tables, standard(row.command), sorted_rows(row.output.partition("\n")[2])))
+            schema, files = row.files["schema"], {it[6:]: text for it, text in row.files.items() if it != "schema"}
+            rows = sorted_rows(row.output.partition("\n")[2])
+            found.append(Query(as_sql(schema, files), standard(row.command), rows, schema, files))
     return found

@@ -1,6 +1,7 @@
 """PostgreSQL's extensions, by a server of the test's own: the tests in PGXS's form, the rows of the engine's own scripts and of the
 land register, several sessions, and memory."""
 import csv
+import io
 import os
 import re
 import shutil
@@ -88,6 +89,20 @@ class Postgresql(engine_rows.WithLibrary):
             fault = f"sfq: {named[0][0]} {named[0][1].partition(':')[0]}" if named else ""
             self.assertEqual((matrix, fault), (it.matrix, it.fault), f"{it.first} {it.second}")
 
+    def test_why_is_what_the_program_prints(self):
+        reasons = [it for it in engine_rows.reasons() if "\0" not in "".join(it[0])]
+        self.assertGreater(len(reasons), 40)
+        out = self.asked("".join(f"SELECT ST_Why({', '.join(map(self.literal, words))});\n" for words, _ in reasons))
+        found = [it for it, in csv.reader(io.StringIO(out, newline=""))]
+        self.assertEqual(found, [lines.rstrip("\n") for _, lines in reasons])
+
+    def test_dimensions_and_bounds(self):
+        measures = engine_rows.measures()
+        values = ",".join(f"({at}, {self.literal(text)})" for at, (text, *_) in enumerate(measures))
+        out = self.asked("SELECT ST_Dimension(a), ST_IsEmpty(a), ST_XMin(a), ST_XMax(a), ST_YMin(a), ST_YMax(a) "
+                         f"FROM (VALUES {values}) t (id, a) ORDER BY id;")
+        self.assertEqual(list(csv.reader(out.splitlines())), [[dimension, "ft"[is_empty], *bounds] for _, dimension, is_empty, bounds in measures])
+
     def test_binary_forms(self):
         """Of both orders of bytes; NULL for what is cut off, changed, off the grid or not flat."""
         little, big = "'\\x0101000000000000000000f03f0000000000000040'::bytea", "'\\x00000000013ff00000000000004000000000000000'::bytea"
@@ -174,15 +189,35 @@ class Postgresql(engine_rows.WithLibrary):
         before, after = map(int, re.findall(r"VmRSS:\s+(\d+) kB", out))
         self.assertLess(after - before, 2_000)
 
+    def check_update(self, name):
+        """Compares what an extension has that was updated with what a new one has, and asks what the earlier version lacks."""
+        listed = (f"SELECT extversion FROM pg_extension WHERE extname = '{name}';\nSELECT pg_describe_object(classid, objid, 0) FROM pg_depend "
+                  f"WHERE refobjid = (SELECT oid FROM pg_extension WHERE extname = '{name}') ORDER BY 1;\n")
+        new = self.asked(listed)
+        self.assertTrue(new.startswith(f"{repository.version()}\n"), new)
+        first = self.asked(f"DROP EXTENSION {name};\nCREATE EXTENSION {name} VERSION '0.1.0';\n{listed}")
+        self.assertTrue(first.startswith("0.1.0\n"), first)
+        added = set(new.splitlines()[1:]) - set(first.splitlines()[1:])
+        self.assertLessEqual(set(first.splitlines()[1:]), set(new.splitlines()))
+        self.assertEqual(len(added), 8, added)
+        self.assertEqual(self.asked(f"ALTER EXTENSION {name} UPDATE;\n{listed}"), new)
+
     def test_a_database_of_an_earlier_version_is_updated(self):
         """It has what a new one has then."""
-        listed = "SELECT pg_describe_object(classid, objid, 0) FROM pg_depend WHERE refobjid = (SELECT oid FROM pg_extension WHERE extname = 'sfq') ORDER BY 1;\n"
-        version = "SELECT extversion FROM pg_extension WHERE extname = 'sfq';\n"
-        new = self.asked(f"{version}{listed}")
-        first = self.asked("DROP EXTENSION sfq;\nCREATE EXTENSION sfq VERSION '0.1.0';\n" + version)
-        self.assertEqual(first, "0.1.0\n")
-        self.assertEqual(self.asked(f"ALTER EXTENSION sfq UPDATE;\n{version}{listed}"), new)
-        self.assertTrue(new.startswith(f"{repository.version()}\n"), new)
+        self.check_update("sfq")
+        self.assertEqual(self.asked("SELECT ST_Dimension('LINESTRING(0 0,1 1)'), ST_XMax('POINT(3 4)'), ST_Why('POINT(3 4)');"), "1,3,valid\n")
+
+    def test_a_database_with_postgis_of_an_earlier_version_is_updated(self):
+        if not postgresql_server.has_extension("postgis"):
+            self.skipTest("needs the package postgresql-15-postgis-3")
+        self.server.run("CREATE EXTENSION postgis SCHEMA public; CREATE EXTENSION sfq_postgis;")
+        try:
+            self.check_update("sfq_postgis")
+            asked = ("SELECT sfq.ST_Dimension(g), sfq.ST_IsEmpty(g), sfq.ST_XMin(g), sfq.ST_YMax(g), sfq.ST_Why(g), "
+                     "length(sfq.ST_Why(g, g)) > 100 FROM (SELECT ST_MakePoint(3, 4) AS g) t;")
+            self.assertEqual(self.asked(asked), "0,f,3,4,valid,t\n")
+        finally:
+            self.server.run("DROP EXTENSION sfq_postgis; DROP EXTENSION postgis;")
 
     def test_the_example_of_the_document(self):
         text = re.search(r"^## PostgreSQL$(.*?)^## ", read(f"{ROOT}/docs/LIBRARY.md"), re.M | re.S)[1]

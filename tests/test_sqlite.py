@@ -1,39 +1,21 @@
 """SQLite's extension: the rows of the engine's own scripts and of the land register, NULL, faults, threads, and memory."""
 import csv
+import io
 import re
 import subprocess
-import tempfile
 import unittest
 
 from support import ROOT, needs, read
 
-import bindings
 import engine_rows
+import sqlite_sessions
 
 # What a fault calls the two texts.
 NAMES = ("first", "second")
 
 
-@needs("sqlite3", "sqlite3")
-@unittest.skipUnless(bindings.has_sqlite(), "needs the package libsqlite3-dev")
-class Sqlite(engine_rows.WithLibrary):
+class Sqlite(sqlite_sessions.WithExtension):
     """The command sqlite3 with the extension, which is made for this."""
-
-    @classmethod
-    def setUpClass(cls):
-        super().setUpClass()
-        cls.room = tempfile.TemporaryDirectory(prefix="sfq-sqlite-")
-        bindings.make_sqlite(f"{cls.room.name}/sfq0.so")
-
-    @classmethod
-    def tearDownClass(cls):
-        cls.room.cleanup()
-
-    def asked(self, text):
-        """Runs SQL with the extension loaded, and returns what sqlite3 prints, its faults, and its status."""
-        words = ["sqlite3", "-batch", "-bail", "-csv", ":memory:"]
-        ran = subprocess.run(words, input=f".load {self.room.name}/sfq0\n{text}\n", capture_output=True, text=True)
-        return ran.stdout, ran.stderr, ran.returncode
 
     def value(self, expression):
         """Returns the value of an expression, or the text of its error."""
@@ -93,9 +75,25 @@ class Sqlite(engine_rows.WithLibrary):
         ):
             self.assertEqual(self.value(call), wanted, call)
 
+    def test_why_is_what_the_program_prints(self):
+        reasons = engine_rows.reasons()
+        self.assertGreater(len(reasons), 40)
+        calls = ["ST_Why(" + ",".join("'" + text.replace("'", "''") + "'" for text in words) + ")" for words, _ in reasons]
+        out, err, status = self.asked("".join(f"SELECT {it};\n" for it in calls))
+        self.assertEqual((err, status), ("", 0))
+        found = [it for it, in csv.reader(io.StringIO(out, newline=""))]
+        self.assertEqual(found, [lines.rstrip("\n") for _, lines in reasons])
+
+    def test_dimensions_and_bounds(self):
+        for text, dimension, is_empty, bounds in engine_rows.measures():
+            call = ", ".join(f"{it}(geom)" for it in ("ST_Dimension", "ST_IsEmpty", "ST_XMin", "ST_XMax", "ST_YMin", "ST_YMax"))
+            out, err, status = self.asked(f"SELECT {call} FROM (SELECT '{text}' AS geom);")
+            self.assertEqual((out, err, status), (",".join([dimension, str(int(is_empty)), *bounds]) + "\n", "", 0), text)
+
     def test_null_in_null_out(self):
         for call in ("ST_Touches(NULL, 'POINT(1 1)')", "ST_Touches('POINT(1.5 1)', NULL)", "ST_Relate(NULL, NULL)",
-                     "ST_Relate('POINT(1 1)', 'POINT(1 1)', NULL)", "ST_IsValid(NULL)", "ST_IsValidReason(NULL)"):
+                     "ST_Relate('POINT(1 1)', 'POINT(1 1)', NULL)", "ST_IsValid(NULL)", "ST_IsValidReason(NULL)",
+                     "ST_Why(NULL)", "ST_Why('POINT(1 1)', NULL)", "ST_Dimension(NULL)", "ST_IsEmpty(NULL)", "ST_XMin(NULL)"):
             self.assertEqual(self.value(f"{call} IS NULL"), "1", call)
 
     def test_faults_are_errors_and_values(self):
@@ -106,6 +104,13 @@ class Sqlite(engine_rows.WithLibrary):
             ("ST_Relate('POINT(1 2)', 'POINT(1 2)', 'TTTTTTTT' || char(0))", "a pattern is nine characters"),
             ("ST_Touches(x'00', 'POINT(1 2)')", "first isn't a text"),
             ("ST_Touches('POINT(1 2)', 7)", "second isn't a text"),
+            ("ST_Why('POINT(1 2', 'CIRCLE')", "first W1 at 9: "),
+            ("ST_Why('POINT(1 2)', 'POINT(1.5 2)')", "second W2 at 6: "),
+            ("ST_Why('POINT(1.5 2)')", "first W2 at 6: "),
+            ("ST_Dimension('POLYGON((0 0,4 4,4 0,0 4,0 0))')", "first V3 0: "),
+            ("ST_IsEmpty('POINT')", "first W1 at 5: "),
+            ("ST_YMax('LINESTRING(1 1,1 1)')", "first V1 0: "),
+            ("ST_XMin(7)", "first isn't a text"),
             ("ST_IsValid('POINT(1.5 2)')", "0"),
             ("ST_IsValid('POINT(1 2)')", "1"),
             ("ST_IsValidReason('POINT(1.5 2)')", "W2 at 6: the number at this byte isn't whole: scale"),
@@ -122,24 +127,16 @@ class Sqlite(engine_rows.WithLibrary):
         text = re.search(r"^## SQLite$(.*?)^## ", read(f"{ROOT}/docs/LIBRARY.md"), re.M | re.S)[1]
         shown = re.findall(r"```sql\n(.*?)```.*?```text\n(.*?)```", text, re.S)
         self.assertGreaterEqual(len(shown), 1)
-        for source, output in shown:
-            given = source.replace(".load sfq0", f".load {self.room.name}/sfq0")
-            ran = subprocess.run(["sqlite3", "-batch", ":memory:"], input=given, capture_output=True, text=True, cwd=ROOT)
-            self.assertEqual((ran.stdout, ran.stderr), (output, ""), source)
-
-    def program(self, name):
-        """Compiles a program of tests/sqlite, and returns its path."""
-        to = f"{self.room.name}/{name}"
-        words = ["cc", "-std=gnu99", "-Wall", "-Wextra", "-Werror", "-g", "-pthread", f"{ROOT}/tests/sqlite/{name}.c"]
-        subprocess.run([*words, "-lsqlite3", "-o", to], check=True)
-        return to
+        self.check_shown(shown)
 
     def test_each_allocation_refused_in_turn(self):
         pairs = [it for it in engine_rows.pairs() if self.is_line(it)][::3]
         quote = lambda text: "'" + text.replace("'", "''") + "'"
         calls = [f"ST_Relate({quote(it.first)}, {quote(it.second)})" for it in pairs]
         calls += ["ST_Relate('POINT(1 1)', 'LINESTRING(0 0,2 2)', '0********')", "ST_Touches('LINESTRING(0 0,2 2)', 'POINT(2 2)')",
-                  "ST_Touches('POINT(1 1)', 'POINT(1.5 1)')", "ST_IsValid('POINT(1 1)')", "ST_IsValidReason('LINESTRING(1 1,1 1)')"]
+                  "ST_Touches('POINT(1 1)', 'POINT(1.5 1)')", "ST_IsValid('POINT(1 1)')", "ST_IsValidReason('LINESTRING(1 1,1 1)')",
+                  "ST_Why('LINESTRING(0 0,3 1)', 'LINESTRING(0 1,2 0)')", "ST_Why('POLYGON((0 0,4 4,4 0,0 4,0 0))')",
+                  "ST_Dimension('POINT(2 1)')", "ST_IsEmpty('POINT(3 1)')", "ST_XMin('POINT(4 1)')", "ST_YMax('POINT EMPTY')"]
         lines = "".join(f"SELECT {it};\n" for it in calls)
         ran = subprocess.run([self.program("refusing"), f"{self.room.name}/sfq0"], input=lines, capture_output=True, text=True)
         self.assertEqual((ran.returncode, ran.stderr), (0, ""), ran.stdout)

@@ -45,10 +45,10 @@ def has_sqlite() -> bool:
 
 
 def make_sqlite(path: str) -> None:
-    """Compiles the extension. The library is within it, and only the entry that SQLite looks for can be seen from outside."""
+    """Compiles the extension. Both libraries are within it, and only the entry that SQLite looks for can be seen from outside."""
     flags = [*library.FLAGS, "-fvisibility=hidden", "-shared", f"-I{library.FOLDER}"]
-    made = [f"{repository.ROOT}/bindings/sqlite/sfq0.c", f"{library.OUT}/libsfq.a", "-Wl,--exclude-libs,ALL", "-Wl,-z,defs", "-o", path]
-    calls.run(["cc", *flags, *made])
+    made = [f"{repository.ROOT}/bindings/sqlite/sfq0.c", *(it.archive for it in library.ALL)]
+    calls.run(["cc", *flags, *made, "-Wl,--exclude-libs,ALL", "-Wl,-z,defs", "-o", path])
 
 
 # ---- PostgreSQL ----

@@ -113,7 +113,10 @@ LISTS = [
         HEADER, r"^ \* Why a text is refused", r"(\w\d)  first and second: ", [it for it, count in GEOMETRY_FAULTS.items() if count == 2],
         r"\*/",
     ),
-    Place("bindings/python/sfq/fault_words.h", r"^FAULT", r"FAULT\('(\w)', (\d),", [(it[0], it[1:]) for it in GEOMETRY_FAULTS]),
+    Place("bindings/python/sfq/fault_words.h", r"^FAULT", r"(?m)^FAULT\('(\w)', (\d),", [(it[0], it[1:]) for it in GEOMETRY_FAULTS]),
+    Place(
+        "bindings/python/sfq/fault_words.h", r"^TABLE_FAULT", r"TABLE_FAULT\('(\w)', (\d+),", [(it[0], it[1:]) for it in FAULTS if it[0] in "SL"]
+    ),
     Place(LIBRARY, r"^TYPES = ", r'"(\w+)"', NUMBERED, r"\)\n"),
     Place(LIBRARY, r"^RELATIONS = ", r'"(\w+)"', [lower(it) for it in RELATIONS], r"\)\n"),
     Place("bindings/python/sfq/__init__.py", r"^    def _holds", r'_holds\("(\w+)"', [lower(it) for it in RELATIONS], r"\n\n\n"),
@@ -124,7 +127,7 @@ LISTS = [
     Place("bindings/python/sfq/_prompt.py", r"^FUNCTIONS = ", r'"(ST_\w+)"', FUNCTIONS, r"\)\n", True),
     Place("bindings/python/sfq/_tables.py", r"^RESERVED = ", r'"(\w+)"', [it.lower() for it in RESERVED], r"\}\n"),
     Place(
-        "bindings/sqlite/sfq0.c", r'^ +\{ "ST_Equals"', r'"(\w+)", 2, relation, (\w+)',
+        "bindings/sqlite/functions.h", r'^ +\{ "ST_Equals"', r'"(\w+)", 2, relation, (\w+)',
         list(zip(SQL_RELATIONS, CONSTANTS)), r"\n\};",
     ),
     Place(

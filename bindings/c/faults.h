@@ -36,8 +36,10 @@ static const char *fault_meaning(const sfq_fault *fault)
         const char *words;
     } known[] = {
 #define FAULT(letter, number, words) { letter, number, words },
+#define TABLE_FAULT(letter, number, words)
 #include "../python/sfq/fault_words.h"
 #undef FAULT
+#undef TABLE_FAULT
     };
     for (size_t at = 0; at < sizeof known / sizeof known[0]; at++) {
         if (known[at].letter == fault->letter && known[at].number == fault->number) {

@@ -114,3 +114,63 @@ static int ask_pattern(FunctionCallInfo fcinfo, bool *answer, sfq_fault *fault)
     return sfq_relate_pattern(&memory->kept[0].geometry, &memory->kept[1].geometry, VARDATA_ANY(pattern), VARSIZE_ANY_EXHDR(pattern),
                               answer);
 }
+
+/* The geometry of the first argument. */
+static int read_one(FunctionCallInfo fcinfo, sfq_geometry **geometry, sfq_fault *fault)
+{
+    struct memory *memory = memory_of(fcinfo);
+    *geometry = &memory->kept[0].geometry;
+    return read_argument(&memory->kept[0], PG_GETARG_RAW_VARLENA_P(0), fault);
+}
+
+/* The dimension of the argument. */
+static int ask_dimension(FunctionCallInfo fcinfo, uint32_t *dimension, sfq_fault *fault)
+{
+    sfq_geometry *geometry;
+    int status = read_one(fcinfo, &geometry, fault);
+    return status != SFQ_OK ? status : sfq_dimension(geometry, dimension);
+}
+
+/* Whether the argument is the empty set of points. */
+static int ask_empty(FunctionCallInfo fcinfo, bool *answer, sfq_fault *fault)
+{
+    sfq_geometry *geometry;
+    int status = read_one(fcinfo, &geometry, fault);
+    return status != SFQ_OK ? status : sfq_is_empty(geometry, answer);
+}
+
+/* The bounds of the argument; SFQ_NONE where it is empty. */
+static int ask_bounds(FunctionCallInfo fcinfo, int32_t bounds[4], sfq_fault *fault)
+{
+    sfq_geometry *geometry;
+    int status = read_one(fcinfo, &geometry, fault);
+    return status != SFQ_OK ? status : sfq_envelope(geometry, bounds);
+}
+
+/* Writes lines into a room of this size, by the protocol of sfq_text: of two arguments or of one. */
+static int write_lines(FunctionCallInfo fcinfo, char *room, size_t size, size_t *length, sfq_fault *fault)
+{
+    if (PG_NARGS() == 2) {
+        struct memory *memory = memory_of(fcinfo);
+        int status = read_both(fcinfo, memory, fault);
+        return status != SFQ_OK ? status : sfq_why(&memory->kept[0].geometry, &memory->kept[1].geometry, room, size, length);
+    } else {
+        text *given = PG_GETARG_TEXT_PP(0);
+        return sfq_reason(VARDATA_ANY(given), VARSIZE_ANY_EXHDR(given), room, size, length, fault);
+    }
+}
+
+/* What shows each cell of the matrix of two arguments, or whether one is valid, and where not: lines in the memory of the call. */
+static int ask_why(FunctionCallInfo fcinfo, char **lines, size_t *length, sfq_fault *fault)
+{
+    size_t size = 512;
+    int status;
+    *lines = palloc(size);
+    status = write_lines(fcinfo, *lines, size, length, fault);
+    if (status == SFQ_TOO_SMALL) {
+        size = *length;
+        *lines = repalloc(*lines, size);
+        status = write_lines(fcinfo, *lines, size, length, fault);
+    }
+    return status;
+}

@@ -149,6 +149,63 @@ Datum sql_sfq_is_valid_reason(PG_FUNCTION_ARGS)
     PG_RETURN_TEXT_P(cstring_to_text(psprintf("%s: %s", place, fault_meaning(&fault))));
 }
 
+/* ST_Why(a, b): nine lines, of what shows each cell of the matrix. ST_Why(a): whether it is valid, and where not. */
+PG_FUNCTION_INFO_V1(sql_sfq_why);
+Datum sql_sfq_why(PG_FUNCTION_ARGS)
+{
+    char *lines;
+    size_t length = 0;
+    sfq_fault fault;
+    need_ok(ask_why(fcinfo, &lines, &length, &fault), &fault);
+    /* Without the line feed of the last line. */
+    PG_RETURN_TEXT_P(cstring_to_text_with_len(lines, (int)length - 1));
+}
+
+/* ST_Dimension(a): 0 of points, 1 of lines, 2 of areas. */
+PG_FUNCTION_INFO_V1(sql_sfq_dimension);
+Datum sql_sfq_dimension(PG_FUNCTION_ARGS)
+{
+    uint32_t dimension = 0;
+    sfq_fault fault;
+    need_ok(ask_dimension(fcinfo, &dimension, &fault), &fault);
+    PG_RETURN_INT32((int32)dimension);
+}
+
+/* ST_IsEmpty(a): whether it is the empty set of points. */
+PG_FUNCTION_INFO_V1(sql_sfq_is_empty);
+Datum sql_sfq_is_empty(PG_FUNCTION_ARGS)
+{
+    bool answer = false;
+    sfq_fault fault;
+    need_ok(ask_empty(fcinfo, &answer, &fault), &fault);
+    PG_RETURN_BOOL(answer);
+}
+
+/* ST_XMin(a) and so on: one of the bounds, by its place; NULL of an empty geometry. */
+static Datum bound(FunctionCallInfo fcinfo, int place)
+{
+    int32_t bounds[4];
+    sfq_fault fault;
+    int status = ask_bounds(fcinfo, bounds, &fault);
+    if (status == SFQ_NONE) {
+        PG_RETURN_NULL();
+    }
+    need_ok(status, &fault);
+    PG_RETURN_INT32(bounds[place]);
+}
+
+#define BOUND(name, place) \
+    PG_FUNCTION_INFO_V1(name); \
+    Datum name(PG_FUNCTION_ARGS) \
+    { \
+        return bound(fcinfo, place); \
+    }
+
+BOUND(sql_sfq_x_min, 0)
+BOUND(sql_sfq_x_max, 1)
+BOUND(sql_sfq_y_min, 2)
+BOUND(sql_sfq_y_max, 3)
+
 /* Whether two reference systems, by their numbers, are the same. It is an error where they aren't, as in PostGIS. */
 PG_FUNCTION_INFO_V1(sql_sfq_same_system);
 Datum sql_sfq_same_system(PG_FUNCTION_ARGS)

@@ -29,6 +29,15 @@ SELECT ST_Touches('POINT(1 2)', 'POLYGON((0 0,4 4,4 0,0 4,0 0))');
 SELECT ST_Relate('POINT(1 2)', 'POINT(1 2)', 'TTT');
 SELECT ST_Relate('POINT(1 2)', 'POINT(1 2)', NULL);
 
+-- of one geometry, and what shows a matrix
+SELECT ST_Dimension(text), ST_IsEmpty(text), ST_XMin(text), ST_XMax(text), ST_YMin(text), ST_YMax(text), text FROM (VALUES
+    ('POINT(1 2)'), ('LINESTRING(3 -1,0 5)'), ('POLYGON EMPTY'), (NULL)) AS texts (text);
+SELECT ST_Why('LINESTRING(0 0,3 1)', 'LINESTRING(0 1,2 0)');
+SELECT ST_Why('POLYGON((0 0,4 4,4 0,0 4,0 0))'), ST_Why('POINT(1 2)'), ST_Why(NULL) IS NULL AS first, ST_Why('CIRCLE', NULL) IS NULL AS second;
+SELECT ST_Why('POINT(1 2');
+SELECT ST_Why('POINT(1 2)', 'POINT(1.5 2)');
+SELECT ST_XMin('POLYGON((0 0,4 4,4 0,0 4,0 0))');
+
 -- long texts, that PostgreSQL keeps packed
 CREATE TABLE long (id integer, geom text);
 INSERT INTO long SELECT 1, 'LINESTRING(' || string_agg(i || ' ' || i % 2, ',' ORDER BY i) || ')' FROM generate_series(0, 9999) i;

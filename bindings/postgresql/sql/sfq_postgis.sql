@@ -31,6 +31,13 @@ SELECT sfq.ST_Relate('POINT(1 1)'::geometry, 'POINT(1.5 2)'::geometry);
 SELECT sfq.ST_Touches('SRID=4326;POINT(1 1)'::geometry, 'POINT(1 1)'::geometry);
 SELECT sfq.ST_Touches('SRID=4326;POINT(1 1)'::geometry, 'SRID=4326;POINT(1 1)'::geometry);
 
+-- of one geometry, and what shows a matrix
+SELECT sfq.ST_Dimension(geom), sfq.ST_IsEmpty(geom), sfq.ST_XMin(geom), sfq.ST_XMax(geom), sfq.ST_YMin(geom), sfq.ST_YMax(geom), sfq.ST_Why(geom)
+    FROM (VALUES ('POINT(1 2)'::geometry), ('LINESTRING(3 -1,0 5)'), ('POLYGON EMPTY'), (NULL)) AS shapes (geom);
+SELECT sfq.ST_Why('LINESTRING(0 0,3 1)'::geometry, 'LINESTRING(0 1,2 0)'::geometry);
+SELECT sfq.ST_Why('SRID=4326;POINT(1 1)'::geometry, 'POINT(1 1)'::geometry);
+SELECT sfq.ST_XMin('POINT(1.5 2)'::geometry);
+
 -- a GiST index finds the rows, and the same rows as without it
 CREATE TABLE cell (id integer PRIMARY KEY, geom geometry);
 INSERT INTO cell SELECT 100 * x + y, ST_MakeEnvelope(10 * x, 10 * y, 10 * x + 10, 10 * y + 10)

@@ -7,28 +7,11 @@ from __future__ import annotations
 
 from typing import Any, Optional
 
-from ._faults import Fault
+from ._faults import Fault, meanings
 
 # What each fault means and what to do. docs/FAULTS.md has them with examples.
 MEANINGS = {
-    "S1": "the schema can't go on like this at this byte: write tables as CREATE TABLE name (column type, ..), with NOT NULL or "
-          "PRIMARY KEY after a type",
-    "S2": "the name of a table or a column comes a second time: rename one of the two",
-    "S3": "the table has no key: mark one INTEGER column PRIMARY KEY",
-    "S4": "the table has a second PRIMARY KEY: leave one key",
-    "S5": "a 17th table or a 33rd column begins at this byte: split the schema or the table",
-    "S6": "the schema is longer than 65,536 bytes: shorten it",
-    "L1": "the table lacks a column of the schema: add the column, or take it out of the schema",
-    "L2": "the table has a column of the schema twice: rename one",
-    "L3": "the record has more or fewer fields than the header: write one for each column, in quotes if it has a comma",
-    "L4": "a text isn't UTF-8: save the table as UTF-8",
-    "L5": "a value of an INTEGER column isn't a whole number of 64 bits: write digits with a sign or none, and nothing for NULL",
-    "L6": "a geometry is refused",
-    "L7": "a geometry isn't of the column's type: declare the column GEOMETRY, which takes every type",
-    "L8": "the key or a NOT NULL column is empty: give it a value",
-    "L9": "an earlier record has this key: keys are unique",
-    "L10": "the table has more than 100,000 records: split it, or ask by sfq-scale, which takes more",
-    "L11": "reading the table failed on the way, or a record is past the limits: check the disk, and whether each quote is closed",
+    **meanings("TABLE_FAULT"),
     "Q1": "the byte begins no token, or a string isn't closed: write names without quotes and texts in single quotes",
     "Q2": "the query can't go on like this at this byte; if the byte is the query's length, the query ends too soon",
     "Q3": "the schema has no table of this name",

@@ -6,12 +6,13 @@ import re
 from typing import NamedTuple, Optional
 
 
-def meanings(text: str) -> dict[str, str]:
-    """Returns what each fault means and what to do, by its code, from the lines that C reads too."""
-    return {letter + number: words for letter, number, words in re.findall(r"^FAULT\('(\w)', (\d), \"(.*)\"\)$", text, re.M)}
+def meanings(macro: str) -> dict[str, str]:
+    """Returns what each fault means and what to do, by its code, from the lines with a macro, which C reads too."""
+    text = (pkgutil.get_data(__package__, "fault_words.h") or b"").decode()
+    return {letter + number: words for letter, number, words in re.findall(rf"^{macro}\('(\w)', (\d+), \"(.*)\"\)$", text, re.M)}
 
 
-MEANINGS = meanings((pkgutil.get_data(__package__, "fault_words.h") or b"").decode())
+MEANINGS = meanings("FAULT")
 
 
 class Fault(NamedTuple):

@@ -1,4 +1,7 @@
-/* What each fault means and what to do: C takes the lines by its macro FAULT (faults.h), and Python reads them (_faults.py). */
+/*
+ * What each fault means and what to do, of a geometry by FAULT, of a schema or a table by TABLE_FAULT. C takes the lines by these macros
+ * (faults.h, and files.h of bindings/sqlite), and Python reads them (_faults.py).
+ */
 FAULT('W', 1, "the text can't go on like this at this byte, or ends too soon")
 FAULT('W', 2, "the number at this byte isn't whole: scale the coordinates to a grid of whole numbers, of centimetres say")
 FAULT('W', 3, "the number at this byte is past 10,000,000 either way: scale the coordinates to the grid")
@@ -11,3 +14,20 @@ FAULT('V', 5, "this hole isn't inside its outer ring")
 FAULT('V', 6, "one of these two holes is inside the other")
 FAULT('V', 7, "these two polygons share a point")
 FAULT('V', 8, "the first of these polygons is inside the second")
+TABLE_FAULT('S', 1, "the schema can't go on like this at this byte: write tables as CREATE TABLE name (column type, ..), with NOT NULL or PRIMARY KEY after a type")
+TABLE_FAULT('S', 2, "the name of a table or a column comes a second time: rename one of the two")
+TABLE_FAULT('S', 3, "the table has no key: mark one INTEGER column PRIMARY KEY")
+TABLE_FAULT('S', 4, "the table has a second PRIMARY KEY: leave one key")
+TABLE_FAULT('S', 5, "a 17th table or a 33rd column begins at this byte: split the schema or the table")
+TABLE_FAULT('S', 6, "the schema is longer than 65,536 bytes: shorten it")
+TABLE_FAULT('L', 1, "the table lacks a column of the schema: add the column, or take it out of the schema")
+TABLE_FAULT('L', 2, "the table has a column of the schema twice: rename one")
+TABLE_FAULT('L', 3, "the record has more or fewer fields than the header: write one for each column, in quotes if it has a comma")
+TABLE_FAULT('L', 4, "a text isn't UTF-8: save the table as UTF-8")
+TABLE_FAULT('L', 5, "a value of an INTEGER column isn't a whole number of 64 bits: write digits with a sign or none, and nothing for NULL")
+TABLE_FAULT('L', 6, "a geometry is refused")
+TABLE_FAULT('L', 7, "a geometry isn't of the column's type: declare the column GEOMETRY, which takes every type")
+TABLE_FAULT('L', 8, "the key or a NOT NULL column is empty: give it a value")
+TABLE_FAULT('L', 9, "an earlier record has this key: keys are unique")
+TABLE_FAULT('L', 10, "the table has more than 100,000 records: split it, or ask by sfq-scale, which takes more")
+TABLE_FAULT('L', 11, "reading the table failed on the way, or a record is past the limits: check the disk, and whether each quote is closed")

@@ -1,0 +1,209 @@
+/*
+ * Loads a virtual table from its files, and says why it can't be loaded: in the words of `sfq check`, with what they mean. Nothing here
+ * is proved. A file is read to its end before it is looked at, so that none that another program changes meanwhile ends the process.
+ */
+#ifndef SFQ_FILES_H
+#define SFQ_FILES_H
+
+#include <errno.h>
+#include <fcntl.h>
+#include <stdio.h>
+#include <unistd.h>
+
+#include "options.h"
+#include "rows.h"
+
+/* So many bytes of a schema are read at the least, if it has them: the library refuses one of more than 65,536. */
+#define SCHEMA_BYTES 65537
+
+/* The bytes of a file. */
+struct bytes {
+    char *at;
+    size_t count;
+};
+
+/* Sets an error that sqlite3_mprintf made. */
+static int failed(char **error, char *text)
+{
+    *error = text;
+    return text == NULL ? SQLITE_NOMEM : SQLITE_ERROR;
+}
+
+/* An error that names a file and says why it can't be read. */
+static int unreadable(const char *path, int reason, char **error)
+{
+    char words[128];
+    if (reason == ENOMEM) {
+        return SQLITE_NOMEM;
+    }
+    if (strerror_r(reason, words, sizeof words) != 0) {
+        snprintf(words, sizeof words, "error %d", reason);
+    }
+    return failed(error, sqlite3_mprintf("sfq: %s can't be read: %s", path, words));
+}
+
+/* Reads a file to its end, or so many bytes at the least. Returns 0, or the number of the error. */
+static int read_bytes(int file, size_t least, struct bytes *bytes)
+{
+    size_t room = 0;
+    while (bytes->count < least) {
+        ssize_t got;
+        if (!has_room((void **)&bytes->at, 1, bytes->count, 65536, &room)) {
+            return ENOMEM;
+        }
+        got = read(file, bytes->at + bytes->count, room - bytes->count);
+        if (got == 0 || (got < 0 && errno != EINTR)) {
+            return got == 0 ? 0 : errno;
+        }
+        bytes->count += got > 0 ? (size_t)got : 0;
+    }
+    return 0;
+}
+
+/* The same of the file of a path, into bytes that the caller frees in any case. A fault of reading is said. */
+static int read_path(const char *path, size_t least, struct bytes *bytes, char **error)
+{
+    int file, reason;
+    do {
+        file = open(path, O_RDONLY | O_CLOEXEC);
+    } while (file < 0 && errno == EINTR);
+    reason = file < 0 ? errno : read_bytes(file, least, bytes);
+    if (file >= 0) {
+        close(file);
+    }
+    return reason == 0 ? SQLITE_OK : unreadable(path, reason, error);
+}
+
+/* What a fault of a schema or a table means, and what to do. */
+static const char *table_fault_meaning(const sfq_tables_fault *fault)
+{
+    static const struct {
+        uint8_t letter;
+        uint8_t number;
+        const char *words;
+    } known[] = {
+#define FAULT(letter, number, words)
+#define TABLE_FAULT(letter, number, words) { letter, number, words },
+#include "../python/sfq/fault_words.h"
+#undef FAULT
+#undef TABLE_FAULT
+    };
+    for (size_t at = 0; at < sizeof known / sizeof known[0]; at++) {
+        if (known[at].letter == fault->letter && known[at].number == fault->number) {
+            return known[at].words;
+        }
+    }
+    return "an unknown fault";
+}
+
+/* The error of a fault: the file of the schema, or the table, and the code with its places, as `sfq check` prints them. */
+static int refused(const char *what, const sfq_tables_fault *fault, char **error)
+{
+    char code[FAULT_PLACE], place[FAULT_PLACE] = "";
+    snprintf(code, sizeof code, "%c%u", fault->letter, fault->number);
+    if (fault->letter == 'S' && fault->number < 6) {
+        snprintf(place, sizeof place, " at %zu", fault->at);
+    } else if (fault->letter == 'L' && fault->number > 2 && fault->number < 10) {
+        snprintf(place, sizeof place, " record %zu", fault->at);
+    }
+    if (fault->geometry.letter != 0) {
+        char of_geometry[FAULT_PLACE];
+        fault_place(&fault->geometry, of_geometry);
+        return failed(error, sqlite3_mprintf("sfq: %s %s%s %s: %s: %s", what, code, place, of_geometry, table_fault_meaning(fault),
+                                             fault_meaning(&fault->geometry)));
+    }
+    return failed(error, sqlite3_mprintf("sfq: %s %s%s: %s", what, code, place, table_fault_meaning(fault)));
+}
+
+/* The status of SQLite for a status of the library that says nothing of a fault. */
+static int without_fault(int status, char **error)
+{
+    if (status == SFQ_OK || status == SFQ_OUT_OF_MEMORY) {
+        return status == SFQ_OK ? SQLITE_OK : SQLITE_NOMEM;
+    }
+    return failed(error, sqlite3_mprintf("sfq: the library returned the status %d, which is none of this call", status));
+}
+
+/* Loads a table of an open database from a file of CSV, and takes its rows. */
+static int load_table(struct rows *rows, sfq_database *database, size_t table, const char *name, const char *path, char **error)
+{
+    struct bytes csv = { NULL, 0 };
+    sfq_tables_fault fault;
+    int loaded, status = read_path(path, SIZE_MAX, &csv, error);
+    if (status == SQLITE_OK) {
+        loaded = sfq_load(database, table, csv.at, csv.count, &fault);
+        free(csv.at);
+        csv.at = NULL;
+        if (loaded == SFQ_REFUSED) {
+            status = refused(name, &fault, error);
+        } else {
+            status = without_fault(loaded != SFQ_OK ? loaded : take_rows(rows, database, table), error);
+        }
+    }
+    free(csv.at);
+    return status;
+}
+
+/* The name of a table as the schema spells it, which the caller frees. Null where memory is refused. */
+static char *spelled_name(sfq_database *database, size_t table)
+{
+    size_t length = 0;
+    char *name;
+    sfq_table_name(database, table, NULL, 0, &length);
+    name = sqlite3_malloc64(length + 1);
+    if (name == NULL || sfq_table_name(database, table, name, length, &length) != SFQ_OK) {
+        sqlite3_free(name);
+        return NULL;
+    }
+    name[length] = '\0';
+    return name;
+}
+
+/* Finds the table in an open database and loads it: of a folder from the file with its name. */
+static int find_and_load(struct rows *rows, sfq_database *database, const struct options *options, const struct bytes *schema,
+                         const char *schema_path, char **error)
+{
+    char *const *values = options->values;
+    size_t table;
+    char *name, *path;
+    int status = sfq_find_table(database, values[TABLE], strlen(values[TABLE]), &table);
+    if (status == SFQ_UNKNOWN) {
+        return failed(error, sqlite3_mprintf("sfq: %s has no table '%s'", schema_path, values[TABLE]));
+    }
+    if (status != SFQ_OK) {
+        return without_fault(status, error);
+    }
+    rows->key = key_column(schema->at, schema->count, table);
+    name = spelled_name(database, table);
+    path = name == NULL ? NULL
+        : values[FOLDER] == NULL ? sqlite3_mprintf("%s", values[CSV]) : sqlite3_mprintf("%s/%s.csv", values[FOLDER], name);
+    status = path == NULL ? SQLITE_NOMEM : load_table(rows, database, table, name, path, error);
+    sqlite3_free(path);
+    sqlite3_free(name);
+    return status;
+}
+
+/* Loads the rows that the options name. They are to be freed in any case. */
+static int load_rows(struct rows *rows, const struct options *options, char **error)
+{
+    char *const *values = options->values;
+    char *path = values[FOLDER] == NULL ? sqlite3_mprintf("%s", values[SCHEMA]) : sqlite3_mprintf("%s/schema.sql", values[FOLDER]);
+    struct bytes schema = { NULL, 0 };
+    sfq_database database = SFQ_EMPTY;
+    sfq_tables_fault fault;
+    int opened, status = path == NULL ? SQLITE_NOMEM : read_path(path, SCHEMA_BYTES, &schema, error);
+    if (status == SQLITE_OK) {
+        opened = sfq_open(schema.at, schema.count, &database, &fault);
+        if (opened == SFQ_REFUSED) {
+            status = refused(path, &fault, error);
+        } else {
+            status = opened != SFQ_OK ? without_fault(opened, error) : find_and_load(rows, &database, options, &schema, path, error);
+        }
+        sfq_close(&database);
+    }
+    free(schema.at);
+    sqlite3_free(path);
+    return status;
+}
+
+#endif
