@@ -110,6 +110,18 @@ VALUES = [
     ("1 0 100000000000001 1", point(1, 2), "4"),
 ]
 
+# Two values, the status, and the least x, the greatest x, the least y and the greatest y of both. By hand.
+EXTENTS = [
+    (point(1.5, -2), b"", "0 1.5 1.5 -2 -2"),
+    (point(1.5, -2, BIG), many(3, SQUARE, HOLE), "0 0 8 -2 8"),
+    (many(6, many(3, line(1, 1, 2, 1, 2, 2, 1, 1)), many(3, line(-3e9, 0, 9, 0, 9, 9, -3e9, 0))), b"", "0 -3e+09 9 0 9"),
+    # What can't be taken apart, or has a Z, is left out.
+    (point(7, 7), head(2) + line(0, 0, 9, INFINITE), "0 7 7 7 7"),
+    (head(1 | 1 << 31) + struct.pack("<3d", 1, 2, 3), point(7, 8), "0 7 7 8 8"),
+    (point(NAN, NAN), head(2) + line(), "6"),
+    (b"", b"", "6"),
+]
+
 # The number of a relation, geometries of each side, an empty text for one that is missing, and the pairs. By hand.
 LEFT = "POINT(1 1);;POINT(9 9);POINT EMPTY;LINESTRING(0 0,4 0);POLYGON((0 0,4 0,4 4,0 4,0 0))"
 RIGHT = "POLYGON((0 0,4 0,4 4,0 4,0 0));POINT(1 1);POLYGON EMPTY;;POLYGON((4 0,8 0,8 4,4 4,4 0))"
@@ -131,6 +143,7 @@ JOINS = [
 def lines_of_calls():
     """Returns calls with what they print."""
     calls = [(f"binary\t{grid}\t{value.hex()}", wanted) for grid, value, wanted in VALUES]
+    calls += [(f"extent\t{one.hex()},{other.hex()}", wanted) for one, other, wanted in EXTENTS]
     calls += [(f"join\t{relation}\t{LEFT}\t{RIGHT}", f"0 {pairs}".strip()) for relation, pairs in JOINS]
     calls += [(f"join\t2\t\t{RIGHT}", "0"), (f"join\t2\t{LEFT}\t", "0"), (f"join\t1\t{LEFT}\t;;", "0"), (f"join\t11\t{LEFT}\t{RIGHT}", "4")]
     # Each of eight with each of eight, by a room that has to be emptied on the way.

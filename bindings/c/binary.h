@@ -40,6 +40,9 @@ struct axis {
 struct binary {
     struct axis x, y;
     bool rounds;
+    /* Where only the extent is wanted: the least x, the greatest x, the least y and the greatest y so far. */
+    bool measures;
+    double extent[4];
     const unsigned char *begin, *at, *end;
     bool is_little;
     int status;
@@ -75,6 +78,7 @@ static bool make_axis(struct axis *axis, int64_t step, int64_t origin, int64_t p
 /* Makes the axes of a grid; of none those of whole numbers. */
 static bool make_axes(struct binary *it, const sfq_grid *grid)
 {
+    it->measures = false;
     it->rounds = grid != NULL;
     if (grid == NULL) {
         return make_axis(&it->x, 1, 0, 1) && make_axis(&it->y, 1, 0, 1);
@@ -232,6 +236,13 @@ static void count_shift(struct binary *it, double past_x, double past_y)
     }
 }
 
+/* Widens an extent by a coordinate, or begins it. */
+static void widen(double extent[2], double by, bool begins)
+{
+    extent[0] = begins || by < extent[0] ? by : extent[0];
+    extent[1] = begins || by > extent[1] ? by : extent[1];
+}
+
 /* Rounds a position, and takes it unless it is the same as the one before it in a line, which begins at `first`. */
 static void take_rounded(struct binary *it, double x, double y, size_t first)
 {
@@ -265,7 +276,10 @@ static void take_position(struct binary *it, size_t first)
     if (x - x != 0 || y - y != 0) {
         refuse(it, 'W', 1, place);
     }
-    if (it->status == SFQ_OK) {
+    if (it->status == SFQ_OK && it->measures) {
+        widen(it->extent, x, it->positions == 0);
+        widen(it->extent + 2, y, it->positions++ == 0);
+    } else if (it->status == SFQ_OK) {
         take_rounded(it, x, y, first);
     }
 }
@@ -308,12 +322,12 @@ static void take_rings(struct binary *it)
 /* One element of a MULTI type, which has a head of its own. */
 static void take_element(struct binary *it, uint32_t type)
 {
-    size_t place = place_of(it), lines = it->line_count, points = it->count;
+    size_t place = place_of(it), lines = it->line_count, points = it->positions;
     if (next_type(it) != type - 3) {
         refuse(it, 'W', 1, place);
     } else if (type == SFQ_MULTIPOINT) {
         take_point(it);
-        if (it->status == SFQ_OK && it->count == points) {
+        if (it->status == SFQ_OK && it->positions == points) {
             it->status = SFQ_UNKNOWN;
         }
     } else if (type == SFQ_MULTILINESTRING) {

@@ -465,6 +465,31 @@ int sfq_read_binaries(const sfq_grid *grid, const void *binaries, const size_t *
     return status;
 }
 
+int sfq_binaries_extent(const void *binaries, const size_t *lengths, size_t count, double extent[4])
+{
+    struct binary *it = malloc(sizeof *it);
+    const unsigned char *at = binaries;
+    bool begins = true;
+    size_t i;
+    int end;
+    if (it == NULL) {
+        return SFQ_OUT_OF_MEMORY;
+    }
+    it->measures = true;
+    for (i = 0; i < count; i++) {
+        take_apart(it, at, lengths[i]);
+        at += lengths[i];
+        if (it->status == SFQ_OK && it->positions > 0) {
+            for (end = 0; end < 4; end++) {
+                widen(extent + end / 2 * 2, it->extent[end], begins && end % 2 == 0);
+            }
+            begins = false;
+        }
+    }
+    free(it);
+    return begins ? SFQ_NONE : SFQ_OK;
+}
+
 /* ---- indexes ---- */
 
 int sfq_index_build(const int32_t *bounds, size_t count, sfq_index *index, size_t *position)

@@ -267,6 +267,12 @@ int sfq_read_binary(const sfq_grid *grid, const void *binary, size_t length, sfq
 int sfq_read_binaries(const sfq_grid *grid, const void *binaries, const size_t *lengths, size_t count, sfq_geometry *geometries,
                       uint32_t *statuses, sfq_fault *faults, sfq_shift *shift, size_t *done);
 
+/*
+ * The least x, the greatest x, the least y and the greatest y of `count` such values, as they are. A value that can't be taken apart
+ * is left out. SFQ_NONE where there is no position.
+ */
+int sfq_binaries_extent(const void *binaries, const size_t *lengths, size_t count, double extent[4]);
+
 /* ---- indexes of envelopes ---- */
 
 /* The four bounds of the envelope of an empty geometry. */

@@ -2,6 +2,7 @@
  * Calls over well-known binary, and joins, for calls.c. Each is a line of words with tabs between:
  *
  *     binary GRID HEX          prints the status; then the fault, or the number of the system, what rounding did and the canonical text
+ *     extent HEX,HEX           prints the status, and where the coordinates of both values go from and to
  *     join RELATION A;.. B;..  prints the status, and the pairs of the texts of A and of B, by their places
  *
  * GRID has the four numbers of an sfq_grid with blanks between, or is empty. HEX has the bytes. Among the texts an empty one is a
@@ -126,6 +127,25 @@ static void run_one_binary(struct one_call *it, const char *of_grid, const char 
     sfq_free(&geometry);
 }
 
+static void run_extent(struct one_call *it, const char *hex)
+{
+    unsigned char bytes[2 * BYTES];
+    size_t lengths[2];
+    double extent[4] = { 7, 7, 7, 7 };
+    const char *second = strchr(hex, ',');
+    int status;
+    lengths[0] = read_bytes(hex, bytes);
+    lengths[1] = second != NULL ? read_bytes(second + 1, bytes + lengths[0]) : 0;
+    status = sfq_binaries_extent(bytes, lengths, 2, extent);
+    if (status != SFQ_OK && (extent[0] != 7 || extent[3] != 7))
+        it->wrong = "an extent was written";
+    if (again(it, status))
+        status = sfq_binaries_extent(bytes, lengths, 2, extent);
+    snprintf(it->out.text, sizeof it->out.text, "%d", status);
+    if (status == SFQ_OK)
+        snprintf(it->out.text, sizeof it->out.text, "0 %.9g %.9g %.9g %.9g", extent[0], extent[1], extent[2], extent[3]);
+}
+
 /* ---- joins ---- */
 
 /* Reads texts with semicolons between, an empty one as a geometry that is missing. Returns how many there are. */
@@ -185,7 +205,7 @@ static void run_one_join(struct one_call *it, char *const words[WORDS])
 
 bool is_binary_call(char *const words[WORDS])
 {
-    return strcmp(words[0], "binary") == 0 || strcmp(words[0], "join") == 0;
+    return strcmp(words[0], "binary") == 0 || strcmp(words[0], "extent") == 0 || strcmp(words[0], "join") == 0;
 }
 
 struct printed run_binary(char *const words[WORDS])
@@ -194,6 +214,8 @@ struct printed run_binary(char *const words[WORDS])
     struct printed all;
     if (strcmp(words[0], "join") == 0)
         run_one_join(&it, words);
+    else if (strcmp(words[0], "extent") == 0)
+        run_extent(&it, words[1]);
     else
         run_one_binary(&it, words[1], words[2]);
     if (it.wrong != NULL)

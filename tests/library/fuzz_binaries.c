@@ -153,6 +153,28 @@ static int read_value(struct room *room, const struct drawn *it, sfq_geometry *g
     return status;
 }
 
+/* The extent of a value that isn't changed, on its grid, has to be that of the numbers. */
+static void try_extent(struct room *room, const struct drawn *it)
+{
+    double extent[4], nearest[4];
+    int32_t least[2], greatest[2];
+    size_t i, axis;
+    for (axis = 0; axis < 2; axis++) {
+        least[axis] = greatest[axis] = it->numbers[axis];
+        for (i = 0; i < it->count; i++) {
+            int32_t number = it->numbers[2 * i + axis];
+            least[axis] = number < least[axis] ? number : least[axis];
+            greatest[axis] = number > greatest[axis] ? number : greatest[axis];
+        }
+    }
+    need(sfq_binaries_extent(put(room, it->bytes, it->length), &it->length, 1, extent) == SFQ_OK, "no extent", "", 0);
+    for (i = 0; i < 4; i++) {
+        int64_t origin = i < 2 ? it->grid.origin_x : it->grid.origin_y;
+        nearest[i] = (extent[i] * (double)it->grid.parts - (double)origin) / (double)it->grid.step - (i % 2 == 0 ? least : greatest)[i / 2];
+        need(nearest[i] > -0.01 && nearest[i] < 0.01, "another extent", "", 0);
+    }
+}
+
 /* Reads a value that isn't changed: it is what the numbers are. */
 static void try_value(struct room *room, const struct drawn *it)
 {
@@ -216,6 +238,7 @@ static void try_changed(struct room *room, struct drawn *it)
     sfq_shift shift = { 0, 0, 0, 0, 0 };
     uint32_t statuses[2] = { 99, 99 };
     size_t lengths[2], done = 99;
+    double extent[4];
     int status;
     change(it);
     lengths[0] = it->length;
@@ -230,6 +253,8 @@ static void try_changed(struct room *room, struct drawn *it)
          "many", "", 0);
     need((lengths[0] == 0 ? statuses[0] == SFQ_NONE : (int)statuses[0] == status) && statuses[1] == SFQ_NONE, "a status of many", "", 0);
     need(faults[0].letter == fault.letter || lengths[0] == 0, "a fault of many", "", 0);
+    status = sfq_binaries_extent(put(room, it->bytes, it->length), lengths, 2, extent);
+    need(status == SFQ_NONE || (status == SFQ_OK && extent[0] <= extent[1] && extent[2] <= extent[3]), "an extent", "", 0);
     sfq_free_many(many, 2);
     sfq_free(&read);
 }
@@ -319,6 +344,7 @@ int main(int number, char **words)
         draw(&it);
         write_value(&it, chance(3) == 0);
         try_value(&room, &it);
+        try_extent(&room, &it);
         try_changed(&room, &it);
         if (turns % 8 == 0)
             try_join();

@@ -36,14 +36,18 @@ class LeftOutWarning(UserWarning):
 
 
 class RefusedError(ValueError):
-    """Geometries are refused. `rows` is a DataFrame of them: on which side each is, the label of its row, and the reason."""
+    """Geometries are refused.
 
-    def __init__(self, rows: Any) -> None:
-        self.rows = rows
-        super().__init__(f"sfq: {listed(rows)}; on_invalid='warn' takes what is refused as missing")
+    `rows` is a DataFrame of them: on which side each is, the label of its row, and the reason. `remedy` is a grid that takes positions
+    that are past the limit, or empty.
+    """
 
-    def __reduce__(self) -> tuple[type[RefusedError], tuple[Any]]:
-        return type(self), (self.rows,)
+    def __init__(self, rows: Any, remedy: str = "") -> None:
+        self.rows, self.remedy = rows, remedy
+        super().__init__(f"sfq: {listed(rows)}{remedy}; on_invalid='warn' takes what is refused as missing")
+
+    def __reduce__(self) -> tuple[type[RefusedError], tuple[Any, str]]:
+        return type(self), (self.rows, self.remedy)
 
 
 class Options(NamedTuple):
@@ -81,16 +85,16 @@ def empty(shape: Any) -> bytes:
 class Column:
     """The geometries of a GeoSeries on a grid: those that the library keeps, those that it refuses, and those that are missing."""
 
-    def __init__(self, side: str, shapes: Any, grid: Optional[_grid.Grid], flat: bool) -> None:
-        self.side, self.index, self.grid, self.shapes = side, shapes.index, grid, numpy.asarray(shapes.values, dtype=object)
+    def __init__(self, side: str, series: Any, flat: bool) -> None:
+        self.side, self.series, self.shapes = side, series, numpy.asarray(series.values, dtype=object)
         self.binaries = binaries(self.shapes, flat)
-        self.kept = _library.KeptMany(self.binaries, parts_of(grid))
+
+    def keep(self, grid: Optional[_grid.Grid]) -> None:
+        """Reads the geometries, rounded to a grid, or as they are where that is None."""
+        self.grid, self.kept = grid, _library.KeptMany(self.binaries, parts_of(grid))
         self.statuses = numpy.array(self.kept.statuses, dtype=numpy.uint32)
         self.is_kept = self.statuses == _library.OK
         self.refused = numpy.flatnonzero(~self.is_kept & (self.statuses != _library.NONE))
-
-    def __len__(self) -> int:
-        return self.kept.count
 
     def reason(self, place: int) -> str:
         """Returns why a geometry is refused."""
@@ -171,31 +175,43 @@ def least_step(system: Any) -> Any:
     return _extents.least_of_unit(axes[0].unit_conversion_factor)
 
 
-def extent_of(columns: Sequence[Any]) -> Optional[_extents.Extent]:
-    """Returns the extent of GeoSeries, or None where no position is finite."""
-    rows = numpy.concatenate([it.bounds.to_numpy(dtype=float) for it in columns])
-    rows = rows[numpy.isfinite(rows).all(axis=1)]
-    return _extents.Extent(*rows[:, :2].min(axis=0).tolist(), *rows[:, 2:].max(axis=0).tolist()) if len(rows) else None
-
-
-def grid_for(columns: Sequence[Any], options: Options) -> Optional[_grid.Grid]:
-    """Returns the grid of GeoSeries, None where nothing is rounded. ValueError where the step or the origin is none."""
-    step, origin = options.step, options.origin
+def need_known(options: Options) -> None:
+    """ValueError where an option has no meaning."""
+    origin = options.origin
     if options.on_invalid not in ("raise", "warn"):
         raise ValueError(f"sfq: on_invalid is 'raise' or 'warn', not {options.on_invalid!r}")
     if origin is not None and (isinstance(origin, str) or len(origin) != 2):
         raise ValueError(f"sfq: an origin is an x and a y, not {origin!r}")
+    if options.step is None and origin is not None:
+        raise ValueError("sfq: an origin needs a step")
+
+
+def extent_of(columns: Sequence[Column]) -> Optional[_extents.Extent]:
+    """Returns the extent of columns, None where they have no position."""
+    return _extents.joined(_library.extent(it.binaries) for it in columns)
+
+
+def grid_for(columns: Sequence[Column], step: Step, origin: Origin) -> Optional[_grid.Grid]:
+    """Returns the grid of columns, None where nothing is rounded. ValueError where the step or the origin is none."""
     if step is None:
-        if origin is not None:
-            raise ValueError("sfq: an origin needs a step")
         return None
     spelled = None if step == AUTO else str(step)
+    system = next((it.series.crs for it in columns if it.series.crs), None)
     try:
         extent = extent_of(columns) if spelled is None or origin is None else None
-        system = next((it.crs for it in columns if it.crs), None)
         return _extents.chosen(extent, least_step(system), spelled, None if origin is None else [str(it) for it in origin])
     except ValueError as error:
         raise ValueError(f"sfq: {error}") from None
+
+
+def remedy_for(columns: Sequence[Column], options: Options) -> str:
+    """Returns which grid takes all positions: with the same step where one does."""
+    extent = extent_of(columns)
+    for step in (options.step, AUTO):
+        grid = grid_for(columns, step, None)
+        if grid and extent and _extents.takes(grid, extent):
+            return f"; the step {grid.spelled[0]} from the origin {','.join(grid.spelled[1])} takes all positions"
+    return ""
 
 
 def need_one_system(left: Any, right: Any) -> None:
@@ -204,6 +220,19 @@ def need_one_system(left: Any, right: Any) -> None:
         raise ValueError(
             f"sfq: the reference systems differ, {left.crs.to_string()} and {right.crs.to_string()}: bring one to the other by to_crs"
         )
+
+
+def taken(sides: dict[str, Any], options: Options) -> dict[str, Column]:
+    """Returns the columns of GeoSeries on one grid, by their sides. A GeoSeries on two sides has one column, named for the first."""
+    need_known(options)
+    found: dict[str, Column] = {}
+    for side, series in sides.items():
+        same = next((it for it in found.values() if it.series is series), None)
+        found[side] = same or Column(side, series, options.flat)
+    grid = grid_for(list(found.values()), options.step, options.origin)
+    for column in dict.fromkeys(found.values()):
+        column.keep(grid)
+    return found
 
 
 # ---- what is said ----
@@ -219,27 +248,27 @@ def listed(rows: Any) -> str:
     return ". ".join(found)
 
 
-def refuse(columns: Sequence[Column], options: Options, level: int) -> None:
+def refuse(columns: dict[str, Column], options: Options, level: int) -> None:
     """RefusedError where a column refuses a geometry, or a warning to the frame of this level."""
-    rows = [(column.side, column.index[at], column.reason(at)) for column in columns for at in column.refused]
+    each = list(dict.fromkeys(columns.values()))
+    rows = [(it.side, it.series.index[at], it.reason(at)) for it in each for at in it.refused]
     if rows:
         found = pandas.DataFrame(rows, columns=["side", "label", "reason"])
+        remedy = remedy_for(each, options) if any(it[2].startswith("W3") for it in rows) else ""
         if options.on_invalid == "raise":
-            raise RefusedError(found)
-        warnings.warn(f"sfq: {listed(found)}", LeftOutWarning, stacklevel=level)
+            raise RefusedError(found, remedy)
+        warnings.warn(f"sfq: {listed(found)}{remedy}", LeftOutWarning, stacklevel=level)
 
 
-def report(columns: Sequence[Column], options: Options, level: int) -> dict[str, Any]:
+def report(columns: dict[str, Column], options: Options, level: int) -> dict[str, Any]:
     """Returns what is said of columns on one grid, and warns the frame of this level where a position moved."""
-    grid = columns[0].grid
-    step, origin = grid.spelled if grid else (None, None)
-    said: dict[str, Any] = {"step": step, "origin": origin and list(origin), **{it.side: it.said() for it in columns}}
-    if any(it.kept.shift.moved for it in columns):
+    each = list(dict.fromkeys(columns.values()))
+    step, origin = each[0].grid.spelled if each[0].grid else (None, None)
+    if any(it.kept.shift.moved for it in each):
         proposed = "proposed " * (options.step == AUTO)
-        shifts = [
-            f"{side}: {it['moved']:,} of {it['positions']:,} positions moved by at most {it['greatest']:.3g}, {it['mean']:.3g} in the mean, "
-            f"{it['merged']:,} merged" for side, it in ((column.side, said[column.side]) for column in columns)
-        ]
-        text = f"rounded to the {proposed}step {step} from the origin {','.join(origin or ())}; {'; '.join(shifts)}"
-        warnings.warn(f"sfq: {text}", RoundingWarning, stacklevel=level)
-    return said
+        words = [f"rounded to the {proposed}step {step} from the origin {','.join(origin or ())}"]
+        for side, it in ((column.side, column.said()) for column in each):
+            words.append(f"{side}: {it['moved']:,} of {it['positions']:,} positions moved by at most {it['greatest']:.3g}, "
+                         f"{it['mean']:.3g} in the mean, {it['merged']:,} merged")
+        warnings.warn(f"sfq: {'; '.join(words)}", RoundingWarning, stacklevel=level)
+    return {"step": step, "origin": origin and list(origin), **{side: it.said() for side, it in columns.items()}}

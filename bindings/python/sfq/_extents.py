@@ -4,7 +4,7 @@ from __future__ import annotations
 import math
 from decimal import Decimal
 from fractions import Fraction
-from typing import Iterator, NamedTuple, Optional, Sequence
+from typing import Iterable, Iterator, NamedTuple, Optional, Sequence
 
 from . import _grid
 
@@ -26,6 +26,15 @@ class Extent(NamedTuple):
     def half(self) -> float:
         """Half of the longer side."""
         return max(self.right / 2 - self.left / 2, self.high / 2 - self.low / 2)
+
+
+def joined(extents: Iterable[Optional[Sequence[float]]]) -> Optional[Extent]:
+    """Returns the extent of all, None where there is none."""
+    found = [it for it in extents if it is not None]
+    if not found:
+        return None
+    left, low, right, high = zip(*found)
+    return Extent(min(left), min(low), max(right), max(high))
 
 
 def least_of_unit(metres: float) -> Decimal:

@@ -132,11 +132,12 @@ def declare_many(found: ctypes.CDLL) -> ctypes.CDLL:
     """Declares the calls over many geometries. Arrays are pointers to their first item."""
     many, count, number = ctypes.c_void_p, ctypes.c_size_t, ctypes.c_uint32
     found.sfq_read_binaries.argtypes = [ctypes.POINTER(CGrid), ctypes.c_char_p, many, count, many, many, many, many, many]
+    found.sfq_binaries_extent.argtypes = [ctypes.c_char_p, many, count, ctypes.c_double * 4]
     found.sfq_free_many.argtypes, found.sfq_free_many.restype = [many, count], None
     found.sfq_holds_many.argtypes = [number, many, many, count, many, many]
     found.sfq_index_geometries.argtypes = [many, count, ctypes.POINTER(CIndex)]
     found.sfq_join.argtypes = [number, many, many, count, many, count, ctypes.POINTER(CIndex), many, count, many]
-    for name in ("read_binaries", "holds_many", "index_geometries", "join"):
+    for name in ("read_binaries", "binaries_extent", "holds_many", "index_geometries", "join"):
         getattr(found, f"sfq_{name}").restype = ctypes.c_int
     return found
 
@@ -447,6 +448,16 @@ class KeptMany:
         if self._index.kept is None:
             need_ok(library().sfq_index_geometries(self.geometries, self.count, ctypes.byref(self._index)))
         return self._index
+
+
+def extent(binaries: Sequence[bytes]) -> Optional[tuple[float, float, float, float]]:
+    """Returns the least x, the least y, the greatest x and the greatest y of geometries in well-known binary, None where there are none."""
+    found, lengths = (ctypes.c_double * 4)(), (ctypes.c_size_t * len(binaries))(*map(len, binaries))
+    status = library().sfq_binaries_extent(b"".join(binaries), lengths, len(binaries), found)
+    if status == NONE:
+        return None
+    need_ok(status)
+    return found[0], found[2], found[1], found[3]
 
 
 def joined(relation: int, first: KeptMany, second: KeptMany) -> Iterator[tuple[Any, int]]:

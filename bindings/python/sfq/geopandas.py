@@ -25,7 +25,7 @@ from shapely.geometry.base import BaseGeometry
 
 from . import Cell, _library
 from ._columns import (
-    AUTO, Column, LeftOutWarning, Options, Origin, RefusedError, RoundingWarning, Step, grid_for, in_source, need_one_system, refuse, report,
+    AUTO, Column, LeftOutWarning, Options, Origin, RefusedError, RoundingWarning, Step, in_source, need_one_system, refuse, report, taken,
 )
 
 __all__ = [
@@ -84,12 +84,10 @@ def sjoin(
         raise ValueError(f"sfq: a predicate is one of {', '.join(_library.RELATIONS)}, not {predicate!r}")
     options = Options(step, origin, flat, on_invalid)
     need_one_system(left_df, right_df)
-    grid = grid_for([left_df.geometry, right_df.geometry], options)
-    left = Column("left", left_df.geometry, grid, flat)
-    right = left if right_df is left_df else Column("right", right_df.geometry, grid, flat)
-    sides = [left] if right is left else [left, right]
+    series = left_df.geometry
+    sides = taken({"left": series, "right": series if right_df is left_df else right_df.geometry}, options)
     refuse(sides, options, 3)
-    said = report(sides, options, 3)
+    said, left, right = report(sides, options, 3), sides["left"], sides["right"]
     found = geopandas.sjoin(
         with_index(left_df, Index(left, right, predicate)), with_index(right_df, Index(right, left, predicate)), how=how,
         predicate=predicate, lsuffix=lsuffix, rsuffix=rsuffix, **words,
@@ -107,11 +105,10 @@ class Pairs:
     def __init__(self, left: Any, right: Any, align: Optional[bool], options: Options) -> None:
         one, other = aligned(left, right, align)
         need_one_system(one, other)
-        grid = grid_for([one, other], options)
-        self.index, self.left = one.index, Column("left", one, grid, options.flat)
-        self.right = Column("right", other, grid, options.flat)
-        refuse([self.left, self.right], options, 4)
-        self.said = report([self.left, self.right], options, 4)
+        sides = taken({"left": one, "right": other}, options)
+        refuse(sides, options, 4)
+        self.said = report(sides, options, 4)
+        self.index, self.left, self.right = one.index, sides["left"], sides["right"]
         is_one = not isinstance(right, (geopandas.GeoSeries, geopandas.GeoDataFrame))
         self.places = numpy.zeros(len(one), dtype=numpy.intp) if is_one else numpy.arange(len(one))
         self.is_there = self.left.is_kept & self.right.is_kept[self.places]
@@ -225,8 +222,8 @@ def why(
 def checked(shapes: Any, options: Options) -> tuple[Any, Column, Any]:
     """Returns a GeoSeries, its geometries on the grid, and what is said of that. What is refused is the answer here."""
     series = shapes.geometry
-    column = Column("series", series, grid_for([series], options), options.flat)
-    return series, column, report([column], options, 4)
+    sides = taken({"series": series}, options)
+    return series, sides["series"], report(sides, options, 4)
 
 
 def is_valid(shapes: Any, *, step: Step = AUTO, origin: Origin = None, flat: bool = False) -> Any:
