@@ -1,6 +1,7 @@
 """Columns of geometries of GeoPandas on a grid, what becomes of them, and what is said of it. None of it is proved."""
 from __future__ import annotations
 
+import ctypes
 import re
 import warnings
 from decimal import Decimal
@@ -115,8 +116,7 @@ class Column:
 
     def addresses(self, places: Any) -> Any:
         """Returns where the geometries at these places are."""
-        size = self.kept.address(1) - self.kept.address(0)
-        return places.astype(numpy.uintp) * size + self.kept.address(0)
+        return places.astype(numpy.uintp) * ctypes.sizeof(_library.CGeometry) + self.kept.address(0)
 
     def has_shape(self) -> bool:
         """Whether a geometry is kept that isn't empty."""

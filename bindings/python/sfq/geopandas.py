@@ -57,7 +57,9 @@ class Index:
             found.append(numpy.frombuffer(room, dtype=numpy.uintp, count=2 * count).reshape(-1, 2).astype(numpy.intp))
         return numpy.concatenate(found).T
 
-    query_bulk = query
+    def query_bulk(self, *words: Any, **more: Any) -> Any:
+        """The same by the name that it has before version 1.0."""
+        return self.query(*words, **more)
 
 
 def with_index(frame: Any, index: Index) -> Any:
