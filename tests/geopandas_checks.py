@@ -1,6 +1,8 @@
 """Checks of sfq.geopandas, for test_geopandas.py, which runs each class by the Python that has GeoPandas."""
+import doctest
 import json
 import math
+import os
 import pickle
 import random
 import unittest
@@ -22,6 +24,8 @@ from sfq import _grid, _library, _wkb
 
 # The predicates that GeoPandas joins by. It has `covered_by` too, which fails in version 0.12 over rtree.
 SHARED = ("intersects", "within", "contains", "overlaps", "crosses", "touches", "covers", "contains_properly")
+# A layer of Debian's package r-cran-sf.
+COUNTIES = "/usr/lib/R/site-library/sf/shape/nc.shp"
 BOW = Polygon([(0, 0), (4, 4), (4, 0), (0, 4)])
 
 
@@ -171,6 +175,10 @@ class Joins(unittest.TestCase):
         self.assertEqual((len(found), found.crs.to_epsg(), len(said)), (1, 25832, 1))
         self.assertIn("CRS mismatch", str(said[0].message))
 
+    def test_the_example_of_the_module(self):
+        found = quiet(doctest.testmod, sfq.geopandas)
+        self.assertEqual((found.failed, found.attempted > 3), (0, True))
+
     def test_frames_stay_as_they_were(self):
         left, right = frame([Point(1.25, 1), Point(2, 2)]), frame([box(0, 0, 9, 9)])
         before = left.copy(), right.copy()
@@ -259,7 +267,7 @@ class Grids(unittest.TestCase):
             "narrow": "V1 0: this line or ring has too few positions that differ",
         })
         self.assertEqual(set(error.rows.side), {"left"})
-        self.assertRegex(str(error), r"^sfq: left: 7 refused: row 'bow': V3 0: .*; row 'z': .*; row 'many': .*; and 4 more; the step 50 from the origin 0,0 takes all positions; on_invalid='warn'")
+        self.assertRegex(str(error), r"^sfq: left: 7 refused: row 'bow': V3 0: .*; row 'z': .*; row 'many': .*; and 4 more; the step 100 from the origin 0,0 takes all positions; on_invalid='warn'")
         found, said = warned(sfq.geopandas.sjoin, left, right, step="0.01", on_invalid="warn", how="left")
         self.assertEqual([it.category for it in said], [sfq.geopandas.LeftOutWarning])
         self.assertEqual(said[0].filename, __file__)
@@ -393,6 +401,12 @@ class Layers(unittest.TestCase):
         on_grid = rounded(countries.geometry, "0.00002")
         wanted = [None if it is None else it.relate(on_grid.iloc[43]) for it in on_grid]
         self.assertEqual(relate.tolist(), wanted)
+
+    @unittest.skipUnless(os.path.isfile(COUNTIES), "needs the package r-cran-sf")
+    def test_counties(self):
+        counties = geopandas.read_file(COUNTIES)
+        counts = self.compare(counties, counties, "0.000001", ("touches", "intersects"), ("-80", "35"))
+        self.assertGreater(counts["touches"], 400)
 
     def test_boroughs(self):
         """Of five, two have more positions than sfq takes."""

@@ -161,14 +161,14 @@ class Binaries(test_library.PlayedCalls, test_library.WithLibrary):
         return lines_of_calls()
 
     def test_values_and_joins_by_chance(self):
-        for seed in range(1, 4):
-            self.fuzz(seed, 10_000, "fuzz_binaries")
+        for seed in range(1, 3):
+            self.fuzz(seed, 5_000, "fuzz_binaries")
 
     @needs("valgrind", "valgrind")
     def test_values_by_chance_under_valgrind(self):
         words = ["valgrind", "-q", "--leak-check=full", "--show-leak-kinds=all", "--error-exitcode=9"]
         program = self.program("fuzz_binaries", *test_library.SHARED, of=["fuzz_binaries"])
-        ran = subprocess.run([*words, program, "5", "400"], capture_output=True, text=True)
+        ran = subprocess.run([*words, program, "5", "200"], capture_output=True, text=True)
         self.assertEqual((ran.returncode, ran.stdout, ran.stderr), (0, "", ""))
 
 
