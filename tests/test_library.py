@@ -268,7 +268,7 @@ class WithLibrary(engine_rows.WithLibrary):
     def tearDownClass(cls):
         cls.room.cleanup()
 
-    def program(self, name, *words, of=("calls", "kept", "whys", "indexes", "databases", "rows")):
+    def program(self, name, *words, of=("calls", "kept", "whys", "indexes", "binaries", "databases", "rows")):
         """Compiles the program, and returns its path."""
         to = f"{self.room.name}/{name}"
         flags = ["-std=c99", "-Wall", "-Wextra", "-Werror", "-g", f"-I{ROOT}/bindings/c", "-pthread"]
@@ -282,10 +282,10 @@ class WithLibrary(engine_rows.WithLibrary):
     def calling(self, words, calls):
         return subprocess.run(words, input="\n".join(calls) + "\n", capture_output=True, text=True)
 
-    def fuzz(self, seed, count):
+    def fuzz(self, seed, count, name="fuzz"):
         """Hands in bytes and numbers by chance, to the library and to one in a program that sanitizers watch."""
         for words in (SHARED, ["-fsanitize=address,undefined", *STATIC]):
-            ran = subprocess.run([self.program("fuzz", *words, of=["fuzz"]), str(seed), str(count)], capture_output=True)
+            ran = subprocess.run([self.program(name, *words, of=[name]), str(seed), str(count)], capture_output=True)
             self.assertEqual((ran.returncode, ran.stdout, ran.stderr), (0, b"", b""), f"seed {seed}")
 
     def compare_with_the_program(self, chance, count, by_the_program):

@@ -120,6 +120,7 @@ LISTS = [
     Place(LIBRARY, r"^TYPES = ", r'"(\w+)"', NUMBERED, r"\)\n"),
     Place(LIBRARY, r"^RELATIONS = ", r'"(\w+)"', [lower(it) for it in RELATIONS], r"\)\n"),
     Place("bindings/python/sfq/__init__.py", r"^    def _holds", r'_holds\("(\w+)"', [lower(it) for it in RELATIONS], r"\n\n\n"),
+    Place("bindings/python/sfq/geopandas.py", r"^equals = ", r'predicate_of\("(\w+)"', [lower(it) for it in RELATIONS]),
     Place("bindings/python/sfq/_texts.py", r"^TYPES = ", r'"(\w+)":', list(SHAPES.values()), r"\}\n", True),
     Place(
         "bindings/python/sfq/_wkb.py", r"^WORDS = ", r'(\d): "(\w+)"', [(str(at), it.upper()) for at, it in enumerate(NUMBERED, 1)], r"\}\n"

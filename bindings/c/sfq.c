@@ -5,6 +5,9 @@
  */
 #include "sfq.h"
 
+#include "binary.h"
+
+#include <stdlib.h>
 #include <string.h>
 
 /* ---- the proved calls, as crates/sfq_c/src declares them ---- */
@@ -192,6 +195,14 @@ void sfq_free(sfq_geometry *geometry)
     }
 }
 
+void sfq_free_many(sfq_geometry *geometries, size_t count)
+{
+    size_t i;
+    for (i = 0; i < count; i++) {
+        sfq_free(&geometries[i]);
+    }
+}
+
 int sfq_relate(sfq_geometry *first, sfq_geometry *second, char matrix[10])
 {
     struct kept one = empty_slot, two = empty_slot;
@@ -268,6 +279,20 @@ int sfq_holds(uint32_t relation, sfq_geometry *first, sfq_geometry *second, bool
         *answer = found;
     }
     return (int)status;
+}
+
+int sfq_holds_many(uint32_t relation, sfq_geometry *const *first, sfq_geometry *const *second, size_t count, bool *answers, size_t *done)
+{
+    int status = SFQ_OK;
+    size_t i;
+    for (i = 0; i < count; i++) {
+        status = sfq_holds(relation, first[i], second[i], &answers[i]);
+        if (status != SFQ_OK) {
+            break;
+        }
+    }
+    *done = i;
+    return status;
 }
 
 int sfq_relate_pattern(sfq_geometry *first, sfq_geometry *second, const char *pattern, size_t length, bool *answer)
@@ -365,6 +390,108 @@ int sfq_locate_many(sfq_geometry *geometry, const int32_t *coordinates, size_t c
     return status;
 }
 
+/* ---- well-known binary ---- */
+
+/* Adds what rounding did to one geometry. */
+static void add_shift(sfq_shift *all, const sfq_shift *one)
+{
+    if (all != NULL) {
+        all->positions += one->positions;
+        all->moved += one->moved;
+        all->merged += one->merged;
+        all->greatest = one->greatest > all->greatest ? one->greatest : all->greatest;
+        all->total += one->total;
+    }
+}
+
+/* Reads one value, by axes and room that are there. */
+static int read_taken(struct binary *it, const void *binary, size_t length, sfq_geometry *geometry, sfq_shift *shift, sfq_fault *fault)
+{
+    uint32_t type;
+    int status;
+    if (geometry->kept != NULL) {
+        return SFQ_NO_GEOMETRY;
+    }
+    type = take_apart(it, binary, count_of(binary, length));
+    if (it->status == SFQ_REFUSED && fault != NULL) {
+        *fault = it->fault;
+    }
+    if (it->status != SFQ_OK) {
+        return it->status;
+    }
+    status = sfq_read_positions(type, it->coordinates, it->count, it->lines, it->line_count, it->polygons, it->polygon_count, geometry, fault);
+    if (status == SFQ_OK) {
+        add_shift(shift, &it->shift);
+    }
+    return status;
+}
+
+int sfq_read_binary(const sfq_grid *grid, const void *binary, size_t length, sfq_geometry *geometry, int32_t *system,
+                    sfq_shift *shift, sfq_fault *fault)
+{
+    struct binary *it = malloc(sizeof *it);
+    int status = SFQ_UNKNOWN;
+    if (it == NULL) {
+        return SFQ_OUT_OF_MEMORY;
+    }
+    if (make_axes(it, grid)) {
+        status = read_taken(it, binary, length, geometry, shift, fault);
+    }
+    if (status == SFQ_OK && system != NULL) {
+        *system = it->system;
+    }
+    free(it);
+    return status;
+}
+
+int sfq_read_binaries(const sfq_grid *grid, const void *binaries, const size_t *lengths, size_t count, sfq_geometry *geometries,
+                      uint32_t *statuses, sfq_fault *faults, sfq_shift *shift, size_t *done)
+{
+    struct binary *it = malloc(sizeof *it);
+    const unsigned char *at = binaries;
+    int status = it == NULL ? SFQ_OUT_OF_MEMORY : make_axes(it, grid) ? SFQ_OK : SFQ_UNKNOWN;
+    size_t i;
+    for (i = 0; status == SFQ_OK && i < count; i++) {
+        int found = lengths[i] == 0 ? SFQ_NONE : read_taken(it, at, lengths[i], &geometries[i], shift, &faults[i]);
+        if (found == SFQ_OUT_OF_MEMORY) {
+            status = found;
+            break;
+        }
+        statuses[i] = (uint32_t)found;
+        at += lengths[i];
+    }
+    *done = i;
+    free(it);
+    return status;
+}
+
+int sfq_binaries_extent(const void *binaries, const size_t *lengths, size_t count, double extent[4])
+{
+    struct binary *it = malloc(sizeof *it);
+    const unsigned char *at = binaries;
+    bool begins = true;
+    size_t i;
+    int end;
+    if (it == NULL) {
+        return SFQ_OUT_OF_MEMORY;
+    }
+    it->measures = true;
+    for (i = 0; i < count; i++) {
+        take_apart(it, at, lengths[i]);
+        at += lengths[i];
+        if (it->status == SFQ_OK && it->positions > 0) {
+            for (end = 0; end < 4; end++) {
+                widen(extent + end / 2 * 2, it->extent[end], begins && end % 2 == 0);
+            }
+            begins = false;
+        }
+    }
+    free(it);
+    return begins ? SFQ_NONE : SFQ_OK;
+}
+
+/* ---- indexes ---- */
+
 int sfq_index_build(const int32_t *bounds, size_t count, sfq_index *index, size_t *position)
 {
     static const struct bounds none = SFQ_NO_BOUNDS;
@@ -409,6 +536,124 @@ void sfq_index_free(sfq_index *index)
         index->kept = NULL;
     }
 }
+
+/* The bounds of a geometry, or those that an empty one has. */
+static void write_bounds(sfq_geometry *geometry, int32_t bounds[4])
+{
+    static const int32_t none[4] = SFQ_NO_BOUNDS;
+    if (sfq_envelope(geometry, bounds) != SFQ_OK) {
+        memcpy(bounds, none, sizeof none);
+    }
+}
+
+int sfq_index_geometries(sfq_geometry *geometries, size_t count, sfq_index *index)
+{
+    int32_t *bounds = count <= SIZE_MAX / 16 ? malloc(count > 0 ? count * 16 : 1) : NULL;
+    int status;
+    size_t i;
+    if (bounds == NULL) {
+        return SFQ_OUT_OF_MEMORY;
+    }
+    for (i = 0; i < count; i++) {
+        write_bounds(&geometries[i], bounds + 4 * i);
+    }
+    status = sfq_index_build(bounds, count, index, NULL);
+    free(bounds);
+    return status;
+}
+
+/* ---- joins ---- */
+
+/* One geometry of a join, and those with which it may be in a pair: the candidates, whose envelopes meet its own. */
+struct join {
+    uint32_t relation;
+    size_t place;
+    sfq_geometry *geometry, *second;
+    const size_t *candidates;
+    size_t count;
+};
+
+/* Writes the pairs of one geometry. A pair is written in front of the candidates that are left. */
+static int join_one(const struct join *it, size_t *room, size_t *pairs)
+{
+    bool answer;
+    int status;
+    size_t i;
+    for (i = 0; i < it->count; i++) {
+        size_t place = it->candidates[i];
+        if (is_there(&it->second[place])) {
+            status = sfq_holds(it->relation, it->geometry, &it->second[place], &answer);
+            if (status != SFQ_OK) {
+                return status;
+            }
+            if (answer) {
+                room[2 * *pairs] = it->place;
+                room[2 * *pairs + 1] = place;
+                ++*pairs;
+            }
+        }
+    }
+    return SFQ_OK;
+}
+
+/* The same of disjoint ones, of all geometries: those that are no candidates are. */
+static int join_disjoint(const struct join *it, size_t second_count, size_t *room, size_t *pairs)
+{
+    bool answer;
+    int status;
+    size_t i = 0, place;
+    for (place = 0; place < second_count; place++) {
+        bool is_candidate = i < it->count && it->candidates[i] == place;
+        i += is_candidate;
+        answer = is_there(&it->second[place]);
+        if (answer && is_candidate) {
+            status = sfq_holds(SFQ_DISJOINT, it->geometry, &it->second[place], &answer);
+            if (status != SFQ_OK) {
+                return status;
+            }
+        }
+        if (answer) {
+            room[2 * *pairs] = it->place;
+            room[2 * *pairs + 1] = place;
+            ++*pairs;
+        }
+    }
+    return SFQ_OK;
+}
+
+int sfq_join(uint32_t relation, sfq_geometry *first, size_t *next, size_t end, sfq_geometry *second, size_t second_count,
+             sfq_index *index, size_t *room, size_t size, size_t *pairs)
+{
+    size_t found = 0, place;
+    int status = relation < SFQ_RELATIONS ? SFQ_OK : SFQ_UNKNOWN;
+    for (place = *next; status == SFQ_OK && place < end; place++) {
+        struct join it = { relation, place, &first[place], second, NULL, 0 };
+        int32_t window[4];
+        if (!is_there(it.geometry)) {
+            continue;
+        }
+        write_bounds(it.geometry, window);
+        status = sfq_index_search(index, window, room + 2 * found, 2 * (size - found), &it.count);
+        if (status == SFQ_OK && (relation == SFQ_DISJOINT ? second_count : it.count) > size - found) {
+            status = SFQ_TOO_SMALL;
+        }
+        if (status == SFQ_TOO_SMALL) {
+            status = place > *next ? SFQ_OK : status;
+            break;
+        }
+        if (status == SFQ_OK) {
+            it.candidates = memmove(room + 2 * size - it.count, room + 2 * found, it.count * sizeof *room);
+            status = relation == SFQ_DISJOINT ? join_disjoint(&it, second_count, room, &found) : join_one(&it, room, &found);
+        }
+    }
+    if (status == SFQ_OK) {
+        *next = place;
+        *pairs = found;
+    }
+    return status;
+}
+
+/* ---- why ---- */
 
 int sfq_why(sfq_geometry *first, sfq_geometry *second, char *room, size_t size, size_t *length)
 {

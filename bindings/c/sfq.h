@@ -3,7 +3,7 @@
  *
  * Geometries are points, lines and areas on a grid of whole coordinates, each from -10,000,000 to 10,000,000, with at most
  * 10,000 positions and 1,000 rings or elements. The proof ends at the calls of the crate sfq_c, by which bindings/c/sfq.c makes
- * those of this header: sfq.c itself is tested, not proved.
+ * those of this header: sfq.c itself is tested, not proved, and so is binary.h, which takes well-known binary apart.
  *
  * Statuses. Each call returns one of the statuses below. Unless it is SFQ_OK, what the call would have written is as it was
  * before; what differs from that is said at the call.
@@ -89,6 +89,27 @@ typedef struct sfq_index {
 
 #define SFQ_EMPTY { NULL }
 
+/*
+ * A grid for the coordinates of a source: x becomes the whole number that is nearest to (x - origin) / step, and of two that are as
+ * near the greater one. Step and origin count parts of the source's unit: 1, 56400000, 0 and 100 are a step of 0.01 and the origin
+ * 564000 0. The step and the parts are from 1 to 10^15, and the origin is at most 10^14 steps away from 0.
+ */
+typedef struct sfq_grid {
+    int64_t step;
+    int64_t origin_x;
+    int64_t origin_y;
+    int64_t parts;
+} sfq_grid;
+
+/* What rounding did. Distances are in the source's unit; what is below the error of a double counts as 0. */
+typedef struct sfq_shift {
+    size_t positions; /* how many there were */
+    size_t moved;     /* how many of them aren't on the grid */
+    size_t merged;    /* how many became the same as the one before them on a line or ring, and were left out */
+    double greatest;  /* by how much one moved at most */
+    double total;     /* by how much all of them moved together */
+} sfq_shift;
+
 /* The relations of two geometries (06-103r4, 6.1.15.3). The last three are patterns that engines besides have. */
 enum sfq_relation {
     SFQ_EQUALS = 0,
@@ -163,6 +184,9 @@ int sfq_read_positions(uint32_t type, const int32_t *coordinates, size_t positio
 /* Frees what a geometry holds, and leaves it empty. Null and an empty one do nothing. */
 void sfq_free(sfq_geometry *geometry);
 
+/* The same of each of `count` geometries. */
+void sfq_free_many(sfq_geometry *geometries, size_t count);
+
 /* The DE-9IM matrix of two geometries: nine characters, and a 0 after them. They may be the same. */
 int sfq_relate(sfq_geometry *first, sfq_geometry *second, char matrix[10]);
 
@@ -213,6 +237,42 @@ int sfq_locate(sfq_geometry *geometry, int32_t x, int32_t y, uint32_t *place);
  */
 int sfq_locate_many(sfq_geometry *geometry, const int32_t *coordinates, size_t count, uint32_t *places, size_t *done);
 
+/*
+ * Whether a relation of `sfq_relation` holds of each of `count` pairs, of `first[i]` and `second[i]`. `done` and the first pair whose
+ * status isn't SFQ_OK are as in sfq_relate_many.
+ */
+int sfq_holds_many(uint32_t relation, sfq_geometry *const *first, sfq_geometry *const *second, size_t count, bool *answers, size_t *done);
+
+/* ---- well-known binary ---- */
+
+/*
+ * Reads a valid geometry from well-known binary (06-103r4, 8.2), in either order of bytes, and keeps it in `geometry`, which has to be
+ * empty. Its coordinates are rounded to the grid; where that is null they have to be whole numbers. A position that is the same as the
+ * one before it on a line or ring is left out. `system` is the number of the reference system that PostGIS and GEOS may write, else 0.
+ * The shift is added to what it has. Each of the last three may be null where it isn't wanted.
+ *
+ * SFQ_UNKNOWN for a type that isn't an `sfq_type` or has a Z or an M, for an element of a MULTI type or a ring that is empty, and for
+ * a grid that is none. A fault is the first one: W1 with the byte at which the value isn't such a binary, ends too soon, goes on, or
+ * has a coordinate that is infinite or no number; W2 or W3 with the number of the position, from 0, that isn't whole or is past the
+ * limit; W4; else one of V1 to V8.
+ */
+int sfq_read_binary(const sfq_grid *grid, const void *binary, size_t length, sfq_geometry *geometry, int32_t *system,
+                    sfq_shift *shift, sfq_fault *fault);
+
+/*
+ * The same of `count` values, which are one behind the other, with these lengths: `geometries[i]`, its status, and the fault where that
+ * is SFQ_REFUSED. A value of no bytes leaves its geometry empty, with the status SFQ_NONE. `shift` may be null. `done` is written in
+ * any case: how many values were read. The call returns SFQ_OK; or SFQ_OUT_OF_MEMORY, or SFQ_UNKNOWN for a grid that is none.
+ */
+int sfq_read_binaries(const sfq_grid *grid, const void *binaries, const size_t *lengths, size_t count, sfq_geometry *geometries,
+                      uint32_t *statuses, sfq_fault *faults, sfq_shift *shift, size_t *done);
+
+/*
+ * The least x, the greatest x, the least y and the greatest y of `count` such values, as they are. A value that can't be taken apart
+ * is left out. SFQ_NONE where there is no position.
+ */
+int sfq_binaries_extent(const void *binaries, const size_t *lengths, size_t count, double extent[4]);
+
 /* ---- indexes of envelopes ---- */
 
 /* The four bounds of the envelope of an empty geometry. */
@@ -237,6 +297,22 @@ int sfq_index_search(sfq_index *index, const int32_t window[4], size_t *room, si
 
 /* Frees what an index holds, and leaves it empty. Null and an empty one do nothing. */
 void sfq_index_free(sfq_index *index);
+
+/* Makes an index of the envelopes of `count` geometries. One that holds none has SFQ_NO_BOUNDS there, as an empty geometry has. */
+int sfq_index_geometries(sfq_geometry *geometries, size_t count, sfq_index *index);
+
+/*
+ * A join: the pairs of a geometry of `first`, from the place `*next` up to `end`, and one of the `second_count` of `second`, of which a
+ * relation of `sfq_relation` holds. `index` is that of `second`, by sfq_index_geometries. `room` has places for `size` pairs, the place
+ * of the first geometry and that of the second, from 0; `pairs` is how many there are. They ascend by the first, then the second. A
+ * geometry that holds none is in no pair.
+ *
+ * The call ends before a geometry whose pairs may not fit any more, and `*next` is its place, or `end`. Where that is the one with
+ * which it began, the status is SFQ_TOO_SMALL; `second_count` pairs are room enough for any. On another status than SFQ_OK, `*next` and
+ * `pairs` are as they were, and the room may be written.
+ */
+int sfq_join(uint32_t relation, sfq_geometry *first, size_t *next, size_t end, sfq_geometry *second, size_t second_count,
+             sfq_index *index, size_t *room, size_t size, size_t *pairs);
 
 /* ---- why ---- */
 

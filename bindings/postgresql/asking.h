@@ -9,7 +9,6 @@
  */
 #include "utils/memutils.h"
 
-#include "binary.h"
 #include "faults.h"
 #include "keeping.h"
 
@@ -58,6 +57,16 @@ static int read_both(FunctionCallInfo fcinfo, struct memory *memory, sfq_fault *
 {
     int status = read_argument(&memory->kept[0], PG_GETARG_RAW_VARLENA_P(0), fault);
     return status != SFQ_OK ? status : of_second(read_argument(&memory->kept[1], PG_GETARG_RAW_VARLENA_P(1), fault));
+}
+
+/*
+ * Reads a value in PostGIS's binary form in place of what is kept, and keeps it under its bytes as they are stored. What isn't on the
+ * grid, isn't of the six types or isn't valid isn't taken: the text of it then says what is wrong.
+ */
+static int keep_binary(struct kept *kept, const char *bytes, size_t size, const void *value, size_t length, int32_t *system)
+{
+    forget(kept);
+    return keep_under(kept, bytes, size, sfq_read_binary(NULL, value, length, &kept->geometry, system, NULL, NULL));
 }
 
 /* Reads both arguments from their binary form. False where one of them isn't taken, isn't valid, or they have different systems. */

@@ -6,7 +6,7 @@
  *     relate FIRST SECOND   prints the status, and the matrix or the fault
  *     answer FIRST SECOND   prints the status, the matrix and a digit for each relation, or the fault
  *
- * and those of kept.c, whys.c, indexes.c, databases.c and rows.c. With the word `refuse` the program refuses each allocation of each
+ * and those of kept.c, whys.c, indexes.c, binaries.c, databases.c and rows.c. With the word `refuse` the program refuses each allocation of each
  * call in turn. With `threads` four threads make all calls at once, many times, each on a stack of STACK bytes, or of the number
  * after that word. It prints what differs from the first time, and ends with status 1 then.
  */
@@ -81,6 +81,8 @@ static struct printed run(char *const words[WORDS])
         return run_why(words);
     if (is_index_call(words))
         return run_index(words);
+    if (is_binary_call(words))
+        return run_binary(words);
     if (is_database_call(words))
         return run_database(words);
     if (is_row_call(words))
@@ -218,8 +220,8 @@ void free(void *old)
 /* Whether this is what a call prints whose memory was refused once. */
 static bool is_of_refusal(const char *text, int i)
 {
-    if (is_kept_call(calls[i]) || is_why_call(calls[i]) || is_index_call(calls[i]) || is_database_call(calls[i])
-        || is_row_call(calls[i]))
+    if (is_kept_call(calls[i]) || is_why_call(calls[i]) || is_index_call(calls[i]) || is_binary_call(calls[i])
+        || is_database_call(calls[i]) || is_row_call(calls[i]))
         return strncmp(text, "3 ", 2) == 0 && strcmp(text + 2, found[i].text) == 0;
     return strcmp(text, "3") == 0;
 }

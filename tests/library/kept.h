@@ -1,4 +1,4 @@
-/* What calls.c, kept.c, whys.c, indexes.c, databases.c and rows.c share. */
+/* What calls.c, kept.c, whys.c, indexes.c, binaries.c, databases.c and rows.c share. */
 #ifndef KEPT_H
 #define KEPT_H
 
@@ -32,6 +32,12 @@ bool is_index_call(char *const words[WORDS]);
 
 /* Makes such a call. */
 struct printed run_index(char *const words[WORDS]);
+
+/* Whether the words are a call over well-known binary, or a join. */
+bool is_binary_call(char *const words[WORDS]);
+
+/* Makes such a call. */
+struct printed run_binary(char *const words[WORDS]);
 
 /* Whether the words are a call over a database. */
 bool is_database_call(char *const words[WORDS]);

@@ -46,7 +46,7 @@ class Fault(NamedTuple):
 
 
 class PositionFault(Fault):
-    """Why numbers aren't those of a valid geometry. `first` of W3 is the number of the position, from 0."""
+    """Why numbers aren't those of a valid geometry. `first` of W2 and W3 is the number of the position, from 0."""
 
     __slots__ = ()
 
@@ -58,7 +58,7 @@ class PositionFault(Fault):
     @property
     def place(self) -> str:
         """The code with its places: `W3 at position 2`, `V4 0 1`."""
-        return f"W3 at position {self.first}" if self.code == "W3" else super().place
+        return f"{self.code} at position {self.first}" if self.code in ("W2", "W3") else super().place
 
 
 class FaultError(ValueError):

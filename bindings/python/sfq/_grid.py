@@ -123,6 +123,12 @@ class Grid:
         """Returns the grid that a grid.json describes."""
         return cls(found["step"], found["origin"])
 
+    def in_parts(self) -> tuple[int, int, int, int]:
+        """Returns the step, both coordinates of the origin, and how many parts of the source's unit these count."""
+        parts = 10 ** max(self.x.digits, self.y.digits)
+        step, x, y = (int(it * parts) for it in (self.x.step, self.x.origin, self.y.origin))
+        return step, x, y, parts
+
     def rounded(self, numbers: Sequence[float], shift: Shift, merges: bool = True) -> list[tuple[int, int]]:
         """Returns the positions of doubles, an x and a y for each, and counts how far they moved.
 

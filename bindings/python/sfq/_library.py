@@ -17,6 +17,8 @@ from typing import Any, Callable, Iterable, Iterator, Optional, Sequence
 from ._faults import Fault, FaultError, LibraryError, PositionFault
 
 OK, REFUSED, OUT_OF_MEMORY, UNKNOWN, TOO_SMALL, NONE = 0, 1, 3, 4, 5, 6
+# How much one call takes of values, of geometries of a join and of pairs, so that Ctrl-C need not wait for all.
+AT_ONCE, JOINED_AT_ONCE = 20_000, 1_000
 # The types, by the numbers of sfq_type.
 TYPES = ("Point", "LineString", "Polygon", "MultiPoint", "MultiLineString", "MultiPolygon")
 # The relations, by the numbers of sfq_relation.
@@ -85,6 +87,21 @@ class CIndex(ctypes.Structure):
     _fields_ = [("kept", ctypes.c_void_p)]
 
 
+class CGrid(ctypes.Structure):
+    """The struct sfq_grid."""
+
+    _fields_ = [(it, ctypes.c_int64) for it in ("step", "origin_x", "origin_y", "parts")]
+
+
+class CShift(ctypes.Structure):
+    """The struct sfq_shift: what rounding did."""
+
+    _fields_ = [
+        ("positions", ctypes.c_size_t), ("moved", ctypes.c_size_t), ("merged", ctypes.c_size_t),
+        ("greatest", ctypes.c_double), ("total", ctypes.c_double),
+    ]
+
+
 def declare(found: ctypes.CDLL) -> ctypes.CDLL:
     """Declares the calls, as sfq.h does."""
     geometry, fault = ctypes.POINTER(CGeometry), ctypes.POINTER(CFault)
@@ -108,7 +125,21 @@ def declare(found: ctypes.CDLL) -> ctypes.CDLL:
     for name in ("check", "read", "read_positions", "relate", "relate_many", "relate_points", "holds", "text", "locate_many", "dimension",
                  "is_empty", "envelope", "why", "reason"):
         getattr(found, f"sfq_{name}").restype = ctypes.c_int
-    return declare_indexes(found)
+    return declare_many(declare_indexes(found))
+
+
+def declare_many(found: ctypes.CDLL) -> ctypes.CDLL:
+    """Declares the calls over many geometries. Arrays are pointers to their first item."""
+    many, count, number = ctypes.c_void_p, ctypes.c_size_t, ctypes.c_uint32
+    found.sfq_read_binaries.argtypes = [ctypes.POINTER(CGrid), ctypes.c_char_p, many, count, many, many, many, many, many]
+    found.sfq_binaries_extent.argtypes = [ctypes.c_char_p, many, count, ctypes.c_double * 4]
+    found.sfq_free_many.argtypes, found.sfq_free_many.restype = [many, count], None
+    found.sfq_holds_many.argtypes = [number, many, many, count, many, many]
+    found.sfq_index_geometries.argtypes = [many, count, ctypes.POINTER(CIndex)]
+    found.sfq_join.argtypes = [number, many, many, count, many, count, ctypes.POINTER(CIndex), many, count, many]
+    for name in ("read_binaries", "binaries_extent", "holds_many", "index_geometries", "join"):
+        getattr(found, f"sfq_{name}").restype = ctypes.c_int
+    return found
 
 
 def declare_indexes(found: ctypes.CDLL) -> ctypes.CDLL:
@@ -237,11 +268,9 @@ def relate_many(pairs: Sequence[tuple[Kept, Kept]]) -> list[str]:
     for index, pair in enumerate(pairs):
         need_valid(pair[0], pair[1], index)
     count = len(pairs)
-    room, done = ctypes.create_string_buffer(9 * count + 1), ctypes.c_size_t()
     with held(kept for pair in pairs for kept in pair):
-        sides = [(ctypes.c_void_p * count)(*(ctypes.addressof(pair[side].geometry) for pair in pairs)) for side in (0, 1)]
-        need_ok(library().sfq_relate_many(*sides, count, room, ctypes.byref(done)))
-    return matrices(room, count)
+        firsts, seconds = ((ctypes.c_void_p * count)(*(ctypes.addressof(it[side].geometry) for it in pairs)) for side in (0, 1))
+        return relate_addresses(firsts, seconds, count)
 
 
 def relate_points(coordinates: Any, others: Sequence[Kept]) -> list[str]:
@@ -373,3 +402,96 @@ class KeptIndex:
     def _ask(self, window: Any, found: Any) -> int:
         index = ctypes.byref(self.index)
         return int(library().sfq_index_search(index, window, self.room, len(self.room), ctypes.byref(found)))
+
+
+class KeptMany:
+    """What the library keeps of geometries in well-known binary, in their order: nothing of one that has no bytes or is refused.
+
+    The grid is a step, an origin and the parts of the unit that they count, or None for whole numbers. They are handed to one call at
+    a time by whoever made them, so there is no lock.
+    """
+
+    __slots__ = ("count", "geometries", "statuses", "faults", "shift", "_index")
+
+    def __init__(self, binaries: Sequence[bytes], grid: Optional[tuple[int, int, int, int]]) -> None:
+        self.count, self._index, self.shift = 0, CIndex(), CShift()
+        library()
+        self.count = len(binaries)
+        self.geometries, self.statuses = (CGeometry * self.count)(), (ctypes.c_uint32 * self.count)()
+        self.faults, of_grid = (CFault * self.count)(), ctypes.byref(CGrid(*grid)) if grid else None
+        for at in range(0, self.count, AT_ONCE):
+            self._read(binaries[at:at + AT_ONCE], at, of_grid)
+
+    def _read(self, binaries: Sequence[bytes], at: int, grid: Any) -> None:
+        lengths, done = (ctypes.c_size_t * len(binaries))(*map(len, binaries)), ctypes.c_size_t()
+        arrays: tuple[Any, ...] = (self.geometries, self.statuses, self.faults)
+        places = (ctypes.addressof(it) + at * ctypes.sizeof(it._type_) for it in arrays)
+        need_ok(library().sfq_read_binaries(
+            grid, b"".join(binaries), lengths, len(binaries), *places, ctypes.addressof(self.shift), ctypes.addressof(done)
+        ))
+
+    def __del__(self) -> None:
+        if self.count:
+            library().sfq_index_free(ctypes.byref(self._index))
+            library().sfq_free_many(self.geometries, self.count)
+
+    def address(self, place: int) -> int:
+        """Returns where the geometry at a place is."""
+        return ctypes.addressof(self.geometries) + place * ctypes.sizeof(CGeometry)
+
+    def fault(self, place: int) -> Fault:
+        """Returns the fault of the geometry at a place, which is refused."""
+        return self.faults[place].read(PositionFault)
+
+    def index(self) -> CIndex:
+        """Returns the index of the envelopes, made when it is first needed."""
+        if self._index.kept is None:
+            need_ok(library().sfq_index_geometries(self.geometries, self.count, ctypes.byref(self._index)))
+        return self._index
+
+
+def extent(binaries: Sequence[bytes]) -> Optional[tuple[float, float, float, float]]:
+    """Returns the least x, the least y, the greatest x and the greatest y of geometries in well-known binary, None where there are none."""
+    found, lengths = (ctypes.c_double * 4)(), (ctypes.c_size_t * len(binaries))(*map(len, binaries))
+    status = library().sfq_binaries_extent(b"".join(binaries), lengths, len(binaries), found)
+    if status == NONE:
+        return None
+    need_ok(status)
+    return found[0], found[2], found[1], found[3]
+
+
+def joined(relation: int, first: KeptMany, second: KeptMany) -> Iterator[tuple[Any, int]]:
+    """Yields rooms of pairs of which the relation of this number holds, and how many pairs each has: the places of both, ascending."""
+    at, pairs, size = ctypes.c_size_t(), ctypes.c_size_t(), 65_536
+    index, places = ctypes.byref(second.index()), [ctypes.addressof(it) for it in (at, pairs)]
+    room = (ctypes.c_size_t * (2 * size))()
+    while at.value < first.count:
+        end = min(at.value + JOINED_AT_ONCE, first.count)
+        status = library().sfq_join(
+            relation, first.geometries, places[0], end, second.geometries, second.count, index, room, size, places[1]
+        )
+        if status == TOO_SMALL:
+            size = second.count
+            room = (ctypes.c_size_t * (2 * size))()
+            continue
+        need_ok(status)
+        yield room, pairs.value
+
+
+def holds_many(relation: int, firsts: Any, seconds: Any, count: int, answers: Any) -> None:
+    """Writes whether the relation of this number holds of each pair, by the addresses of both geometries."""
+    done = ctypes.c_size_t()
+    need_ok(library().sfq_holds_many(relation, firsts, seconds, count, answers, ctypes.addressof(done)))
+
+
+def relate_addresses(firsts: Any, seconds: Any, count: int) -> list[str]:
+    """Returns the matrix of each pair, by the addresses of both geometries."""
+    room, done = ctypes.create_string_buffer(9 * count + 1), ctypes.c_size_t()
+    need_ok(library().sfq_relate_many(firsts, seconds, count, room, ctypes.byref(done)))
+    return matrices(room, count)
+
+
+def why_addresses(first: int, second: int) -> str:
+    """Returns the nine lines that show the cells of the matrix, by the addresses of both geometries."""
+    one, two = (CGeometry.from_address(it) for it in (first, second))
+    return handed_out(lambda *room: library().sfq_why(ctypes.byref(one), ctypes.byref(two), *room))

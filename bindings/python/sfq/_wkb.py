@@ -17,6 +17,8 @@ OTHERS = {
     13: "CURVE", 14: "SURFACE", 15: "POLYHEDRALSURFACE", 16: "TIN", 17: "TRIANGLE",
 }
 DIMENSIONS = ("", " Z", " M", " ZM")
+# Numbers of types are below the least flag.
+FLAGS = 1 << 29
 SWAPS = struct.pack("=H", 1) != struct.pack("<H", 1)
 
 
@@ -51,9 +53,12 @@ def numbers(binary: bytes, at: int, count: int) -> array[float]:
 
 
 def head(binary: bytes, at: int) -> tuple[int, int]:
-    """Returns the number of a flat type that sfq has, and the place after it. NoText of another."""
+    """Returns the number of a flat type that sfq has, and the place after it. NoText of another.
+
+    A Z or an M is in the number of the type, as GDAL writes it, or in a flag, as GEOS does.
+    """
     (code,) = struct.unpack_from("<I", binary, at + 1)
-    kind, dimensions = code % 1000, code // 1000
+    kind, dimensions = code % FLAGS % 1000, code % FLAGS // 1000 + (code >> 31) + 2 * (code >> 30 & 1)
     if kind not in WORDS or dimensions:
         word = WORDS.get(kind) or OTHERS.get(kind, "GEOMETRY")
         raise NoText(f"{word}{DIMENSIONS[dimensions] if dimensions < 4 else ''} (")

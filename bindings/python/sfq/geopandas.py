@@ -1,0 +1,245 @@
+"""GeoPandas with relations that are proved: a spatial join, predicates, matrices, validity, and what shows them.
+
+    >>> import geopandas, sfq.geopandas
+    >>> points = geopandas.GeoDataFrame(geometry=geopandas.points_from_xy([1, 9], [1, 9]))
+    >>> square = geopandas.GeoDataFrame({"name": ["a"]}, geometry=geopandas.GeoSeries.from_wkt(["POLYGON((0 0,4 0,4 4,0 4,0 0))"]))
+    >>> sfq.geopandas.sjoin(points, square, predicate="within")["name"].tolist()
+    ['a']
+
+Each function rounds positions to a grid, as sfq-import does, and says so by a RoundingWarning where one moved. `step` is the size of a
+step in the unit of the frames, and `origin` an x and a y; what isn't given is proposed from the extent and the unit. With the step None
+nothing is rounded, and a coordinate that isn't whole is refused. What is refused raises RefusedError, or counts as missing, with a
+LeftOutWarning, where `on_invalid` is "warn". `flat` drops a Z. What came of it is in `attrs["sfq"]` of each result.
+
+What the library says of the rounded geometries is proved; what is here isn't.
+"""
+from __future__ import annotations
+
+import warnings
+from typing import Any, Callable, Iterator, Optional
+
+import geopandas
+import numpy
+import pandas
+from shapely.geometry.base import BaseGeometry
+
+from . import Cell, _library
+from ._frames import (
+    AUTO, Column, LeftOutWarning, Options, Origin, RefusedError, RoundingWarning, Step, in_source, need_one_system, refuse, report, taken,
+)
+
+__all__ = [
+    "LeftOutWarning", "RefusedError", "RoundingWarning", "contains", "contains_properly", "covered_by", "covers", "crosses", "disjoint",
+    "equals", "intersects", "is_valid", "is_valid_reason", "overlaps", "relate", "sjoin", "touches", "why", "within",
+]
+# How many pairs are asked at once, so that Ctrl-C need not wait for all.
+PAIRS = 1_000
+
+
+# ---- the join ----
+
+
+class Index:
+    """What GeoPandas asks in place of the spatial index of one column, for the geometries of the other."""
+
+    def __init__(self, tree: Column, others: Column, predicate: str) -> None:
+        self.tree, self.others, self.predicate = tree, others, predicate
+
+    def __bool__(self) -> bool:
+        """Whether there is something to find. GeoPandas joins no empty geometry, by the predicates that it has."""
+        return self.predicate in ("equals", "disjoint") or self.tree.has_shape()
+
+    def query(self, _geometry: Any, predicate: Optional[str] = None, **_words: Any) -> Any:
+        """Returns the places of the other geometries and of those here of which the predicate holds, ascending."""
+        relation = _library.RELATIONS.index(predicate or self.predicate)
+        found = [numpy.zeros((0, 2), dtype=numpy.intp)]
+        for room, count in _library.joined(relation, self.others.kept, self.tree.kept):
+            found.append(numpy.frombuffer(room, dtype=numpy.uintp, count=2 * count).reshape(-1, 2).astype(numpy.intp))
+        return numpy.concatenate(found).T
+
+    def query_bulk(self, *words: Any, **more: Any) -> Any:
+        """The same by the name that it has before version 1.0."""
+        return self.query(*words, **more)
+
+
+def with_index(frame: Any, index: Index) -> Any:
+    """Returns a frame with the same data whose spatial index is this one."""
+    found = frame.copy(deep=False)
+    found.__class__ = type("Indexed", (type(frame),), {"sindex": index})
+    return found
+
+
+def sjoin(
+    left_df: Any, right_df: Any, how: str = "inner", predicate: str = "intersects", lsuffix: str = "left", rsuffix: str = "right", *,
+    step: Step = AUTO, origin: Origin = None, flat: bool = False, on_invalid: str = "raise", **words: Any,
+) -> Any:
+    """Returns the spatial join of two GeoDataFrames as geopandas.sjoin does, with the predicates of sfq.
+
+    `predicate` is one of GeoPandas' or `equals` or `disjoint`. The result has GeoPandas' columns, index and order of rows, those of
+    one row of the frame that is gone through ascending by the other's. A missing geometry is in no pair. An empty one is equal to
+    another one, disjoint from all, and in no other pair. ValueError where the frames have different reference systems.
+    """
+    for name, frame in (("left_df", left_df), ("right_df", right_df)):
+        if not isinstance(frame, geopandas.GeoDataFrame):
+            raise ValueError(f"'{name}' should be GeoDataFrame, got {type(frame)}")
+    if predicate not in _library.RELATIONS:
+        raise ValueError(f"sfq: a predicate is one of {', '.join(_library.RELATIONS)}, not {predicate!r}")
+    options = Options(step, origin, flat, on_invalid)
+    need_one_system(left_df, right_df)
+    series = left_df.geometry
+    sides = taken({"left": series, "right": series if right_df is left_df else right_df.geometry}, options)
+    refuse(sides, options, 3)
+    said, left, right = report(sides, options, 3), sides["left"], sides["right"]
+    found = geopandas.sjoin(
+        with_index(left_df, Index(left, right, predicate)), with_index(right_df, Index(right, left, predicate)), how=how,
+        predicate=predicate, lsuffix=lsuffix, rsuffix=rsuffix, **words,
+    )
+    found.attrs["sfq"] = said
+    return found
+
+
+# ---- pairs of rows ----
+
+
+class Pairs:
+    """The pairs of two GeoSeries, row by row, or of a GeoSeries and one geometry."""
+
+    def __init__(self, left: Any, right: Any, align: Optional[bool], options: Options) -> None:
+        one, other = aligned(left, right, align)
+        need_one_system(one, other)
+        sides = taken({"left": one, "right": other}, options)
+        refuse(sides, options, 4)
+        self.said = report(sides, options, 4)
+        self.index, self.left, self.right = one.index, sides["left"], sides["right"]
+        is_one = not isinstance(right, (geopandas.GeoSeries, geopandas.GeoDataFrame))
+        self.places = numpy.zeros(len(one), dtype=numpy.intp) if is_one else numpy.arange(len(one))
+        self.is_there = self.left.is_kept & self.right.is_kept[self.places]
+
+    def chunks(self) -> Iterator[tuple[Any, Any, Any]]:
+        """Yields places of rows that have both geometries, and where these are."""
+        there = numpy.flatnonzero(self.is_there)
+        for at in range(0, len(there), PAIRS):
+            rows = there[at:at + PAIRS]
+            yield rows, self.left.addresses(rows), self.right.addresses(self.places[rows])
+
+    def series(self, ask: Callable[[Any, Any], Any], missing: Any, kind: Any) -> Any:
+        """Returns what is said of each row, and what a row has that lacks a geometry. `ask` takes arrays of addresses."""
+        values = numpy.full(len(self.index), missing, dtype=kind)
+        for rows, firsts, seconds in self.chunks():
+            values[rows] = ask(firsts, seconds)
+        found = pandas.Series(values, index=self.index)
+        found.attrs["sfq"] = self.said
+        return found
+
+
+def aligned(left: Any, right: Any, align: Optional[bool]) -> tuple[Any, Any]:
+    """Returns two GeoSeries with the same rows, as GeoPandas aligns them; one geometry as a GeoSeries of its own."""
+    one = left.geometry
+    if not isinstance(right, (geopandas.GeoSeries, geopandas.GeoDataFrame)):
+        if not isinstance(right, BaseGeometry):
+            raise TypeError(f"sfq: the right side is a GeoSeries or a geometry of shapely, not {type(right).__name__}")
+        return one, geopandas.GeoSeries([right], crs=one.crs)
+    other = right.geometry
+    if align is not False and not one.index.equals(other.index):
+        if align is None:
+            warnings.warn("The indices of the two GeoSeries are different, and are aligned.", UserWarning, stacklevel=4)
+        first, second = one.align(other)
+        return first, second
+    if len(one) != len(other):
+        raise ValueError(f"Lengths of inputs do not match. Left: {len(one)}, Right: {len(other)}")
+    return one, other
+
+
+def predicate_of(name: str, says: str) -> Callable[..., Any]:
+    """Returns the function of a predicate of two GeoSeries, or of a GeoSeries and one geometry."""
+    relation = _library.RELATIONS.index(name)
+
+    def ask(firsts: Any, seconds: Any) -> Any:
+        answers = numpy.zeros(len(firsts), dtype=numpy.bool_)
+        _library.holds_many(relation, firsts.ctypes.data, seconds.ctypes.data, len(firsts), answers.ctypes.data)
+        return answers
+
+    def holds(
+        left: Any, right: Any, align: Optional[bool] = None, *, step: Step = AUTO, origin: Origin = None, flat: bool = False,
+        on_invalid: str = "raise",
+    ) -> Any:
+        return Pairs(left, right, align, Options(step, origin, flat, on_invalid)).series(ask, False, bool)
+
+    holds.__name__ = holds.__qualname__ = name
+    holds.__doc__ = f"Returns for each row whether {says}; False where a geometry is missing. `align` is as in `relate`."
+    return holds
+
+
+equals = predicate_of("equals", "both are the same set of points (06-103r4, 6.1.15.3)")
+disjoint = predicate_of("disjoint", "they share no point (06-103r4, 6.1.15.3)")
+intersects = predicate_of("intersects", "they share a point (06-103r4, 6.1.15.3)")
+touches = predicate_of("touches", "they share a point, and no point of both interiors (06-103r4, 6.1.15.3)")
+crosses = predicate_of("crosses", "they cross (06-103r4, 6.1.15.3)")
+within = predicate_of("within", "the interiors share a point, and none of the left one is outside the right (06-103r4, 6.1.15.3)")
+contains = predicate_of("contains", "the right one is within the left (06-103r4, 6.1.15.3)")
+overlaps = predicate_of("overlaps", "they overlap (06-103r4, 6.1.15.3)")
+covers = predicate_of("covers", "they share a point, and none of the right one is outside the left")
+covered_by = predicate_of("covered_by", "they share a point, and none of the left one is outside the right")
+contains_properly = predicate_of("contains_properly", "they share a point, and all of the right one is in the interior of the left")
+
+
+def relate(
+    left: Any, right: Any, align: Optional[bool] = None, *, step: Step = AUTO, origin: Origin = None, flat: bool = False,
+    on_invalid: str = "raise",
+) -> Any:
+    """Returns the DE-9IM matrix of each row of two GeoSeries, or of a GeoSeries and one geometry (06-103r4, 6.1.15.2).
+
+    `align` is as GeoPandas has it: rows are brought together by their labels, with a warning unless it is True; or by their places
+    where it is False. None where a geometry is missing.
+    """
+
+    def ask(firsts: Any, seconds: Any) -> Any:
+        return _library.relate_addresses(firsts.ctypes.data, seconds.ctypes.data, len(firsts))
+
+    return Pairs(left, right, align, Options(step, origin, flat, on_invalid)).series(ask, None, object)
+
+
+def why(
+    left: Any, right: Any, align: Optional[bool] = None, *, step: Step = AUTO, origin: Origin = None, flat: bool = False,
+    on_invalid: str = "raise",
+) -> Any:
+    """Returns for each row of two GeoSeries the nine cells of the matrix, each with what shows it in the source's coordinates."""
+    pairs = Pairs(left, right, align, Options(step, origin, flat, on_invalid))
+
+    def cells(first: int, second: int) -> list[Cell]:
+        lines = _library.why_addresses(first, second).splitlines()
+        return [Cell(*in_source(line, pairs.left.grid).split(" ", 3)) for line in lines]
+
+    def ask(firsts: Any, seconds: Any) -> Any:
+        values = numpy.empty(len(firsts), dtype=object)
+        values[:] = [cells(int(first), int(second)) for first, second in zip(firsts, seconds)]
+        return values
+
+    return pairs.series(ask, None, object)
+
+
+# ---- validity ----
+
+
+def checked(shapes: Any, options: Options) -> tuple[Any, Column, Any]:
+    """Returns a GeoSeries, its geometries on the grid, and what is said of that. What is refused is the answer here."""
+    series = shapes.geometry
+    sides = taken({"series": series}, options)
+    return series, sides["series"], report(sides, options, 4)
+
+
+def is_valid(shapes: Any, *, step: Step = AUTO, origin: Origin = None, flat: bool = False) -> Any:
+    """Returns for each geometry of a GeoSeries whether it is valid once it is rounded; False for a missing one."""
+    series, column, said = checked(shapes, Options(step, origin, flat, "warn"))
+    found = pandas.Series(column.is_kept, index=series.index)
+    found.attrs["sfq"] = said
+    return found
+
+
+def is_valid_reason(shapes: Any, *, step: Step = AUTO, origin: Origin = None, flat: bool = False) -> Any:
+    """Returns for each geometry `valid`, or why it is refused and where, in the source's coordinates; None for a missing one."""
+    series, column, said = checked(shapes, Options(step, origin, flat, "warn"))
+    reasons = [None if status == _library.NONE else column.shown(at) for at, status in enumerate(column.statuses)]
+    found = pandas.Series(reasons, index=series.index, dtype=object)
+    found.attrs["sfq"] = said
+    return found

@@ -1,0 +1,226 @@
+/*
+ * Calls over well-known binary, and joins, for calls.c. Each is a line of words with tabs between:
+ *
+ *     binary GRID HEX          prints the status; then the fault, or the number of the system, what rounding did and the canonical text
+ *     extent HEX,HEX           prints the status, and where the coordinates of both values go from and to
+ *     join RELATION A;.. B;..  prints the status, and the pairs of the texts of A and of B, by their places
+ *
+ * GRID has the four numbers of an sfq_grid with blanks between, or is empty. HEX has the bytes. Among the texts an empty one is a
+ * geometry that is missing. A call whose memory was refused is made again, as in kept.c.
+ */
+#include "kept.h"
+
+#include <stdio.h>
+#include <stdlib.h>
+#include <string.h>
+
+/* The most bytes of a value, and the most geometries of a side. */
+#define BYTES 1000
+#define SIDE 20
+
+/* One call of the list. */
+struct one_call {
+    bool was_refused;
+    const char *wrong;
+    struct printed out;
+};
+
+/* Whether a call has to be made again. */
+static bool again(struct one_call *it, int status)
+{
+    it->was_refused = it->was_refused || status == SFQ_OUT_OF_MEMORY;
+    return status == SFQ_OUT_OF_MEMORY;
+}
+
+/* ---- binaries ---- */
+
+static size_t read_bytes(const char *hex, unsigned char *bytes)
+{
+    size_t count = 0;
+    unsigned value;
+    while (count < BYTES && sscanf(hex + 2 * count, "%2x", &value) == 1)
+        bytes[count++] = (unsigned char)value;
+    return count;
+}
+
+static const sfq_grid *read_grid(const char *text, sfq_grid *grid)
+{
+    long long numbers[4];
+    if (sscanf(text, "%lld %lld %lld %lld", &numbers[0], &numbers[1], &numbers[2], &numbers[3]) != 4)
+        return NULL;
+    grid->step = numbers[0];
+    grid->origin_x = numbers[1];
+    grid->origin_y = numbers[2];
+    grid->parts = numbers[3];
+    return grid;
+}
+
+/* The same value twice among many, with one of no bytes between, has the same status and text each time. */
+static void compare_many(struct one_call *it, const sfq_grid *grid, const unsigned char *bytes, size_t length, int wanted)
+{
+    unsigned char both[2 * BYTES];
+    sfq_geometry many[3] = { SFQ_EMPTY, SFQ_EMPTY, SFQ_EMPTY };
+    sfq_fault faults[3];
+    uint32_t statuses[3] = { 99, 99, 99 };
+    size_t lengths[3], done = 99, i;
+    bool same = true;
+    int status;
+    lengths[0] = lengths[2] = length;
+    lengths[1] = 0;
+    memcpy(both, bytes, length);
+    memcpy(both + length, bytes, length);
+    status = sfq_read_binaries(grid, both, lengths, 3, many, statuses, faults, NULL, &done);
+    if (again(it, status)) {
+        for (i = done; i < 3; i++)
+            if (many[i].kept != NULL || statuses[i] != 99)
+                it->wrong = "one of many was written";
+        sfq_free_many(many, 3);
+        status = sfq_read_binaries(grid, both, lengths, 3, many, statuses, faults, NULL, &done);
+    }
+    if (status == SFQ_UNKNOWN ? wanted != status || done != 0 : status != SFQ_OK || done != 3)
+        it->wrong = "another status of many";
+    if (status == SFQ_OK && ((int)statuses[0] != (length > 0 ? wanted : SFQ_NONE) || statuses[1] != SFQ_NONE || statuses[2] != statuses[0]))
+        it->wrong = "another status of one of many";
+    if (many[0].kept != NULL && again(it, sfq_holds(SFQ_EQUALS, &many[0], &many[2], &same)))
+        sfq_holds(SFQ_EQUALS, &many[0], &many[2], &same);
+    if (!same)
+        it->wrong = "another geometry of many";
+    sfq_free_many(many, 3);
+}
+
+static void print_read(struct one_call *it, sfq_geometry *geometry, int32_t system, const sfq_shift *shift)
+{
+    char text[400];
+    size_t length = 0;
+    if (again(it, sfq_text(geometry, text, sizeof text, &length)))
+        sfq_text(geometry, text, sizeof text, &length);
+    snprintf(it->out.text, sizeof it->out.text, "0 %ld %zu %zu %zu %.6g %.6g %.*s", (long)system, shift->positions, shift->moved,
+             shift->merged, shift->greatest, shift->total, (int)length, text);
+}
+
+static void run_one_binary(struct one_call *it, const char *of_grid, const char *hex)
+{
+    unsigned char bytes[BYTES];
+    sfq_grid grid;
+    const sfq_grid *used = read_grid(of_grid, &grid);
+    size_t length = read_bytes(hex, bytes);
+    sfq_geometry geometry = SFQ_EMPTY;
+    sfq_shift shift = { 0, 0, 0, 0, 0 };
+    sfq_fault fault = { '-', 9, 7, 8 };
+    int32_t system = 12345;
+    int status = sfq_read_binary(used, bytes, length, &geometry, &system, &shift, &fault);
+    if (again(it, status))
+        status = sfq_read_binary(used, bytes, length, &geometry, &system, &shift, &fault);
+    if ((status == SFQ_OK) != (geometry.kept != NULL) || (status == SFQ_REFUSED) != (fault.letter != '-')
+        || (status != SFQ_OK && (system != 12345 || shift.positions != 0)))
+        it->wrong = "another status than what was written";
+    if (status == SFQ_OK) {
+        print_read(it, &geometry, system, &shift);
+        if (sfq_read_binary(used, bytes, length, &geometry, NULL, NULL, NULL) == SFQ_OK)
+            it->wrong = "a geometry was read into one that is there";
+    } else if (status == SFQ_REFUSED) {
+        print_fault(&it->out, status, &fault);
+    } else {
+        snprintf(it->out.text, sizeof it->out.text, "%d", status);
+    }
+    compare_many(it, used, bytes, length, status);
+    sfq_free(&geometry);
+}
+
+static void run_extent(struct one_call *it, const char *hex)
+{
+    unsigned char bytes[2 * BYTES];
+    size_t lengths[2];
+    double extent[4] = { 7, 7, 7, 7 };
+    const char *second = strchr(hex, ',');
+    int status;
+    lengths[0] = read_bytes(hex, bytes);
+    lengths[1] = second != NULL ? read_bytes(second + 1, bytes + lengths[0]) : 0;
+    status = sfq_binaries_extent(bytes, lengths, 2, extent);
+    if (status != SFQ_OK && (extent[0] != 7 || extent[3] != 7))
+        it->wrong = "an extent was written";
+    if (again(it, status))
+        status = sfq_binaries_extent(bytes, lengths, 2, extent);
+    snprintf(it->out.text, sizeof it->out.text, "%d", status);
+    if (status == SFQ_OK)
+        snprintf(it->out.text, sizeof it->out.text, "0 %.9g %.9g %.9g %.9g", extent[0], extent[1], extent[2], extent[3]);
+}
+
+/* ---- joins ---- */
+
+/* Reads texts with semicolons between, an empty one as a geometry that is missing. Returns how many there are. */
+static size_t read_side(struct one_call *it, const char *texts, sfq_geometry *side)
+{
+    size_t count = 0;
+    while (count < SIDE && *texts != '\0') {
+        size_t length = strcspn(texts, ";");
+        if (length > 0 && again(it, sfq_read(texts, length, &side[count], NULL)))
+            sfq_read(texts, length, &side[count], NULL);
+        if ((length > 0) != (side[count].kept != NULL))
+            it->wrong = "a text isn't read";
+        texts += length + (texts[length] == ';');
+        count++;
+    }
+    return count;
+}
+
+/* Joins, at most three geometries of the first side at a time, and prints the pairs. */
+static void print_pairs(struct one_call *it, uint32_t relation, sfq_geometry *first, size_t count, sfq_geometry *second, size_t second_count)
+{
+    sfq_index index = SFQ_EMPTY;
+    size_t room[4 * SIDE], next = 0, pairs = 7, used = 1, i;
+    int status = sfq_index_geometries(second, second_count, &index);
+    if (again(it, status))
+        status = sfq_index_geometries(second, second_count, &index);
+    it->out.text[0] = '0';
+    while (status == SFQ_OK && next < count) {
+        size_t before = next;
+        status = sfq_join(relation, first, &next, next + 3 < count ? next + 3 : count, second, second_count, &index, room, 2 * SIDE, &pairs);
+        if (again(it, status) && (status = SFQ_OK, next != before))
+            it->wrong = "a join that failed went on";
+        else
+            for (i = 0; status == SFQ_OK && next != before && i < pairs; i++)
+                used += (size_t)snprintf(it->out.text + used, sizeof it->out.text - used, " %zu:%zu", room[2 * i], room[2 * i + 1]);
+    }
+    if (status != SFQ_OK)
+        snprintf(it->out.text, sizeof it->out.text, "%d", status);
+    next = 0;
+    if (count > 0 && first[0].kept != NULL && sfq_join(relation, first, &next, 1, second, second_count, NULL, room, SIDE, &pairs) == SFQ_OK)
+        it->wrong = "a join without an index";
+    sfq_index_free(&index);
+}
+
+static void run_one_join(struct one_call *it, char *const words[WORDS])
+{
+    sfq_geometry sides[2][SIDE];
+    size_t counts[2];
+    int i;
+    memset(sides, 0, sizeof sides);
+    for (i = 0; i < 2; i++)
+        counts[i] = read_side(it, words[2 + i], sides[i]);
+    print_pairs(it, (uint32_t)strtoul(words[1], NULL, 10), sides[0], counts[0], sides[1], counts[1]);
+    for (i = 0; i < 2; i++)
+        sfq_free_many(sides[i], SIDE);
+}
+
+bool is_binary_call(char *const words[WORDS])
+{
+    return strcmp(words[0], "binary") == 0 || strcmp(words[0], "extent") == 0 || strcmp(words[0], "join") == 0;
+}
+
+struct printed run_binary(char *const words[WORDS])
+{
+    struct one_call it = { false, NULL, { "" } };
+    struct printed all;
+    if (strcmp(words[0], "join") == 0)
+        run_one_join(&it, words);
+    else if (strcmp(words[0], "extent") == 0)
+        run_extent(&it, words[1]);
+    else
+        run_one_binary(&it, words[1], words[2]);
+    if (it.wrong != NULL)
+        snprintf(all.text, sizeof all.text, "wrong: %s", it.wrong);
+    else
+        snprintf(all.text, sizeof all.text, "%s%.990s", it.was_refused ? "3 " : "", it.out.text);
+    return all;
+}

@@ -1,0 +1,48 @@
+"""sfq.geopandas over GeoPandas, by a Python that has it."""
+import os
+import re
+import subprocess
+import unittest
+
+from support import ROOT, python_with, read
+
+import engine_rows
+import library
+
+PYTHON = python_with("geopandas")
+
+
+@unittest.skipUnless(PYTHON and python_with("rtree"), "needs the packages python3-geopandas and python3-rtree")
+class GeoPandas(engine_rows.WithLibrary):
+    def run_python(self, *words):
+        """Runs the Python that has GeoPandas, and returns what it wrote."""
+        known = {**os.environ, "SFQ_LIBRARY": library.SHARED, "PYTHONPATH": f"{ROOT}/bindings/python", "PYTHONDONTWRITEBYTECODE": "1"}
+        return subprocess.run([PYTHON, *words], cwd=ROOT, env=known, capture_output=True, text=True)
+
+    def check(self, name):
+        ran = self.run_python(f"{ROOT}/tests/geopandas_checks.py", name)
+        self.assertEqual(ran.returncode, 0, ran.stderr)
+
+    def test_joins(self):
+        self.check("Joins")
+
+    def test_grids(self):
+        self.check("Grids")
+
+    def test_rows(self):
+        self.check("Rows")
+
+    def test_layers(self):
+        self.check("Layers")
+
+    def test_the_example_of_the_document(self):
+        text = re.search(r"^## GeoPandas$(.*?)^## ", read(f"{ROOT}/docs/LIBRARY.md"), re.M | re.S)[1]
+        shown = re.findall(r"```python\n(.*?)```.*?```text\n(.*?)```", text, re.S)
+        self.assertGreaterEqual(len(shown), 1)
+        for source, output in shown:
+            ran = self.run_python("-c", source)
+            self.assertEqual((ran.stdout, ran.stderr), (output, ""), source)
+
+
+if __name__ == "__main__":
+    unittest.main()
