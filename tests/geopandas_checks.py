@@ -231,7 +231,7 @@ class Grids(unittest.TestCase):
 
     def test_proposed_steps_and_origins(self):
         for found, system, words, wanted in (
-            ([Point(564_000.123, 5_935_000.5), Point(565_000, 5_936_000)], 25832, {}, ("0.01", ["564500", "5935500"], 0)),
+            ([Point(564_000.123, 5_935_000.5), Point(565_000, 5_936_000)], 25832, {}, ("0.01", ["565000", "5936000"], 0)),
             ([Point(0, 0), Point(99_000, 1)], 25832, {}, ("0.01", ["0", "0"], 0)),
             ([Point(-900_000, 0), Point(900_000, 1)], 25832, {}, ("0.1", ["0", "0"], 0)),
             ([Point(-180, -90), Point(180, 83.6)], 4326, {}, ("0.00002", ["0", "0"], 0)),
@@ -239,8 +239,9 @@ class Grids(unittest.TestCase):
             # Feet of the survey, and no system at all.
             ([Point(900_000, 120_000), Point(1_060_000, 270_000)], 2263, {}, ("0.01", ["980000", "195000"], 0)),
             ([Point(0, 0), Point(1, 1)], None, {}, ("0.0000001", ["0", "0"], 0)),
-            ([Point(0, 0), Point(1_000_000, 1)], None, {}, ("0.1", ["0", "0"], 0)),
-            ([Point(-1_000_000, 0), Point(1_000_000, 1)], None, {}, ("0.2", ["0", "0"], 0)),
+            ([Point(0, 0), Point(1_000_000, 1)], None, {}, ("0.05", ["500000", "0"], 0)),
+            ([Point(-1_000_000, 0), Point(1_000_000, 1)], None, {}, ("0.1", ["0", "0"], 0)),
+            ([Point(0, 0), Point(300, 5)], None, {}, ("0.01", ["0", "0"], 0)),
             ([None, Point()], None, {}, ("0.0000001", ["0", "0"], 0)),
             # What is given stays.
             ([Point(564_000, 5_935_000)], 25832, {"step": 0.001}, ("0.001", ["564000", "5935000"], 0)),
@@ -267,7 +268,7 @@ class Grids(unittest.TestCase):
             "narrow": "V1 0: this line or ring has too few positions that differ",
         })
         self.assertEqual(set(error.rows.side), {"left"})
-        self.assertRegex(str(error), r"^sfq: left: 7 refused: row 'bow': V3 0: .*; row 'z': .*; row 'many': .*; and 4 more; the step 100 from the origin 0,0 takes all positions; on_invalid='warn'")
+        self.assertRegex(str(error), r"^sfq: left: 7 refused: row 'bow': V3 0: .*; row 'z': .*; row 'many': .*; and 4 more; the step 50 from the origin 500000000,0 takes all positions; on_invalid='warn'")
         found, said = warned(sfq.geopandas.sjoin, left, right, step="0.01", on_invalid="warn", how="left")
         self.assertEqual([it.category for it in said], [sfq.geopandas.LeftOutWarning])
         self.assertEqual(said[0].filename, __file__)
@@ -289,7 +290,7 @@ class Grids(unittest.TestCase):
     def test_a_grid_that_takes_what_is_too_far(self):
         for at, words, said in (
             (Point(564_000, 5_935_000), {"step": 0.01, "origin": (0, 0)}, "; the step 0.01 from the origin 564000,5935000 takes"),
-            (Point(20_000_000, 0), {"step": None}, "; the step 0.0000001 from the origin 20000000,0 takes"),
+            (Point(20_000_000, 0), {"step": None}, "; the step 0.01 from the origin 20000000,0 takes"),
         ):
             with self.assertRaises(sfq.geopandas.RefusedError) as caught:
                 sfq.geopandas.sjoin(frame([at]), frame([at]), **words)

@@ -19,7 +19,7 @@ from support import python_command, read, write
 
 import library
 from import_calls import PYTHON, WithImports, collection, feature, square
-from sfq import _columns, _endings, _folders, _grid, _proposing, _statements, imports
+from sfq import _columns, _endings, _folders, _grid, _proposing, _statements, _systems, imports
 
 DEGREES, METRES, FEET, KILOMETRES = (None, 1.0, 0.3048006096, 1000.0)
 
@@ -51,7 +51,7 @@ class Proposals(unittest.TestCase):
 
     def proposed(self, extent, length=METRES, *given):
         system = None if length == "none" else System(length)
-        return _proposing.proposed(_proposing.Extent(*extent), system, *given).spelled
+        return _proposing.proposed(_proposing.Extent(*extent), _systems.metres(system), *given).spelled
 
     def test_each_unit(self):
         for length, extent, wanted in (
@@ -70,7 +70,7 @@ class Proposals(unittest.TestCase):
         self.assertEqual(self.proposed((0, 300_000, 0, 5), METRES, "", "0,0"), ("0.05", ("0", "0")))
 
     def test_nothing_to_go_by(self):
-        self.assertEqual(_proposing.proposed(None, System(METRES)).spelled, ("0.01", ("0", "0")))
+        self.assertEqual(_proposing.proposed(None, 1.0).spelled, ("0.01", ("0", "0")))
 
     def test_everything_fits_and_no_finer_step_does(self):
         chance = random.Random(5)
@@ -78,14 +78,15 @@ class Proposals(unittest.TestCase):
             x, y, wide, high = (chance.uniform(-1, 1) * 10 ** chance.uniform(-3, 9) for _ in range(4))
             extent = _proposing.Extent(*sorted((x, x + wide)), *sorted((y, y + high)))
             length = chance.choice((DEGREES, METRES, FEET))
-            grid = _proposing.proposed(extent, System(length))
+            metres = _systems.metres(System(length))
+            grid = _proposing.proposed(extent, metres)
             for it in ((extent.left, extent.low), (extent.right, extent.high)):
                 self.assertTrue(all(-10_000_000 <= n <= 10_000_000 for n in grid.rounded(it, _grid.Shift())[0]), (extent, grid.spelled))
-            step, first = Decimal(grid.spelled[0]), _proposing.finest(System(length), extent)
+            step, first = Decimal(grid.spelled[0]), _proposing.finest(metres, extent)
             before = [it for it in _until(step, _proposing.steps(first))]
             for it in before:
                 for origin in ((Decimal(0), Decimal(0)), _proposing.middle(extent, it)):
-                    self.assertFalse(_proposing.fits(extent, it, origin))
+                    self.assertFalse(_proposing.fits(extent, _grid.Grid(str(it), list(map(str, origin)))))
 
 
 def _until(last, values):

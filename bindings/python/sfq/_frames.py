@@ -12,7 +12,7 @@ import numpy
 import pandas
 import shapely
 
-from . import Geometry, _extents, _grid, _library, _wkb
+from . import Geometry, _grid, _library, _proposing, _wkb
 
 # The step that stands for one that is proposed.
 AUTO = "auto"
@@ -159,7 +159,7 @@ def in_source(text: str, grid: Optional[_grid.Grid]) -> str:
     axes = grid.x, grid.y
 
     def number(axis: _grid.Axis, word: str) -> str:
-        return _extents.spelled(Decimal(repr(float(axis.origin + Fraction(word) * axis.step))))
+        return _proposing.spelled(Decimal(repr(float(axis.origin + Fraction(word) * axis.step))))
 
     return POSITION.sub(lambda it: " ".join(number(axis, word) for axis, word in zip(axes, it.groups())), text)
 
@@ -167,12 +167,11 @@ def in_source(text: str, grid: Optional[_grid.Grid]) -> str:
 # ---- the grid ----
 
 
-def least_step(system: Any) -> Any:
-    """Returns the least step that is proposed in a reference system, by its unit."""
-    axes = getattr(system, "axis_info", None)
-    if not axes or system.is_geographic:
-        return _extents.LEAST
-    return _extents.least_of_unit(axes[0].unit_conversion_factor)
+def metres(system: Any) -> Optional[float]:
+    """Returns how many metres the unit of a reference system has, as a grid is proposed by: None where there is no system."""
+    if system is None or not system.axis_info:
+        return None
+    return _proposing.DEGREES if system.is_geographic else float(system.axis_info[0].unit_conversion_factor)
 
 
 def need_known(options: Options) -> None:
@@ -186,20 +185,22 @@ def need_known(options: Options) -> None:
         raise ValueError("sfq: an origin needs a step")
 
 
-def extent_of(columns: Sequence[Column]) -> Optional[_extents.Extent]:
+def extent_of(columns: Sequence[Column]) -> Optional[_proposing.Extent]:
     """Returns the extent of columns, None where they have no position."""
-    return _extents.joined(_library.extent(it.binaries) for it in columns)
+    found = (_library.extent(it.binaries) for it in columns)
+    return _proposing.joined(_proposing.Extent(*it) if it else None for it in found)
 
 
 def grid_for(columns: Sequence[Column], step: Step, origin: Origin) -> Optional[_grid.Grid]:
     """Returns the grid of columns, None where nothing is rounded. ValueError where the step or the origin is none."""
     if step is None:
         return None
-    spelled = None if step == AUTO else str(step)
+    spelled, given = "" if step == AUTO else str(step), [] if origin is None else [str(it) for it in origin]
     system = next((it.series.crs for it in columns if it.series.crs), None)
     try:
-        extent = extent_of(columns) if spelled is None or origin is None else None
-        return _extents.chosen(extent, least_step(system), spelled, None if origin is None else [str(it) for it in origin])
+        if spelled and given:
+            return _grid.Grid(spelled, given)
+        return _proposing.proposed(extent_of(columns), metres(system), spelled, ",".join(given))
     except ValueError as error:
         raise ValueError(f"sfq: {error}") from None
 
@@ -209,7 +210,7 @@ def remedy_for(columns: Sequence[Column], options: Options) -> str:
     extent = extent_of(columns)
     for step in (options.step, AUTO):
         grid = grid_for(columns, step, None)
-        if grid and extent and _extents.takes(grid, extent):
+        if grid and extent and _proposing.fits(extent, grid):
             return f"; the step {grid.spelled[0]} from the origin {','.join(grid.spelled[1])} takes all positions"
     return ""
 

@@ -451,13 +451,13 @@ class KeptMany:
 
 
 def extent(binaries: Sequence[bytes]) -> Optional[tuple[float, float, float, float]]:
-    """Returns the least x, the least y, the greatest x and the greatest y of geometries in well-known binary, None where there are none."""
+    """Returns the least x, the greatest x, the least y and the greatest y of geometries in well-known binary, None where there are none."""
     found, lengths = (ctypes.c_double * 4)(), (ctypes.c_size_t * len(binaries))(*map(len, binaries))
     status = library().sfq_binaries_extent(b"".join(binaries), lengths, len(binaries), found)
     if status == NONE:
         return None
     need_ok(status)
-    return found[0], found[2], found[1], found[3]
+    return found[0], found[1], found[2], found[3]
 
 
 def joined(relation: int, first: KeptMany, second: KeptMany) -> Iterator[tuple[Any, int]]:

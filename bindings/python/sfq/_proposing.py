@@ -10,16 +10,16 @@ from __future__ import annotations
 import math
 from decimal import Decimal
 from fractions import Fraction
-from typing import Any, Iterable, Iterator, NamedTuple, Optional
+from typing import Iterable, Iterator, NamedTuple, Optional
 
-from . import _grid, _reading
-from ._columns import Refused
+from . import _grid
 
+# The finest steps of degrees, and of metres.
 DEGREE, METRE = Decimal("0.0000001"), Decimal("0.01")
+# How many metres a unit has that is none of length.
+DEGREES = 0.0
 # The origin is a multiple of so many steps.
 ROUND = 100_000
-# What is past this is no coordinate that a grid could take.
-FARTHEST = 1e15
 
 
 class Extent(NamedTuple):
@@ -35,40 +35,23 @@ class Extent(NamedTuple):
         return Extent(min(self.left, other.left), max(self.right, other.right), min(self.low, other.low), max(self.high, other.high))
 
 
-def extent(layers: Iterable[_reading.Layer]) -> Optional[Extent]:
-    """Returns the extent of all geometries of some layers, but for those that have no finite one; None where there are none."""
+def joined(extents: Iterable[Optional[Extent]]) -> Optional[Extent]:
+    """Returns the extent of all, None where there is none."""
     found: Optional[Extent] = None
-    for layer in layers:
-        for it in extents(layer):
-            found = found.with_(it) if found else it
+    for it in extents:
+        found = found.with_(it) if found and it else found or it
     return found
 
 
-def extents(layer: _reading.Layer) -> Iterator[Extent]:
-    """Returns the extent of each geometry of a layer."""
-    if not layer.shapes:
-        return
-    for feature in layer:
-        for column in layer.shapes:
-            try:
-                geometry = column.read(feature)
-            except Refused:
-                continue
-            if geometry is not None and not geometry.IsEmpty():
-                it = Extent(*geometry.GetEnvelope())
-                if all(-FARTHEST < value < FARTHEST for value in it):
-                    yield it
-
-
-def finest(system: Any, found: Optional[Extent]) -> Decimal:
-    """Returns the finest step that is proposed for a reference system, or for an extent without one."""
-    if system is None:
+def finest(metres: Optional[float], found: Optional[Extent]) -> Decimal:
+    """Returns the finest step that is proposed for a unit of so many metres, DEGREES, or None where no reference system says it."""
+    if metres is None:
         is_small = found is None or (-180 <= found.left and found.right <= 180 and -90 <= found.low and found.high <= 90)
         return DEGREE if is_small else METRE
-    if system.IsGeographic():
+    if metres == DEGREES:
         return DEGREE
     # A little more than a centimetre is one: the foot of the survey of the United States has 0.3048006 metres.
-    return Decimal(1).scaleb(math.floor(math.log10(0.01 / system.GetLinearUnits()) + 1e-9))
+    return Decimal(1).scaleb(math.floor(math.log10(float(METRE) / metres) + 1e-9))
 
 
 def steps(first: Decimal) -> Iterator[Decimal]:
@@ -86,11 +69,9 @@ def middle(found: Extent, step: Decimal) -> tuple[Decimal, Decimal]:
     return x * unit, y * unit
 
 
-def fits(found: Extent, step: Decimal, origin: tuple[Decimal, Decimal]) -> bool:
+def fits(found: Extent, grid: _grid.Grid) -> bool:
     """Whether an extent is within the reach of a grid."""
-    reach = Fraction(step) * _grid.MOST
-    x, y = map(Fraction, origin)
-    return all(abs(Fraction(it) - at) <= reach for at, both in ((x, found[:2]), (y, found[2:])) for it in both)
+    return all(abs(Fraction(it) - axis.origin) <= axis.step * _grid.MOST for axis, both in ((grid.x, found[:2]), (grid.y, found[2:])) for it in both)
 
 
 def spelled(value: Decimal) -> str:
@@ -98,15 +79,15 @@ def spelled(value: Decimal) -> str:
     return f"{value.normalize() + 0:f}"
 
 
-def proposed(found: Optional[Extent], system: Any, step: str = "", origin: str = "") -> _grid.Grid:
-    """Returns the grid that is proposed for an extent. A step or an origin that is given is kept; an origin is X,Y."""
-    first = finest(system, found)
-    zero = Decimal(0), Decimal(0)
-    x, _, y = origin.partition(",")
-    for each in [Decimal(step)] if step else steps(first):
-        origins = [(Decimal(x), Decimal(y))] if origin else [zero, *([middle(found, each)] if found else [])]
-        for it in origins:
-            if found is None or fits(found, each, it):
-                return _grid.Grid(spelled(each), (spelled(it[0]), spelled(it[1])))
-    # A step that is given and too small keeps its origin: what is too far away is left out, and said.
-    return _grid.Grid(step, tuple(spelled(it) for it in origins[-1]))
+def proposed(found: Optional[Extent], metres: Optional[float], step: str = "", origin: str = "") -> _grid.Grid:
+    """Returns the grid that is proposed for an extent in a unit of so many metres. A step or an origin that is given is kept; an origin is X,Y.
+
+    Where a step that is given is too small for any origin, that is 0,0 and what is too far away is left out.
+    """
+    for each in [Decimal(_grid.Grid(step).spelled[0])] if step else steps(finest(metres, found)):
+        origins = [origin.split(",")] if origin else [["0", "0"], *([list(map(spelled, middle(found, each)))] if found else [])]
+        grids = [_grid.Grid(step or spelled(each), it) for it in origins]
+        fitting = next((it for it in grids if found is None or fits(found, it)), None)
+        if fitting or step:
+            return fitting or grids[0]
+    raise AssertionError("a step is large enough")

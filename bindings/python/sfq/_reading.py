@@ -9,13 +9,16 @@ import contextlib
 import re
 import sys
 from collections import Counter
-from typing import Any, Callable, Iterator, NamedTuple, Optional, Sequence
+from typing import Any, Callable, Iterable, Iterator, NamedTuple, Optional, Sequence
 
-from . import _columns, _grid, _systems, _tables, _wkb
+from . import _columns, _grid, _proposing, _systems, _tables, _wkb
 from ._columns import Refused
 
 # Words of a source that are nobody's business but its own.
 SECRET = re.compile(r"(password\s*=\s*)('[^']*'|\S+)|(//[^/:@\s]*:)[^/@\s]*(?=@)", re.I)
+
+# What is past this is no coordinate that a grid could take.
+FARTHEST = 1e15
 
 
 class Missing(Exception):
@@ -281,6 +284,27 @@ class Layer:
             ogr.OFTStringList: (feature.GetFieldAsStringList, _tables.listed),
         }
         return known.get(kind, (feature.GetFieldAsString, None))
+
+
+def extents(layer: Layer) -> Iterator[_proposing.Extent]:
+    """Returns the extent of each geometry of a layer, but for those that have no finite one."""
+    if not layer.shapes:
+        return
+    for feature in layer:
+        for column in layer.shapes:
+            try:
+                geometry = column.read(feature)
+            except Refused:
+                continue
+            if geometry is not None and not geometry.IsEmpty():
+                it = _proposing.Extent(*geometry.GetEnvelope())
+                if all(-FARTHEST < value < FARTHEST for value in it):
+                    yield it
+
+
+def extent(layers: Iterable[Layer]) -> Optional[_proposing.Extent]:
+    """Returns the extent of all geometries of some layers; None where there are none."""
+    return _proposing.joined(it for layer in layers for it in extents(layer))
 
 
 def flat(geometry: Any) -> bytes:

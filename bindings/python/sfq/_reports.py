@@ -76,7 +76,7 @@ def further(layer: _reading.Layer, found: _passes.Pass) -> list[str]:
 
 def beyond(layer: _reading.Layer, grid: _grid.Grid) -> str:
     """Returns where a layer lies, and which origin or step would take it."""
-    found = _proposing.extent([layer])
+    found = _reading.extent([layer])
     if found is None:
         return ""
     left, right, low, high = found

@@ -4,6 +4,8 @@ from __future__ import annotations
 import re
 from typing import Any, Callable, Optional
 
+from . import _proposing
+
 # A code of an authority, as EPSG:25832. What GDAL takes besides may be the name of a file.
 CODE = re.compile(r"[A-Za-z][A-Za-z0-9]*:[A-Za-z0-9]+")
 SAME = ["IGNORE_DATA_AXIS_TO_SRS_AXIS_MAPPING=YES", "CRITERION=EQUIVALENT_EXCEPT_AXIS_ORDER_GEOGCRS"]
@@ -68,6 +70,13 @@ def mover(osr: Any, system: Any, target: Any) -> Callable[[Any], None]:
             geometry.Transform(moves)
 
     return moved
+
+
+def metres(system: Any) -> Optional[float]:
+    """Returns how many metres a system's unit has, as a grid is proposed by: None where there is no system."""
+    if system is None:
+        return None
+    return _proposing.DEGREES if system.IsGeographic() else float(system.GetLinearUnits())
 
 
 def unit(system: Any) -> str:

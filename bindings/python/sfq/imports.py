@@ -243,8 +243,8 @@ def grid_of(layers: Sequence[_reading.Layer], folder: _folders.Folder, system: A
         return found
     if step and options.origin != AUTO:
         return _grid.Grid(step, (origin or "0,0").split(","))
-    extent = _proposing.extent(layers)
-    found = _proposing.proposed(extent, system, step, origin)
+    extent = _reading.extent(layers)
+    found = _proposing.proposed(extent, _systems.metres(system), step, origin)
     spelled = found.spelled[0], ",".join(found.spelled[1])
     unit = _systems.unit(system)
     say(f"--grid {spelled[0]} --origin {spelled[1]} takes all (steps of {spelled[0]} {unit}" + ("" if extent else "; there is no geometry") + ")")
