@@ -46,8 +46,7 @@ class Asked:
 class ByRelation(OfTwo):
     """An algorithm that asks a relation of each feature and those of the other layer."""
 
-    def shortHelpString(self) -> str:
-        return self.HELP + RELATION_HELP + super().shortHelpString()[len(self.HELP):]
+    MORE_HELP = RELATION_HELP + OfTwo.MORE_HELP
 
     def add_relation(self) -> None:
         """Adds the parameters of the relation."""

@@ -58,6 +58,8 @@ class Algorithm(QgsProcessingAlgorithm):
     """An algorithm over layers that are brought to a grid."""
 
     NAME, TITLE, HELP = "", "", ""
+    # What the help has below that of the algorithm itself.
+    MORE_HELP = GRID_HELP
     # The layers that are taken: the name of each parameter, and what it is called.
     LAYERS: tuple[tuple[str, str], ...] = (("INPUT", "Layer"),)
 
@@ -68,7 +70,8 @@ class Algorithm(QgsProcessingAlgorithm):
         return self.TITLE
 
     def shortHelpString(self) -> str:
-        return self.HELP + GRID_HELP
+        # QGIS shows a line end as one.
+        return " ".join((self.HELP + self.MORE_HELP).split())
 
     def tags(self) -> list[str]:
         return ["sfq", "proved", "exact", "topology", "DE-9IM"]
@@ -110,6 +113,9 @@ class Algorithm(QgsProcessingAlgorithm):
         self.addParameter(parameter)
 
     def checkParameterValues(self, parameters: Any, context: Any) -> tuple[bool, str]:
+        missing = missing_library()
+        if missing:
+            return False, missing
         try:
             grids.check(self.text(parameters, "STEP", context), self.text(parameters, "ORIGIN", context))
         except ValueError as error:
@@ -212,7 +218,7 @@ class Sink:
         if geometry is not None:
             feature.setGeometry(geometry)
         if not self.sink.addFeature(feature, QgsFeatureSink.FastInsert):
-            raise QgsProcessingException(f"{self.place}: a feature can't be written: {self.sink.lastError()}")
+            raise QgsProcessingException(f"{self.place}: a feature can't be written, look whether the disk is full: {self.sink.lastError()}")
         self.count += 1
 
 
@@ -227,10 +233,7 @@ def fields_of(**types: Any) -> Any:
 class OfTwo(Algorithm):
     """An algorithm over pairs of a feature of one layer and one of another."""
 
-    LAYERS = (("INPUT", "Layer"), ("OTHER", "Other layer"))
-
-    def shortHelpString(self) -> str:
-        return self.HELP + GRID_HELP + LEFT_OUT_HELP
+    LAYERS, MORE_HELP = (("INPUT", "Layer"), ("OTHER", "Other layer")), GRID_HELP + LEFT_OUT_HELP
 
     def add_all(self) -> None:
         """Adds the choice of all pairs."""

@@ -1,6 +1,7 @@
 """Check validity: where the shapes of a layer aren't valid, and why."""
 from __future__ import annotations
 
+import math
 from typing import Any
 
 from qgis.core import QgsGeometry, QgsPointXY, QgsProcessing, QgsProcessingOutputNumber, QgsProcessingParameterFeatureSink, QgsWkbTypes
@@ -9,7 +10,7 @@ from qgis.PyQt.QtCore import QVariant
 from .basis import Algorithm, Grounds, fields_of
 from .layers import Row, sentence
 from .places import shown_on_map
-from .progress import watched
+from .progress import counted
 
 FIELDS = fields_of(input_id=QVariant.LongLong, code=QVariant.String, sentence=QVariant.String, reason=QVariant.String)
 
@@ -42,7 +43,7 @@ And rounding can make a shape invalid that was valid, such as a splinter that is
         faults = self.sink(parameters, "FAULTS", context, FIELDS, QgsWkbTypes.Point, source.sourceCrs())
         sinks = [self.sink(parameters, it, context, source.fields(), source.wkbType(), source.sourceCrs()) for it in ("VALID", "REFUSED")]
         count = 0
-        for row in watched(layer.rows, grounds.feedback):
+        for row in counted(layer.rows, len(layer.rows), grounds.feedback):
             if row.reason:
                 faults.add([row.id, row.reason[:2], sentence(row.reason), row.reason], self.place(row, grounds))
             elif row.geometry:
@@ -60,6 +61,6 @@ And rounding can make a shape invalid that was valid, such as a splinter that is
 
 
 def first_position(shape: Any) -> Any:
-    """Returns the first position of a shape as a point; a null geometry where it has none."""
-    found = next(iter(shape.vertices()), None)
+    """Returns the first position of a shape as a point; a null geometry where it has none with numbers."""
+    found = next((it for it in shape.vertices() if math.isfinite(it.x()) and math.isfinite(it.y())), None)
     return QgsGeometry() if found is None else QgsGeometry.fromPointXY(QgsPointXY(found.x(), found.y()))
