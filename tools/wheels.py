@@ -68,17 +68,22 @@ def listed(place: str, text: bytes) -> str:
     return f"{place},sha256={digest},{len(text)}\n"
 
 
+def zipped(files: dict[str, bytes], seconds: int) -> bytes:
+    """Returns a zip of files by their places, in their order: the same bytes from the same files and the same date."""
+    room, day = io.BytesIO(), datetime.datetime.fromtimestamp(seconds, datetime.timezone.utc)
+    with zipfile.ZipFile(room, "w") as archive:
+        for place, text in files.items():
+            entry = zipfile.ZipInfo(place, (day.year, day.month, day.day, day.hour, day.minute, day.second))
+            entry.compress_type, entry.external_attr = zipfile.ZIP_DEFLATED, 0o100644 << 16
+            archive.writestr(entry, text)
+    return room.getvalue()
+
+
 def make(folder: str, version: str, seconds: int, libc: str) -> str:
     """Makes the wheel in the folder, the same bytes from the same files, and returns its path."""
     found, record = dict(files(version, libc)), f"sfq-{version}.dist-info/RECORD"
     found[record] = ("".join(listed(place, text) for place, text in found.items()) + f"{record},,\n").encode()
-    room, day = io.BytesIO(), datetime.datetime.fromtimestamp(seconds, datetime.timezone.utc)
-    with zipfile.ZipFile(room, "w") as archive:
-        for place, text in found.items():
-            entry = zipfile.ZipInfo(place, (day.year, day.month, day.day, day.hour, day.minute, day.second))
-            entry.compress_type, entry.external_attr = zipfile.ZIP_DEFLATED, 0o100644 << 16
-            archive.writestr(entry, text)
     path = f"{folder}/sfq-{version}-{tag(libc)}.whl"
     with open(path, "wb") as made:
-        made.write(room.getvalue())
+        made.write(zipped(found, seconds))
     return path

@@ -1,0 +1,160 @@
+"""The shapes of a layer on the grid: which features are taken, which are left out and why, and how far positions moved.
+
+None of it is proved; what the library says of a shape on the grid is.
+"""
+from __future__ import annotations
+
+import math
+from collections import Counter
+from decimal import Decimal
+from typing import Any, Iterator, Optional
+
+from qgis.core import QgsCoordinateTransform, QgsCsException, QgsFeatureRequest, QgsProcessingFeatureSource, QgsUnitTypes
+
+from .grids import LEAST, Extent, least_of_unit
+from .progress import counted
+from .sfq import Geometry, _grid, _wkb
+from .sfq.imports import kind
+
+
+def least_step(system: Any) -> Decimal:
+    """Returns the least step that is proposed in a reference system, by its unit."""
+    unit = system.mapUnits() if system.isValid() else QgsUnitTypes.DistanceUnknownUnit
+    if unit in (QgsUnitTypes.DistanceDegrees, QgsUnitTypes.DistanceUnknownUnit):
+        return LEAST
+    return least_of_unit(QgsUnitTypes.fromUnitToUnitFactor(QgsUnitTypes.DistanceMeters, unit))
+
+
+def reason_of_form(form: str) -> str:
+    """Returns sfq's reason against the beginning of a text, and the words of it."""
+    return f"{Geometry(form).reason}: {form.rstrip(' (')}"
+
+
+def sentence(reason: str) -> str:
+    """Returns what a reason means and what to do, in words that speak of no text."""
+    code, _, words = kind(reason).partition(": ")
+    return f"sfq takes no such shape: {words}" if code == "W1" else words
+
+
+class Row:
+    """A feature, and what is kept of its shape: its numbers until they are rounded, then the geometry, or why it is refused.
+
+    A feature without a geometry has neither.
+    """
+
+    __slots__ = ("feature", "shape", "geometry", "reason")
+
+    def __init__(self, feature: Any) -> None:
+        self.feature = feature
+        self.shape: Optional[_wkb.Shape] = None
+        self.geometry: Optional[Geometry] = None
+        self.reason = ""
+
+    @property
+    def id(self) -> int:
+        """The feature's number in its layer."""
+        return int(self.feature.id())
+
+
+class Pair:
+    """Two features whose shapes are on the grid."""
+
+    __slots__ = ("first", "second", "one", "other")
+
+    def __init__(self, first: Row, second: Row) -> None:
+        assert first.geometry and second.geometry
+        self.first, self.second, self.one, self.other = first, second, first.geometry, second.geometry
+
+    @property
+    def ids(self) -> list[int]:
+        """The numbers of both features."""
+        return [self.first.id, self.second.id]
+
+
+class Layer:
+    """A layer: its rows, and what became of them. `system` is the reference system that shapes are brought to."""
+
+    def __init__(self, source: Any, system: Any, context: Any, is_flat: bool = True) -> None:
+        self.source, self.name, self.is_flat, self.system = source, source.sourceName(), is_flat, system
+        self.transform: Optional[Any] = None
+        if source.sourceCrs().isValid() and system.isValid() and source.sourceCrs() != system:
+            self.transform = QgsCoordinateTransform(source.sourceCrs(), system, context.transformContext())
+        self.rows: list[Row] = []
+        self.extent: Optional[Extent] = None
+        self.shift, self.flattened = _grid.Shift(), 0
+
+    def read(self, feedback: Any) -> None:
+        """Reads the features, and the extent of their shapes."""
+        features = self.source.getFeatures(QgsFeatureRequest(), QgsProcessingFeatureSource.FlagSkipGeometryValidityChecks)
+        for feature in counted(features, self.source.featureCount(), feedback):
+            row = Row(feature)
+            self.rows.append(row)
+            if feature.hasGeometry():
+                self.take(row, feature.geometry())
+
+    def take(self, row: Row, geometry: Any) -> None:
+        """Keeps the numbers of a row's shape, or why sfq has none for it."""
+        try:
+            if self.transform is not None:
+                geometry.transform(self.transform)
+            if self.is_flat and (geometry.constGet().is3D() or geometry.constGet().isMeasure()):
+                geometry.get().dropZValue()
+                geometry.get().dropMValue()
+                self.flattened += 1
+            shape = _wkb.shape(bytes(geometry.asWkb()))
+        except QgsCsException:
+            row.reason = "W1: a position can't be transformed to the reference system of the other layer"
+        except _wkb.NoText as it:
+            row.reason = reason_of_form(it.form)
+        else:
+            self.reach(row, shape, geometry.boundingBox())
+
+    def reach(self, row: Row, shape: _wkb.Shape, box: Any) -> None:
+        """Keeps a shape, and has the extent reach to the bounds of it."""
+        if shape.parts:
+            extent = Extent(box.xMinimum(), box.yMinimum(), box.xMaximum(), box.yMaximum())
+            if not all(map(math.isfinite, extent)):
+                row.reason = "W1: a coordinate is infinite or no number"
+                return
+            self.extent = extent.joined(self.extent)
+        row.shape = shape
+
+    def bring_to(self, grid: _grid.Grid, feedback: Any) -> None:
+        """Brings the shapes to a grid, and has the library check each."""
+        for row in counted(self.rows, len(self.rows), feedback):
+            if row.shape is None:
+                continue
+            try:
+                made = Geometry(_wkb.text(row.shape, grid, self.shift))
+            except _grid.NotANumber as it:
+                row.reason = f"W1: {it}"
+            else:
+                row.geometry, row.reason = (made, "") if made.is_valid else (None, made.reason)
+            row.shape = None
+
+    @property
+    def taken(self) -> list[Row]:
+        """The rows whose shapes the library accepts."""
+        return [it for it in self.rows if it.geometry]
+
+    @property
+    def left_out(self) -> int:
+        """How many features have a shape that is refused."""
+        return sum(bool(it.reason) for it in self.rows)
+
+    def lines(self) -> Iterator[tuple[str, bool]]:
+        """Yields what there is to say of the layer, each line with whether it is a warning."""
+        shift, empty = self.shift, sum(not it.reason and not it.geometry for it in self.rows)
+        yield (f"{self.name}: {len(self.taken):,} of {len(self.rows):,} features; {shift.positions:,} positions moved by at most "
+               f"{shift.greatest:.3g}, {shift.mean:.3g} in the mean, {shift.merged:,} merged"), False
+        for what, count in sorted(Counter(kind(it.reason) for it in self.rows if it.reason).items()):
+            yield f"{self.name}: {count:,} left out: {what}", True
+        if empty:
+            yield f"{self.name}: {empty:,} without a geometry", False
+        if self.flattened:
+            yield f"{self.name}: {self.flattened:,} geometries without their Z or M", False
+
+    def report(self, feedback: Any) -> None:
+        """Says in the log what became of the layer."""
+        for line, is_warning in self.lines():
+            (feedback.pushWarning if is_warning else feedback.pushInfo)(line)
