@@ -96,6 +96,9 @@ class Place(NamedTuple):
         return None if found == wanted else f"{self.path} has {found}, the definitions have {wanted}"
 
 
+# The relations as methods in JavaScript, and the faults of schemas, tables and queries that have no place.
+CAMEL_RELATIONS = [it[0].lower() + it[1:] for it in RELATIONS]
+WITHOUT_PLACE = [code for code, line in FAULTS.items() if code[0] in "SLQ" and "{}" not in line]
 CONSTANTS = [f"SFQ_{lower(it).upper()}" for it in RELATIONS]
 OPENED = [f"{it}(" for it in SHAPES]
 # How many faults each letter has.
@@ -140,9 +143,17 @@ LISTS = [
         r"(ST_\w+)\(a geometry, b geometry\).*\n.*\n.*\n.*binary_holds\(.*, (\d+)\),\n.*@\.(ST_\w+)\(",
         [(it, str(at), it) for at, it in enumerate(SQL_RELATIONS)], r"\Z",
     ),
-    Place("bindings/web/engine.js", r"^const RELATIONS", r'"(\w+)"', RELATIONS, r"\];"),
-    Place("bindings/web/engine.js", r"^  const USED", r"(\w\d): (\d)", [(it, str(count)) for it, count in GEOMETRY_FAULTS.items()], r";"),
-    Place("bindings/web/page.c", r"RELATIONS = ", r"RELATIONS = (\d+)", [str(len(RELATIONS))], r"\}"),
+    Place("bindings/javascript/geometries.js", r"^const RELATIONS", r'"(\w+)"', CAMEL_RELATIONS, r"\];"),
+    Place("bindings/javascript/geometries.js", r"^const TYPES", r'"(\w+)"', NUMBERED, r"\];"),
+    Place("bindings/javascript/index.d.ts", r"^export type RelationName", r'"(\w+)"', CAMEL_RELATIONS, r";"),
+    Place("bindings/javascript/index.d.ts", r"^  /\*\* Whether both are the same set", r"(?m)^  (\w+)\(other: Shape\)", CAMEL_RELATIONS),
+    Place("bindings/javascript/index.d.ts", r"^export type TypeName", r'"(\w+)"', NUMBERED, r";"),
+    Place("bindings/javascript/geojson.js", r"^const DEPTHS", r"(\w+):", list(SHAPES.values()), r"\};", True),
+    Place(
+        "bindings/javascript/faults.js", r"^const USED", r"(\w\d): (\d)", [(it, str(count)) for it, count in GEOMETRY_FAULTS.items()], r";"
+    ),
+    Place("bindings/javascript/faults.js", r"^const WITHOUT_PLACE", r'"(\w+)"', WITHOUT_PLACE, r"\];", True),
+    Place("bindings/python/sfq/_errors.py", r"^WITHOUT_PLACE", r'"(\w+)"', WITHOUT_PLACE, r"\)\n", True),
     Place("bindings/web/shapes.js", r"^  const NESTING", r"(\w+):", SHAPE_WORDS, r"\};"),
     Place(PAGE, r"^const SPOKEN", r"(\w+): \"", [it.removeprefix("ST_") for it in PREDICATES], r"\};"),
     Place(PAGE, r"^const FAULTS", r"(\w\d): \"", list(GEOMETRY_FAULTS), r"\};"),

@@ -196,8 +196,6 @@ def sources() -> dict[str, str]:
     # What the C test calls of the library's header calls the proved calls in turn.
     of_library = (*(f"tests/library/{it}" for it in ("calls", "kept", "whys", "indexes", "databases", "rows")), "bindings/c/sfq", "bindings/c/sfq_tables")
     found["calls.c"] = "".join(read(f"{repository.ROOT}/{it}.c") for it in of_library)
-    # What tests/web/pairs.html asks of the page of tables makes the proved call.
-    found["tables.c"] = read(f"{repository.ROOT}/bindings/web/tables.c")
     return found
 
 

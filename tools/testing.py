@@ -287,7 +287,7 @@ def gate(counts: Counts) -> bool:
 
 
 def make_library(counts: Counts) -> None:
-    """Makes the C libraries, and the web page where binaryen is there, of the libraries that `rt ci` left proved."""
+    """Makes the C libraries, and where binaryen is there the package for JavaScript and the web page, of the libraries that `rt ci` left proved."""
     begun, text = time.monotonic(), ""
     try:
         with tempfile.TemporaryDirectory(prefix="sfq-calls-") as room:
@@ -295,16 +295,18 @@ def make_library(counts: Counts) -> None:
             for it in library.ALL:
                 library.link(compiled[it.crate].archive, it)
             if shutil.which("wasm-opt"):
+                import javascript_package
                 import web_page
 
-                for each in web_page.MODULES:
-                    if each.crate not in compiled:
-                        compiled[each.crate] = calls.compile_calls(room, keeps=False, name=each.crate)
-                kit = calls.find_kit()
-                web_page.write_page({it: web_page.carried(it, web_page.module_of(kit, it, compiled[it.crate])) for it in web_page.MODULES})
+                for name in (name for it in javascript_package.MODULES for name in it.crates):
+                    if name not in compiled:
+                        compiled[name] = calls.compile_calls(room, keeps=False, name=name)
+                modules = javascript_package.modules_of(compiled)
+                javascript_package.write_package(modules)
+                web_page.write_page(modules)
     except calls.Failure as it:
         text = str(it)
-    counts.take("making of the C libraries and the web page", not text, time.monotonic() - begun, text=text)
+    counts.take("making of the C libraries, the package for JavaScript and the web page", not text, time.monotonic() - begun, text=text)
 
 
 def tests_of_library(counts: Counts, tests: Iterable[unittest.TestCase], is_left: bool) -> None:

@@ -19,6 +19,7 @@ def places(root: str = repository.ROOT) -> list[tuple[str, str]]:
         ("crates/command_line/src/command_words.rt", 'const VERSION: &str = "{}";'),
         ("bindings/c/sfq.h", "#define SFQ_VERSION {}"),
         ("bindings/python/sfq/__init__.py", '__version__ = "{}"'),
+        ("bindings/javascript/package.json", '"version": "{}"'),
         ("bindings/qgis/sfq_qgis/metadata.txt", "version={}"),
         ("bindings/postgresql/sfq.control", "default_version = '{}'"),
         ("bindings/postgresql/sfq_postgis.control", "default_version = '{}'"),

@@ -7,12 +7,15 @@
 
 #include "sfq_tables.h"
 
+/* A module of WebAssembly has no files. */
+#ifndef __wasm__
 #include <errno.h>
 #include <fcntl.h>
 #include <stdlib.h>
 #include <sys/mman.h>
 #include <sys/stat.h>
 #include <unistd.h>
+#endif
 
 /* ---- the proved calls, as crates/sfq_tables/src declares them ---- */
 
@@ -274,6 +277,8 @@ int sfq_bind_null(sfq_database *database, size_t statement, size_t constant)
 
 /* ---- files ---- */
 
+#ifndef __wasm__
+
 /* Loads a table from a regular file, which is mapped meanwhile. */
 static int load_mapped(sfq_database *database, size_t table, int file, size_t length, sfq_tables_fault *fault)
 {
@@ -358,3 +363,5 @@ int sfq_load_file(sfq_database *database, size_t table, const char *path, sfq_ta
     errno = reason;
     return status;
 }
+
+#endif

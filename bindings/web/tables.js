@@ -138,7 +138,7 @@ async function start() {
   engine = null;
   try {
     engine = await startTables();
-    find("module").textContent = `The modules: ${engine.about}.`;
+    find("module").textContent = `The module: ${engine.about}.`;
   } catch (error) {
     trouble = `The module didn't start, so there is no answer: ${error.message}`;
     find("module").textContent = trouble;

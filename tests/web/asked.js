@@ -1,8 +1,8 @@
-// Asks the page's modules in Node, and prints what came of it as JSON. FOLDER has the page.
+// Asks the page's module in Node, and prints what came of it as JSON. FOLDER has the page.
 //
 //     node asked.js FOLDER queries FILE   asks each query of FILE: a list of databases, each with `schema`, `tables` and `queries`, all
 //                                         in base64. Of each database it prints the answers or the lines of faults, and how often
-//                                         each call of the modules was made; and how many bytes the memories grow by at a second time
+//                                         each call of the module was made well; and how many bytes the memory grows by at a second time
 //     node asked.js FOLDER stop           ends a query that takes long, asks on, and then asks it to its end
 //     node asked.js FOLDER short          asks small and large tables in turns, where memory is short
 "use strict";
@@ -10,17 +10,22 @@
 const fs = require("fs");
 const [folder, what, file] = process.argv.slice(2);
 
-// How often each call of the modules was made.
-let made = {};
+// How often each call of the module was made well, and its memory.
+let made = {}, memory = null;
 const instantiate = WebAssembly.instantiate;
 WebAssembly.instantiate = async (...words) => {
   const { instance } = await instantiate(...words);
-  const counted = (name, it) => (...given) => ((made[name] = (made[name] || 0) + 1), it(...given));
+  memory = instance.exports.memory;
+  const counted = (name, it) => (...given) => {
+    const status = it(...given);
+    if (status === 0) made[name] = (made[name] || 0) + 1;
+    return status;
+  };
   const exports = Object.entries(instance.exports).map(([name, it]) => [name, typeof it === "function" ? counted(name, it) : it]);
   return { instance: { exports: Object.fromEntries(exports) } };
 };
 
-const scripts = ["kept_module.js", "tables_module.js", "tables_engine.js"].map((name) => fs.readFileSync(`${folder}/${name}`, "utf8"));
+const scripts = ["tables_module.js", "sfq.js", "tables_engine.js"].map((name) => fs.readFileSync(`${folder}/${name}`, "utf8"));
 const startTables = new Function(`${scripts.join("\n")}\nreturn startTables;`)();
 
 // Asks a query until it has an answer. Returns what came, with how often it rested.
@@ -31,8 +36,6 @@ function answered(asking) {
   }
 }
 
-const bytesIn = (engine) => engine.memories.reduce((sum, it) => sum + it.buffer.byteLength, 0);
-
 async function queries() {
   const engine = await startTables(), read = (text) => new Uint8Array(Buffer.from(text, "base64"));
   const given = JSON.parse(fs.readFileSync(file, "utf8"));
@@ -42,9 +45,9 @@ async function queries() {
     const answers = asked.map((query) => answered(engine.asking(schema, tables, query))).map((it) => it.answer ?? it.fault);
     return { answers, made };
   });
-  const found = all(), bytes = bytesIn(engine);
+  const found = all(), bytes = memory.buffer.byteLength;
   all();
-  return { found, lost: bytesIn(engine) - bytes };
+  return { found, lost: memory.buffer.byteLength - bytes };
 }
 
 const SCHEMA = "CREATE TABLE t (id INTEGER PRIMARY KEY, n INTEGER);";

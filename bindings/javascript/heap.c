@@ -1,7 +1,7 @@
 // Memory for the proved code, in the place of a C library. A block has 2^n bytes: a head of 16 bytes, then what is handed out. A
 // block that is given back goes on the list of its size, and serves the next request of that size. Nothing here is proved.
 
-#include "page.h"
+#include "module.h"
 
 typedef struct block {
     size order;

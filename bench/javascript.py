@@ -1,0 +1,63 @@
+#!/usr/bin/env python3
+"""Measures points in a kept polygon, and two kept polygons, by the package for JavaScript in Node beside the C library.
+
+The shapes and the calls are those of `prepared.py`. Per call it prints the nanoseconds of both and their ratio; reading and keeping
+are left out. It needs Node, gcc and `libgeos-dev` from the distribution's packages, and what `./build --library` and
+`./build --javascript` make. It is no test: the gate doesn't run it.
+"""
+
+import pathlib
+import subprocess
+import sys
+import tempfile
+
+from peers import build_beside_geos
+from prepared import MOVED, POINTS, SIZES, beyond_start, write_input, write_two
+from timing import ROOT, figure, measure, print_columns, print_heads
+
+PACKAGE = ROOT / "bindings" / "javascript" / "out" / "sfq"
+# What is asked of positions, by the words of prepared.c.
+ASKED = {"position, intersects": "locate", "point, intersects": "holds", "point, contains": "contains"}
+
+
+def native(program, folder, given, how, count, turns):
+    """Returns the nanoseconds of a call of the C library, and what it prints."""
+    def seconds(turns):
+        return min(measure([program, how, turns], folder, given)[1] for _ in range(3))
+
+    return beyond_start(seconds, turns, count) * 1e9, (folder / "output").read_text()
+
+
+def in_node(given, how, turns):
+    """Returns the nanoseconds of a call of the package, and what it prints."""
+    words = ["node", ROOT / "bench" / "javascript.mjs", PACKAGE, how, str(turns), given]
+    found, nanoseconds = subprocess.run(words, capture_output=True, text=True, check=True).stdout.splitlines()
+    return float(nanoseconds), f"{found}\n"
+
+
+def main():
+    with tempfile.TemporaryDirectory() as room:
+        folder = pathlib.Path(room)
+        program, given = build_beside_geos("prepared", folder), folder / "input"
+        print_heads(["asked", "positions", "C, ns", "Node, ns", "ratio"])
+
+        def compare(what, size, how, count, turns):
+            ours, found = native(program, folder, given, how, count, turns)
+            theirs, shown = in_node(given, how, turns)
+            if found != shown:
+                sys.exit(f"{what}, {size} positions: {found} and {shown} are found")
+            print_columns([what, f"{size:,}", figure(ours), figure(theirs), f"{theirs / ours:.2f}"])
+
+        for what, how in ASKED.items():
+            for size in SIZES:
+                write_input(given, size)
+                compare(what, size, how, POINTS, 300)
+        for what, by in MOVED:
+            for how in ("meet", "relate"):
+                for size in SIZES:
+                    write_two(given, size, by)
+                    compare(f"stars that {what}, {how}", size, how, 1, 200)
+
+
+if __name__ == "__main__":
+    main()

@@ -1,0 +1,143 @@
+#!/usr/bin/env python3
+"""Makes the package sfq for JavaScript in bindings/javascript/out: the modules of WebAssembly from the proved crates sfq_c and
+sfq_tables, and the files beside this one; a folder, and sfq-VERSION.tgz, which npm takes.
+
+usage: bindings/javascript/javascript_package.py [--jobs N]      or ./build --javascript
+"""
+import gzip
+import hashlib
+import io
+import json
+import os
+import runpy
+import shutil
+import sys
+import tarfile
+from typing import Mapping, Optional
+
+HERE = os.path.dirname(os.path.realpath(__file__))
+runpy.run_path(f"{os.path.dirname(os.path.dirname(HERE))}/tools/paths.py")
+
+import calls
+import repository
+import wasm
+from calls import Failure
+from sfq import _errors, _faults
+
+OUT = f"{HERE}/out"
+# The files of the package beside the modules, and those of them that are its JavaScript, each after those that it imports.
+SCRIPTS = ("faults.js", "engine.js", "grid.js", "geojson.js", "geometries.js", "databases.js", "index.js")
+FILES = ("package.json", "index.d.ts", *SCRIPTS)
+
+COMMON = ("heap.c", "memory.c")
+SHAPES = wasm.Module("sfq.wasm", ("sfq_c",), (*COMMON, "calls.c"), ("module.h", "sfq.c", "sfq.h"))
+TABLES = wasm.Module(
+    "sfq_tables.wasm", ("sfq_c", "sfq_tables"), (*COMMON, "calls.c", "tables_calls.c"),
+    ("module.h", "sfq.c", "sfq.h", "sfq_tables.c", "sfq_tables.h"),
+)
+MODULES = (SHAPES, TABLES)
+
+# The bytes of each module by its file.
+Modules = Mapping[str, bytes]
+
+
+def sentences_script() -> str:
+    """Returns the script with what each fault means and what to do, as Python has it."""
+    shown = json.dumps({**_faults.MEANINGS, **_errors.MEANINGS}, indent=2, ensure_ascii=False)
+    return f"// What each fault means, and what to do. Made by javascript_package.py.\nexport const SENTENCES = {shown};\n"
+
+
+def about(module: wasm.Module, content: bytes) -> str:
+    """Says what a module is."""
+    name = f"sfq {repository.version()}, {len(content):,} bytes, SHA-256 {hashlib.sha256(content).hexdigest()}"
+    return f"{name}; proved and compiled by {repository.kit_line()}"
+
+
+def made(module: wasm.Module) -> Optional[dict[str, str]]:
+    """Returns what is known of a module in bindings/javascript/out: what it is, and a sum of what it was made of. None where it isn't there."""
+    try:
+        with open(f"{OUT}/made.json", encoding="utf-8") as file:
+            found: dict[str, str] = json.load(file)[module.file]
+        return found if os.path.isfile(f"{OUT}/sfq/{module.file}") else None
+    except (OSError, ValueError, KeyError):
+        return None
+
+
+def read_module(module: wasm.Module) -> bytes:
+    """Returns the bytes of a module in bindings/javascript/out."""
+    with open(f"{OUT}/sfq/{module.file}", "rb") as file:
+        return file.read()
+
+
+def files_of_package(modules: Modules) -> dict[str, bytes]:
+    """Returns the content of each file of the package by its path."""
+    found = {"sentences.js": sentences_script().encode(), **modules}
+    for it in FILES:
+        with open(f"{HERE}/{it}", "rb") as file:
+            found[it] = file.read()
+    return dict(sorted(found.items()))
+
+
+def archive_of(files: Mapping[str, bytes]) -> bytes:
+    """Returns the archive of a package's files as npm has it; the same bytes each time."""
+    room = io.BytesIO()
+    with tarfile.open(fileobj=room, mode="w", format=tarfile.USTAR_FORMAT) as tar:
+        for path, content in files.items():
+            entry = tarfile.TarInfo(f"package/{path}")
+            entry.size, entry.mode = len(content), 0o755 if path.startswith("bin/") else 0o644
+            tar.addfile(entry, io.BytesIO(content))
+    return gzip.compress(room.getvalue(), mtime=0)
+
+
+def write_package(modules: Modules, to: str = OUT) -> None:
+    """Writes the package into a folder, as a folder and as an archive, with what is known of its modules."""
+    files = files_of_package(modules)
+    shutil.rmtree(to, ignore_errors=True)
+    for path, content in {**{f"sfq/{it}": content for it, content in files.items()}, f"sfq-{repository.version()}.tgz": archive_of(files)}.items():
+        os.makedirs(os.path.dirname(f"{to}/{path}"), exist_ok=True)
+        with open(f"{to}/{path}", "wb") as file:
+            file.write(content)
+    known = {it.file: {"about": about(it, modules[it.file]), "inputs": wasm.inputs(it)} for it in MODULES}
+    with open(f"{to}/made.json", "w", encoding="utf-8") as text:
+        json.dump(known, text, indent=2)
+
+
+def make_modules(jobs: int = 0) -> Modules:
+    """Returns the modules: those that are there, where their sources haven't changed, and the others made anew."""
+    found = {}
+    for it in MODULES:
+        known = made(it)
+        found[it.file] = read_module(it) if known and known["inputs"] == wasm.inputs(it) else wasm.make(it, jobs)
+    return found
+
+
+def modules_of(compiled: Mapping[str, calls.Compiled]) -> Modules:
+    """Returns the modules, made of the compiled calls of crates by their names."""
+    kit = wasm.find_kit()
+    return {it.file: wasm.module_of(kit, it, [compiled[name] for name in it.crates]) for it in MODULES}
+
+
+def build(jobs: int = 0) -> int:
+    """Makes the package. Returns the status to end with."""
+    try:
+        write_package(make_modules(jobs))
+    except Failure as error:
+        print(f"sfq: no package for JavaScript: {error}", file=sys.stderr)
+        return 1
+    print(f"built: {os.path.relpath(OUT, repository.ROOT)}/sfq-{repository.version()}.tgz")
+    for it in MODULES:
+        print(f"{it.file}: {(made(it) or {}).get('about')}")
+    return 0
+
+
+def main(words: list[str]) -> int:
+    if not words:
+        return build()
+    if len(words) == 2 and words[0] == "--jobs" and words[1].isdigit():
+        return build(int(words[1]))
+    print(__doc__.strip(), file=sys.stdout if words == ["--help"] else sys.stderr)
+    return 0 if words == ["--help"] else 2
+
+
+if __name__ == "__main__":
+    sys.exit(main(sys.argv[1:]))
