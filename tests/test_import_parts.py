@@ -114,12 +114,12 @@ class Parts(WithImports):
         self.assertLessEqual(found["differs"], layer["parted"]["greatest"] / step * found["length"] + 1)
 
     def test_a_coast(self):
-        ring = coast(24_000, 90_000)
+        ring = coast(12_000, 90_000)
         features = [feature(("Polygon", [ring]), name="coast"), feature(("Polygon", square(1, 1)), name="small"), feature(None, name="none")]
         source, folder, said, layer = self.parted(features, "--origin", "45000,45000")
         self.assertEqual(self.table(folder)[0], ["part", "whole", "name", "geom"])
         found, _ = self.wholes(source, folder, "t")
-        self.assertGreaterEqual(found["parts"], 4)
+        self.assertGreaterEqual(found["parts"], 2)
         self.is_whole(found, layer)
         self.assertEqual([it[:3] for it in self.table(folder)[1:]], [
             *([str(it + 1), "0", "coast"] for it in range(found["parts"])), [str(found["parts"] + 1), "1", "small"], [str(found["parts"] + 2), "2", "none"]])
@@ -153,7 +153,7 @@ class Parts(WithImports):
 
     def test_holes_and_many_polygons(self):
         chance = random.Random(6)
-        holes = [square(2_000 + 900 * (at % 90) + chance.randrange(400), 2_000 + 900 * (at // 90) + chance.randrange(400), 300)[0] for at in range(2_600)]
+        holes = [square(2_000 + 900 * (at % 90) + chance.randrange(400), 2_000 + 900 * (at // 90) + chance.randrange(400), 300)[0] for at in range(1_300)]
         far = [square(200_000 + 10 * it, 0) for it in range(1_500)]
         many = feature(("MultiPolygon", [[square(0, 0, 90_000)[0], *holes], *far]))
         source, folder, said, layer = self.parted([many], "--origin", "100000,45000", grid="0.05")

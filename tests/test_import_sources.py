@@ -385,7 +385,7 @@ class Sources(WithImports):
         self.folder("done", more, words=())
         takes, after = time.monotonic() - begun, contents_of(f"{self.room}/done")
         chance, endings = random.Random(2), []
-        for at in range(10):
+        for _ in range(6):
             child = subprocess.Popen([*python_command(PYTHON, "sfq-import"), more, "--out", "broken", "--replace"], cwd=self.room,
                                      env={**os.environ, "PYTHONDONTWRITEBYTECODE": "1"}, stderr=subprocess.PIPE, text=True)
             # Before Python is ready a signal ends it as any program.

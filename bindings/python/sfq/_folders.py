@@ -18,7 +18,7 @@ import sys
 import tempfile
 from typing import Any, Iterator
 
-from . import _statements, _tables
+from . import _grid, _statements, _systems, _tables
 from ._endings import DATA, FILES, USAGE, Stopped
 
 LEFT_OUT = ["layer", "record", "fid", "reason", "done", "table"]
@@ -61,6 +61,7 @@ class Folder:
                 self.found = json.load(file)
             with open(f"{self.path}/schema.sql", encoding="utf-8") as file:
                 self.schema = file.read()
+            _grid.Grid.of_file(self.found)
             for it in self.found["layers"]:
                 it["table"], it["layer"], it["coordinate_system"], it["columns"]
         except (KeyError, TypeError, ValueError) as error:
@@ -70,6 +71,13 @@ class Folder:
     def layers(self) -> list[dict[str, Any]]:
         """What grid.json says of the tables that are there."""
         return list(self.found.get("layers", []))
+
+    def systems(self, osr: Any) -> list[Any]:
+        """Returns the reference systems of the tables that are there, as GDAL has them."""
+        try:
+            return [_systems.made(osr, it["coordinate_system"]["wkt"]) for it in self.layers if it["coordinate_system"]]
+        except (KeyError, TypeError, ValueError) as error:
+            raise Stopped(f"{self.name}/grid.json isn't one that sfq-import made: {error}", DATA) from None
 
     def tables(self) -> set[str]:
         """Returns the names of the tables that are there, in lower case: those that have a file, or a place in schema.sql."""

@@ -15,7 +15,7 @@ from . import _texts
 
 MOST_POSITIONS, MOST_PARTS = 10_000, 1_000
 # How many lines are looked at for a cut, and tried.
-LINES, TRIES = 40, 3
+LINES, TRIES = 40, 2
 # How deep cuts of one polygon go: each halves its positions, or nearly so.
 DEEPEST = 40
 

@@ -190,16 +190,21 @@ def take_columns(layers: Sequence[_reading.Layer], options: Options) -> None:
         it.take_texts(options.wkt)
 
 
+def system_named(osr: Any, code: str) -> Any:
+    """Returns the reference system of a code, None of an empty one. Stopped where GDAL has none."""
+    try:
+        return _systems.named(osr, code) if code else None
+    except ValueError as error:
+        raise Stopped(str(error), USAGE) from None
+
+
 def move(layers: Sequence[_reading.Layer], osr: Any, options: Options) -> None:
     """Has layers be in the reference system that is asked for. Stopped where one says none."""
-    if options.of:
-        for it in layers:
-            if it.reference is None:
-                it.take_reference(_systems.named(osr, options.of))
-    if not options.to:
-        return
-    target = _systems.named(osr, options.to)
+    source, target = (system_named(osr, it) for it in (options.of, options.to))
     for it in layers:
+        if it.reference is None and source is not None:
+            it.take_reference(source)
+    for it in layers if target is not None else ():
         if it.reference is None:
             raise Stopped(f"{it.source.name}: {it.name} says no reference system, so it can't be moved to {options.to}: --from names it", USAGE)
         if _systems.are_same(it.reference, target):
@@ -213,7 +218,7 @@ def need_one_system(layers: Sequence[_reading.Layer], folder: _folders.Folder, o
 
     Two in one source were always taken: a line says so.
     """
-    known = [(folder.name, _systems.made(osr, it["coordinate_system"]["wkt"])) for it in folder.layers if it["coordinate_system"]]
+    known = [(folder.name, it) for it in folder.systems(osr)]
     known += [(it.source.name, it.reference) for it in layers if it.reference is not None]
     for whose, system in known[1:]:
         if not _systems.are_same(known[0][1], system):
@@ -296,15 +301,16 @@ def import_sources(
     is wrong, or what it needs isn't there; OSError and RuntimeError where a file can't be read or written.
     """
     try:
-        need_apart(sources)
         check(options)
+    except ValueError as error:
+        raise Stopped(str(error), USAGE) from None
+    try:
+        need_apart(sources)
         folder = _folders.Folder(out)
         with contextlib.closing(folder):
             return imported(sources, folder, options, (name, say or functools.partial(_endings.say, name)))
     except (_reading.Missing, LibraryError) as error:
         raise Stopped(str(error).removeprefix("sfq: "), MISSING) from None
-    except ValueError as error:
-        raise Stopped(str(error), USAGE) from None
 
 
 def check(options: Options) -> None:
