@@ -416,7 +416,7 @@ class Kept(WithRoom):
         self.assertFalse(is_kept or path.startswith("/proc"))
         self.assertRegex(said, r"\Asfq-ask: the tables aren't kept: /proc/nothing.*\n\Z")
         with mock.patch.object(ask, "is_of_its_files", return_value=False):
-            self.assertEqual(self.made()[1:], (False, ""))
+            self.assertEqual(self.made()[1:], (False, "sfq-ask: the tables aren't kept: a source isn't made of files alone\n"))
         self.assertEqual(self.entries(), [])
 
     def test_what_was_left_out_is_said_each_time(self):

@@ -180,7 +180,10 @@ def made(options: argparse.Namespace, place: Place) -> tuple[_units.Folder, bool
     imports.import_sources(options.sources, path, options.of_import, NAME, saying)
     if name != _cache.sum_of(options.sources, depends_on(options)):
         raise Stopped("a source changed while it was read: ask again", FILES)
-    if not place.cache or not name or not all(map(is_of_its_files, options.sources)):
+    if not place.cache:
+        return _units.Folder(path), False
+    if not name or not all(map(is_of_its_files, options.sources)):
+        say("the tables aren't kept: a source isn't made of files alone")
         return _units.Folder(path), False
     with open(f"{path}/{REPORT}", "w", encoding="utf-8") as file:
         file.writelines(lines)
