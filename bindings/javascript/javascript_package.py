@@ -1,6 +1,6 @@
 #!/usr/bin/env python3
-"""Makes the package sfq for JavaScript in bindings/javascript/out: the modules of WebAssembly from the proved crates sfq_c and
-sfq_tables, and the files beside this one; a folder, and sfq-VERSION.tgz, which npm takes.
+"""Makes the package sfq for JavaScript in bindings/javascript/out: the modules of WebAssembly from the proved crates sfq_c, sfq_tables and
+sfq_web, and the files beside this one; a folder, and sfq-VERSION.tgz, which npm takes.
 
 usage: bindings/javascript/javascript_package.py [--jobs N]      or ./build --javascript
 """
@@ -27,7 +27,9 @@ from sfq import _errors, _faults
 OUT = f"{HERE}/out"
 # The files of the package beside the modules, and those of them that are its JavaScript, each after those that it imports.
 SCRIPTS = ("faults.js", "engine.js", "grid.js", "geojson.js", "geometries.js", "databases.js", "index.js")
-FILES = ("package.json", "index.d.ts", *SCRIPTS)
+# And those of the program sfq, which the web page doesn't need.
+PROGRAM = ("serve.js", "program.js", "bin/sfq", "bin/package.json")
+FILES = ("package.json", "index.d.ts", *SCRIPTS, *PROGRAM)
 
 COMMON = ("heap.c", "memory.c")
 SHAPES = wasm.Module("sfq.wasm", ("sfq_c",), (*COMMON, "calls.c"), ("module.h", "sfq.c", "sfq.h"))
@@ -35,7 +37,8 @@ TABLES = wasm.Module(
     "sfq_tables.wasm", ("sfq_c", "sfq_tables"), (*COMMON, "calls.c", "tables_calls.c"),
     ("module.h", "sfq.c", "sfq.h", "sfq_tables.c", "sfq_tables.h"),
 )
-MODULES = (SHAPES, TABLES)
+SERVE = wasm.Module("sfq_serve.wasm", ("sfq_web",), (*COMMON, "serve.c"), ("module.h",))
+MODULES = (SHAPES, TABLES, SERVE)
 
 # The bytes of each module by its file.
 Modules = Mapping[str, bytes]

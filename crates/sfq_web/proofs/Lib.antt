@@ -1,2 +1,4 @@
 pub mod PieceFacts
 pub mod RunFacts
+pub mod OpenerLemmas
+pub mod ServingFacts

@@ -61,7 +61,11 @@ fn schema_failure(fault: SchemaFault) -> Option<Failure<'static>>
 }
 
 /// Cuts a text into pieces of these lengths.
-fn cut<'t>(alloc: Global, text: &'t [u8], lengths: &[usize]) -> Result<Vec<&'t [u8]>, AllocError>
+pub(crate) fn cut<'t>(
+    alloc: Global,
+    text: &'t [u8],
+    lengths: &[usize],
+) -> Result<Vec<&'t [u8]>, AllocError>
     ensures { IfOk result (λ all. map (λ piece. piece.now) all.items ≡ pieces text.now lengths.now) }
 {
     let mut rest = text;

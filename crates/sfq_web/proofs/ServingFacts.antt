@@ -1,0 +1,116 @@
+-- What came of words, by what came of the order that they are; and files that are handed in.
+use Rattle.std.proofs.Common.{◌≡◌, ◌∙◌, ◌+◌, ◌++◌, ◌<◌, ◌≤◌, [], ◌∷◌, Bool, Bor, Err, IfOk, List, Ok, Option, Result, Some, ap, append_assoc, append-nil, drop, false, find, get_or, length, map, refl, subst, sym, ℕ}
+use Rattle.std.proofs.lemmas.List.{at_drop_all, at_drop_more, map_push}
+use Rattle.std.specs.Option.{option_and_then, option_map}
+use Rattle.std.specs.Str.{bytes_eq}
+use Rattle.clap.specs.Words.{HasKind, fault_of}
+use Rattle.command_line.specs.CommandWords.{sfq}
+use Rattle.command_line.specs.Orders.{Orders}
+use Rattle.command_line.specs.declared.known_commands.Order.{Order}
+use Rattle.command_line.specs.declared.misuse.Misuse.{Misuse}
+use Rattle.library_calls.specs.Refusals.{ok}
+use Rattle.streams.specs.MemorySinks.{memory_bytes}
+use Rattle.text_commands.specs.Files.{path_of}
+use Rattle.text_commands.specs.declared.files.File.{File}
+use Rattle.sfq_web.specs.HandedFiles.{Handed, OpensAs, OpensBy, bytes_in, is_standard, opened_text, text_at}
+use Rattle.sfq_web.specs.Servings.{AreWritten, HandsOutTexts, IsDone, IsMisusedAs, IsServed, IsServedOver, ServesGiven, ServesWords, asking}
+use Rattle.sfq_web.specs.declared.handed_files.HandedFile.{HandedFile}
+use Rattle.sfq_web.specs.declared.handed_files.HandedReader.{HandedReader}
+use Rattle.sfq_web.specs.declared.serve_call.Said.{Said}
+use Rattle.sfq_web.specs.declared.served.Served.{Served}
+use Rattle.sfq_web.specs.declared.served.Served.TheVariants as served
+use Rattle.sfq_web.specs.declared.served.Written.{Written}
+
+-- the order of the words was done
+pub is_served : {E : Type 0} (words : List (List ℕ)) (asks : Bool) (order asked : Order) (files : Handed) (result : Result
+    Served E)
+    → Orders words order → asked ≡ asking asks order → IfOk result (IsDone asked files) → IfOk result (IsServed words asks files)
+is_served words asks order asked files (Ok (served.Done w)) orders same done =
+    (order, orders, subst (λ it. IsDone it files (served.Done w)) same done)
+is_served words asks order asked files (Ok (served.Misused w)) orders same done = absurd done
+is_served words asks order asked files (Ok (served.Missing missed)) orders same done = tt
+is_served words asks order asked files (Err e) orders same done = done
+
+-- the words are no order
+pub is_misused : {E : Type 0} (words : List (List ℕ)) (asks : Bool) (misuse : Misuse) (files : Handed) (result : Result Served E)
+    → HasKind (fault_of sfq words) misuse.error → IfOk result (IsMisusedAs misuse) → IfOk result (IsServed words asks files)
+is_misused words asks misuse files (Ok (served.Done w)) has said = absurd said
+is_misused words asks misuse files (Ok (served.Misused w)) has said = (misuse, has, said)
+is_misused words asks misuse files (Ok (served.Missing missed)) has said = absurd said
+is_misused words asks misuse files (Err e) has said = said
+
+-- ---- files that are handed in
+
+-- one file more of a list, which has the next of some values
+pub next_file : {A B : Type 0} (f : HandedFile → B) (g : A → B) (all done : List HandedFile) (one : HandedFile) (xs : List A) (i
+    : ℕ) (d : A)
+    → all ≡ done ++ one ∷ [] → i < length xs → f one ≡ g (get_or xs i d)
+    → map f all ++ map g (drop (i + 1) xs) ≡ map f done ++ map g (drop i xs)
+next_file f g all done one xs i d grown some is =
+    rw (grown, map_push f done one) (append_assoc (map f done) (f one ∷ []) (map g (drop (i + 1) xs))
+    ∙ ap (λ more. map f done ++ more) (ap (λ y. y ∷ map g (drop (i + 1) xs)) is ∙ sym (at_drop_more (map g) xs i d some)))
+
+-- at first no file is there
+pub no_file : {A B : Type 0} (f : HandedFile → B) (g : A → B) (done : List HandedFile) (xs : List A) → done ≡ []
+    → map f done ++ map g (drop 0 xs) ≡ map g xs
+no_file f g done xs none = ap (λ all. map f all ++ map g (drop 0 xs)) none
+
+-- at the end all are
+pub all_files : {A B : Type 0} (f : HandedFile → B) (g : A → B) (done : List HandedFile) (xs : List A) (i : ℕ) → length xs ≤ i
+    → map f done ++ map g (drop i xs) ≡ map g xs → map f done ≡ map g xs
+all_files f g done xs i end cut =
+    sym (ap (λ more. map f done ++ more) (at_drop_all (map g) xs i end) ∙ append-nil (map f done)) ∙ cut
+
+-- a file that is found is opened, and is no standard input
+pub opened_file : (files : Handed) (file : File) (path : List ℕ) (found : HandedFile) (reader : Option HandedReader) (standard :
+    Bool)
+    → standard ≡ is_standard file → standard ≡ false → path ≡ path_of file
+    → Some found ≡ find (λ it. bytes_eq it.path.now path) files.files → option_map bytes_in reader ≡ opened_text found
+    → OpensAs files file reader files
+opened_file files file path found reader standard is isnt same there opens =
+    let given : option_map bytes_in reader ≡ text_at files (path_of file) =
+    opens ∙ ap (λ it. option_and_then opened_text it) there ∙ ap (λ at. text_at files at) same in
+    subst (λ b. OpensBy b files (path_of file) (option_map bytes_in reader) files) (sym isnt ∙ is) (given, refl)
+
+-- ---- what is handed out
+
+-- the texts of a command that was done over the files
+given : (words : List (List ℕ)) (asks : Bool) (paths texts : List (List ℕ)) (found : List ℕ) (lent : Option (Bor (List ℕ)))
+    (input : Option (List ℕ)) (w : Written)
+    → IsServedOver words asks paths texts found lent (served.Done w) → option_map (λ bytes. bytes.now) lent ≡ input
+    → (status : ℕ) (out err more : List ℕ) → AreWritten w status out err more
+    → ServesGiven words asks paths texts found input status out err more
+given words asks paths texts found lent input w over same status out err more are =
+    let files = over.0 in
+    let Serves : Option (List ℕ) → ℕ → List ℕ → List ℕ → List ℕ → Type 0 = λ i. ServesWords words asks (record {
+      files = files;
+      input = i;
+    }) in
+    let by_input : Serves input w.status (memory_bytes w.out) (memory_bytes w.err) (memory_bytes w.more) =
+    subst (λ i. Serves i w.status (memory_bytes w.out) (memory_bytes w.err) (memory_bytes w.more)) same over.2 in
+    let by_status : Serves input status (memory_bytes w.out) (memory_bytes w.err) (memory_bytes w.more) =
+    subst (λ n. Serves input n (memory_bytes w.out) (memory_bytes w.err) (memory_bytes w.more)) (sym are.0) by_input in
+    let by_out : Serves input status out (memory_bytes w.err) (memory_bytes w.more) =
+    subst (λ t. Serves input status t (memory_bytes w.err) (memory_bytes w.more)) (sym are.1) by_status in
+    let by_err : Serves input status out err (memory_bytes w.more) = subst (λ t. Serves input status out t (memory_bytes
+    w.more)) (sym are.2) by_out in
+    (files, over.1, subst (λ t. Serves input status out err t) (sym are.3) by_err)
+
+-- the same, as they are handed out
+pub given_texts : (words : List (List ℕ)) (asks : Bool) (paths texts : List (List ℕ)) (found : List ℕ) (lent : Option (Bor (List
+    ℕ)))
+    (shown input : Option (List ℕ)) (w : Written) (old new : List ℕ) (said : Said)
+    → IsServedOver words asks paths texts found lent (served.Done w) → option_map (λ bytes. bytes.now) lent ≡ shown → shown ≡
+    input
+    → HandsOutTexts (AreWritten w) old new said ok → HandsOutTexts (ServesGiven words asks paths texts found input) old new said
+    ok
+given_texts words asks paths texts found lent shown input w old new said over is same texts_of = record {
+  out = texts_of.out;
+  err = texts_of.err;
+  more = texts_of.more;
+  are = given words asks paths texts found lent input w over (is ∙ same) said.code texts_of.out texts_of.err texts_of.more
+      texts_of.are;
+  out_is = texts_of.out_is;
+  err_is = texts_of.err_is;
+  handed_out = texts_of.handed_out;
+}

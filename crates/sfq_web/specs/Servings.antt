@@ -1,0 +1,128 @@
+-- What words order over files that are handed in, and what came of it.
+use Rattle.std.specs.Prelude.{◌≡◌, ◌++◌, ⊤, ℕ, Bool, false, if◌then◌else◌, length, List, [], map, Option, Some, None}
+use Rattle.std.specs.Option.{option_map}
+use denote.Ref.{Bor}
+use Rattle.clap.specs.Words.{HasKind, fault_of, kind_of}
+use Rattle.command_line.specs.CommandWords.{sfq}
+use Rattle.command_line.specs.Misuses.{status_of}
+use Rattle.command_line.specs.Orders.{Orders, asks_why, with_why}
+use Rattle.command_line.specs.declared.known_commands.Order.{Order}
+use Rattle.command_line.specs.declared.misuse.Misuse.{Misuse}
+use Rattle.engine.specs.Commands.{ServesOrder}
+use Rattle.library_calls.specs.Explained.{HandsOut}
+use Rattle.streams.specs.MemorySinks.{memory_bytes, memory_failures}
+use Rattle.streams.specs.declared.memory.MemorySink.{MemorySink}
+use Rattle.sfq_web.specs.HandedFiles.{AreFiles, Handed, OpensHanded, bytes_in, is_there}
+use Rattle.sfq_web.specs.declared.handed_files.Found.{Found}
+use Rattle.sfq_web.specs.declared.handed_files.HandedFile.{HandedFile}
+use Rattle.sfq_web.specs.declared.handed_files.HandedReader.{HandedReader}
+use Rattle.sfq_web.specs.declared.handing.Handing.{Handing}
+use Rattle.sfq_web.specs.declared.serve_call.Said.{Said}
+use Rattle.sfq_web.specs.declared.served.Served.{Served}
+use Rattle.sfq_web.specs.declared.served.Served.TheVariants as served
+use Rattle.sfq_web.specs.declared.served.Written.{Written}
+
+-- these files, and standard input, if that is handed in
+abbrev pub handed_of : List HandedFile → Option (Bor (List ℕ)) → Handed
+handed_of files input = record { files = files; input = option_map (λ text. text.now) input }
+
+-- the files of an opener
+abbrev pub handed : Handing → Handed
+handed handing = handed_of handing.files.now handing.input
+
+-- the bytes that a reader of a file has yet to give are known
+abbrev pub known_in : HandedReader → Option (List ℕ)
+known_in reader = Some (bytes_in reader)
+
+-- and those that a sink over memory took
+abbrev pub known_bytes : MemorySink → Option (List ℕ)
+known_bytes sink = Some (memory_bytes sink)
+
+-- doing what an order says over the files that are handed in, by sinks over memory
+abbrev pub ServesHanded : MemorySink → MemorySink → Handed → Order → ℕ → MemorySink → MemorySink → Type 0
+ServesHanded = ServesOrder OpensHanded known_in known_bytes memory_failures known_bytes memory_failures
+
+-- an order, which is made to ask why where a caller does
+abbrev pub asking : Bool → Order → Order
+asking asks order = if asks then with_why order else order
+
+-- doing an order over the files has written these texts to standard output and standard error, whole, and gives this status; what explains a
+-- fault is nothing where the order doesn't ask why
+pub record DoesOrder (order : Order) (files : Handed) (status : ℕ) (out err more : List ℕ) : Type 0 where
+  pub old_out : MemorySink
+  pub new_out : MemorySink
+  pub old_err : MemorySink
+  pub new_err : MemorySink
+  pub no_out : memory_bytes old_out ≡ []
+  pub no_err : memory_bytes old_err ≡ []
+  pub serves : ServesHanded old_out new_out files order status old_err new_err
+  pub out_is : out ≡ memory_bytes new_out
+  pub err_is : err ≡ memory_bytes new_err
+  pub whole_out : memory_failures new_out ≡ 0
+  pub whole_err : memory_failures new_err ≡ 0
+  pub unasked : asks_why order ≡ false → more ≡ []
+
+-- the words are an order, which asks why where the caller does, and it was done
+abbrev pub ServesWords : List (List ℕ) → Bool → Handed → ℕ → List ℕ → List ℕ → List ℕ → Type 0
+ServesWords words asks files status out err more = (order : Order) × Orders words order × DoesOrder (asking asks order) files status out err more
+
+-- the words are no order: `clap` names a kind of misuse, whose status this is, or memory ran out
+abbrev pub IsMisuse : List (List ℕ) → ℕ → Type 0
+IsMisuse words status = (misuse : Misuse) × HasKind (fault_of sfq words) misuse.error × (status ≡ status_of (kind_of misuse.error))
+
+-- what came of words
+abbrev pub IsServed : List (List ℕ) → Bool → Handed → Served → Type 0
+IsServed words asks files (served.Done w) =
+    ServesWords words asks files w.status (memory_bytes w.out) (memory_bytes w.err) (memory_bytes w.more)
+IsServed words asks files (served.Misused w) = IsMisuse words w.status
+IsServed words asks files (served.Missing missed) = ⊤
+
+-- standard input, if that is handed in
+abbrev pub input_of : Found → List ℕ → Option (List ℕ)
+input_of found input = if is_there found then Some input else None
+
+-- ---- what is handed out
+
+-- words, and files of these paths, texts and numbers of what was found: doing what the words order has written these texts, and gives this status
+abbrev pub ServesGiven : List (List ℕ) → Bool → List (List ℕ) → List (List ℕ) → List ℕ → Option (List ℕ) → ℕ → List ℕ → List ℕ → List ℕ → Type 0
+ServesGiven words asks paths texts found input status out err more =
+    (files : List HandedFile) × AreFiles files paths texts found
+    × ServesWords words asks (record { files = files; input = input }) status out err more
+
+-- the words are no order, and this is the status of why
+abbrev pub IsMisuseOf : List (List ℕ) → ℕ → List ℕ → List ℕ → List ℕ → Type 0
+IsMisuseOf words status out err more = IsMisuse words status
+
+-- three texts of a command are handed out, one after another, with the lengths of the first two
+pub record HandsOutTexts (Are : ℕ → List ℕ → List ℕ → List ℕ → Type 0) (old new : List ℕ) (said : Said) (status : ℕ) : Type 0 where
+  pub out : List ℕ
+  pub err : List ℕ
+  pub more : List ℕ
+  pub are : Are said.code out err more
+  pub out_is : said.out ≡ length out
+  pub err_is : said.err ≡ length err
+  pub handed_out : HandsOut (λ text. text ≡ (out ++ err) ++ more) old new said.size status
+
+-- ---- steps by which it is found
+
+-- what came of an order
+abbrev pub IsDone : Order → Handed → Served → Type 0
+IsDone order files (served.Done w) = DoesOrder order files w.status (memory_bytes w.out) (memory_bytes w.err) (memory_bytes w.more)
+IsDone order files (served.Misused w) = ⊥
+IsDone order files (served.Missing missed) = ⊤
+
+-- what came of words that are no order
+abbrev pub IsMisusedAs : Misuse → Served → Type 0
+IsMisusedAs misuse (served.Done w) = ⊥
+IsMisusedAs misuse (served.Misused w) = w.status ≡ status_of (kind_of misuse.error)
+IsMisusedAs misuse (served.Missing missed) = ⊥
+
+-- what came of words over files of these paths, texts and numbers
+abbrev pub IsServedOver : List (List ℕ) → Bool → List (List ℕ) → List (List ℕ) → List ℕ → Option (Bor (List ℕ)) → Served → Type 0
+IsServedOver words asks paths texts found input it =
+    (files : List HandedFile) × AreFiles files paths texts found × IsServed words asks (handed_of files input) it
+
+-- these texts were written, with this status
+abbrev pub AreWritten : Written → ℕ → List ℕ → List ℕ → List ℕ → Type 0
+AreWritten w status out err more =
+    (status ≡ w.status) × (out ≡ memory_bytes w.out) × (err ≡ memory_bytes w.err) × (more ≡ memory_bytes w.more)

@@ -1,0 +1,169 @@
+//! The files of a command as a caller hands them in, who has read them before.
+
+ghost use Rattle.std.specs.Prelude.{◌≡◌, find, option_map};
+ghost use Rattle.std.specs.Str.{bytes_eq};
+ghost use Rattle.sfq_web.specs.HandedFiles.{bytes_in, found_of, is_standard, is_there, opened_text};
+
+use std::io::{self, Error, ErrorKind, Read};
+use streams::BoundedReader;
+use text_commands::File;
+
+/// The path that means standard input, for a query, a geometry and pairs. A file of this name is `./-`.
+const STANDARD_INPUT: &str = "-";
+
+/// What a caller found at a path.
+#[derive(Clone, Copy, Debug, PartialEq, Eq)]
+pub enum Found {
+    /// A file, which can be read again.
+    Lasting,
+    /// What can be read once, such as a pipe.
+    Passing,
+    /// A folder: it can be opened, and not be read.
+    Folder,
+    /// What couldn't be read to its end.
+    Broken,
+    /// Nothing.
+    Nothing,
+    /// What this user may not read.
+    Denied,
+    /// What can't be opened.
+    Closed,
+}
+
+impl Found {
+    /// What a number says: 0 to 5 in the order above, and any other that it can't be opened.
+    pub fn of(number: u8) -> Found
+        ensures { result ≡ found_of number }
+    {
+        match number {
+            0 => Found::Lasting,
+            1 => Found::Passing,
+            2 => Found::Folder,
+            3 => Found::Broken,
+            4 => Found::Nothing,
+            5 => Found::Denied,
+            _ => Found::Closed,
+        }
+    }
+
+    /// Whether it can be opened.
+    pub(crate) fn is_there(self) -> bool
+        ensures { result ≡ is_there self }
+    {
+        match self {
+            Found::Lasting | Found::Passing | Found::Folder | Found::Broken => true,
+            Found::Nothing | Found::Denied | Found::Closed => false,
+        }
+    }
+
+    /// Whether reading it fails behind what was read.
+    pub(crate) fn fails(self) -> bool {
+        matches!(self, Found::Folder | Found::Broken)
+    }
+
+    /// What is said after its path where it can't be read again; nothing of a file.
+    pub(crate) fn words(self) -> Option<&'static str> {
+        match self {
+            Found::Lasting | Found::Broken => None,
+            Found::Passing => Some(" can't be read twice: save it as a file to see more"),
+            Found::Folder => Some(" is a folder"),
+            Found::Nothing => Some(" isn't there"),
+            Found::Denied => Some(" may not be read by this user"),
+            Found::Closed => Some(" can't be opened"),
+        }
+    }
+}
+
+/// A file that is handed in: its path as the command names it, what was read of it, and what was found there.
+#[derive(Clone, Copy, Debug)]
+pub struct HandedFile<'f> {
+    /// Its path.
+    pub path: &'f str,
+    /// Its bytes.
+    pub text: &'f [u8],
+    /// What was found at the path.
+    pub found: Found,
+}
+
+impl<'f> HandedFile<'f> {
+    /// The reader of the file for a command, if it can be opened.
+    pub(crate) fn opened(&self, file: File<'_>) -> Option<HandedReader<'f>>
+        ensures { option_map bytes_in result ≡ opened_text self.now }
+    {
+        if !self.found.is_there() {
+            return None;
+        }
+        Some(reader_of(file, self.text, self.found.fails()))
+    }
+}
+
+/// A reader of a text, which fails at its end if that couldn't be read.
+#[derive(Clone, Copy, Debug)]
+pub struct HandedText<'t> {
+    rest: &'t [u8],
+    fails: bool,
+}
+
+impl Read for HandedText<'_> {
+    ghost use Rattle.std.specs.Prelude.{Some};
+
+    ghost remaining = { λ t. Some t.rest.now };
+
+    fn read(&mut self, buffer: &mut [u8]) -> io::Result<usize> {
+        if self.fails && self.rest.is_empty() {
+            return Err(Error::from(ErrorKind::Other));
+        }
+        self.rest.read(buffer)
+    }
+}
+
+/// A reader of a file that is handed in. What is CSV has a bound.
+#[derive(Drop)]
+pub enum HandedReader<'t> {
+    /// Of CSV.
+    Records(BoundedReader<HandedText<'t>>),
+    /// Of another text, of which a command reads only so much.
+    Text(HandedText<'t>),
+}
+
+impl Read for HandedReader<'_> {
+    ghost use Rattle.std.specs.Prelude.{Some};
+    ghost use Rattle.sfq_web.specs.HandedFiles.{bytes_in};
+
+    ghost remaining = { λ r. Some (bytes_in r) };
+
+    fn read(&mut self, buffer: &mut [u8]) -> io::Result<usize> {
+        match self {
+            HandedReader::Records(reader) => reader.read(buffer),
+            HandedReader::Text(reader) => reader.read(buffer),
+        }
+    }
+}
+
+/// The reader of a text for a command.
+pub(crate) fn reader_of<'t>(file: File<'_>, text: &'t [u8], fails: bool) -> HandedReader<'t>
+    ensures { bytes_in result ≡ text.entry.now }
+{
+    let reader = HandedText { rest: text, fails };
+    match file {
+        File::Schema(_) | File::Query(_) | File::Geometry(_) => HandedReader::Text(reader),
+        File::Table(_) | File::Pairs(_) => HandedReader::Records(BoundedReader::new(reader)),
+    }
+}
+
+/// Whether a file of a command is standard input.
+pub(crate) fn is_standard(file: File<'_>) -> bool
+    ensures { result ≡ is_standard file.entry }
+{
+    match file {
+        File::Query(path) | File::Geometry(path) | File::Pairs(path) => path == STANDARD_INPUT,
+        File::Schema(_) | File::Table(_) => false,
+    }
+}
+
+/// The first of some files that is at a path.
+pub(crate) fn file_at<'f>(files: &[HandedFile<'f>], path: &str) -> Option<HandedFile<'f>>
+    ensures { result ≡ find (λ file. bytes_eq file.path.now path.now) files.now }
+{
+    files.iter().find(|file| file.path == path).copied()
+}

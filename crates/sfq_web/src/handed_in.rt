@@ -1,0 +1,120 @@
+//! What a caller hands in, as words and files: texts are one after another, each of its length.
+
+ghost use Rattle.std.specs.Prelude.{◌≡◌, IfOk, IfSome, length, map};
+ghost use Rattle.sfq_web.specs.HandedFiles.{AreFiles};
+ghost use Rattle.sfq_web.specs.Outcomes.{pieces};
+ghost use Rattle.sfq_web.specs.Servings.{IsServedOver};
+
+use crate::handed_files::{Found, HandedFile};
+use crate::handing::Handing;
+use crate::queries::cut;
+use crate::served::{Served, serve_words};
+use std::alloc::{AllocError, Global};
+
+/// The words of a command line as a caller hands them in: they are one after another, each of its length.
+#[derive(Clone, Copy)]
+pub struct Given<'g> {
+    /// The texts.
+    pub text: &'g [u8],
+    /// Their lengths.
+    pub lengths: &'g [usize],
+}
+
+/// Standard input as a caller hands it in.
+#[derive(Clone, Copy)]
+pub struct Input<'g> {
+    /// Its bytes, if it was read.
+    pub text: Option<&'g [u8]>,
+    /// Whether reading it fails behind them.
+    pub is_broken: bool,
+}
+
+impl<'g> Input<'g> {
+    ghost use Rattle.std.specs.Prelude.{option_map};
+    ghost use Rattle.sfq_web.specs.Servings.{input_of};
+
+    /// These bytes, where something was found.
+    pub fn of(found: Found, text: &'g [u8]) -> Input<'g>
+        ensures { option_map (λ bytes. bytes.now) result.text ≡ input_of found text.entry.now }
+    {
+        Input {
+            text: if found.is_there() { Some(text) } else { None },
+            is_broken: found.fails(),
+        }
+    }
+}
+
+/// Does what words order over files. None is for words or paths that aren't UTF-8, and for another number of paths, texts or numbers.
+pub fn serve_given(
+    alloc: Global,
+    words: Given<'_>,
+    asks: bool,
+    paths: Given<'_>,
+    texts: Given<'_>,
+    found: &[u8],
+    input: Input<'_>,
+) -> Result<Option<Served>, AllocError>
+    ensures { IfOk result (λ it. IfSome it (IsServedOver (pieces words.entry.text.now words.entry.lengths.now) asks
+        (pieces paths.entry.text.now paths.entry.lengths.now) (pieces texts.entry.text.now texts.entry.lengths.now)
+        found.now input.entry.text)) }
+{
+    let Some(words) = strings_of(alloc, words.text, words.lengths)? else {
+        return Ok(None);
+    };
+    let Some(paths) = strings_of(alloc, paths.text, paths.lengths)? else {
+        return Ok(None);
+    };
+    let texts = cut(alloc, texts.text, texts.lengths)?;
+    if texts.len() != paths.len() || found.len() != paths.len() {
+        return Ok(None);
+    }
+    let files = files_of(alloc, paths.as_slice(), texts.as_slice(), found)?;
+    let mut handing = Handing::new(files.as_slice(), input.text, input.is_broken);
+    let served = serve_words(alloc, words.as_slice(), asks, &mut handing)?;
+    Ok(Some(served))
+}
+
+/// Cuts a text into strings of these lengths; none where one isn't UTF-8.
+fn strings_of<'t>(
+    alloc: Global,
+    text: &'t [u8],
+    lengths: &[usize],
+) -> Result<Option<Vec<&'t str>>, AllocError>
+    ensures { IfOk result (λ all. IfSome all (λ strings. map (λ one. one.now) strings.items
+        ≡ pieces text.now lengths.now)) }
+{
+    let mut rest = text;
+    let mut all = Vec::new(alloc);
+    for length in lengths {
+        let (piece, more) = rest.split_at((*length).min(rest.len()));
+        let Ok(string) = str::from_utf8(piece) else {
+            return Ok(None);
+        };
+        all.push(string)?;
+        rest = more;
+    }
+    Ok(Some(all))
+}
+
+/// The files of these paths and texts, and of the numbers that say what was found.
+fn files_of<'f>(
+    alloc: Global,
+    paths: &[&'f str],
+    texts: &[&'f [u8]],
+    found: &[u8],
+) -> Result<Vec<HandedFile<'f>>, AllocError>
+    requires texts { length texts.now ≡ length paths.now }
+    requires found { length found.now ≡ length paths.now }
+    ensures { IfOk result (λ files. AreFiles files.items (map (λ path. path.now) paths.now)
+        (map (λ text. text.now) texts.now) found.now) }
+{
+    let mut files = Vec::new(alloc);
+    for (place, path) in paths.iter().enumerate() {
+        files.push(HandedFile {
+            path: *path,
+            text: texts[place],
+            found: Found::of(found[place]),
+        })?;
+    }
+    Ok(files)
+}

@@ -1,0 +1,151 @@
+//! Opens the files that are handed in, for a command.
+
+use crate::handed_files::{Found, HandedFile, HandedReader, file_at, is_standard, reader_of};
+use explanations::{file_explained, said_line};
+use std::alloc::{AllocError, Global};
+use streams::{MemorySink, put_all};
+use text_commands::File;
+
+/// A file that a command asked for and that isn't handed in.
+#[derive(Drop)]
+pub struct Missed {
+    /// What it is for the command: 0 the schema, 1 a table, 2 a query, 3 a geometry, 4 pairs.
+    pub role: u8,
+    /// Its path; none where memory ran out.
+    pub path: Option<String>,
+}
+
+/// The files that are handed in, and standard input, if that is; and the first file that was asked for and isn't.
+#[derive(Drop)]
+pub struct Handing<'f> {
+    files: &'f [HandedFile<'f>],
+    input: Option<&'f [u8]>,
+    // Whether reading standard input fails behind these bytes.
+    is_broken: bool,
+    missed: Option<Missed>,
+}
+
+impl<'f> Handing<'f> {
+    ghost use Rattle.std.specs.Prelude.{◌≡◌, option_map};
+    ghost use Rattle.sfq_web.specs.HandedFiles.{OpensAs, OpensInput};
+    ghost use Rattle.sfq_web.specs.Servings.{handed, handed_of};
+
+    /// These files, and standard input, whose reading may fail behind its bytes.
+    pub fn new(files: &'f [HandedFile<'f>], input: Option<&'f [u8]>, is_broken: bool) -> Handing<'f>
+        ensures { handed result ≡ handed_of files.entry.now input.entry }
+    {
+        Handing {
+            files,
+            input,
+            is_broken,
+            missed: None,
+        }
+    }
+
+    /// The reader of a file for a command, if it is handed in and can be opened. Standard input is read once, and then has no more bytes.
+    pub(crate) fn open(&mut self, alloc: Global, file: File<'_>) -> Option<HandedReader<'f>>
+        ensures { OpensAs (handed self.old) file.entry result (handed self.new) }
+    {
+        if is_standard(file) {
+            return self.open_input(alloc, file);
+        }
+        match file_at(self.files, file.path()) {
+            Some(found) => found.opened(file),
+            None => {
+                self.miss(alloc, file);
+                None
+            }
+        }
+    }
+
+    /// The reader of standard input for a command, if it is handed in.
+    fn open_input(&mut self, alloc: Global, file: File<'_>) -> Option<HandedReader<'f>>
+        ensures { OpensInput (handed self.old) result (handed self.new) }
+    {
+        match self.input {
+            Some(text) => {
+                self.input = Some(&[]);
+                Some(reader_of(file, text, self.is_broken))
+            }
+            None => {
+                self.miss(alloc, file);
+                None
+            }
+        }
+    }
+
+    /// Keeps which file is missing, unless one is before.
+    fn miss(&mut self, alloc: Global, file: File<'_>)
+        ensures { handed self.new ≡ handed self.old }
+    {
+        if self.missed.is_none() {
+            self.missed = Some(Missed {
+                role: role_of(file),
+                path: String::from_str(alloc, file.path()).ok(),
+            });
+        }
+    }
+
+    /// The first file that was asked for and isn't handed in, if there is one. It isn't kept any more.
+    pub(crate) fn take_missed(&mut self) -> Option<Missed>
+        ensures { handed self.new ≡ handed self.old }
+    {
+        self.missed.take()
+    }
+
+    /// The reader of a file that is opened once more, to explain a fault. If it isn't a file that can be read again, a line says that, and
+    /// the result is None.
+    pub(crate) fn open_again(
+        &self,
+        alloc: Global,
+        file: File<'_>,
+        said: &mut MemorySink,
+    ) -> Option<HandedReader<'f>> {
+        let (reader, words) = self.opened_again(file);
+        if let Some(words) = words
+            && let Ok(line) = unopened(alloc, file.path(), words)
+        {
+            let _ = put_all(said, line.as_slice());
+        }
+        reader
+    }
+
+    /// The same, but nothing is said.
+    pub(crate) fn open_quietly(&self, file: File<'_>) -> Option<HandedReader<'f>> {
+        let (reader, _) = self.opened_again(file);
+        reader
+    }
+
+    /// The reader of a file that can be read again, or what is said after its path where it can't be.
+    fn opened_again(&self, file: File<'_>) -> (Option<HandedReader<'f>>, Option<&'static str>) {
+        if is_standard(file) {
+            return (None, Found::Passing.words());
+        }
+        let Some(found) = file_at(self.files, file.path()) else {
+            return (None, Found::Closed.words());
+        };
+        match found.found.words() {
+            Some(words) => (None, Some(words)),
+            None => (found.opened(file), None),
+        }
+    }
+}
+
+/// The line that says of a file why it isn't opened: its path, and these words behind it. A path that is empty can't be shown.
+fn unopened(alloc: Global, path: &str, words: &str) -> Result<Vec<u8>, AllocError> {
+    if path.is_empty() {
+        return said_line(alloc, b"the path is empty: name a file");
+    }
+    file_explained(alloc, path.as_bytes(), words)
+}
+
+/// The number of what a file is for a command.
+fn role_of(file: File<'_>) -> u8 {
+    match file {
+        File::Schema(_) => 0,
+        File::Table(_) => 1,
+        File::Query(_) => 2,
+        File::Geometry(_) => 3,
+        File::Pairs(_) => 4,
+    }
+}

@@ -1,0 +1,128 @@
+//! The call that does what words order.
+
+ghost use Rattle.std.specs.Prelude.{◌≡◌, ◌≢◌, ◌⊎◌, ◌<◌, length};
+ghost use Rattle.library_calls.specs.Refusals.{first_refused, none_there, ok, out_of_memory, too_small, unknown};
+ghost use Rattle.sfq_web.specs.HandedFiles.{found_of};
+ghost use Rattle.sfq_web.specs.Outcomes.{pieces};
+ghost use Rattle.sfq_web.specs.Servings.{AreWritten, HandsOutTexts, IsMisuseOf, ServesGiven, input_of};
+
+use crate::handed_files::Found;
+use crate::handed_in::{Given, Input, serve_given};
+use crate::handing::Missed;
+use crate::served::{Served, Written, add};
+use library_calls::hand_out;
+use std::alloc::Global;
+
+/// What is said of a text that is handed out.
+#[derive(Clone, Copy)]
+#[repr(C)]
+pub struct Said {
+    /// Its length.
+    pub size: usize,
+    /// How many of its bytes are for standard output.
+    pub out: usize,
+    /// How many of the bytes behind these are for standard error; what is left is what explains a fault.
+    pub err: usize,
+    /// The status of the command; or what a missing file is for it: 0 the schema, 1 a table, 2 a query, 3 a geometry, 4 pairs.
+    pub code: u8,
+}
+
+/// Does what the words of a command line order, the program's name first, as `sfq` does, and hands out what it writes: standard output,
+/// standard error, and what explains a fault, one after another. Its files are handed in, each with its path as the words name it, and a
+/// number that says what was found there: 0 a file, 1 what can be read only once, 2 a folder, 3 what can't be read to its end, 4 nothing,
+/// 5 what this user may not read, another what can't be opened; so is standard input. Texts are one after another, each of its length.
+///
+/// The status is 0 where the order was done or failed, and 1 where the words are none. Where it is 6, the order needs a file that isn't
+/// handed in, whose path is handed out: a caller reads it, and calls again (SQL, the query; 06-103r4, 6.1 and 7.2; the order of all else:
+/// this project's choice).
+#[unsafe(no_mangle)]
+pub extern "C" fn sfq_proved_serve(
+    alloc: Global,
+    words: &[u8],
+    word_lengths: &[usize],
+    asks: bool,
+    paths: &[u8],
+    path_lengths: &[usize],
+    texts: &[u8],
+    text_lengths: &[usize],
+    found: &[u8],
+    input_found: u8,
+    input: &[u8],
+    room: &mut [u8],
+    said: &mut Said,
+) -> u32
+    ensures served { result ≡ ok → HandsOutTexts
+        (ServesGiven (pieces words.now word_lengths.now) asks (pieces paths.now path_lengths.now)
+        (pieces texts.now text_lengths.now) found.now (input_of (found_of input_found) input.now)) room.old room.new said.new ok }
+    ensures misused { result ≡ first_refused
+        → HandsOutTexts (IsMisuseOf (pieces words.now word_lengths.now)) room.old room.new said.new ok }
+    ensures kept { result ≢ ok → result ≢ first_refused → result ≢ none_there → room.new ≡ room.old }
+    ensures no_room { result ≡ too_small → length room.old < said.new.size }
+    ensures status { (result ≡ ok) ⊎ (result ≡ first_refused) ⊎ (result ≡ out_of_memory) ⊎ (result ≡ unknown)
+        ⊎ (result ≡ too_small) ⊎ (result ≡ none_there) }
+{
+    let words = Given {
+        text: words,
+        lengths: word_lengths,
+    };
+    let paths = Given {
+        text: paths,
+        lengths: path_lengths,
+    };
+    let texts = Given {
+        text: texts,
+        lengths: text_lengths,
+    };
+    let input = Input::of(Found::of(input_found), input);
+    match serve_given(alloc, words, asks, paths, texts, found, input) {
+        Ok(Some(Served::Done(written))) => hand_out_texts(written, 0, room, said),
+        Ok(Some(Served::Misused(written))) => hand_out_texts(written, 1, room, said),
+        Ok(Some(Served::Missing(missed))) => hand_out_path(&missed, room, said),
+        Ok(None) => 4,
+        Err(_) => 3,
+    }
+}
+
+/// Hands out what a command wrote, if the room is large enough; then the status is the one that says it is done.
+fn hand_out_texts(written: Written, done: u32, room: &mut [u8], said: &mut Said) -> u32
+    requires { done < 2 }
+    ensures texts { result ≡ done → HandsOutTexts (AreWritten written) room.old room.new said.new ok }
+    ensures kept { result ≢ done → room.new ≡ room.old }
+    ensures no_room { result ≡ too_small → length room.old < said.new.size }
+    ensures status { (result ≡ done) ⊎ (result ≡ out_of_memory) ⊎ (result ≡ too_small) }
+{
+    let Written {
+        status,
+        mut out,
+        err,
+        more,
+    } = written;
+    said.code = status;
+    said.out = out.bytes().len();
+    said.err = err.bytes().len();
+    if add(err.bytes(), &mut out).is_err() || add(more.bytes(), &mut out).is_err() {
+        return 3;
+    }
+    if hand_out(out.bytes(), room, &mut said.size) != 0 {
+        return 5;
+    }
+    done
+}
+
+/// Hands out the path of a missing file, if the room is large enough.
+fn hand_out_path(missed: &Missed, room: &mut [u8], said: &mut Said) -> u32
+    ensures kept { result ≢ none_there → room.new ≡ room.old }
+    ensures no_room { result ≡ too_small → length room.old < said.new.size }
+    ensures status { (result ≡ none_there) ⊎ (result ≡ out_of_memory) ⊎ (result ≡ too_small) }
+{
+    let Some(path) = &missed.path else {
+        return 3;
+    };
+    said.code = missed.role;
+    said.out = 0;
+    said.err = 0;
+    if hand_out(path.as_bytes(), room, &mut said.size) != 0 {
+        return 5;
+    }
+    6
+}

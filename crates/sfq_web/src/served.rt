@@ -1,0 +1,161 @@
+//! Does what the words of a command line order, over files that are handed in.
+
+ghost use Rattle.std.specs.Prelude.{◌≡◌, ◌++◌, [], false, IfOk, OnOk, map};
+ghost use Rattle.command_line.specs.Orders.{asks_why};
+ghost use Rattle.sfq_web.specs.HandedFiles.{OpensAs};
+ghost use Rattle.sfq_web.specs.Servings.{IsDone, IsMisusedAs, IsServed, ServesHanded, asking, handed};
+ghost use Rattle.streams.specs.MemorySinks.{memory_bytes};
+
+use crate::handing::{Handing, Missed};
+use command_line::{Misuse, Order, order};
+use engine::{explain_order, note_order, serve_observed};
+use std::alloc::{AllocError, Global};
+use streams::{MemorySink, Unobserved, put_all};
+use text_commands::File;
+
+/// The status of a command in which memory ran out.
+const OUT_OF_MEMORY: u8 = 7;
+
+/// What a command wrote, and its status.
+#[derive(Drop)]
+pub struct Written {
+    /// The status.
+    pub status: u8,
+    /// Standard output.
+    pub out: MemorySink,
+    /// Standard error.
+    pub err: MemorySink,
+    /// What explains a fault, or notes on a query, which a terminal shows in colour: it is written to standard error too, behind the rest.
+    pub more: MemorySink,
+}
+
+/// What came of the words of a command line.
+#[derive(Drop)]
+pub enum Served {
+    /// They are an order, which was done or failed.
+    Done(Written),
+    /// They are no order: `clap` says why, or gives the help that they ask for.
+    Misused(Written),
+    /// The order needs a file that isn't handed in.
+    Missing(Missed),
+}
+
+/// Does what the words of a command line order, the program's name first, over files that are handed in. If the caller asks why, the order
+/// does too. It fails only when memory runs out.
+pub fn serve_words<'w>(
+    alloc: Global,
+    words: &'w [&'w str],
+    asks: bool,
+    handing: &mut Handing<'_>,
+) -> Result<Served, AllocError>
+    ensures { IfOk result (IsServed (map (λ word. word.now) words.entry.now) asks (handed handing.old)) }
+{
+    match order(alloc, words) {
+        Ok(order) => serve_asked(alloc, asked(order, asks), handing),
+        Err(misuse) => misused(alloc, &misuse),
+    }
+}
+
+/// An order, which asks why if the caller does.
+fn asked(order: Order, asks: bool) -> Order
+    ensures { result ≡ asking asks order }
+{
+    if asks { order.with_why() } else { order }
+}
+
+/// Does what an order says over files that are handed in.
+fn serve_asked(alloc: Global, order: Order, handing: &mut Handing<'_>) -> Result<Served, AllocError>
+    ensures { IfOk result (IsDone order (handed handing.old)) }
+{
+    let mut out = MemorySink::new(alloc);
+    let mut err = MemorySink::new(alloc);
+    let status = serve_handed(alloc, &order, handing, &mut out, &mut err);
+    if let Some(missed) = handing.take_missed() {
+        return Ok(Served::Missing(missed));
+    }
+    // A sink over memory fails only when memory runs out.
+    if out.failures() != 0 || err.failures() != 0 {
+        return Err(AllocError);
+    }
+    let more = explained(alloc, &order, status, handing)?;
+    Ok(Served::Done(Written {
+        status,
+        out,
+        err,
+        more,
+    }))
+}
+
+/// Does what an order says, and returns its status. The files are opened among those that are handed in.
+fn serve_handed(
+    alloc: Global,
+    order: &Order,
+    handing: &mut Handing<'_>,
+    out: &mut MemorySink,
+    err: &mut MemorySink,
+) -> u8
+    ensures { ServesHanded out.old out.new (handed handing.old) order.now result err.old err.new }
+{
+    let opener = |file: File<'_>|
+        ensures { OpensAs (handed handing.entry.now) file.entry result (handed handing.exit.now) }
+    { handing.open(alloc, file) };
+    serve_observed(alloc, order, opener, out, err, &mut Unobserved)
+}
+
+/// What explains the fault of an order that has ended with a status, or notes on the query of one that is done, if the order asks why. Its
+/// files are opened once more.
+fn explained(
+    alloc: Global,
+    order: &Order,
+    status: u8,
+    handing: &Handing<'_>,
+) -> Result<MemorySink, AllocError>
+    ensures { IfOk result (λ more. asks_why order.now ≡ false → memory_bytes more ≡ []) }
+{
+    let mut said = MemorySink::new(alloc);
+    if !order.asks_why() || status == OUT_OF_MEMORY {
+        return Ok(said);
+    }
+    let mut more = MemorySink::new(alloc);
+    if status == 0 {
+        let opener = |file: File<'_>| handing.open_quietly(file);
+        note_order(alloc, order, opener, &mut more);
+    } else {
+        let opener = |file: File<'_>| handing.open_again(alloc, file, &mut said);
+        explain_order(alloc, order, status, opener, &mut more);
+    }
+    add(more.bytes(), &mut said)?;
+    Ok(said)
+}
+
+/// What `clap` says of words that are no order: help and the version are for standard output, all else for standard error.
+fn misused(alloc: Global, misuse: &Misuse) -> Result<Served, AllocError>
+    ensures { IfOk result (IsMisusedAs misuse.now) }
+{
+    let text = misuse.to_string(alloc)?;
+    let status = misuse.status();
+    let mut said = MemorySink::new(alloc);
+    add(text.as_bytes(), &mut said)?;
+    let nothing = MemorySink::new(alloc);
+    let (out, err) = if status == 0 {
+        (said, nothing)
+    } else {
+        (nothing, said)
+    };
+    Ok(Served::Misused(Written {
+        status,
+        out,
+        err,
+        more: MemorySink::new(alloc),
+    }))
+}
+
+/// Adds a text to a sink over memory. It fails only when memory runs out.
+pub(crate) fn add(text: &[u8], sink: &mut MemorySink) -> Result<(), AllocError>
+    ensures { OnOk result (memory_bytes sink.new ≡ memory_bytes sink.old ++ text.now) }
+{
+    match put_all(sink, text) {
+        Ok(()) => Ok(()),
+        Err(_) => Err(AllocError),
+    }
+}
