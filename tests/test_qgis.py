@@ -11,7 +11,6 @@ import subprocess
 import tempfile
 import unittest
 import zipfile
-from decimal import Decimal
 
 from support import ROOT, python_with, read, write
 
@@ -21,6 +20,7 @@ import qgis_plugin
 import wheels
 from engine_rows import WithLibrary
 from sfq_qgis import grids
+from sfq_qgis.sfq import _proposing
 
 PLUGIN, PROGRAM = "sfq_qgis", "qgis_process.bin"
 PARCELS = {"memory": "Polygon?crs=EPSG:25832", "name": "parcel", "shapes": [
@@ -60,46 +60,27 @@ def square(x, y, side=4):
 class Grids(unittest.TestCase):
     """Which grid is proposed, and what is said where the one that is given doesn't do. The values are computed by hand."""
 
-    def chosen(self, extent, step="", origin="", least="0.01"):
-        return grids.chosen(extent and grids.Extent(*extent), Decimal(least), step, origin).spelled
-
-    def test_the_least_step_that_takes_all(self):
-        self.assertEqual(self.chosen((0, 0, 4, 4)), ("0.01", ("0", "0")))
-        self.assertEqual(self.chosen((0, 0, 150_000, 4)), ("0.01", ("75000", "0")))
-        self.assertEqual(self.chosen((0, 0, 300_000, 4)), ("0.02", ("150000", "0")))
-        self.assertEqual(self.chosen((-180, -90, 180, 90), least="0.0000001"), ("0.00002", ("0", "0")))
-        self.assertEqual(self.chosen((0, 0, 3e9, 1)), ("200", ("1500000000", "0")))
-
-    def test_an_origin_in_the_middle_where_0_0_is_too_far(self):
-        self.assertEqual(self.chosen((564_000, 5_935_000, 564_020, 5_935_020)), ("0.01", ("564010", "5935010")))
-        self.assertEqual(self.chosen((9.5, 53, 10.5, 54), least="0.0000001"), ("0.0000001", ("10", "53.5")))
+    def chosen(self, extent, step="", origin="", metres=1.0):
+        return grids.chosen(extent and _proposing.Extent(*extent), metres, step, origin).spelled
 
     def test_what_is_given_is_taken(self):
-        self.assertEqual(self.chosen((0, 0, 4, 4), "0.25", " 1, -2 "), ("0.25", ("1", "-2")))
-        self.assertEqual(self.chosen((564_000, 5_935_000, 564_020, 5_935_020), "1"), ("1", ("0", "0")))
-        self.assertEqual(self.chosen((564_000, 5_935_000, 564_020, 5_935_020), "", "0,0"), ("1", ("0", "0")))
+        self.assertEqual(self.chosen((0, 4, 0, 4), "0.25", " 1, -2 "), ("0.25", ("1", "-2")))
+        self.assertEqual(self.chosen((564_000, 564_020, 5_935_000, 5_935_020), "1"), ("1", ("0", "0")))
+        self.assertEqual(self.chosen((564_000, 564_020, 5_935_000, 5_935_020), "", "0,0"), ("1", ("0", "0")))
+        self.assertEqual(self.chosen((564_000, 564_020, 5_935_000, 5_935_020)), ("0.01", ("564000", "5935000")))
+        self.assertEqual(self.chosen((9.5, 10.5, 53, 54), metres=0.0), ("0.0000001", ("10", "53.5")))
         self.assertEqual(self.chosen(None), ("0.01", ("0", "0")))
 
     def test_what_does_not_fit_is_refused_with_what_does(self):
-        with self.assertRaisesRegex(grids.NoFit, r"the step 0.01 and the origin 0,0 doesn't take all .* the origin 564010,5935010 does$"):
-            self.chosen((564_000, 5_935_000, 564_020, 5_935_020), "0.01", "0,0")
+        with self.assertRaisesRegex(grids.NoFit, r"the step 0.01 and the origin 0,0 doesn't take all .* the origin 564000,5935000 does$"):
+            self.chosen((564_000, 564_020, 5_935_000, 5_935_020), "0.01", "0,0")
         with self.assertRaisesRegex(grids.NoFit, r"no origin does with this step: the step 0.05 with the origin 0,0 does$"):
-            self.chosen((0, 0, 450_000, 1), "0.01")
-
-    def test_a_grid_that_is_proposed_takes_all(self):
-        for extent in ((-1e7, -1e7, 1e7, 1e7), (1e15, 1, 1e15 + 1, 2), (99_999, 0, 100_001, 1), (1 / 3, 1 / 3, 2 / 3, 2 / 3), (7, 7, 7, 7)):
-            found = grids.Extent(*extent)
-            self.assertTrue(grids.takes(grids.chosen(found, Decimal("0.01"), "", ""), found), extent)
-            self.assertTrue(grids.takes(grids.chosen(found, Decimal("0.01"), "", "5,5"), found), extent)
+            self.chosen((0, 450_000, 0, 1), "0.01")
 
     def test_texts_that_are_no_grid(self):
         for step, origin, said in (("x", "", "isn't a decimal number"), ("0", "", "isn't greater than 0"), ("1", "5", "isn't X,Y"), ("", "1,b", "decimal")):
             with self.assertRaisesRegex(ValueError, said):
                 grids.check(step, origin)
-
-    def test_the_least_step_of_a_unit(self):
-        for in_a_metre, step in ((1, "0.01"), (3.2808, "0.01"), (0.001, "0.00001"), (100, "1"), (1000, "10")):
-            self.assertEqual(grids.least_of_unit(in_a_metre), Decimal(step))
 
 
 class Packing(WithLibrary):

@@ -12,9 +12,9 @@ from qgis.core import (
 from qgis.PyQt.QtGui import QIcon
 
 from . import grids
-from .layers import Layer, Pair, Row, least_step
+from .layers import Layer, Pair, Row, metres_of
 from .progress import Canceled, counted, watched
-from .sfq import Index, LibraryError, _grid, _library
+from .sfq import Index, LibraryError, _grid, _library, _proposing
 
 GRID_HELP = """
 <h3>The grid</h3>
@@ -151,12 +151,10 @@ class Algorithm(QgsProcessingAlgorithm):
         """Reads the layers, chooses the grid, and brings the layers to it."""
         many = QgsProcessingMultiStepFeedback(2 * len(self.LAYERS) + 1, feedback)
         layers = self.read(parameters, context, many)
-        extent = None
-        for it in layers:
-            extent = it.extent.joined(extent) if it.extent else extent
+        extent = _proposing.joined(it.extent for it in layers)
         try:
             step, origin = (self.text(parameters, it, context) for it in ("STEP", "ORIGIN"))
-            grid = grids.chosen(extent, least_step(layers[0].system), step, origin)
+            grid = grids.chosen(extent, metres_of(layers[0].system), step, origin)
         except ValueError as error:
             raise QgsProcessingException(str(error)) from None
         many.pushInfo(f"grid: step {grid.spelled[0]}, origin {','.join(grid.spelled[1])}")

@@ -6,23 +6,23 @@ from __future__ import annotations
 
 import math
 from collections import Counter
-from decimal import Decimal
 from typing import Any, Iterator, Optional
 
 from qgis.core import QgsCoordinateTransform, QgsCsException, QgsFeatureRequest, QgsProcessingFeatureSource, QgsUnitTypes
 
-from .grids import LEAST, Extent, least_of_unit
 from .progress import counted
-from .sfq import Geometry, _grid, _wkb
-from .sfq.imports import kind
+from .sfq import Geometry, _grid, _proposing, _wkb
+from .sfq._passes import kind
 
 
-def least_step(system: Any) -> Decimal:
-    """Returns the least step that is proposed in a reference system, by its unit."""
+def metres_of(system: Any) -> Optional[float]:
+    """Returns how many metres the unit of a reference system has, as a grid is proposed by: None where it isn't known."""
     unit = system.mapUnits() if system.isValid() else QgsUnitTypes.DistanceUnknownUnit
-    if unit in (QgsUnitTypes.DistanceDegrees, QgsUnitTypes.DistanceUnknownUnit):
-        return LEAST
-    return least_of_unit(QgsUnitTypes.fromUnitToUnitFactor(QgsUnitTypes.DistanceMeters, unit))
+    if unit == QgsUnitTypes.DistanceUnknownUnit:
+        return None
+    if unit == QgsUnitTypes.DistanceDegrees:
+        return _proposing.DEGREES
+    return float(QgsUnitTypes.fromUnitToUnitFactor(unit, QgsUnitTypes.DistanceMeters))
 
 
 def reason_of_form(form: str) -> str:
@@ -112,7 +112,7 @@ class Layer:
     def reach(self, row: Row, shape: _wkb.Shape, box: Any) -> None:
         """Keeps a shape, and has the extent reach to the bounds of it."""
         if shape.parts:
-            extent = Extent(box.xMinimum(), box.yMinimum(), box.xMaximum(), box.yMaximum())
+            extent = _proposing.Extent(box.xMinimum(), box.xMaximum(), box.yMinimum(), box.yMaximum())
             if not all(map(math.isfinite, extent)):
                 row.reason = "W1: a coordinate is infinite or no number"
                 return
