@@ -1,10 +1,10 @@
 //! What names and conditions of a query are bound to, with places counted by hand.
 
 use geometry_model::Predicate;
-use spatial_sql::{Bound, bind_to_tables, read_query, read_schema};
+use spatial_sql::{Bound, Cond, bind_to_tables, read_query, read_schema};
 use std::alloc::Global;
 use std::test::Fail;
-use table_model::conditions::{ColumnPlace, Cond, GeometryArgument, Item, Operand, Reference};
+use table_model::conditions::{ColumnPlace, GeometryArgument, Item, Operand, Reference};
 
 const SCHEMA: &[u8] =
     b"CREATE TABLE t (id INTEGER PRIMARY KEY, pop INTEGER, name TEXT, geom GEOMETRY);";
@@ -33,6 +33,39 @@ fn selects(items: &[Item<ColumnPlace>], column: (usize, usize), text: (usize, us
     }
 }
 
+/// Whether this is NOT of ST_Within of a column and a geometry that isn't empty.
+fn is_not_within(condition: &Cond) -> bool {
+    let Cond::Not(within) = condition else {
+        return false;
+    };
+    match within.get() {
+        Cond::Relates(
+            Predicate::Within,
+            GeometryArgument::Column(_),
+            GeometryArgument::Literal(constant),
+        ) => !constant.get().is_empty(),
+        _ => false,
+    }
+}
+
+/// Whether this compares something with a text.
+fn compares_with(condition: &Cond, text: &[u8]) -> bool {
+    match condition {
+        Cond::Compare(_, _, Operand::Text(bytes)) => bytes.as_slice() == text,
+        _ => false,
+    }
+}
+
+/// Whether these are a NOT of ST_Within, ST_Relate, a comparison with this text, and one more.
+fn are_conjuncts(conditions: &[Cond], text: &[u8]) -> bool {
+    match conditions {
+        [within, Cond::Relates(Predicate::Relate(_), _, _), named, _] => {
+            is_not_within(within) && compares_with(named, text)
+        }
+        _ => false,
+    }
+}
+
 /// Aliases as they are spelled, places of columns, conjuncts one after another, and a quote in a string.
 #[test]
 fn binds_every_part(rt: HostRuntime) -> Result<(), Fail> {
@@ -45,25 +78,6 @@ fn binds_every_part(rt: HostRuntime) -> Result<(), Fail> {
     assert!(rt; query.limit == Some(3));
     assert!(rt; names_first(query.references.as_slice(), "A"));
     assert!(rt; selects(query.items.as_slice(), (0, 2), (1, 3)));
-    let [
-        Cond::Not(within),
-        Cond::Relates(Predicate::Relate(_), _, _),
-        named,
-        _,
-    ] = query.conjuncts.as_slice()
-    else {
-        panic!(rt; "other conjuncts")
-    };
-    let Cond::Relates(
-        Predicate::Within,
-        GeometryArgument::Column(_),
-        GeometryArgument::Literal(constant),
-    ) = within.get() else {
-        panic!(rt; "no constant")
-    };
-    assert!(rt; !constant.get().is_empty());
-    assert!(rt;
-        matches!(named, Cond::Compare(_, _, Operand::Text(bytes)) if bytes.as_slice() == b"o'k".as_slice())
-    );
+    assert!(rt; are_conjuncts(query.conjuncts.as_slice(), b"o'k"));
     Ok(())
 }

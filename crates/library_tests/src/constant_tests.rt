@@ -4,6 +4,7 @@ use spatial_sql::{Bound, bind_to_tables, read_query, read_schema};
 use sqlite_items::Boxed;
 use statements::{Constant, Put, count_of_constants, put_constant, type_of_constant};
 use std::alloc::Global;
+use std::process::Abort;
 use std::test::Fail;
 use table_model::conditions::{Cond, GeometryArgument, Operand};
 use table_model::texts::OwnedText;
@@ -58,54 +59,75 @@ fn is_empty(query: &Bound) -> Option<bool> {
     }
 }
 
+/// Whether these are the types of a query's constants, and there are no more.
+fn has_types(query: &Bound, types: &[OperandType]) -> bool {
+    for (k, wanted) in types.iter().enumerate() {
+        if type_of_constant(query, k) != Some(*wanted) {
+            return false;
+        }
+    }
+    count_of_constants(query) == types.len() && type_of_constant(query, types.len()).is_none()
+}
+
 #[test]
 fn constants_are_counted_from_the_left(rt: HostRuntime) -> Result<(), Fail> {
     let query = bound(rt.alloc(), QUERY)?;
-    assert!(rt; count_of_constants(&query) == 3);
-    assert!(rt; type_of_constant(&query, 0) == Some(OperandType::Integer));
-    assert!(rt; type_of_constant(&query, 1) == Some(OperandType::Text));
-    assert!(rt; type_of_constant(&query, 2) == Some(OperandType::Geometry));
-    assert!(rt; type_of_constant(&query, 3).is_none());
+    assert!(rt;
+        has_types(
+            &query,
+            &[
+                OperandType::Integer,
+                OperandType::Text,
+                OperandType::Geometry
+            ]
+        )
+    );
+    Ok(())
+}
+
+/// The empty point as the value of a constant.
+fn empty_point(alloc: Global) -> Result<Constant, Fail> {
+    match read_valid(alloc, b"POINT EMPTY")? {
+        Ok(empty) => Ok(Value::Geometry(Boxed::new(alloc, empty)?)),
+        Err(_) => Err(Fail::from("a fault")),
+    }
+}
+
+/// Writes 7 in place of the number, NULL in place of the text, and an empty point in place of the geometry.
+fn put_others(rt: &(impl Abort + AllocGlobal), query: &mut Bound) -> Result<(), Fail> {
+    assert!(rt; is_put(rt.alloc(), query, 0, Value::Integer(7))?);
+    assert!(rt; number(query) == Some(7));
+    assert!(rt; is_put(rt.alloc(), query, 1, Value::Null)?);
+    assert!(rt; type_of_constant(query, 1) == Some(OperandType::Null));
+    assert!(rt; is_empty(query) == Some(false));
+    assert!(rt; is_put(rt.alloc(), query, 2, empty_point(rt.alloc())?)?);
+    assert!(rt; is_empty(query) == Some(true));
     Ok(())
 }
 
 #[test]
 fn values_take_the_place_of_constants(rt: HostRuntime) -> Result<(), Fail> {
-    let alloc = rt.alloc();
-    let mut query = bound(alloc, QUERY)?;
-    assert!(rt; is_put(alloc, &mut query, 0, Value::Integer(7))?);
-    assert!(rt; number(&query) == Some(7));
-    assert!(rt; is_put(alloc, &mut query, 1, Value::Null)?);
-    assert!(rt; type_of_constant(&query, 1) == Some(OperandType::Null));
-    let Ok(empty) = read_valid(alloc, b"POINT EMPTY")? else {
-        panic!(rt; "a fault")
-    };
-    assert!(rt; is_empty(&query) == Some(false));
-    assert!(rt;
-        is_put(
-            alloc,
-            &mut query,
-            2,
-            Value::Geometry(Boxed::new(alloc, empty)?)
-        )?
-    );
-    assert!(rt; is_empty(&query) == Some(true));
+    let mut query = bound(rt.alloc(), QUERY)?;
+    put_others(&rt, &mut query)?;
     assert!(rt; number(&query) == Some(7));
     assert!(rt; count_of_constants(&query) == 3);
     Ok(())
 }
 
+/// Whether a text is refused as the value of a constant, and given back.
+fn is_given_back(alloc: Global, query: &mut Bound, k: usize, given: &str) -> Result<bool, Fail> {
+    match put_constant(alloc, query, k, text(alloc, given)?)? {
+        Put::Refused(Value::Text(back)) => Ok(back.as_str() == given),
+        _ => Ok(false),
+    }
+}
+
 #[test]
 fn other_values_are_given_back(rt: HostRuntime) -> Result<(), Fail> {
-    let alloc = rt.alloc();
-    let mut query = bound(alloc, QUERY)?;
-    let Put::Refused(Value::Text(given)) = put_constant(alloc, &mut query, 0, text(alloc, "b")?)?
-    else {
-        panic!(rt; "a text in place of a number")
-    };
-    assert!(rt; given.as_str() == "b");
-    assert!(rt; !is_put(alloc, &mut query, 2, Value::Null)?);
-    assert!(rt; !is_put(alloc, &mut query, 3, Value::Integer(7))?);
+    let mut query = bound(rt.alloc(), QUERY)?;
+    assert!(rt; is_given_back(rt.alloc(), &mut query, 0, "b")?);
+    assert!(rt; !is_put(rt.alloc(), &mut query, 2, Value::Null)?);
+    assert!(rt; !is_put(rt.alloc(), &mut query, 3, Value::Integer(7))?);
     assert!(rt; number(&query) == Some(5));
     assert!(rt; count_of_constants(&query) == 3);
     Ok(())

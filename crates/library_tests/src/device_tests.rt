@@ -82,25 +82,33 @@ fn run_failing(
     Ok(serve(rt.alloc(), &order, opener, out, err))
 }
 
+/// Whether a run where these reads and this put fail writes this text, shows this line and ends with the status of a failure.
+fn is_failing(rt: &HostRuntime, failing: &Failing, text: &str, line: &str) -> Result<bool, Fail> {
+    let mut out = StopSink::new(rt.alloc(), failing.put, 3);
+    let mut err = MemorySink::new(rt.alloc());
+    let status = run_failing(rt, failing, &mut out, &mut err)?;
+    let is_said = err.bytes() == line.as_bytes() && out.bytes() == text.as_bytes();
+    Ok(is_said && status == 6)
+}
+
+/// Whether the schema is opened, the read of it, the read of the table and the put that fail, what is written, and the line.
+const FAILURES: [(bool, u64, u64, u64, &str, &str); 4] = [
+    (false, 0, 0, 0, "", "sfq: schema unreadable\n"),
+    (true, 1, 0, 0, "", "sfq: schema unreadable\n"),
+    (true, 0, 2, 0, "", "sfq: t L11\n"),
+    (true, 0, 0, 2, "id,", "sfq: write failed\n"),
+];
+
 #[test]
 fn reading_and_writing_may_fail(rt: HostRuntime) -> Result<(), Fail> {
-    for (opened, schema_read, table_read, put, out_text, line) in &[
-        (false, 0, 0, 0, "", "sfq: schema unreadable\n"),
-        (true, 1, 0, 0, "", "sfq: schema unreadable\n"),
-        (true, 0, 2, 0, "", "sfq: t L11\n"),
-        (true, 0, 0, 2, "id,", "sfq: write failed\n"),
-    ] {
+    for (opened, schema_read, table_read, put, out_text, line) in &FAILURES {
         let failing = Failing {
             opened: *opened,
             schema_read: *schema_read,
             table_read: *table_read,
             put: *put,
         };
-        let mut out = StopSink::new(rt.alloc(), failing.put, 3);
-        let mut err = MemorySink::new(rt.alloc());
-        let status = run_failing(&rt, &failing, &mut out, &mut err)?;
-        let said = err.bytes() == line.as_bytes() && status == 6;
-        assert!(rt; said && out.bytes() == out_text.as_bytes());
+        assert!(rt; is_failing(&rt, &failing, out_text, line)?);
     }
     Ok(())
 }

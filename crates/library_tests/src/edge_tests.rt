@@ -10,14 +10,16 @@ fn triangle(a: Place, b: Place, c: Place) -> Result<[Segment; 3], Fail> {
     Ok([segment(a, b)?, segment(b, c)?, segment(c, a)?])
 }
 
+/// Two edges, whether they share a point, and whether they clash as neighbours of a ring.
+const EDGES: [(Place, Place, Place, Place, bool, bool); 3] = [
+    ((0, 0), (4, 4), (0, 4), (4, 0), true, false),
+    ((0, 0), (4, 4), (4, 4), (1, 1), true, true),
+    ((0, 0), (4, 4), (5, 5), (9, 9), false, false),
+];
+
 #[test]
 fn edges_share_points(rt: HostRuntime) -> Result<(), Fail> {
-    // Two edges, whether they share a point, and whether they clash as neighbours of a ring.
-    for (a, b, c, d, shared, clashed) in &[
-        ((0, 0), (4, 4), (0, 4), (4, 0), true, false),
-        ((0, 0), (4, 4), (4, 4), (1, 1), true, true),
-        ((0, 0), (4, 4), (5, 5), (9, 9), false, false),
-    ] {
+    for (a, b, c, d, shared, clashed) in &EDGES {
         let (e, f) = (segment(*a, *b)?, segment(*c, *d)?);
         assert!(rt; share_point(&e, &f) == *shared && clash(9, 0, &e, 1, &f) == *clashed);
     }

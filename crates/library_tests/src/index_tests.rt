@@ -44,20 +44,39 @@ fn found<I: EnvelopeIndex + Drop>(
     Ok(places)
 }
 
+/// Whether an index of these envelopes finds these positions.
+fn has_found<I: EnvelopeIndex + Drop>(
+    alloc: Global,
+    envelopes: &[Option<Envelope>],
+    asked: Option<Envelope>,
+    wanted: &[usize],
+) -> Result<bool, AllocError> {
+    Ok(found::<I>(alloc, envelopes, asked)?.as_slice() == wanted)
+}
+
 /// A search finds the envelopes that meet, an edge in common among them, and an absent one meets the absent ones alone.
 fn finds<I: EnvelopeIndex + Drop>(rt: &(impl Abort + AllocGlobal)) -> Result<(), Fail> {
     let square = framed((0, 0), (4, 4))?;
     let apart = framed((9, 9), (9, 9))?;
     let edge = framed((4, 0), (9, 1))?;
     let envelopes = [apart, edge, None, square, None];
-    let of_square = found::<I>(rt.alloc(), &envelopes, square)?;
-    let of_none = found::<I>(rt.alloc(), &envelopes, None)?;
-    let of_nothing = found::<I>(rt.alloc(), &[], square)?;
-    assert!(rt;
-        of_square.as_slice() == [1, 3].as_slice() && of_none.as_slice() == [2, 4].as_slice()
-    );
-    assert!(rt; of_nothing.is_empty());
+    assert!(rt; has_found::<I>(rt.alloc(), &envelopes, square, &[1, 3])?);
+    assert!(rt; has_found::<I>(rt.alloc(), &envelopes, None, &[2, 4])?);
+    assert!(rt; has_found::<I>(rt.alloc(), &[], square, &[])?);
     Ok(())
+}
+
+/// So often the same envelope.
+fn repeated(
+    alloc: Global,
+    envelope: &Option<Envelope>,
+    count: u8,
+) -> Result<Vec<Option<Envelope>>, Fail> {
+    let mut envelopes = Vec::new(alloc);
+    for _ in 0..count {
+        envelopes.push(*envelope)?;
+    }
+    Ok(envelopes)
 }
 
 /// A search finds the only envelope, all absent ones, and each of many equal ones, by a corner in common too.
@@ -65,20 +84,13 @@ fn finds_alike<I: EnvelopeIndex + Drop>(rt: &(impl Abort + AllocGlobal)) -> Resu
     let square = framed((0, 0), (4, 4))?;
     let corner = framed((4, 4), (5, 5))?;
     let apart = framed((5, 5), (6, 6))?;
-    let one = [square];
-    let of_corner = found::<I>(rt.alloc(), &one, corner)?;
-    let of_apart = found::<I>(rt.alloc(), &one, apart)?;
-    assert!(rt; of_corner.as_slice() == [0].as_slice() && of_apart.is_empty());
-    let absent = [None, None];
-    let of_none = found::<I>(rt.alloc(), &absent, None)?;
-    let of_square = found::<I>(rt.alloc(), &absent, square)?;
-    assert!(rt; of_none.as_slice() == [0, 1].as_slice() && of_square.is_empty());
-    let mut equal = Vec::new(rt.alloc());
-    for _ in 0..10u8 {
-        equal.push(square)?;
-    }
-    let of_equal = found::<I>(rt.alloc(), equal.as_slice(), corner)?;
-    assert!(rt; of_equal.as_slice() == [0, 1, 2, 3, 4, 5, 6, 7, 8, 9].as_slice());
+    assert!(rt; has_found::<I>(rt.alloc(), &[square], corner, &[0])?);
+    assert!(rt; has_found::<I>(rt.alloc(), &[square], apart, &[])?);
+    assert!(rt; has_found::<I>(rt.alloc(), &[None, None], None, &[0, 1])?);
+    assert!(rt; has_found::<I>(rt.alloc(), &[None, None], square, &[])?);
+    let equal = repeated(rt.alloc(), &square, 10)?;
+    let all = [0, 1, 2, 3, 4, 5, 6, 7, 8, 9];
+    assert!(rt; has_found::<I>(rt.alloc(), equal.as_slice(), corner, &all)?);
     Ok(())
 }
 
@@ -92,8 +104,7 @@ fn finds_on_a_line<I: EnvelopeIndex + Drop>(rt: &(impl Abort + AllocGlobal)) -> 
         (framed((0, 2), (100, 9))?, [].as_slice()),
         (None, [100].as_slice()),
     ] {
-        let places = found::<I>(rt.alloc(), envelopes.as_slice(), *asked)?;
-        assert!(rt; places.as_slice() == *wanted);
+        assert!(rt; has_found::<I>(rt.alloc(), envelopes.as_slice(), *asked, wanted)?);
     }
     let all = found::<I>(rt.alloc(), envelopes.as_slice(), framed((1, 0), (100, 1))?)?;
     assert!(rt; all.len() == 100 && all.as_slice().is_sorted());
@@ -113,11 +124,9 @@ fn finds_in_turn<I: EnvelopeIndex + Drop>(rt: &(impl Abort + AllocGlobal)) -> Re
         (framed((5, 0), (6, 0))?, [].as_slice()),
         (None, [2, 5, 8, 11, 14, 17, 20, 23, 26, 29].as_slice()),
     ] {
-        let places = found::<I>(rt.alloc(), rows.as_slice(), *asked)?;
-        assert!(rt; places.as_slice() == *wanted);
+        assert!(rt; has_found::<I>(rt.alloc(), rows.as_slice(), *asked, wanted)?);
     }
-    let of_none = found::<I>(rt.alloc(), &[], None)?;
-    assert!(rt; of_none.is_empty());
+    assert!(rt; has_found::<I>(rt.alloc(), &[], None, &[])?);
     Ok(())
 }
 
@@ -258,6 +267,21 @@ fn drawn_envelopes(
     Ok(envelopes)
 }
 
+/// Whether all indexes of these envelopes find the same.
+fn find_the_same(
+    alloc: Global,
+    envelopes: &[Option<Envelope>],
+    asked: Option<Envelope>,
+) -> Result<bool, AllocError> {
+    let wanted = found::<ListIndex>(alloc, envelopes, asked)?;
+    let wanted = wanted.as_slice();
+    Ok(
+        has_found::<RTree>(alloc, envelopes, asked, wanted)?
+            && has_found::<CurveTree>(alloc, envelopes, asked, wanted)?
+            && has_found::<RowTree>(alloc, envelopes, asked, wanted)?,
+    )
+}
+
 /// Of 300 drawn envelopes all indexes find the same, asked for 100 others.
 #[test]
 fn indexes_find_the_same(rt: HostRuntime) -> Result<(), Fail> {
@@ -266,11 +290,7 @@ fn indexes_find_the_same(rt: HostRuntime) -> Result<(), Fail> {
         let envelopes = drawn_envelopes(rt.alloc(), &mut draws, extent, 300)?;
         for _ in 0..100 {
             let asked = drawn_envelope(&mut draws, extent)?;
-            let wanted = found::<ListIndex>(rt.alloc(), envelopes.as_slice(), asked)?;
-            let by_centres = found::<RTree>(rt.alloc(), envelopes.as_slice(), asked)?;
-            let by_curve = found::<CurveTree>(rt.alloc(), envelopes.as_slice(), asked)?;
-            let by_rows = found::<RowTree>(rt.alloc(), envelopes.as_slice(), asked)?;
-            assert!(rt; by_centres == wanted && by_curve == wanted && by_rows == wanted);
+            assert!(rt; find_the_same(rt.alloc(), envelopes.as_slice(), asked)?);
         }
     }
     Ok(())

@@ -1,6 +1,6 @@
 //! The trees of queries as they are read, with places counted by hand.
 
-use sql_text::{Argument, read_query};
+use sql_text::{Argument, Query, read_query};
 use std::test::Fail;
 use table_model::queries::{Explain, WrittenCond, WrittenPredicate};
 
@@ -25,6 +25,13 @@ fn relate_at(cond: &WrittenCond<'_, Argument<'_>>) -> Option<(usize, usize)> {
     }
 }
 
+/// Where the predicate of ON, and ST_Relate and its pattern in WHERE start.
+fn places_in(query: &Query<'_>) -> Option<(usize, usize, usize)> {
+    let on = predicate_at(query.on.as_ref()?)?;
+    let (relate, pattern) = relate_at(query.condition.as_ref()?)?;
+    Some((on, relate, pattern))
+}
+
 /// The tree of a query that has each part, with the bytes at which predicates start.
 #[test]
 fn has_every_part(rt: HostRuntime) -> Result<(), Fail> {
@@ -33,10 +40,8 @@ fn has_every_part(rt: HostRuntime) -> Result<(), Fail> {
         "EXPLAIN ANALYZE SELECT b.id, ST_Dimension(b.geom) FROM big b JOIN sq s ON ST_Intersects(b.geom, s.geom) \
          WHERE ST_Touches(b.geom, s.geom) = 0 AND ST_Relate(b.geom, s.geom, 'T********') LIMIT 2;",
     )?;
-    let on = query.on.as_ref().ok_or("no ON")?;
-    let condition = query.condition.as_ref().ok_or("no WHERE")?;
     assert!(rt; query.explain == Explain::Analyze && query.limit == Some(2));
-    assert!(rt; predicate_at(on) == Some(74) && relate_at(condition) == Some((145, 171)));
+    assert!(rt; places_in(&query) == Some((74, 145, 171)));
     Ok(())
 }
 
@@ -51,12 +56,16 @@ fn compared_at(cond: &WrittenCond<'_, Argument<'_>>) -> Option<usize> {
     }
 }
 
+/// The same of the condition of WHERE.
+fn compared_in(query: &Query<'_>) -> Option<usize> {
+    compared_at(query.condition.as_ref()?)
+}
+
 /// The tree of a condition, with the byte at which its comparison starts.
 #[test]
 fn becomes_a_tree(rt: HostRuntime) -> Result<(), Fail> {
     let text = "SELECT id, name FROM t WHERE pop > 5 AND NOT name = 'b'";
     let query = read_query(rt.alloc(), text)?;
-    let condition = query.condition.as_ref().ok_or("no condition")?;
-    assert!(rt; compared_at(condition) == Some(29));
+    assert!(rt; compared_in(&query) == Some(29));
     Ok(())
 }

@@ -4,14 +4,17 @@ use crate::shapes::numbers;
 use fraction::{GridPoint, RatPoint};
 use std::cmp::Ordering;
 
+/// Coordinates, and whether they are a position.
+const POSITIONS: [(i32, i32, bool); 4] = [
+    (10_000_000, -10_000_000, true),
+    (10_000_001, 0, false),
+    (0, -10_000_001, false),
+    (i32::MIN, i32::MAX, false),
+];
+
 #[test]
 fn a_position_is_within_the_limit(rt: HostRuntime) {
-    for (x, y, taken) in &[
-        (10_000_000, -10_000_000, true),
-        (10_000_001, 0, false),
-        (0, -10_000_001, false),
-        (i32::MIN, i32::MAX, false),
-    ] {
+    for (x, y, taken) in &POSITIONS {
         let kept = match GridPoint::new(*x, *y) {
             Some(position) => position.x() == *x && position.y() == *y,
             None => false,

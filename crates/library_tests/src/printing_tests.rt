@@ -30,7 +30,7 @@ fn shown(alloc: Global, text: &str) -> Result<Shown, Fail> {
 #[test]
 fn geometries_show_their_parts(rt: HostRuntime) -> Result<(), Fail> {
     use GeometryType::{LineString, MultiLineString, MultiPoint, MultiPolygon, Point, Polygon};
-    for (text, wanted) in &[
+    const SHOWN: [(&str, Shown); 11] = [
         ("POINT(1 -2)", (Point, Kind::Point, false, 1, 0, 0)),
         ("POINT EMPTY", (Point, Kind::Point, true, 0, 0, 0)),
         (
@@ -60,23 +60,27 @@ fn geometries_show_their_parts(rt: HostRuntime) -> Result<(), Fail> {
             "MULTIPOLYGON(((0 0,9 0,0 9,0 0),(1 1,2 1,1 2,1 1)),((9 9,8 9,9 8,9 9)))",
             (MultiPolygon, Kind::Area, false, 0, 2, 3),
         ),
-    ] {
+    ];
+    for (text, wanted) in &SHOWN {
         assert!(rt; shown(rt.alloc(), text)? == *wanted);
     }
     Ok(())
 }
 
+/// Lines of one position, and how they are printed.
+const ONE_POSITION: [(&str, &str); 3] = [
+    ("LINESTRING(3 3,3 3,3 3)", "LINESTRING(3 3)"),
+    ("LINESTRING(5 6)", "LINESTRING(5 6)"),
+    (
+        "multilinestring ( (0 0, 1 1) ,( 5 5,5 5 ) )",
+        "MULTILINESTRING((0 0,1 1),(5 5))",
+    ),
+];
+
 /// Lines of one position are printed, which no table and no query takes.
 #[test]
 fn lines_of_one_position(rt: HostRuntime) -> Result<(), Fail> {
-    for (text, canonical) in &[
-        ("LINESTRING(3 3,3 3,3 3)", "LINESTRING(3 3)"),
-        ("LINESTRING(5 6)", "LINESTRING(5 6)"),
-        (
-            "multilinestring ( (0 0, 1 1) ,( 5 5,5 5 ) )",
-            "MULTILINESTRING((0 0,1 1),(5 5))",
-        ),
-    ] {
+    for (text, canonical) in &ONE_POSITION {
         for spelled in &[*text, *canonical] {
             let mut sink = MemorySink::new(rt.alloc());
             print(&read(rt.alloc(), spelled.as_bytes())?, &mut sink)?;
@@ -100,15 +104,18 @@ fn a_failed_put_leaves_a_beginning(rt: HostRuntime) -> Result<(), Fail> {
     Ok(())
 }
 
+/// Faults of reading, and those of the text that they show.
+const FAULTS: [(WktFault, Option<TextFault>); 5] = [
+    (WktFault::Syntax(9), Some(TextFault::Syntax(9))),
+    (WktFault::OffGrid(6), Some(TextFault::OffGrid(6))),
+    (WktFault::OutOfRange(6), Some(TextFault::OutOfRange(6))),
+    (WktFault::TooLong, Some(TextFault::TooLong)),
+    (WktFault::OutOfMemory, None),
+];
+
 #[test]
 fn a_fault_of_reading_shows_the_text(rt: HostRuntime) {
-    for (fault, said) in &[
-        (WktFault::Syntax(9), Some(TextFault::Syntax(9))),
-        (WktFault::OffGrid(6), Some(TextFault::OffGrid(6))),
-        (WktFault::OutOfRange(6), Some(TextFault::OutOfRange(6))),
-        (WktFault::TooLong, Some(TextFault::TooLong)),
-        (WktFault::OutOfMemory, None),
-    ] {
+    for (fault, said) in &FAULTS {
         assert!(rt; fault.text_fault() == *said);
     }
     assert!(rt; WktFault::from(AllocError) == WktFault::OutOfMemory);

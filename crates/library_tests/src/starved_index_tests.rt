@@ -76,37 +76,50 @@ fn run_starved(
     run_over(alloc, &schema, query, sink)
 }
 
+/// Whether a query over the points ends like this, and writes this text.
+fn is_ended(
+    alloc: Global,
+    query: &str,
+    wanted: &Result<u64, Fault>,
+    text: &str,
+) -> Result<bool, Fail> {
+    let mut sink = MemorySink::new(alloc);
+    let ended = run_starved(alloc, query, &mut sink)?;
+    Ok(ended == *wanted && sink.bytes() == text.as_bytes())
+}
+
+/// A query, what it ends with, and what it writes.
+const ENDINGS: [(&str, Result<u64, Fault>, &str); 4] = [
+    (
+        "SELECT id FROM big WHERE ST_Intersects(geom, ST_GeomFromText('POLYGON((4 0,8 0,8 4,4 4,4 0))'))",
+        Err(Fault::Memory),
+        "id\n",
+    ),
+    (
+        "SELECT a.id, b.id FROM big a JOIN big b ON ST_Equals(a.geom, b.geom)",
+        Err(Fault::Memory),
+        "a.id,b.id\n1,1\n2,2\n3,3\n",
+    ),
+    (
+        "SELECT COUNT(*) FROM big a JOIN big b ON ST_Equals(a.geom, b.geom)",
+        Err(Fault::Memory),
+        "",
+    ),
+    (
+        "SELECT id FROM big \
+         WHERE id > 6 OR ST_Intersects(geom, ST_GeomFromText('POLYGON((0 0,4 0,4 4,0 4,0 0))'))",
+        Ok(7),
+        "id\n1\n2\n3\n4\n7\n",
+    ),
+];
+
 /// A probe fails with its search, which comes after the header was written. Rows are written as they are found, also those before
 /// a search that fails. A number is written once all rows were counted. A scan doesn't search an index. The work returned is the
 /// number of matrices.
 #[test]
 fn plans_meet_their_index(rt: HostRuntime) -> Result<(), Fail> {
-    for (query, wanted, text) in &[
-        (
-            "SELECT id FROM big WHERE ST_Intersects(geom, ST_GeomFromText('POLYGON((4 0,8 0,8 4,4 4,4 0))'))",
-            Err(Fault::Memory),
-            "id\n",
-        ),
-        (
-            "SELECT a.id, b.id FROM big a JOIN big b ON ST_Equals(a.geom, b.geom)",
-            Err(Fault::Memory),
-            "a.id,b.id\n1,1\n2,2\n3,3\n",
-        ),
-        (
-            "SELECT COUNT(*) FROM big a JOIN big b ON ST_Equals(a.geom, b.geom)",
-            Err(Fault::Memory),
-            "",
-        ),
-        (
-            "SELECT id FROM big \
-             WHERE id > 6 OR ST_Intersects(geom, ST_GeomFromText('POLYGON((0 0,4 0,4 4,0 4,0 0))'))",
-            Ok(7),
-            "id\n1\n2\n3\n4\n7\n",
-        ),
-    ] {
-        let mut sink = MemorySink::new(rt.alloc());
-        let answer = run_starved(rt.alloc(), query, &mut sink)?;
-        assert!(rt; answer == *wanted && sink.bytes() == text.as_bytes());
+    for (query, wanted, text) in &ENDINGS {
+        assert!(rt; is_ended(rt.alloc(), query, wanted, text)?);
     }
     Ok(())
 }

@@ -182,12 +182,29 @@ fn valid(alloc: Global, text: &str) -> Result<Valid, Fail> {
     Ok(check(alloc, read(alloc, text.as_bytes())?)?)
 }
 
+/// The witness of these parts of two geometries.
+fn witness(
+    alloc: Global,
+    first: &Valid,
+    second: &Valid,
+    l: Location,
+    k: Location,
+) -> Result<Shown, Fail> {
+    let found = find_witnesses(alloc, first, second)?;
+    Ok(numbers_of(&found.at(l, k)))
+}
+
+/// Whether the witness of a row's texts is the row's.
+fn is_found(alloc: Global, row: &Row) -> Result<bool, Fail> {
+    let (first, second, l, k, wanted) = row;
+    let (first, second) = (valid(alloc, first)?, valid(alloc, second)?);
+    Ok(witness(alloc, &first, &second, *l, *k)? == *wanted)
+}
+
 #[test]
 fn witnesses_of_rows(rt: HostRuntime) -> Result<(), Fail> {
-    for (first, second, l, k, wanted) in &ROWS {
-        let (first, second) = (valid(rt.alloc(), first)?, valid(rt.alloc(), second)?);
-        let found = find_witnesses(rt.alloc(), &first, &second)?;
-        assert!(rt; numbers_of(&found.at(*l, *k)) == *wanted);
+    for row in &ROWS {
+        assert!(rt; is_found(rt.alloc(), row)?);
     }
     Ok(())
 }

@@ -66,17 +66,21 @@ fn truth_over(
     truth_at(alloc, &database, query, place)
 }
 
+const PROBED: &str = "SELECT id FROM big \
+    WHERE ST_Intersects(geom, ST_GeomFromText('POLYGON((0 0,4 0,4 4,0 4,0 0))'))";
+
+/// A query, the place of a row, the truth of the condition there, and its work.
+const TRUTHS: [(&str, usize, Truth, u64); 3] = [
+    (PROBED, 3, Truth::True, 1),
+    (PROBED, 4, Truth::False, 1),
+    ("SELECT id FROM big WHERE NOT id = 5", 4, Truth::False, 0),
+];
+
 /// A condition at rows, one of them the last that meets the square.
 #[test]
 fn truths_at_rows(rt: HostRuntime) -> Result<(), Fail> {
-    const PROBED: &str = "SELECT id FROM big \
-        WHERE ST_Intersects(geom, ST_GeomFromText('POLYGON((0 0,4 0,4 4,0 4,0 0))'))";
     let points = points_up_to(rt.alloc(), 10)?;
-    for (query, place, truth, count) in &[
-        (PROBED, 3, Truth::True, 1),
-        (PROBED, 4, Truth::False, 1),
-        ("SELECT id FROM big WHERE NOT id = 5", 4, Truth::False, 0),
-    ] {
+    for (query, place, truth, count) in &TRUTHS {
         assert!(rt; truth_over(rt.alloc(), &points, query, *place)? == (*truth, *count));
     }
     Ok(())

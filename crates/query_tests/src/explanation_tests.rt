@@ -6,7 +6,8 @@ use explanations::{
     validity_explained,
 };
 use geometry_model::{GeometryFault, TextFault, ValidityFault};
-use sql_text::read_schema;
+use sql_text::{Schema, read_schema};
+use std::alloc::{AllocError, Global};
 use std::test::Fail;
 use streams::MemorySink;
 use table_model::faults::{QueryFault, SchemaFault};
@@ -197,106 +198,113 @@ const SCHEMA: &str =
 CREATE TABLE building (id INTEGER PRIMARY KEY, parcel INTEGER, geom POLYGON);";
 
 /// Columns that their tables lack, or that aren't geometries, and functions with too few arguments.
+const REFUSED: [(&[u8], QueryFault, &[u8]); 6] = [
+    (
+        b"SELECT id FROM parcel WHERE ST_Within(geom)",
+        QueryFault::Syntax(42),
+        b"sfq: ST_Within takes two geometries, with a comma between them\n",
+    ),
+    (
+        b"SELECT id FROM parcel WHERE ST_Relate(geom, geom)",
+        QueryFault::Syntax(48),
+        b"sfq: ST_Relate takes two geometries and a pattern, as 'T*F**F***'\n",
+    ),
+    (
+        b"SELECT b.zone FROM parcel p, building b",
+        QueryFault::UnknownColumn(7),
+        b"sfq: b has no column zone: p has it\n",
+    ),
+    (
+        b"SELECT b.parcels FROM parcel p, building b",
+        QueryFault::UnknownColumn(7),
+        b"sfq: b has no column parcels: did you mean parcel?\n",
+    ),
+    (
+        b"SELECT id FROM parcel WHERE ST_Touches(name, geom)",
+        QueryFault::TypeMismatch(28),
+        b"sfq: name is a text, and ST_Touches takes geometries\n",
+    ),
+    (
+        b"SELECT ST_AsText(zone) FROM parcel",
+        QueryFault::TypeMismatch(7),
+        b"sfq: zone is a number, and ST_AsText takes a geometry\n",
+    ),
+];
+
 #[test]
 fn a_query_over_a_schema_is_explained(rt: HostRuntime) -> Result<(), Fail> {
     let schema = read_schema(rt.alloc(), SCHEMA.as_bytes())?;
-    let rows: [(&[u8], QueryFault, &[u8]); 6] = [
-        (
-            b"SELECT id FROM parcel WHERE ST_Within(geom)",
-            QueryFault::Syntax(42),
-            b"sfq: ST_Within takes two geometries, with a comma between them\n",
-        ),
-        (
-            b"SELECT id FROM parcel WHERE ST_Relate(geom, geom)",
-            QueryFault::Syntax(48),
-            b"sfq: ST_Relate takes two geometries and a pattern, as 'T*F**F***'\n",
-        ),
-        (
-            b"SELECT b.zone FROM parcel p, building b",
-            QueryFault::UnknownColumn(7),
-            b"sfq: b has no column zone: p has it\n",
-        ),
-        (
-            b"SELECT b.parcels FROM parcel p, building b",
-            QueryFault::UnknownColumn(7),
-            b"sfq: b has no column parcels: did you mean parcel?\n",
-        ),
-        (
-            b"SELECT id FROM parcel WHERE ST_Touches(name, geom)",
-            QueryFault::TypeMismatch(28),
-            b"sfq: name is a text, and ST_Touches takes geometries\n",
-        ),
-        (
-            b"SELECT ST_AsText(zone) FROM parcel",
-            QueryFault::TypeMismatch(7),
-            b"sfq: zone is a number, and ST_AsText takes a geometry\n",
-        ),
-    ];
-    for (text, fault, sentence) in rows {
-        let lines = query_explained_over(rt.alloc(), text, fault, &schema)?;
+    for (text, fault, sentence) in &REFUSED {
+        let lines = query_explained_over(rt.alloc(), text, *fault, &schema)?;
         assert!(rt; lines.as_slice().ends_with(sentence));
     }
     Ok(())
 }
 
 /// Queries that mean something else than most readers think, and one that doesn't.
+const NOTED: [(&[u8], &[u8]); 12] = [
+    (
+        b"SELECT name FROM parcel LEFT JOIN building b ON b.parcel = LEFT.id",
+        b"    |                         ^\nsfq: note: LEFT is an alias of parcel here: JOIN gives the rows that have a partner\n",
+    ),
+    (
+        b"SELECT name FROM parcel NATURAL JOIN building b ON b.parcel = b.id",
+        b"    |                         ^\nsfq: note: NATURAL is an alias of parcel here: the rows are those for which ON holds\n",
+    ),
+    (
+        b"SELECT id FROM parcel WHERE name < '12'",
+        b"    |                                    ^\nsfq: note: '12' is a text, and texts are compared byte by byte: '9' comes after '12'\n",
+    ),
+    (
+        b"SELECT id FROM parcel WHERE name = NULL",
+        b"    |                             ^\nsfq: note: a comparison with NULL never holds: write IS NULL\n",
+    ),
+    (
+        b"SELECT p.id FROM parcel p JOIN building b ON ST_Crosses(p.geom, b.geom)",
+        b"    |                                              ^\nsfq: note: ST_Crosses never holds of a POLYGON and a POLYGON\n",
+    ),
+    (
+        b"SELECT id FROM parcel WHERE ST_Touches(corner, corner)",
+        b"    |                             ^\nsfq: note: ST_Touches never holds of a POINT and a POINT\n",
+    ),
+    (
+        b"SELECT id FROM parcel WHERE ST_Overlaps(geom, corner)",
+        b"    |                             ^\nsfq: note: ST_Overlaps never holds of a POLYGON and a POINT\n",
+    ),
+    (
+        b"SELECT id FROM parcel WHERE ST_Contains(corner, geom)",
+        b"    |                             ^\nsfq: note: ST_Contains never holds of a POINT and a POLYGON\n",
+    ),
+    (
+        b"SELECT COUNT(*) FROM parcel p, building b",
+        b"    |                                ^\nsfq: note: no condition joins p and b: each of 2000 rows meets each of 1000\n",
+    ),
+    (
+        b"SELECT COUNT(*) FROM parcel p, building b WHERE p.id = b.parcel",
+        b"",
+    ),
+    (
+        b"SELECT id FROM parcel AS LEFT WHERE name = '12' AND zone < 12",
+        b"",
+    ),
+    (
+        b"SELECT p.id FROM parcel p JOIN building b ON ST_Contains(p.geom, b.geom)",
+        b"",
+    ),
+];
+
+/// The notes on a query over the schema.
+fn notes_on(alloc: Global, schema: &Schema, text: &[u8]) -> Result<Vec<u8>, AllocError> {
+    let is_count = text.starts_with(b"SELECT COUNT");
+    let rows: [usize; 2] = if is_count { [2000, 1000] } else { [2, 1] };
+    query_notes(alloc, text, schema, &rows)
+}
+
 #[test]
 fn a_query_has_notes(rt: HostRuntime) -> Result<(), Fail> {
     let schema = read_schema(rt.alloc(), SCHEMA.as_bytes())?;
-    let rows: [(&[u8], &[u8]); 12] = [
-        (
-            b"SELECT name FROM parcel LEFT JOIN building b ON b.parcel = LEFT.id",
-            b"    |                         ^\nsfq: note: LEFT is an alias of parcel here: JOIN gives the rows that have a partner\n",
-        ),
-        (
-            b"SELECT name FROM parcel NATURAL JOIN building b ON b.parcel = b.id",
-            b"    |                         ^\nsfq: note: NATURAL is an alias of parcel here: the rows are those for which ON holds\n",
-        ),
-        (
-            b"SELECT id FROM parcel WHERE name < '12'",
-            b"    |                                    ^\nsfq: note: '12' is a text, and texts are compared byte by byte: '9' comes after '12'\n",
-        ),
-        (
-            b"SELECT id FROM parcel WHERE name = NULL",
-            b"    |                             ^\nsfq: note: a comparison with NULL never holds: write IS NULL\n",
-        ),
-        (
-            b"SELECT p.id FROM parcel p JOIN building b ON ST_Crosses(p.geom, b.geom)",
-            b"    |                                              ^\nsfq: note: ST_Crosses never holds of a POLYGON and a POLYGON\n",
-        ),
-        (
-            b"SELECT id FROM parcel WHERE ST_Touches(corner, corner)",
-            b"    |                             ^\nsfq: note: ST_Touches never holds of a POINT and a POINT\n",
-        ),
-        (
-            b"SELECT id FROM parcel WHERE ST_Overlaps(geom, corner)",
-            b"    |                             ^\nsfq: note: ST_Overlaps never holds of a POLYGON and a POINT\n",
-        ),
-        (
-            b"SELECT id FROM parcel WHERE ST_Contains(corner, geom)",
-            b"    |                             ^\nsfq: note: ST_Contains never holds of a POINT and a POLYGON\n",
-        ),
-        (
-            b"SELECT COUNT(*) FROM parcel p, building b",
-            b"    |                                ^\nsfq: note: no condition joins p and b: each of 2000 rows meets each of 1000\n",
-        ),
-        (
-            b"SELECT COUNT(*) FROM parcel p, building b WHERE p.id = b.parcel",
-            b"",
-        ),
-        (
-            b"SELECT id FROM parcel AS LEFT WHERE name = '12' AND zone < 12",
-            b"",
-        ),
-        (
-            b"SELECT p.id FROM parcel p JOIN building b ON ST_Contains(p.geom, b.geom)",
-            b"",
-        ),
-    ];
-    for (text, shown) in rows {
-        let is_count = text.starts_with(b"SELECT COUNT");
-        let rows: [usize; 2] = if is_count { [2000, 1000] } else { [2, 1] };
-        let notes = query_notes(rt.alloc(), text, &schema, &rows)?;
+    for (text, shown) in &NOTED {
+        let notes = notes_on(rt.alloc(), &schema, text)?;
         assert!(rt; notes.as_slice().ends_with(shown));
         assert_eq!(rt; notes.is_empty(), shown.is_empty());
     }

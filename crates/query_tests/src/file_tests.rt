@@ -40,52 +40,68 @@ fn text(alloc: Global, text: &str) -> Result<String, AllocError> {
     String::from_str(alloc, text)
 }
 
-#[test]
-fn a_run_opens_its_query_the_schema_and_each_table(rt: HostRuntime) -> Result<(), Fail> {
-    let alloc = rt.alloc();
-    let order = Order::Run {
+/// The order to run a query.
+fn run_order(alloc: Global, query: &str, why: bool) -> Result<Order, AllocError> {
+    Ok(Order::Run {
         schema: text(alloc, "s")?,
         directory: text(alloc, "d")?,
-        query: text(alloc, "@q")?,
+        query: text(alloc, query)?,
+        why,
+    })
+}
+
+/// The order to check tables and to say why.
+fn check_order(alloc: Global) -> Result<Order, AllocError> {
+    Ok(Order::Check {
+        schema: text(alloc, "s")?,
+        directory: text(alloc, "d")?,
+        why: true,
+    })
+}
+
+/// The order to relate the geometries of two files.
+fn relate_order(alloc: Global) -> Result<Order, AllocError> {
+    Ok(Order::Relate {
+        first: text(alloc, "@a")?,
+        second: text(alloc, "@-")?,
         why: false,
-    };
-    assert!(rt; opened(alloc, &order)? == 312);
+    })
+}
+
+/// The order to relate pairs.
+fn pairs_order(alloc: Global) -> Result<Order, AllocError> {
+    Ok(Order::Pairs {
+        file: text(alloc, "-")?,
+        why: false,
+    })
+}
+
+#[test]
+fn a_run_opens_its_query_the_schema_and_each_table(rt: HostRuntime) -> Result<(), Fail> {
+    let order = run_order(rt.alloc(), "@q", false)?;
+    assert!(rt; opened(rt.alloc(), &order)? == 312);
     Ok(())
 }
 
 /// With `why` each table is opened again.
 #[test]
 fn a_check_opens_the_schema_and_each_table(rt: HostRuntime) -> Result<(), Fail> {
-    let alloc = rt.alloc();
-    let order = Order::Check {
-        schema: text(alloc, "s")?,
-        directory: text(alloc, "d")?,
-        why: true,
-    };
-    assert!(rt; opened(alloc, &order)? == 122);
+    let order = check_order(rt.alloc())?;
+    assert!(rt; opened(rt.alloc(), &order)? == 122);
     Ok(())
 }
 
 #[test]
 fn relating_opens_geometries(rt: HostRuntime) -> Result<(), Fail> {
-    let alloc = rt.alloc();
-    let order = Order::Relate {
-        first: text(alloc, "@a")?,
-        second: text(alloc, "@-")?,
-        why: false,
-    };
-    assert!(rt; opened(alloc, &order)? == 44);
+    let order = relate_order(rt.alloc())?;
+    assert!(rt; opened(rt.alloc(), &order)? == 44);
     Ok(())
 }
 
 #[test]
 fn pairs_are_one_file(rt: HostRuntime) -> Result<(), Fail> {
-    let alloc = rt.alloc();
-    let order = Order::Pairs {
-        file: text(alloc, "-")?,
-        why: false,
-    };
-    assert!(rt; opened(alloc, &order)? == 5);
+    let order = pairs_order(rt.alloc())?;
+    assert!(rt; opened(rt.alloc(), &order)? == 5);
     Ok(())
 }
 
@@ -105,32 +121,20 @@ fn explained(alloc: Global, order: &Order, status: u8, said: &str) -> Result<(u6
     Ok((digits.get(), err.bytes() == said.as_bytes()))
 }
 
-/// The order of a run over a query in a file.
-fn run_of_a_file(alloc: Global, why: bool) -> Result<Order, AllocError> {
-    Ok(Order::Run {
-        schema: text(alloc, "s")?,
-        directory: text(alloc, "d")?,
-        query: text(alloc, "@q")?,
-        why,
-    })
-}
-
 #[test]
 fn a_query_that_is_not_utf8_is_said_to_be_so(rt: HostRuntime) -> Result<(), Fail> {
-    let alloc = rt.alloc();
-    let order = run_of_a_file(alloc, true)?;
+    let order = run_order(rt.alloc(), "@q", true)?;
     let said = "sfq: q isn't UTF-8: save it as UTF-8\n";
-    assert!(rt; explained(alloc, &order, 6, said)? == (3, true));
+    assert!(rt; explained(rt.alloc(), &order, 6, said)? == (3, true));
     Ok(())
 }
 
 #[test]
 fn nothing_is_opened_unless_an_order_asks_why(rt: HostRuntime) -> Result<(), Fail> {
-    let alloc = rt.alloc();
-    let order = run_of_a_file(alloc, false)?;
-    assert!(rt; explained(alloc, &order, 6, "")? == (0, true));
+    let order = run_order(rt.alloc(), "@q", false)?;
+    assert!(rt; explained(rt.alloc(), &order, 6, "")? == (0, true));
     let order = order.with_why();
-    assert!(rt; explained(alloc, &order, 7, "")? == (0, true));
+    assert!(rt; explained(rt.alloc(), &order, 7, "")? == (0, true));
     Ok(())
 }
 
@@ -147,20 +151,21 @@ fn noted(alloc: Global, order: &Order) -> u64 {
     digits.get()
 }
 
+/// The same of a run of a query.
+fn noted_of(alloc: Global, query: &str, why: bool) -> Result<u64, AllocError> {
+    Ok(noted(alloc, &run_order(alloc, query, why)?))
+}
+
+/// The same where the order was asked why by itself.
+fn noted_with_why(alloc: Global, query: &str) -> Result<u64, AllocError> {
+    Ok(noted(alloc, &run_order(alloc, query, false)?.with_why()))
+}
+
 /// Tables are opened again only for a query over two, whose rows are counted; and nothing is, unless an order asks why.
 #[test]
 fn notes_open_the_query_and_the_schema(rt: HostRuntime) -> Result<(), Fail> {
-    let alloc = rt.alloc();
-    let order = run_of_a_file(alloc, false)?;
-    assert!(rt; noted(alloc, &order) == 0);
-    let order = order.with_why();
-    assert!(rt; noted(alloc, &order) == 31);
-    let order = Order::Run {
-        schema: text(alloc, "s")?,
-        directory: text(alloc, "d")?,
-        query: text(alloc, "SELECT a.id FROM t a, t b")?,
-        why: true,
-    };
-    assert!(rt; noted(alloc, &order) == 12);
+    assert!(rt; noted_of(rt.alloc(), "@q", false)? == 0);
+    assert!(rt; noted_with_why(rt.alloc(), "@q")? == 31);
+    assert!(rt; noted_of(rt.alloc(), "SELECT a.id FROM t a, t b", true)? == 12);
     Ok(())
 }

@@ -75,13 +75,30 @@ fn found(
     Ok((unloaded, places))
 }
 
+/// Whether that reference of a query names a table that isn't loaded, and its rows are at these places.
+fn has_found(
+    alloc: Global,
+    kept: &KeptDatabase<RTree>,
+    query: &str,
+    unloaded: Option<usize>,
+    places: &[usize],
+) -> Result<bool, Fail> {
+    let (other, found) = found(alloc, kept, query)?;
+    Ok(other == unloaded && found.as_slice() == places)
+}
+
+/// Loads so many points.
+fn load_points(alloc: Global, kept: &mut KeptDatabase<RTree>, count: u8) -> Result<(), Fail> {
+    let points = points_up_to(alloc, count)?;
+    Ok(load(alloc, kept, b"big", points.as_bytes())??)
+}
+
 /// Nothing is loaded at first, and a table that isn't loaded has no rows.
 #[test]
 fn opened_has_no_rows(rt: HostRuntime) -> Result<(), Fail> {
     let kept = opened(rt.alloc())?;
     assert!(rt; !kept.is_loaded(0) && !kept.is_loaded(1) && !kept.is_loaded(2));
-    let (unloaded, places) = found(rt.alloc(), &kept, JOINED)?;
-    assert!(rt; unloaded == Some(0) && places.is_empty());
+    assert!(rt; has_found(rt.alloc(), &kept, JOINED, Some(0), &[])?);
     Ok(())
 }
 
@@ -89,18 +106,24 @@ fn opened_has_no_rows(rt: HostRuntime) -> Result<(), Fail> {
 #[test]
 fn tables_are_loaded_one_after_another(rt: HostRuntime) -> Result<(), Fail> {
     let mut kept = opened(rt.alloc())?;
-    let points = points_up_to(rt.alloc(), 6)?;
-    load(rt.alloc(), &mut kept, b"big", points.as_bytes())??;
+    load_points(rt.alloc(), &mut kept, 6)?;
     assert!(rt; kept.is_loaded(0) && !kept.is_loaded(1));
-    let (unloaded, places) = found(rt.alloc(), &kept, WITHIN)?;
-    assert!(rt; unloaded.is_none() && places.as_slice() == [0, 1, 2].as_slice());
-    let (unloaded, places) = found(rt.alloc(), &kept, JOINED)?;
-    assert!(rt; unloaded == Some(1) && places.is_empty());
+    assert!(rt; has_found(rt.alloc(), &kept, WITHIN, None, &[0, 1, 2])?);
+    assert!(rt; has_found(rt.alloc(), &kept, JOINED, Some(1), &[])?);
     load(rt.alloc(), &mut kept, b"SQ", SQUARES)??;
-    let (unloaded, places) = found(rt.alloc(), &kept, JOINED)?;
-    assert!(rt; unloaded.is_none());
-    assert!(rt; places.as_slice() == [0, 0, 1, 0, 2, 0, 4, 1, 5, 1].as_slice());
+    let places = [0, 0, 1, 0, 2, 0, 4, 1, 5, 1];
+    assert!(rt; has_found(rt.alloc(), &kept, JOINED, None, &places)?);
     Ok(())
+}
+
+/// What texts with a fault are refused with, one in place of each table that is loaded.
+fn load_faults(
+    alloc: Global,
+    kept: &mut KeptDatabase<RTree>,
+) -> Result<(Option<LoadFault>, Option<LoadFault>), Fail> {
+    let broken = load(alloc, kept, b"big", b"id,geom\n1,POINT(1 1)\nx,\n")?;
+    let unfit = load(alloc, kept, b"sq", b"id,geom\n1,\n")?;
+    Ok((broken.err(), unfit.err()))
 }
 
 /// A fault leaves the table that was there, and another text takes its place.
@@ -108,22 +131,13 @@ fn tables_are_loaded_one_after_another(rt: HostRuntime) -> Result<(), Fail> {
 fn faults_leave_the_table(rt: HostRuntime) -> Result<(), Fail> {
     let mut kept = opened(rt.alloc())?;
     load(rt.alloc(), &mut kept, b"sq", b"id,geom\n")??;
-    let points = points_up_to(rt.alloc(), 6)?;
-    load(rt.alloc(), &mut kept, b"big", points.as_bytes())??;
-    let broken = load(
-        rt.alloc(),
-        &mut kept,
-        b"big",
-        b"id,geom\n1,POINT(1 1)\nx,\n",
-    )?;
-    assert!(rt; broken.err() == Some(LoadFault::BadInteger(2)));
-    let unfit = load(rt.alloc(), &mut kept, b"sq", b"id,geom\n1,\n")?;
-    assert!(rt; unfit.err() == Some(LoadFault::NullNotAllowed(1)));
+    load_points(rt.alloc(), &mut kept, 6)?;
+    let (broken, unfit) = load_faults(rt.alloc(), &mut kept)?;
+    assert!(rt; broken == Some(LoadFault::BadInteger(2)));
+    assert!(rt; unfit == Some(LoadFault::NullNotAllowed(1)));
     assert!(rt; kept.is_loaded(0) && kept.is_loaded(1));
-    let (_, places) = found(rt.alloc(), &kept, WITHIN)?;
-    assert!(rt; places.as_slice() == [0, 1, 2].as_slice());
+    assert!(rt; has_found(rt.alloc(), &kept, WITHIN, None, &[0, 1, 2])?);
     load(rt.alloc(), &mut kept, b"big", b"id,geom\n7,POINT(3 3)\n")??;
-    let (_, places) = found(rt.alloc(), &kept, WITHIN)?;
-    assert!(rt; places.as_slice() == [0].as_slice());
+    assert!(rt; has_found(rt.alloc(), &kept, WITHIN, None, &[0])?);
     Ok(())
 }

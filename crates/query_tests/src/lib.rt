@@ -42,6 +42,8 @@ mod tile_table_tests;
 #[cfg(test)]
 mod tile_text_tests;
 #[cfg(test)]
+mod tile_texts;
+#[cfg(test)]
 mod tree_tests;
 #[cfg(test)]
 mod unsearchable_index_tests;

@@ -81,19 +81,40 @@ fn run_order(alloc: Global, query: &str) -> Result<Order, AllocError> {
     })
 }
 
-/// What is reported of a query, where its output is that of the same query that nothing observes.
-fn observed(rt: &HostRuntime, query: &str) -> Result<RowCount, Fail> {
-    let order = run_order(rt.alloc(), query)?;
-    let mut count = RowCount::default();
-    let mut out = MemorySink::new(rt.alloc());
-    let mut same = MemorySink::new(rt.alloc());
-    let mut err = MemorySink::new(rt.alloc());
-    let opener = |file: File<'_>| file_at(file.path());
-    let status = serve_observed(rt.alloc(), &order, opener, &mut out, &mut err, &mut count);
+/// Serves an order that nothing observes. It returns the status.
+fn served(alloc: Global, order: &Order, out: &mut MemorySink, err: &mut MemorySink) -> u8 {
     let opener = |path: &str| file_at(path);
-    let other = serve(rt.alloc(), &order, opener, &mut same, &mut err);
+    serve(alloc, order, opener, out, err)
+}
+
+/// The same where rows are counted.
+fn served_counted(
+    alloc: Global,
+    order: &Order,
+    count: &mut RowCount,
+    out: &mut MemorySink,
+    err: &mut MemorySink,
+) -> u8 {
+    let opener = |file: File<'_>| file_at(file.path());
+    serve_observed(alloc, order, opener, out, err, count)
+}
+
+/// Counts rows as an order is served. It returns whether that goes well, and writes what is written where nothing is observed.
+fn is_same(alloc: Global, order: &Order, count: &mut RowCount) -> bool {
+    let mut out = MemorySink::new(alloc);
+    let mut same = MemorySink::new(alloc);
+    let mut err = MemorySink::new(alloc);
+    let status = served_counted(alloc, order, count, &mut out, &mut err);
+    let other = served(alloc, order, &mut same, &mut err);
     let is_well = status == 0 && other == 0 && err.bytes().is_empty();
-    if is_well && !out.bytes().is_empty() && out.bytes() == same.bytes() {
+    is_well && !out.bytes().is_empty() && out.bytes() == same.bytes()
+}
+
+/// What is reported of a query, where its output is that of the same query that nothing observes.
+fn observed(alloc: Global, query: &str) -> Result<RowCount, Fail> {
+    let order = run_order(alloc, query)?;
+    let mut count = RowCount::default();
+    if is_same(alloc, &order, &mut count) {
         Ok(count)
     } else {
         Err(Fail::from("another output where it is observed"))
@@ -102,15 +123,21 @@ fn observed(rt: &HostRuntime, query: &str) -> Result<RowCount, Fail> {
 
 #[test]
 fn each_candidate_and_each_row_is_reported(rt: HostRuntime) -> Result<(), Fail> {
-    let one = observed(&rt, "SELECT id FROM t WHERE n = 7")?;
+    let one = observed(rt.alloc(), "SELECT id FROM t WHERE n = 7")?;
     assert!(rt; one.candidates == 4 && one.rows == 2);
     assert!(rt; one.first_left == 3 && one.last_left == 0);
-    let pairs = observed(&rt, "SELECT a.id, b.id FROM t a, t b WHERE a.n >= b.n")?;
+    let pairs = observed(
+        rt.alloc(),
+        "SELECT a.id, b.id FROM t a, t b WHERE a.n >= b.n",
+    )?;
     assert!(rt; pairs.candidates == 16 && pairs.rows == 11);
     assert!(rt; pairs.first_left == 3 && pairs.last_left == 0);
-    let equal = observed(&rt, "SELECT a.id, b.id FROM t a, t b WHERE a.n = b.n")?;
+    let equal = observed(
+        rt.alloc(),
+        "SELECT a.id, b.id FROM t a, t b WHERE a.n = b.n",
+    )?;
     assert!(rt; equal.candidates == 16 && equal.rows == 6);
-    let plan = observed(&rt, "EXPLAIN SELECT id FROM t")?;
+    let plan = observed(rt.alloc(), "EXPLAIN SELECT id FROM t")?;
     assert!(rt; plan.candidates == 0 && plan.rows == 0);
     Ok(())
 }

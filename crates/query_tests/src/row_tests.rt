@@ -187,6 +187,87 @@ fn executed(
     Ok((rows, work.count()))
 }
 
+/// The work after the first row of a plan, where the rows that come one after another are these.
+fn work_after_first(
+    alloc: Global,
+    database: &Database<'_, RTree>,
+    bound: &Bound,
+    plan: &Plan,
+    rows: &[RowPair],
+) -> Result<u64, Fail>
+    requires bound { IsBound geometry_fits database.now.definitions bound.now }
+    requires lawful { IsLawful database.now.tables bound.now plan.now }
+{
+    let (others, after_first) = streamed(alloc, database, bound, plan)?;
+    if others.as_slice() != rows {
+        return Err(Fail::from("other rows one by one"));
+    }
+    Ok(after_first)
+}
+
+/// Fails unless the rows of a plan that come with a pause after each are these, with this work.
+fn check_pauses(
+    alloc: Global,
+    database: &Database<'_, RTree>,
+    bound: &Bound,
+    plan: &Plan,
+    rows: &[RowPair],
+    all: u64,
+) -> Result<(), Fail>
+    requires bound { IsBound geometry_fits database.now.definitions bound.now }
+    requires lawful { IsLawful database.now.tables bound.now plan.now }
+{
+    let (others, after_last) = paused_after_each(alloc, database, bound, plan)?;
+    if others.as_slice() != rows || after_last != all {
+        return Err(Fail::from("other rows after a pause"));
+    }
+    Ok(())
+}
+
+/// How many steps of so many looks at most are busy, where their rows are these, with this work, and as many are counted by such
+/// steps.
+fn busy_steps(
+    alloc: Global,
+    database: &Database<'_, RTree>,
+    bound: &Bound,
+    plan: &Plan,
+    most: u64,
+    rows: &[RowPair],
+    all: u64,
+) -> Result<u64, Fail>
+    requires bound { IsBound geometry_fits database.now.definitions bound.now }
+    requires lawful { IsLawful database.now.tables bound.now plan.now }
+{
+    let (others, after_last, busy) = bounded(alloc, database, bound, plan, most)?;
+    if others.as_slice() != rows || after_last != all {
+        return Err(Fail::from("other rows by bounded steps"));
+    }
+    if counted(alloc, database, bound, plan, most)? != (rows.len(), all) {
+        return Err(Fail::from("another count by bounded steps"));
+    }
+    Ok(busy)
+}
+
+/// The same of steps of 1, 2 and 1,000 looks at most, as a text.
+fn busy_text(
+    alloc: Global,
+    database: &Database<'_, RTree>,
+    bound: &Bound,
+    plan: &Plan,
+    rows: &[RowPair],
+    all: u64,
+) -> Result<String, Fail>
+    requires bound { IsBound geometry_fits database.now.definitions bound.now }
+    requires lawful { IsLawful database.now.tables bound.now plan.now }
+{
+    let mut text = String::new(alloc);
+    for most in &[1u64, 2, 1000] {
+        let busy = busy_steps(alloc, database, bound, plan, *most, rows, all)?;
+        write!(text, "{busy}, ")?;
+    }
+    Ok(text)
+}
+
 /// The text of a plan: its accesses, its rows, and the work after the first of them and of all. The rows are those that come
 /// one after another, those that come where the stream is paused after each, and those that come by steps of 1, 2 and 1,000
 /// looks at most, with no more work; counted by such steps they are as many. Of one table the text says how many of these steps
@@ -201,28 +282,14 @@ fn plan_text(
     requires lawful { IsLawful database.now.tables bound.now plan.now }
 {
     let (rows, all) = executed(alloc, database, bound, plan)?;
-    let (others, after_first) = streamed(alloc, database, bound, plan)?;
-    if rows != others {
-        return Err(Fail::from("other rows one by one"));
-    }
-    let (others, after_last) = paused_after_each(alloc, database, bound, plan)?;
-    if rows != others || after_last != all {
-        return Err(Fail::from("other rows after a pause"));
-    }
-    let mut steps = String::new(alloc);
-    for most in &[1u64, 2, 1000] {
-        let (others, after_last, busy) = bounded(alloc, database, bound, plan, *most)?;
-        if rows != others || after_last != all {
-            return Err(Fail::from("other rows by bounded steps"));
-        }
-        if counted(alloc, database, bound, plan, *most)? != (rows.len(), all) {
-            return Err(Fail::from("another count by bounded steps"));
-        }
-        write!(steps, "{busy}, ")?;
-    }
-    let mut text = text_of(alloc, plan.accesses.as_slice(), rows.as_slice())?;
+    let rows = rows.as_slice();
+    let after_first = work_after_first(alloc, database, bound, plan, rows)?;
+    check_pauses(alloc, database, bound, plan, rows, all)?;
+    let steps = busy_text(alloc, database, bound, plan, rows, all)?;
+    let accesses = plan.accesses.as_slice();
+    let mut text = text_of(alloc, accesses, rows)?;
     write!(text, "| {after_first} of {all}")?;
-    if plan.accesses.as_slice().len() == 1 {
+    if accesses.len() == 1 {
         write!(text, " | {steps}busy")?;
     }
     Ok(text)
@@ -288,24 +355,27 @@ fn work_after_a_row_in_order(rt: HostRuntime) -> Result<(), Fail> {
     Ok(())
 }
 
+/// A query of each shape of plan, and the text of its plan.
+const SHAPES: [(&str, &str); 5] = [
+    (SCANNED, "0 scan, | 0, 1, 2, 3, | 1 of 10 | 6, 3, 0, busy"),
+    (PROBED, "0 probe 0, | 0, 1, 2, 3, | 1 of 4 | 0, 0, 0, busy"),
+    (SCANNED_TWICE, "0 scan, 1 scan, | 0 1, | 2 of 2"),
+    (
+        PROBED_WITHIN,
+        "0 scan, 1 probe 0, | 7 7, 8 8, 9 9, | 1 of 3",
+    ),
+    (
+        JOINED,
+        "1 scan, 0 probe 0, | 0 0, 2 0, 3 0, 3 1, 4 1, 5 1, 6 1, 7 1, | 8 of 8",
+    ),
+];
+
 /// All rows of a plan of each shape, over ten points and two squares: a scan, a probe, two scans, a probe within a scan, and
 /// the same where the second reference is the outer one.
 #[test]
 fn all_rows_of_each_shape(rt: HostRuntime) -> Result<(), Fail> {
     let points = points_up_to(rt.alloc(), 10)?;
-    for (query, wanted) in &[
-        (SCANNED, "0 scan, | 0, 1, 2, 3, | 1 of 10 | 6, 3, 0, busy"),
-        (PROBED, "0 probe 0, | 0, 1, 2, 3, | 1 of 4 | 0, 0, 0, busy"),
-        (SCANNED_TWICE, "0 scan, 1 scan, | 0 1, | 2 of 2"),
-        (
-            PROBED_WITHIN,
-            "0 scan, 1 probe 0, | 7 7, 8 8, 9 9, | 1 of 3",
-        ),
-        (
-            JOINED,
-            "1 scan, 0 probe 0, | 0 0, 2 0, 3 0, 3 1, 4 1, 5 1, 6 1, 7 1, | 8 of 8",
-        ),
-    ] {
+    for (query, wanted) in &SHAPES {
         let text = found(rt.alloc(), TWO_SCHEMA, &[points.as_bytes(), SQUARES], query)?;
         assert!(rt; text.as_str() == *wanted, "{query}");
     }

@@ -1,6 +1,5 @@
 //! Statements over a kept database: what their rows write is what `run` writes, the fields of their columns, and steps that are busy.
 
-ghost use Rattle.std.specs.Prelude.{IfOk};
 ghost use Rattle.kept_tables.specs.KeptTables.{lent};
 ghost use Rattle.statements.specs.Statements.{IsOver};
 
@@ -37,6 +36,11 @@ const QUERIES: [&str; 7] = [
     "SELECT id FROM big WHERE id = 9",
 ];
 
+const JOINED: &str = "SELECT b.name, s.id FROM big b JOIN sq s ON ST_Within(b.geom, s.geom)";
+
+const EXPLAINED: &str =
+    "EXPLAIN SELECT b.name, s.id FROM big b JOIN sq s ON ST_Within(b.geom, s.geom)";
+
 /// A database of both tables.
 fn both(alloc: Global) -> Result<KeptDatabase<RTree>, Fail> {
     let mut kept = KeptDatabase::open(alloc, read_schema(alloc, SCHEMA)?)?;
@@ -49,10 +53,13 @@ fn both(alloc: Global) -> Result<KeptDatabase<RTree>, Fail> {
 }
 
 /// The header of a statement and its first row, if it has one.
-fn written(alloc: Global, kept: &KeptDatabase<RTree>, query: &str) -> Result<Vec<u8>, Fail> {
-    let Ok(mut statement) = Statement::prepare(alloc, kept, query) else {
-        return Err(Fail::from("not prepared"));
-    };
+fn written_by(
+    alloc: Global,
+    kept: &KeptDatabase<RTree>,
+    statement: &mut Statement,
+) -> Result<Vec<u8>, Fail>
+    requires { IsOver (lent kept.now) statement.old }
+{
     let database = kept.database();
     statement.reset(alloc, &database);
     let mut text = Vec::from_slice(alloc, statement.header_text(alloc, &database)?.bytes())?;
@@ -62,6 +69,14 @@ fn written(alloc: Global, kept: &KeptDatabase<RTree>, query: &str) -> Result<Vec
         }
     }
     Ok(text)
+}
+
+/// The same of a statement of a query.
+fn written(alloc: Global, kept: &KeptDatabase<RTree>, query: &str) -> Result<Vec<u8>, Fail> {
+    match Statement::prepare(alloc, kept, query) {
+        Ok(mut statement) => written_by(alloc, kept, &mut statement),
+        Err(_) => Err(Fail::from("not prepared")),
+    }
 }
 
 /// What `run` writes of a query over both tables.
@@ -78,198 +93,278 @@ fn ran(alloc: Global, query: &str) -> Result<Vec<u8>, Fail> {
     Ok(Vec::from_slice(alloc, sink.bytes())?)
 }
 
-/// The header and the one row of a query are what `run` writes.
+/// Whether the header and the one row of a query are what `run` writes.
+fn is_written(alloc: Global, kept: &KeptDatabase<RTree>, query: &str) -> Result<bool, Fail> {
+    let text = ran(alloc, query)?;
+    Ok(written(alloc, kept, query)?.as_slice() == text.as_slice())
+}
+
 #[test]
 fn a_row_is_that_of_a_run(rt: HostRuntime) -> Result<(), Fail> {
     let kept = both(rt.alloc())?;
-    for query in QUERIES {
-        let text = ran(rt.alloc(), query)?;
-        assert_eq!(rt;
-            written(rt.alloc(), &kept, query)?.as_slice(),
-            text.as_slice()
-        );
+    for query in &QUERIES {
+        assert!(rt; is_written(rt.alloc(), &kept, query)?, "{query}");
     }
     Ok(())
 }
 
-/// A statement of a query.
-fn prepared(alloc: Global, kept: &KeptDatabase<RTree>, query: &str) -> Result<Statement, Fail>
-    ensures { IfOk result (IsOver (lent kept.now)) }
-{
-    match Statement::prepare(alloc, kept, query) {
-        Ok(statement) => Ok(statement),
-        Err(_) => Err(Fail::from("not prepared")),
-    }
+/// What is asked of a statement.
+#[derive(Clone, Copy)]
+enum Ask {
+    /// A step: `end`, or the row that it gives, as `run` writes it.
+    Step,
+    /// The same within so many looks, which may be `busy`.
+    StepWithin(u64),
+    /// A column and its field in the row that is there, as `name kind|field|number`; `none` where there is none.
+    Column(usize),
+    /// The text of its plan.
+    Plan,
 }
 
-/// Bytes as a text; `none` where there are none.
-fn shown(alloc: Global, bytes: Option<Vec<u8>>) -> Result<String, Fail> {
+/// Adds bytes to a text; `none` where there are none.
+fn put_bytes(text: &mut String, bytes: Option<&[u8]>) -> Result<(), Fail> {
     let Some(bytes) = bytes else {
-        return Ok(String::from_str(alloc, "none")?);
+        return Ok(text.push_str("none")?);
     };
-    match std::str::from_utf8(bytes.as_slice()) {
-        Ok(text) => Ok(String::from_str(alloc, text)?),
+    match std::str::from_utf8(bytes) {
+        Ok(part) => Ok(text.push_str(part)?),
         Err(_) => Err(Fail::from("not UTF-8")),
     }
 }
 
-/// A column and its field in the row that is there, as `name kind|field|number`; `none` where there is none.
-fn described(
+/// The same of bytes that were copied.
+fn put_copy(text: &mut String, bytes: &Option<Vec<u8>>) -> Result<(), Fail> {
+    match bytes {
+        Some(bytes) => put_bytes(text, Some(bytes.as_slice())),
+        None => put_bytes(text, None),
+    }
+}
+
+/// Adds the row that is there, as `run` writes it; `none` where no row is there.
+fn put_row(
     alloc: Global,
     kept: &KeptDatabase<RTree>,
     statement: &Statement,
-    column: usize,
-) -> Result<String, Fail>
+    text: &mut String,
+) -> Result<(), Fail>
     requires { IsOver (lent kept.now) statement.now }
 {
-    let database = kept.database();
-    let name = shown(alloc, statement.column_name(alloc, &database, column)?)?;
-    let kind = match statement.column_kind(&database, column) {
+    let row = statement.row_text(alloc, &kept.database())?;
+    match &row {
+        Some(row) => put_bytes(text, Some(row.bytes())),
+        None => put_bytes(text, None),
+    }
+}
+
+/// Adds what a step came to.
+fn put_step(
+    alloc: Global,
+    kept: &KeptDatabase<RTree>,
+    statement: &Statement,
+    step: StatementStep,
+    text: &mut String,
+) -> Result<(), Fail>
+    requires { IsOver (lent kept.now) statement.now }
+{
+    match step {
+        StatementStep::Row => put_row(alloc, kept, statement, text),
+        StatementStep::Busy => Ok(text.push_str("busy")?),
+        StatementStep::End => Ok(text.push_str("end")?),
+    }
+}
+
+/// What a column's fields are.
+fn kind_text(kind: Option<ColumnKind>) -> &'static str {
+    match kind {
         Some(ColumnKind::Integer) => "number",
         Some(ColumnKind::Text) => "text",
         Some(ColumnKind::Geometry) => "geometry",
         None => "none",
-    };
-    let field = shown(alloc, statement.field(alloc, &database, column)?)?;
-    let text = match statement.integer(&database, column) {
-        Some(number) => format!(in alloc; "{name} {kind}|{field}|{number}")?,
-        None => format!(in alloc; "{name} {kind}|{field}|none")?,
-    };
-    Ok(text)
-}
-
-/// What a step comes to: `end`, or the row that it gives, as `run` writes it.
-fn step_text(
-    alloc: Global,
-    kept: &KeptDatabase<RTree>,
-    statement: &mut Statement,
-) -> Result<String, Fail>
-    requires { IsOver (lent kept.now) statement.old }
-    ensures { IsOver (lent kept.now) statement.new }
-{
-    let database = kept.database();
-    match statement.step(alloc, &database)? {
-        StatementStep::Row => {}
-        StatementStep::Busy => return Ok(String::from_str(alloc, "busy")?),
-        StatementStep::End => return Ok(String::from_str(alloc, "end")?),
     }
-    row_shown(alloc, kept, statement)
 }
 
-/// The same of a step within so many looks, which may be `busy`.
-fn step_text_within(
-    alloc: Global,
-    kept: &KeptDatabase<RTree>,
-    statement: &mut Statement,
-    most: u64,
-) -> Result<String, Fail>
-    requires { IsOver (lent kept.now) statement.old }
-    ensures { IsOver (lent kept.now) statement.new }
-{
-    let database = kept.database();
-    match statement.step_within(alloc, &database, most)? {
-        StatementStep::Row => {}
-        StatementStep::Busy => return Ok(String::from_str(alloc, "busy")?),
-        StatementStep::End => return Ok(String::from_str(alloc, "end")?),
-    }
-    row_shown(alloc, kept, statement)
-}
-
-/// The row that is there, as `run` writes it; `none` where no row is there.
-fn row_shown(
+/// Adds the name of a column and what its fields are.
+fn put_name(
     alloc: Global,
     kept: &KeptDatabase<RTree>,
     statement: &Statement,
-) -> Result<String, Fail>
+    column: usize,
+    text: &mut String,
+) -> Result<(), Fail> {
+    let database = kept.database();
+    let kind = kind_text(statement.column_kind(&database, column));
+    put_copy(text, &statement.column_name(alloc, &database, column)?)?;
+    text.push_str(" ")?;
+    Ok(text.push_str(kind)?)
+}
+
+/// Adds the field of a column in the row that is there, as a text and as a number.
+fn put_field(
+    alloc: Global,
+    kept: &KeptDatabase<RTree>,
+    statement: &Statement,
+    column: usize,
+    text: &mut String,
+) -> Result<(), Fail>
     requires { IsOver (lent kept.now) statement.now }
 {
-    let row = statement.row_text(alloc, &kept.database())?;
-    let Some(text) = row else {
-        return Ok(String::from_str(alloc, "none")?);
-    };
-    shown(alloc, Some(Vec::from_slice(alloc, text.bytes())?))
+    let database = kept.database();
+    put_copy(text, &statement.field(alloc, &database, column)?)?;
+    match statement.integer(&database, column) {
+        Some(number) => Ok(write!(text, "|{number}")?),
+        None => Ok(text.push_str("|none")?),
+    }
+}
+
+/// Adds the text of a statement's plan.
+fn put_plan(alloc: Global, statement: &Statement, text: &mut String) -> Result<(), Fail> {
+    let plan = statement.plan_text(alloc)?;
+    put_bytes(text, Some(plan.bytes()))
+}
+
+/// Adds what a statement says when it is asked.
+fn put_answer(
+    alloc: Global,
+    kept: &KeptDatabase<RTree>,
+    statement: &mut Statement,
+    ask: Ask,
+    text: &mut String,
+) -> Result<(), Fail>
+    requires { IsOver (lent kept.now) statement.old }
+    ensures { IsOver (lent kept.now) statement.new }
+{
+    match ask {
+        Ask::Step => {
+            let step = statement.step(alloc, &kept.database())?;
+            put_step(alloc, kept, statement, step, text)
+        }
+        Ask::StepWithin(most) => {
+            let step = statement.step_within(alloc, &kept.database(), most)?;
+            put_step(alloc, kept, statement, step, text)
+        }
+        Ask::Column(column) => {
+            put_name(alloc, kept, statement, column, text)?;
+            text.push_str("|")?;
+            put_field(alloc, kept, statement, column, text)
+        }
+        Ask::Plan => put_plan(alloc, statement, text),
+    }
+}
+
+/// What a statement says, asked one thing after another, with a stroke behind each answer.
+fn told_by(
+    alloc: Global,
+    kept: &KeptDatabase<RTree>,
+    statement: &mut Statement,
+    asked: &[Ask],
+) -> Result<String, Fail>
+    requires { IsOver (lent kept.now) statement.old }
+{
+    let mut text = String::new(alloc);
+    for ask in asked {
+        put_answer(alloc, kept, statement, *ask, &mut text)?;
+        text.push_str("/")?;
+    }
+    Ok(text)
+}
+
+/// The same of a statement of a query over a database.
+fn told_over(
+    alloc: Global,
+    kept: &KeptDatabase<RTree>,
+    query: &str,
+    asked: &[Ask],
+) -> Result<String, Fail> {
+    match Statement::prepare(alloc, kept, query) {
+        Ok(mut statement) => told_by(alloc, kept, &mut statement, asked),
+        Err(_) => Err(Fail::from("not prepared")),
+    }
+}
+
+/// The same over both tables.
+fn told(alloc: Global, query: &str, asked: &[Ask]) -> Result<String, Fail> {
+    let kept = both(alloc)?;
+    told_over(alloc, &kept, query, asked)
 }
 
 /// ST_AsText is a text, ST_Dimension and ST_IsEmpty are numbers.
 #[test]
 fn columns_of_functions(rt: HostRuntime) -> Result<(), Fail> {
-    let kept = both(rt.alloc())?;
-    let query = "SELECT ST_AsText(geom), ST_Dimension(geom), ST_IsEmpty(geom) FROM sq WHERE id = 2";
-    let mut statement = prepared(rt.alloc(), &kept, query)?;
-    step_text(rt.alloc(), &kept, &mut statement)?;
-    let text = described(rt.alloc(), &kept, &statement, 0)?;
+    let text = told(
+        rt.alloc(),
+        "SELECT ST_AsText(geom), ST_Dimension(geom), ST_IsEmpty(geom) FROM sq WHERE id = 2",
+        &[Ask::Step, Ask::Column(0), Ask::Column(1), Ask::Column(2)],
+    )?;
     assert_eq!(rt;
         text.as_str(),
-        "ST_AsText(geom) text|POLYGON((4 0,8 0,8 4,4 4,4 0))|none"
+        "\"POLYGON((4 0,8 0,8 4,4 4,4 0))\",2,0\n/\
+         ST_AsText(geom) text|POLYGON((4 0,8 0,8 4,4 4,4 0))|none/\
+         ST_Dimension(geom) number|2|2/\
+         ST_IsEmpty(geom) number|0|0/"
     );
-    let dimension = described(rt.alloc(), &kept, &statement, 1)?;
-    assert_eq!(rt; dimension.as_str(), "ST_Dimension(geom) number|2|2");
-    let emptiness = described(rt.alloc(), &kept, &statement, 2)?;
-    assert_eq!(rt; emptiness.as_str(), "ST_IsEmpty(geom) number|0|0");
     Ok(())
 }
 
 /// A column of a join is one of its own table.
 #[test]
 fn columns_of_a_join(rt: HostRuntime) -> Result<(), Fail> {
-    let kept = both(rt.alloc())?;
-    let query = "SELECT b.name, s.id FROM big b JOIN sq s ON ST_Within(b.geom, s.geom)";
-    let mut statement = prepared(rt.alloc(), &kept, query)?;
-    let first = step_text(rt.alloc(), &kept, &mut statement)?;
-    assert_eq!(rt; first.as_str(), ",2\n");
-    let second = step_text(rt.alloc(), &kept, &mut statement)?;
-    assert_eq!(rt; second.as_str(), "\"a, b\",1\n");
-    let name = described(rt.alloc(), &kept, &statement, 0)?;
-    assert_eq!(rt; name.as_str(), "b.name text|a, b|none");
-    let id = described(rt.alloc(), &kept, &statement, 1)?;
-    assert_eq!(rt; id.as_str(), "s.id number|1|1");
+    let text = told(
+        rt.alloc(),
+        JOINED,
+        &[Ask::Step, Ask::Step, Ask::Column(0), Ask::Column(1)],
+    )?;
+    assert_eq!(rt;
+        text.as_str(),
+        ",2\n/\"a, b\",1\n/b.name text|a, b|none/s.id number|1|1/"
+    );
     Ok(())
 }
 
 /// The text of a statement's plan is what `run` writes of its query behind EXPLAIN, before its first row and after it.
 #[test]
 fn the_plan_is_that_of_a_run(rt: HostRuntime) -> Result<(), Fail> {
-    let kept = both(rt.alloc())?;
-    let query = "SELECT b.name, s.id FROM big b JOIN sq s ON ST_Within(b.geom, s.geom)";
-    let text = ran(
-        rt.alloc(),
-        "EXPLAIN SELECT b.name, s.id FROM big b JOIN sq s ON ST_Within(b.geom, s.geom)",
-    )?;
-    let mut statement = prepared(rt.alloc(), &kept, query)?;
-    let before = statement.plan_text(rt.alloc())?;
-    assert_eq!(rt; before.bytes(), text.as_slice());
-    step_text(rt.alloc(), &kept, &mut statement)?;
-    let after = statement.plan_text(rt.alloc())?;
-    assert_eq!(rt; after.bytes(), text.as_slice());
+    let text = told(rt.alloc(), JOINED, &[Ask::Plan, Ask::Step, Ask::Plan])?;
+    assert_eq!(rt; text.as_str(), around_a_row(rt.alloc())?.as_str());
     Ok(())
+}
+
+/// The text of the plan as `run` writes it, the first row, and the text of the plan again, with a stroke behind each.
+fn around_a_row(alloc: Global) -> Result<String, Fail> {
+    let mut text = String::new(alloc);
+    let plan = ran(alloc, EXPLAINED)?;
+    put_bytes(&mut text, Some(plan.as_slice()))?;
+    text.push_str("/,2\n/")?;
+    put_bytes(&mut text, Some(plan.as_slice()))?;
+    text.push_str("/")?;
+    Ok(text)
 }
 
 /// Within one look a step that looks at a row which doesn't pass is busy, and the same rows are to come, each once.
 #[test]
 fn a_busy_step_loses_no_row(rt: HostRuntime) -> Result<(), Fail> {
-    let kept = both(rt.alloc())?;
-    let mut statement = prepared(rt.alloc(), &kept, "SELECT id FROM big WHERE id <> 3")?;
-    let first = step_text_within(rt.alloc(), &kept, &mut statement, 1)?;
-    assert_eq!(rt; first.as_str(), "2\n");
-    let second = step_text_within(rt.alloc(), &kept, &mut statement, 1)?;
-    assert_eq!(rt; second.as_str(), "busy");
-    let none = described(rt.alloc(), &kept, &statement, 0)?;
-    assert_eq!(rt; none.as_str(), "id number|none|none");
-    let third = step_text_within(rt.alloc(), &kept, &mut statement, 1)?;
-    assert_eq!(rt; third.as_str(), "7\n");
-    let last = step_text_within(rt.alloc(), &kept, &mut statement, 1)?;
-    assert_eq!(rt; last.as_str(), "end");
+    let text = told(
+        rt.alloc(),
+        "SELECT id FROM big WHERE id <> 3",
+        &[
+            Ask::StepWithin(1),
+            Ask::StepWithin(1),
+            Ask::Column(0),
+            Ask::StepWithin(1),
+            Ask::StepWithin(1),
+        ],
+    )?;
+    assert_eq!(rt; text.as_str(), "2\n/busy/id number|none|none/7\n/end/");
     Ok(())
 }
 
 /// Within no look at all a step is busy where a candidate is to come, and nothing is lost.
 #[test]
 fn a_step_without_a_look(rt: HostRuntime) -> Result<(), Fail> {
-    let kept = both(rt.alloc())?;
-    let mut statement = prepared(rt.alloc(), &kept, "SELECT id FROM big WHERE id > 2")?;
-    let first = step_text_within(rt.alloc(), &kept, &mut statement, 0)?;
-    assert_eq!(rt; first.as_str(), "busy");
-    let second = step_text(rt.alloc(), &kept, &mut statement)?;
-    assert_eq!(rt; second.as_str(), "3\n");
+    let text = told(
+        rt.alloc(),
+        "SELECT id FROM big WHERE id > 2",
+        &[Ask::StepWithin(0), Ask::Step],
+    )?;
+    assert_eq!(rt; text.as_str(), "busy/3\n/");
     Ok(())
 }

@@ -19,6 +19,14 @@ fn has_fields(number: &Field<'_>, name: &Field<'_>, wanted: (Option<i64>, Option
     is_number && is_name
 }
 
+/// The place of each row, and its fields behind the key.
+const LOADED: [(usize, Option<i64>, Option<&str>); 4] = [
+    (0, Some(8), Some("a")),
+    (1, Some(9), Some("b")),
+    (2, None, Some("c")),
+    (3, Some(7), None),
+];
+
 /// A table of numbers and texts is loaded, its rows by their keys.
 #[test]
 fn numbers_and_texts_are_loaded(rt: HostRuntime) -> Result<(), Fail> {
@@ -27,12 +35,7 @@ fn numbers_and_texts_are_loaded(rt: HostRuntime) -> Result<(), Fail> {
     let csv = b"id,pop,name\n1,8,a\n2,9,b\n3,,c\n4,7,\n";
     let table: Table<ListIndex> = loaded(rt.alloc(), &schema, csv)?;
     assert!(rt; table.rows() == 4);
-    for (place, pop, name) in &[
-        (0, Some(8), Some("a")),
-        (1, Some(9), Some("b")),
-        (2, None, Some("c")),
-        (3, Some(7), None),
-    ] {
+    for (place, pop, name) in &LOADED {
         let row = table.row(*place);
         assert!(rt; row.len() == 3);
         assert!(rt; has_fields(&row.field(1), &row.field(2), (*pop, *name)));

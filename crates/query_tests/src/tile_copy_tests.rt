@@ -1,44 +1,18 @@
 //! Texts of cells and of stretches, of a table worked out by hand.
 
-ghost use Rattle.std.specs.Prelude.{None};
-
+use crate::tile_texts::Texts;
+use feature_table::Schema;
 use fraction::GridPoint;
 use sql_text::read_schema;
 use std::alloc::Global;
 use std::test::Fail;
-use streams::SinkFault;
-use tiles::{CellTexts, Cells, Part, PlainRecords, write_stretches, write_tiles};
+use tiles::{Cells, Part, PlainRecords, write_stretches, write_tiles};
 
 const SCHEMA: &[u8] = b"CREATE TABLE t (id INTEGER PRIMARY KEY, name TEXT, geom LINESTRING);";
 
 /// A line across x = 10, one west of it, one with an empty geometry, and one without any.
 const ROWS: &[u8] =
     b"name,geom,id\na,\"LINESTRING(9 0,10 0)\",1\nb,\"LINESTRING(0 0,9 5)\",2\nc,LINESTRING EMPTY,3\nd,,4\n";
-
-/// The texts of cells, one behind the other.
-#[derive(Drop)]
-struct Texts {
-    texts: Vec<Vec<u8>>,
-    failures: u64,
-}
-
-impl CellTexts for Texts {
-    ghost texts = { λ _ _. None };
-
-    ghost failures = { λ texts. texts.failures };
-
-    fn put(&mut self, cell: usize, line: &[u8]) -> Result<(), SinkFault> {
-        let is_put = match self.texts.get_mut(cell) {
-            Some(text) => text.extend_from_slice(line).is_ok(),
-            None => false,
-        };
-        if !is_put {
-            self.failures = self.failures.saturating_add(1);
-            return Err(SinkFault);
-        }
-        Ok(())
-    }
-}
 
 /// The grid is cut at x = 10; the sample has a corner on either side.
 fn two_cells(alloc: Global) -> Result<Cells, Fail> {
@@ -49,57 +23,59 @@ fn two_cells(alloc: Global) -> Result<Cells, Fail> {
     Ok(Cells::cut(alloc, corners.as_mut_slice(), 1)?)
 }
 
-/// So many empty texts.
-fn empty_texts(alloc: Global, count: usize) -> Result<Texts, Fail> {
-    let mut texts = Vec::new(alloc);
-    for _ in 0..count {
-        texts.push(Vec::new(alloc))?;
-    }
-    Ok(Texts { texts, failures: 0 })
+#[test]
+fn a_line_parts_the_sample(rt: HostRuntime) -> Result<(), Fail> {
+    assert_eq!(rt; two_cells(rt.alloc())?.boxes().len(), 2);
+    Ok(())
+}
+
+/// The columns of the one table at these places, with two marks.
+fn part<'t>(schema: &'t Schema, columns: &'t [usize]) -> Result<Part<'t>, Fail> {
+    let table = schema.tables().first().ok_or("no table")?;
+    Ok(Part {
+        table,
+        columns,
+        marks: ["w", "s"],
+    })
+}
+
+/// Writes the keys and the geometries to both cells. It returns how many each gets.
+fn tiled(alloc: Global, schema: &Schema, texts: &mut Texts) -> Result<Vec<usize>, Fail> {
+    let cells = two_cells(alloc)?;
+    let part = part(schema, &[0, 2])?;
+    let mut records = PlainRecords::new(alloc, ROWS);
+    Ok(write_tiles(alloc, &part, 2, &cells, &mut records, texts)?)
 }
 
 #[test]
 fn records_go_to_the_cells_that_they_meet(rt: HostRuntime) -> Result<(), Fail> {
     let schema = read_schema(rt.alloc(), SCHEMA)?;
-    let table = schema.tables().first().ok_or("no table")?;
-    let cells = two_cells(rt.alloc())?;
-    assert_eq!(rt; cells.boxes().len(), 2);
-    let part = Part {
-        table,
-        columns: &[0, 2],
-        marks: ["w", "s"],
-    };
-    let mut texts = empty_texts(rt.alloc(), 3)?;
-    let mut records = PlainRecords::new(rt.alloc(), ROWS);
-    let counts = write_tiles(rt.alloc(), &part, 2, &cells, &mut records, &mut texts)?;
+    let mut texts = Texts::empty(rt.alloc(), 3)?;
+    let counts = tiled(rt.alloc(), &schema, &mut texts)?;
     assert_eq!(rt; counts.as_slice(), [1, 2, 1].as_slice());
-    let expected: [&[u8]; 3] = [
-        b"id,geom,w,s\n3,LINESTRING EMPTY,0,0\n",
-        b"id,geom,w,s\n1,\"LINESTRING(9 0,10 0)\",0,0\n2,\"LINESTRING(0 0,9 5)\",0,0\n",
-        b"id,geom,w,s\n1,\"LINESTRING(9 0,10 0)\",1,0\n",
-    ];
-    for (text, wanted) in texts.texts.iter().zip(&expected) {
-        assert_eq!(rt; text.as_slice(), *wanted);
-    }
+    assert!(rt;
+        texts.are(&[
+            b"id,geom,w,s\n3,LINESTRING EMPTY,0,0\n",
+            b"id,geom,w,s\n1,\"LINESTRING(9 0,10 0)\",0,0\n2,\"LINESTRING(0 0,9 5)\",0,0\n",
+            b"id,geom,w,s\n1,\"LINESTRING(9 0,10 0)\",1,0\n",
+        ])
+    );
     Ok(())
+}
+
+/// Writes the keys and the names in stretches of three rows. It returns how many each gets.
+fn stretched(alloc: Global, schema: &Schema, texts: &mut Texts) -> Result<Vec<usize>, Fail> {
+    let part = part(schema, &[0, 1])?;
+    let mut records = PlainRecords::new(alloc, ROWS);
+    Ok(write_stretches(alloc, &part, 3, &mut records, texts)?)
 }
 
 #[test]
 fn records_go_to_stretches(rt: HostRuntime) -> Result<(), Fail> {
     let schema = read_schema(rt.alloc(), SCHEMA)?;
-    let table = schema.tables().first().ok_or("no table")?;
-    let part = Part {
-        table,
-        columns: &[0, 1],
-        marks: ["w", "s"],
-    };
-    let mut texts = empty_texts(rt.alloc(), 2)?;
-    let mut records = PlainRecords::new(rt.alloc(), ROWS);
-    let counts = write_stretches(rt.alloc(), &part, 3, &mut records, &mut texts)?;
+    let mut texts = Texts::empty(rt.alloc(), 2)?;
+    let counts = stretched(rt.alloc(), &schema, &mut texts)?;
     assert_eq!(rt; counts.as_slice(), [3, 1].as_slice());
-    let expected: [&[u8]; 2] = [b"id,name\n1,a\n2,b\n3,c\n", b"id,name\n4,d\n"];
-    for (text, wanted) in texts.texts.iter().zip(&expected) {
-        assert_eq!(rt; text.as_slice(), *wanted);
-    }
+    assert!(rt; texts.are(&[b"id,name\n1,a\n2,b\n3,c\n", b"id,name\n4,d\n"]));
     Ok(())
 }

@@ -1,5 +1,6 @@
 //! Runs over an index of which each search lacks memory: only a probe meets it.
 
+use crate::tables::{POINTS_SCHEMA, points_up_to};
 use engine::{Fault, run};
 use feature_table::Schema;
 use rtree::{Envelope, EnvelopeIndex, ListIndex};
@@ -7,8 +8,6 @@ use spatial_sql::read_schema;
 use std::alloc::{AllocError, Global};
 use std::test::Fail;
 use streams::MemorySink;
-
-const SCHEMA: &[u8] = b"CREATE TABLE big (id INTEGER PRIMARY KEY, geom POINT);";
 
 /// An index of which each search lacks memory.
 #[derive(Drop)]
@@ -34,15 +33,6 @@ impl EnvelopeIndex for Unsearchable {
     }
 }
 
-/// A hundred points at height 1, the one with the key k at k, as CSV.
-fn hundred_points(alloc: Global) -> Result<String, AllocError> {
-    let mut text = String::from_str(alloc, "id,geom\n")?;
-    for k in 1..=100u8 {
-        write!(text, "{k},POINT({k} 1)\n")?;
-    }
-    Ok(text)
-}
-
 /// Runs a query over points, by their schema; what it writes is left in the sink. Returns the work.
 fn run_over(
     alloc: Global,
@@ -59,27 +49,40 @@ fn run_over(
     Ok(ended.map(|work| work.count()))
 }
 
+/// Whether a query over a hundred points ends like this, and writes this text.
+fn is_ended(
+    alloc: Global,
+    query: &str,
+    wanted: &Result<u64, Fault>,
+    text: &str,
+) -> Result<bool, Fail> {
+    let points = points_up_to(alloc, 100)?;
+    let schema = read_schema(alloc, POINTS_SCHEMA.as_bytes())?;
+    let mut sink = MemorySink::new(alloc);
+    let ended = run_over(alloc, &schema, &points, query, &mut sink)?;
+    Ok(ended == *wanted && sink.bytes() == text.as_bytes())
+}
+
+/// A query, what it ends with, and what it writes.
+const ENDINGS: [(&str, Result<u64, Fault>, &str); 2] = [
+    (
+        "SELECT id FROM big WHERE ST_Intersects(geom, ST_GeomFromText('POLYGON((0 0,4 0,4 4,0 4,0 0))'))",
+        Err(Fault::Memory),
+        "id\n",
+    ),
+    (
+        "SELECT id FROM big \
+         WHERE id > 99 OR ST_Intersects(geom, ST_GeomFromText('POLYGON((0 0,4 0,4 4,0 4,0 0))'))",
+        Ok(100),
+        "id\n1\n2\n3\n4\n100\n",
+    ),
+];
+
 /// Over a hundred points, a query that is probed is refused, and one that is scanned gives its rows and its work.
 #[test]
 fn an_index_without_memory_is_met_by_a_probe_alone(rt: HostRuntime) -> Result<(), Fail> {
-    let points = hundred_points(rt.alloc())?;
-    let schema = read_schema(rt.alloc(), SCHEMA)?;
-    for (query, wanted, text) in &[
-        (
-            "SELECT id FROM big WHERE ST_Intersects(geom, ST_GeomFromText('POLYGON((0 0,4 0,4 4,0 4,0 0))'))",
-            Err(Fault::Memory),
-            "id\n",
-        ),
-        (
-            "SELECT id FROM big \
-             WHERE id > 99 OR ST_Intersects(geom, ST_GeomFromText('POLYGON((0 0,4 0,4 4,0 4,0 0))'))",
-            Ok(100),
-            "id\n1\n2\n3\n4\n100\n",
-        ),
-    ] {
-        let mut sink = MemorySink::new(rt.alloc());
-        let ended = run_over(rt.alloc(), &schema, &points, query, &mut sink)?;
-        assert!(rt; ended == *wanted && sink.bytes() == text.as_bytes());
+    for (query, wanted, text) in &ENDINGS {
+        assert!(rt; is_ended(rt.alloc(), query, wanted, text)?);
     }
     Ok(())
 }
