@@ -34,7 +34,8 @@ COUNTIES = f"{OF_SF}/shape/nc.shp"
 LAYERS = [
     (f"{OF_SF}/shape/olinda1.shp", "olinda1", 2_000), (f"{OF_SF}/shape/storms_xyz_feature.shp", "storms_xyz_feature", 1_000),
     (f"{OF_SPDATA}/world.gpkg", "world", 500), (f"{OF_SPDATA}/boston_tracts.shp", "boston_tracts", 2_000),
-    (f"{OF_SPDATA}/NY8_utm18.shp", "NY8_utm18", 1_000), (f"{OF_SPDATA}/wheat.shp", "wheat", 2_000),
+    (f"{OF_SPDATA}/NY8_utm18.shp", "NY8_utm18", 1_000), (f"{OF_SPDATA}/wheat.shp", "wheat", 2_000), (f"{OF_SF}/gpkg/buildings.gpkg", "buildings", 800),
+    ("/usr/lib/python3/dist-packages/geopandas/datasets/naturalearth_lowres/naturalearth_lowres.shp", "naturalearth_lowres", 1_000),
 ]
 
 
