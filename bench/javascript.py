@@ -1,7 +1,7 @@
 #!/usr/bin/env python3
 """Measures points in a kept polygon, and two kept polygons, by the package for JavaScript in Node beside the C library.
 
-The shapes and the calls are those of `prepared.py`. Per call it prints the nanoseconds of both and their ratio; reading and keeping
+The shapes and the calls are those of `prepared.py`. Per call it prints the nanoseconds of processor time of both and their ratio; reading and keeping
 are left out. It needs Node, gcc and `libgeos-dev` from the distribution's packages, and what `./build --library` and
 `./build --javascript` make. It is no test: the gate doesn't run it.
 """
@@ -16,16 +16,23 @@ from prepared import MOVED, POINTS, SIZES, beyond_start, write_input, write_two
 from timing import ROOT, figure, measure, print_columns, print_heads
 
 PACKAGE = ROOT / "bindings" / "javascript" / "out" / "sfq"
+# A measure has so many turns at most, and takes this long at least, in seconds.
+MOST_TURNS, LEAST_SECONDS = 1_000_000, 0.1
 # What is asked of positions, by the words of prepared.c.
 ASKED = {"position, intersects": "locate", "point, intersects": "holds", "point, contains": "contains"}
 
 
-def native(program, folder, given, how, count, turns):
-    """Returns the nanoseconds of a call of the C library, and what it prints."""
+def native(program, folder, given, how, count):
+    """Returns the nanoseconds of a call of the C library, how many turns that took, and what it prints."""
     def seconds(turns):
         return min(measure([program, how, turns], folder, given)[1] for _ in range(3))
 
-    return beyond_start(seconds, turns, count) * 1e9, (folder / "output").read_text()
+    turns = 100
+    while turns < MOST_TURNS and seconds(turns) < LEAST_SECONDS:
+        turns *= 10
+    taken = beyond_start(seconds, turns, count) * 1e9
+    measure([program, how, 1], folder, given)
+    return taken, turns, (folder / "output").read_text()
 
 
 def in_node(given, how, turns):
@@ -41,8 +48,8 @@ def main():
         program, given = build_beside_geos("prepared", folder), folder / "input"
         print_heads(["asked", "positions", "C, ns", "Node, ns", "ratio"])
 
-        def compare(what, size, how, count, turns):
-            ours, found = native(program, folder, given, how, count, turns)
+        def compare(what, size, how, count):
+            ours, turns, found = native(program, folder, given, how, count)
             theirs, shown = in_node(given, how, turns)
             if found != shown:
                 sys.exit(f"{what}, {size} positions: {found} and {shown} are found")
@@ -51,12 +58,12 @@ def main():
         for what, how in ASKED.items():
             for size in SIZES:
                 write_input(given, size)
-                compare(what, size, how, POINTS, 300)
+                compare(what, size, how, POINTS)
         for what, by in MOVED:
             for how in ("meet", "relate"):
                 for size in SIZES:
                     write_two(given, size, by)
-                    compare(f"stars that {what}, {how}", size, how, 1, 200)
+                    compare(f"stars that {what}, {how}", size, how, 1)
 
 
 if __name__ == "__main__":

@@ -124,7 +124,7 @@ class Trials:
 
     def compare_rows(self, printed, rows):
         """The values of rows are the fields of the lines, where no field is in quotes."""
-        lines = printed.splitlines()
+        lines = printed.rstrip("\n").split("\n")
         if '"' not in printed and not lines[0].startswith("cost"):
             self.assertEqual([["" if it is None else str(it) for it in row] for row in rows], [line.split(",") for line in lines[1:]])
 
@@ -144,6 +144,8 @@ class SharedTrials(Trials):
         self.assertEqual((found["many"]["lost"], found["heap"]), (0, "well"))
         self.assertLessEqual({"well", "refused"}, set(found["shortOfMemory"]))
         self.assertNotIn("differs", found["shortOfMemory"])
+        for name in ("misuses", "statements"):
+            self.assertEqual(found[name], tried(name), name)
 
     def given(self, wanted):
         """Returns what each trial is handed."""
@@ -267,7 +269,7 @@ class InNode(SharedTrials, unittest.TestCase):
         self.assertIsInstance(found["work"], int)
         listed = "INTEGER, TEXT, INTEGER, GEOMETRY"
         for name, said in (
-            ("notLoaded", "Error: sfq: the table t isn't loaded"), ("unknown", "RangeError: sfq: the schema has no table u"),
+            ("notLoaded", "NotLoadedError: sfq: the table t isn't loaded"), ("unknown", "RangeError: sfq: the schema has no table u"),
             ("open", "Error: sfq: statements are open: free them before a table is loaded"),
             ("noRow", "Error: sfq: no row is there: the last step found none"),
             ("wrong", f"TypeError: sfq: no constant 0 takes this value: {listed}"),

@@ -170,7 +170,10 @@ def link(kit: str, room: str, archive: str) -> str:
 def lower(room: str, wide: str, exports: frozenset[str]) -> bytes:
     """Makes a module over a memory of 32 bits of one over 64 bits, and returns its bytes."""
     narrow = f"{room}/narrow.wasm"
-    run(["wasm-opt", "--enable-memory64", "--enable-bulk-memory", "--memory64-lowering", wide, "-o", narrow])
+    run([
+        "wasm-opt", "--enable-memory64", "--enable-bulk-memory", "--memory64-lowering", "--duplicate-function-elimination", wide, "-o",
+        narrow,
+    ])
     with open(narrow, "rb") as file:
         module = file.read()
     check_sections(module, exports)

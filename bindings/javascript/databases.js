@@ -1,5 +1,6 @@
 // Databases of tables that a module keeps, and their statements.
 import { BUSY, MADE, NONE, NOT_LOADED, OPEN, UNKNOWN, engine, freeLater, isFreed } from "./engine.js";
+import { NotLoadedError } from "./faults.js";
 import { Geometry } from "./geometries.js";
 
 // The types of columns and of constants, by their numbers. Only a constant is NULL.
@@ -120,7 +121,7 @@ export class Database {
     const kept = this.#kept, { engine: it } = kept, slot = kept.need(), length = it.put(needText(query));
     // The number of the statement is in the way of no fault.
     const number = it.found + 48, status = it.calls.prepare(slot, it.room, length, number, it.found);
-    if (status === NOT_LOADED) throw new Error(`sfq: the table ${this.tables[it.number(8)].name} isn't loaded`);
+    if (status === NOT_LOADED) throw new NotLoadedError(this.tables[it.number(8)].name);
     if (status === UNKNOWN) throw new TypeError("sfq: the query's bytes aren't UTF-8");
     it.needUnlessRefused(status, () => it.tableFault());
     const statement = it.number(48);

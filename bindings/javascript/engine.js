@@ -32,13 +32,18 @@ export class Engine {
 
   // The memory as bytes, and by numbers: anew where it has grown, which empties what was there of it.
   get bytes() {
-    if (this.#bytes.buffer !== this.#memory.buffer) this.#bytes = new Uint8Array(this.#memory.buffer);
+    if (this.#bytes.length === 0) this.#renew();
     return this.#bytes;
   }
 
   get view() {
-    if (this.#view.buffer !== this.#memory.buffer) this.#view = new DataView(this.#memory.buffer);
+    if (this.#bytes.length === 0) this.#renew();
     return this.#view;
+  }
+
+  #renew() {
+    this.#bytes = new Uint8Array(this.#memory.buffer);
+    this.#view = new DataView(this.#memory.buffer);
   }
 
   get size() {
@@ -95,6 +100,14 @@ export class Engine {
     return this.letters(this.room + behind, this.number());
   }
 
+  // The nine characters of a matrix at an address.
+  matrix(at) {
+    const it = this.bytes;
+    return String.fromCharCode(
+      it[at], it[at + 1], it[at + 2], it[at + 3], it[at + 4], it[at + 5], it[at + 6], it[at + 7], it[at + 8],
+    );
+  }
+
   // So many letters at an address.
   letters(at, count) {
     return decoder.decode(this.bytes.slice(at, at + count));
@@ -126,6 +139,12 @@ export class Engine {
     if (status === OUT_OF_MEMORY) throw new OutOfMemoryError();
     if (status === NO_ROW) throw new Error("sfq: no row is there: the last step found none");
     throw new Error(`sfq: the module returned the status ${status}`);
+  }
+
+  // What a short call found, which is above the 8 bits of its status.
+  foundIn(came) {
+    if (came & 255) this.need(came & 255);
+    return came >> 8;
   }
 
   // Throws unless a status is OK, and what `fault` returns where it is refused.

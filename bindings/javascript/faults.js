@@ -38,6 +38,14 @@ export class FaultError extends Error {
   }
 }
 
+export class NotLoadedError extends Error {
+  constructor(table) {
+    super(`sfq: the table ${table} isn't loaded`);
+    this.name = "NotLoadedError";
+    this.table = table;
+  }
+}
+
 export class OutOfMemoryError extends Error {
   constructor() {
     super("sfq: memory ran out");

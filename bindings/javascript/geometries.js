@@ -138,27 +138,23 @@ export class Geometry {
 
   #holds(relation, other) {
     const it = this.#engine;
-    return this.#with(other, (first, second) => {
-      it.need(it.calls.holds(relation, first, second, it.found));
-      return it.bytes[it.found] === 1;
-    });
+    return this.#with(other, (first, second) => it.foundIn(it.calls.holds(relation, first, second)) === 1);
   }
 
   relate(other) {
     const it = this.#engine;
     return this.#with(other, (first, second) => {
       it.need(it.calls.relate(first, second, it.found));
-      return it.letters(it.found, 9);
+      return it.matrix(it.found);
     });
   }
 
   relatePattern(other, pattern) {
     const it = this.#engine;
     return this.#with(other, (first, second) => {
-      const length = it.put(String(pattern)), status = it.calls.relate_pattern(first, second, it.room, length, it.found);
-      if (status === UNKNOWN) throw new RangeError(`sfq: a pattern is nine characters T, F, *, 0, 1 or 2, not ${pattern}`);
-      it.need(status);
-      return it.bytes[it.found] === 1;
+      const length = it.put(String(pattern)), came = it.calls.relate_pattern(first, second, it.room, length);
+      if ((came & 255) === UNKNOWN) throw new RangeError(`sfq: a pattern is nine characters T, F, *, 0, 1 or 2, not ${pattern}`);
+      return it.foundIn(came) === 1;
     });
   }
 
@@ -173,10 +169,9 @@ export class Geometry {
   locate(x, y) {
     const it = this.#engine, slot = this.#need();
     if (!whole32(x) || !whole32(y)) throw new RangeError(`sfq: ${x} ${y} isn't a position of whole coordinates on the grid`);
-    const status = it.calls.locate(slot, x, y, it.found);
-    if (status === UNKNOWN) throw pastLimit(`the position ${x} ${y}`);
-    it.need(status);
-    return it.number();
+    const came = it.calls.locate(slot, x, y);
+    if ((came & 255) === UNKNOWN) throw pastLimit(`the position ${x} ${y}`);
+    return it.foundIn(came);
   }
 
   locateMany(positions) {
@@ -224,14 +219,12 @@ export class Geometry {
 
   get dimension() {
     const it = this.#engine;
-    it.need(it.calls.dimension(this.#need(), it.found));
-    return it.number();
+    return it.foundIn(it.calls.dimension(this.#need()));
   }
 
   isEmpty() {
     const it = this.#engine;
-    it.need(it.calls.is_empty(this.#need(), it.found));
-    return it.bytes[it.found] === 1;
+    return it.foundIn(it.calls.is_empty(this.#need())) === 1;
   }
 
   get envelope() {
@@ -295,7 +288,7 @@ export function relateTexts(first, second) {
   }
   it.need(status);
   const found = it.bytes.slice(holds, holds + RELATIONS.length);
-  return { matrix: it.letters(matrix, 9), relations: Object.fromEntries(RELATIONS.map((name, place) => [name, found[place] === 1])) };
+  return { matrix: it.matrix(matrix), relations: Object.fromEntries(RELATIONS.map((name, place) => [name, found[place] === 1])) };
 }
 
 // The bounds that the calls have for an envelope: the least x, the greatest x, the least y and the greatest y.

@@ -59,6 +59,12 @@ export class FaultError extends Error {
   readonly index?: number;
 }
 
+/** A query names a table that isn't loaded, the first such. A fault of the query that needs no table comes before. */
+export class NotLoadedError extends Error {
+  private constructor();
+  readonly table: string;
+}
+
 /** The module's memory can't grow. What was made before is as it was. */
 export class OutOfMemoryError extends Error {
   private constructor();
@@ -249,7 +255,7 @@ export class Database {
   /** Whether a table is loaded. */
   isLoaded(table: string): boolean;
 
-  /** Opens a statement of a query, whose tables have to be loaded. */
+  /** Opens a statement of a query. NotLoadedError where a table that it names isn't loaded. */
   prepare(query: string | Uint8Array): Statement;
 
   /** The rows of a query, with its first constants bound to values. */

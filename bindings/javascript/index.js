@@ -3,7 +3,7 @@ import { start } from "./engine.js";
 
 export { memorySize } from "./engine.js";
 export { Database, Statement } from "./databases.js";
-export { FaultError, OutOfMemoryError } from "./faults.js";
+export { FaultError, NotLoadedError, OutOfMemoryError } from "./faults.js";
 export { Geometry, Index, relateMany, relateTexts } from "./geometries.js";
 
 // Where a position lies, as `locate` returns it.

@@ -11,36 +11,51 @@
 
 const OTHER_NUMBER = "the schema has another number of tables";
 
+// The faults of a query's grammar: `run` has them before it loads tables, and those of what names mean behind that.
+const OF_GRAMMAR = ["Q1", "Q2", "Q10", "Q11", "Q12"];
+
 // The database that is kept: what is as it was when it was asked before stays loaded.
 class KeptTables {
   #database = null;
   #schema = null;
-  // Of each table that was loaded or refused last its text, and the line of its fault or null.
+  // Of each table that was loaded or refused last its text, and the error that refused it or null.
   #texts = [];
 
   // Opens the database of a schema, where it isn't open.
   #open(schema) {
     if (this.#database && schema === this.#schema) return;
     this.#database?.free();
-    [this.#database, this.#texts] = [null, []];
+    [this.#database, this.#schema, this.#texts] = [null, null, []];
     [this.#database, this.#schema] = [sfq.Database.open(schema), schema];
   }
 
-  // Loads a table, where its text isn't loaded. Returns whether it had to be.
+  // Whether a table was loaded of this text. Throws where the text was refused.
+  #isLoaded(place, text) {
+    const was = this.#texts[place];
+    if (was?.text !== text) return false;
+    if (was.error) throw was.error;
+    return true;
+  }
+
   #load(place, text) {
-    if (this.#texts[place]?.text === text) {
-      if (this.#texts[place].error) throw this.#texts[place].error;
-      return false;
-    }
     this.#texts[place] = null;
     try {
       this.#database.load(this.#database.tables[place].name, text);
+      this.#texts[place] = { text, error: null };
     } catch (error) {
       if (error instanceof sfq.FaultError) this.#texts[place] = { text, error };
       throw error;
     }
-    this.#texts[place] = { text, error: null };
-    return true;
+  }
+
+  // Throws where the query has a fault of its grammar.
+  #needGrammar(query) {
+    try {
+      this.#database.prepare(query).free();
+    } catch (error) {
+      if (error instanceof sfq.NotLoadedError || (error instanceof sfq.FaultError && !OF_GRAMMAR.includes(error.code))) return;
+      throw error;
+    }
   }
 
   // Asks a query over tables. Returns what the head of this file says.
@@ -49,7 +64,12 @@ class KeptTables {
     try {
       this.#open(schema);
       if (this.#database.tables.length !== tables.length) return { fault: OTHER_NUMBER, loaded };
-      for (const [place, text] of tables.entries()) loaded += this.#load(place, text) ? 1 : 0;
+      if (tables.some((text, place) => this.#texts[place]?.text !== text || this.#texts[place].error)) this.#needGrammar(query);
+      for (const [place, text] of tables.entries()) {
+        if (this.#isLoaded(place, text)) continue;
+        this.#load(place, text);
+        loaded++;
+      }
       return { answer: yield* answerOf(this.#database.prepare(query)), loaded };
     } catch (error) {
       if (error instanceof sfq.FaultError) return { fault: `sfq: ${error.place}`, loaded };

@@ -60,6 +60,25 @@ export async function whys({ pairs }) {
   });
 }
 
+// The faults of a query's grammar: `run` has them before it loads tables, and those of what names mean behind that.
+const OF_GRAMMAR = ["Q1", "Q2", "Q10", "Q11", "Q12"];
+
+/**
+ * The line of a query's fault of grammar, or null.
+ * @param {sfq.Database} database
+ * @param {string} query
+ */
+function faultOfGrammar(database, query) {
+  try {
+    database.prepare(query).free();
+    return null;
+  } catch (error) {
+    if (error instanceof sfq.NotLoadedError) return null;
+    if (!(error instanceof sfq.FaultError)) throw error;
+    return OF_GRAMMAR.includes(error.code) ? `sfq: ${error.place}` : null;
+  }
+}
+
 /**
  * The answer to a query as the program writes it, with its rows as values; or the line of a fault.
  * @param {sfq.Database} database
@@ -86,8 +105,9 @@ export async function queries({ databases }) {
     const opened = orFault(() => sfq.Database.open(schema));
     if (typeof opened === "string") return queries.map(() => opened);
     const bytesOf = (/** @type {string | number[]} */ it) => (typeof it === "string" ? it : Uint8Array.from(it));
+    const grammar = queries.map((query) => faultOfGrammar(opened, query));
     const loads = orFault(() => tables.forEach((text, place) => opened.load(opened.tables[place].name, bytesOf(text))));
-    const found = queries.map((query) => loads ?? answer(opened, query));
+    const found = queries.map((query, place) => grammar[place] ?? loads ?? answer(opened, query));
     opened.free();
     return found;
   });

@@ -2,7 +2,7 @@
 //
 //     node asked.js FOLDER queries FILE   asks each query of FILE: a list of databases, each with `schema`, `tables` and `queries`, all
 //                                         in base64. Of each database it prints the answers or the lines of faults, and how often
-//                                         each call of the module was made; and how many bytes the memory grows by at a second time
+//                                         each call of the module was made well; and how many bytes the memory grows by at a second time
 //     node asked.js FOLDER stop           ends a query that takes long, asks on, and then asks it to its end
 //     node asked.js FOLDER short          asks small and large tables in turns, where memory is short
 "use strict";
@@ -10,13 +10,17 @@
 const fs = require("fs");
 const [folder, what, file] = process.argv.slice(2);
 
-// How often each call of the module was made, and its memory.
+// How often each call of the module was made well, and its memory.
 let made = {}, memory = null;
 const instantiate = WebAssembly.instantiate;
 WebAssembly.instantiate = async (...words) => {
   const { instance } = await instantiate(...words);
   memory = instance.exports.memory;
-  const counted = (name, it) => (...given) => ((made[name] = (made[name] || 0) + 1), it(...given));
+  const counted = (name, it) => (...given) => {
+    const status = it(...given);
+    if (status === 0) made[name] = (made[name] || 0) + 1;
+    return status;
+  };
   const exports = Object.entries(instance.exports).map(([name, it]) => [name, typeof it === "function" ? counted(name, it) : it]);
   return { instance: { exports: Object.fromEntries(exports) } };
 };
