@@ -1,5 +1,6 @@
 """The proved calls of a static library, compiled: an archive for x86-64, of which a C library is made, and the module of LLVM on the
-way to it, of which the web page is made. The crate is sfq_c, sfq_tables for databases, or sfq_web for the page's queries."""
+way to it, of which the modules of the package for JavaScript are made. The crate is sfq_c, sfq_tables for databases, or sfq_web for the
+program in Node."""
 import os
 import re
 import subprocess

@@ -1,4 +1,3 @@
 pub mod PieceFacts
-pub mod RunFacts
 pub mod OpenerLemmas
 pub mod ServingFacts

@@ -1,7 +1,7 @@
 -- A text is cut piece by piece.
 use Rattle.std.proofs.Common.{◌≡◌, ◌∙◌, ◌+◌, ◌++◌, ◌<◌, ◌≤◌, [], ◌∷◌, Bor, List, ℕ, ap, append_assoc, append-nil, drop, get_or, length, map, min, sym, take}
 use Rattle.std.proofs.lemmas.List.{at_drop_all, at_drop_more, drop_min, map_push, take_min}
-use Rattle.sfq_web.specs.Outcomes.{pieces}
+use Rattle.sfq_web.specs.Pieces.{pieces}
 
 -- at first nothing is cut
 pub none_cut : (done : List (Bor (List ℕ))) (text lengths : List ℕ) → done ≡ [] → map (λ one. one.now) done ++ pieces text (drop 0 lengths) ≡ pieces text lengths

@@ -1,3 +1,3 @@
-pub mod Outcomes
+pub mod Pieces
 pub mod HandedFiles
 pub mod Servings

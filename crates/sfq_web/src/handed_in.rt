@@ -2,12 +2,12 @@
 
 ghost use Rattle.std.specs.Prelude.{◌≡◌, IfOk, IfSome, length, map};
 ghost use Rattle.sfq_web.specs.HandedFiles.{AreFiles};
-ghost use Rattle.sfq_web.specs.Outcomes.{pieces};
+ghost use Rattle.sfq_web.specs.Pieces.{pieces};
 ghost use Rattle.sfq_web.specs.Servings.{IsServedOver};
 
+use crate::cutting::cut;
 use crate::handed_files::{Found, HandedFile};
 use crate::handing::Handing;
-use crate::queries::cut;
 use crate::served::{Served, serve_words};
 use std::alloc::{AllocError, Global};
 

@@ -3,7 +3,7 @@
 ghost use Rattle.std.specs.Prelude.{◌≡◌, ◌≢◌, ◌⊎◌, ◌<◌, length};
 ghost use Rattle.library_calls.specs.Refusals.{first_refused, none_there, ok, out_of_memory, too_small, unknown};
 ghost use Rattle.sfq_web.specs.HandedFiles.{found_of};
-ghost use Rattle.sfq_web.specs.Outcomes.{pieces};
+ghost use Rattle.sfq_web.specs.Pieces.{pieces};
 ghost use Rattle.sfq_web.specs.Servings.{AreWritten, HandsOutTexts, IsMisuseOf, ServesGiven, input_of};
 
 use crate::handed_files::Found;

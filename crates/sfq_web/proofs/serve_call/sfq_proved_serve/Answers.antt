@@ -2,7 +2,7 @@
 use Rattle.std.proofs.Common.{ap}
 use Rattle.sfq_web.proofs.ServingFacts.{given_texts}
 use Rattle.sfq_web.specs.HandedFiles.{found_of}
-use Rattle.sfq_web.specs.Outcomes.{pieces}
+use Rattle.sfq_web.specs.Pieces.{pieces}
 use Rattle.sfq_web.specs.Servings.{input_of}
 use Rattle.sfq_web.proofs.serve_call.sfq_proved_serve.Goals as goal
 

@@ -1,7 +1,7 @@
 -- What is cut so far, and what the rest is cut into, are the pieces of the whole.
 use Rattle.std.proofs.Common.{◌≡◌, ◌++◌, Bor, List, drop, map, ℕ}
-use Rattle.sfq_web.specs.Outcomes.{pieces}
-use Rattle.sfq_web.proofs.queries.cut.Given as goal
+use Rattle.sfq_web.specs.Pieces.{pieces}
+use Rattle.sfq_web.proofs.cutting.cut.Given as goal
 
 abbrev pub invariant-loop-length : goal.invariant-loop-length
 invariant-loop-length l = record {

@@ -1,7 +1,7 @@
 -- Each turn cuts the next piece from the rest.
 use Rattle.std.proofs.Common.{◌∙◌, map, sym}
 use Rattle.sfq_web.proofs.PieceFacts.{all_cut, next_cut, none_cut}
-use Rattle.sfq_web.proofs.queries.cut.Goals as goal
+use Rattle.sfq_web.proofs.cutting.cut.Goals as goal
 
 pub loop-length-init : goal.loop-length-init
 loop-length-init c = record { cut = none_cut c.new-all.result.items c.args.text.now c.args.lengths.now c.new-all.ensures.items }
