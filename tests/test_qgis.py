@@ -20,7 +20,7 @@ import qgis_plugin
 import wheels
 from engine_rows import WithLibrary
 from sfq_qgis import grids
-from sfq_qgis.sfq import _proposing
+from sfq import _proposing
 
 PLUGIN, PROGRAM = "sfq_qgis", "qgis_process.bin"
 PARCELS = {"memory": "Polygon?crs=EPSG:25832", "name": "parcel", "shapes": [
@@ -91,8 +91,8 @@ class Packing(WithLibrary):
         files = qgis_plugin.files()
         names = list(files)
         self.assertEqual(names[0], f"{PLUGIN}/__init__.py")
-        of_package = {f"{PLUGIN}/sfq/{os.path.basename(it)}" for it in glob.glob(f"{ROOT}/bindings/python/sfq/*.*")}
-        self.assertLessEqual({f"{PLUGIN}/metadata.txt", f"{PLUGIN}/icon.svg", f"{PLUGIN}/sfq/{library.NAME}", *of_package}, set(names))
+        of_package = {f"{PLUGIN}/package/sfq/{os.path.basename(it)}" for it in glob.glob(f"{ROOT}/bindings/python/sfq/*.*")}
+        self.assertLessEqual({f"{PLUGIN}/metadata.txt", f"{PLUGIN}/icon.svg", f"{PLUGIN}/package/sfq/{library.NAME}", *of_package}, set(names))
         made = wheels.zipped(files, packages.released()[1])
         self.assertEqual(made, wheels.zipped(qgis_plugin.files(), packages.released()[1]))
 
@@ -119,7 +119,7 @@ class WithQgis(WithLibrary):
     def answers(cls, runs, **more):
         """Returns what came of runs by their names, all in one process of QGIS."""
         write(f"{cls.room}/runs.json", json.dumps(list(runs.values())).replace("@room", cls.room))
-        own = environment(cls.room, "", PYTHONPATH=f"{ROOT}/bindings/qgis", SFQ_LIBRARY=library.SHARED, **more)
+        own = environment(cls.room, "", PYTHONPATH=f"{ROOT}/bindings/qgis:{ROOT}/bindings/python", SFQ_LIBRARY=library.SHARED, **more)
         words = [python(), "-B", f"{ROOT}/tests/qgis_runs.py", f"{cls.room}/runs.json", f"{cls.room}/answers.json"]
         ran = subprocess.run(words, env=own, capture_output=True, text=True, timeout=900)
         if ran.returncode:

@@ -18,8 +18,8 @@ NAME = os.path.basename(FOLDER)
 def files() -> dict[str, bytes]:
     """Returns the files of the zip by their places in it. The first one names the plugin to QGIS."""
     found = {f"{NAME}/{os.path.basename(it)}": it for it in sorted(glob.glob(f"{FOLDER}/*")) if os.path.isfile(it)}
-    found.update({target: source for source, target, _ in bindings.of_package("sfq", NAME)})
-    found[f"{NAME}/sfq/{library.NAME}"] = library.SHARED
+    found.update({target: source for source, target, _ in bindings.of_package("sfq", f"{NAME}/package")})
+    found[f"{NAME}/package/sfq/{library.NAME}"] = library.SHARED
     return {place: debian.read(path) for place, path in found.items()}
 
 

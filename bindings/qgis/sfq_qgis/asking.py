@@ -6,11 +6,12 @@ from typing import Any, Iterator
 
 from qgis.core import QgsProcessingParameterEnum, QgsProcessingParameterString
 
+from sfq import Geometry
+from sfq._library import RELATIONS
+
 from .basis import Grounds, OfTwo, candidates
 from .layers import Row
 from .progress import watched
-from .sfq import Geometry
-from .sfq._library import RELATIONS
 
 # What a relation is called in the list of choices.
 TITLES = [it.replace("_", " ") for it in RELATIONS]

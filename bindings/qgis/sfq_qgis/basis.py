@@ -11,10 +11,11 @@ from qgis.core import (
 )
 from qgis.PyQt.QtGui import QIcon
 
+from sfq import Index, LibraryError, _grid, _library, _proposing
+
 from . import grids
 from .layers import Layer, Pair, Row, metres_of
 from .progress import Canceled, counted, watched
-from .sfq import Index, LibraryError, _grid, _library, _proposing
 
 GRID_HELP = """
 <h3>The grid</h3>

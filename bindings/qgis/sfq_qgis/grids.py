@@ -3,7 +3,7 @@ from __future__ import annotations
 
 from typing import Optional
 
-from .sfq import _grid, _proposing
+from sfq import _grid, _proposing
 
 
 class NoFit(ValueError):

@@ -10,9 +10,10 @@ from typing import Any, Iterator, Optional
 
 from qgis.core import QgsCoordinateTransform, QgsCsException, QgsFeatureRequest, QgsProcessingFeatureSource, QgsUnitTypes
 
+from sfq import Geometry, _grid, _proposing, _wkb
+from sfq._passes import kind
+
 from .progress import counted
-from .sfq import Geometry, _grid, _proposing, _wkb
-from .sfq._passes import kind
 
 
 def metres_of(system: Any) -> Optional[float]:

@@ -7,7 +7,7 @@ from typing import Any, Optional
 
 from qgis.core import QgsGeometry, QgsPointXY
 
-from .sfq import _grid
+from sfq import _grid
 
 NUMBER = r"(-?\d+(?:/\d+)?)"
 # A point, or a stretch by its ends, behind the word that says what it is.

@@ -6,8 +6,9 @@ from typing import Any
 from qgis.core import QgsProcessing, QgsProcessingOutputNumber, QgsProcessingParameterFeatureSink, QgsWkbTypes
 from qgis.PyQt.QtCore import QVariant
 
+from sfq._library import RELATIONS
+
 from .basis import Grounds, OfTwo, fields_of, pairs
-from .sfq._library import RELATIONS
 
 FIELDS = fields_of(
     input_id=QVariant.LongLong, other_id=QVariant.LongLong, matrix=QVariant.String, **{it: QVariant.Bool for it in RELATIONS}
