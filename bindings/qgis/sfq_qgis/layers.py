@@ -81,7 +81,7 @@ class Layer:
         if source.sourceCrs().isValid() and system.isValid() and source.sourceCrs() != system:
             self.transform = QgsCoordinateTransform(source.sourceCrs(), system, context.transformContext())
         self.rows: list[Row] = []
-        self.extent: Optional[Extent] = None
+        self.extent: Optional[_proposing.Extent] = None
         self.shift, self.flattened = _grid.Shift(), 0
 
     def read(self, feedback: Any) -> None:
@@ -117,7 +117,7 @@ class Layer:
             if not all(map(math.isfinite, extent)):
                 row.reason = "W1: a coordinate is infinite or no number"
                 return
-            self.extent = extent.joined(self.extent)
+            self.extent = _proposing.joined((extent, self.extent))
         row.shape = shape
 
     def bring_to(self, grid: _grid.Grid, feedback: Any) -> None:
