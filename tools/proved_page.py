@@ -196,6 +196,8 @@ def sources() -> dict[str, str]:
     # What the C test calls of the library's header calls the proved calls in turn.
     of_library = (*(f"tests/library/{it}" for it in ("calls", "kept", "whys", "indexes", "databases", "rows")), "bindings/c/sfq", "bindings/c/sfq_tables")
     found["calls.c"] = "".join(read(f"{repository.ROOT}/{it}.c") for it in of_library)
+    # What tests/test_node.py asks of the program in Node makes the proved call.
+    found["serve.c"] = read(f"{repository.ROOT}/bindings/javascript/serve.c")
     return found
 
 
