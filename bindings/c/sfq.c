@@ -5,10 +5,14 @@
  */
 #include "sfq.h"
 
+#include <string.h>
+
+/* JavaScript asks for no well-known binary and for no joins of many. */
+#ifndef __wasm__
 #include "binary.h"
 
 #include <stdlib.h>
-#include <string.h>
+#endif
 
 /* ---- the proved calls, as crates/sfq_c/src declares them ---- */
 
@@ -392,6 +396,8 @@ int sfq_locate_many(sfq_geometry *geometry, const int32_t *coordinates, size_t c
 
 /* ---- well-known binary ---- */
 
+#ifndef __wasm__
+
 /* Adds what rounding did to one geometry. */
 static void add_shift(sfq_shift *all, const sfq_shift *one)
 {
@@ -490,6 +496,8 @@ int sfq_binaries_extent(const void *binaries, const size_t *lengths, size_t coun
     return begins ? SFQ_NONE : SFQ_OK;
 }
 
+#endif
+
 /* ---- indexes ---- */
 
 int sfq_index_build(const int32_t *bounds, size_t count, sfq_index *index, size_t *position)
@@ -537,6 +545,7 @@ void sfq_index_free(sfq_index *index)
     }
 }
 
+#ifndef __wasm__
 /* The bounds of a geometry, or those that an empty one has. */
 static void write_bounds(sfq_geometry *geometry, int32_t bounds[4])
 {
@@ -652,6 +661,8 @@ int sfq_join(uint32_t relation, sfq_geometry *first, size_t *next, size_t end, s
     }
     return status;
 }
+
+#endif
 
 /* ---- why ---- */
 
