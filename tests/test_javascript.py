@@ -95,6 +95,20 @@ def databases_given(databases):
     return [{"schema": schema, "tables": list(tables), "queries": [it for it, _ in asked]} for (schema, tables), asked in databases.items()]
 
 
+@functools.lru_cache(maxsize=None)
+def faulty():
+    """Returns databases of one query each, as trials are handed them, and the line of the fault that the program ends each with."""
+    with tempfile.TemporaryDirectory(prefix="sfq-faulty-") as room:
+        for at, (schema, tables, _) in enumerate(FAULTY):
+            write_all(f"{room}/{at}", {"schema.sql": schema})
+            for name, content in tables.items():
+                with open(f"{room}/{at}/{name}.csv", "wb") as file:
+                    file.write(content)
+        given = answers.by_program([["run", f"{room}/{at}/schema.sql", f"{room}/{at}", query] for at, (_, _, query) in enumerate(FAULTY)])
+    databases = [{"schema": schema, "tables": [list(it) for it in tables.values()], "queries": [query]} for schema, tables, query in FAULTY]
+    return databases, [it.err.decode().rstrip("\n") for it in given]
+
+
 class Trials:
     """What trials find, in Node or in a browser, beside what is wanted."""
 
@@ -138,7 +152,10 @@ class SharedTrials(Trials):
     def compare_all(self, wanted, lines, found):
         """Compares what all trials found, by their names."""
         self.compare_pairs(wanted, found["pairs"])
-        self.compare_queries(self.databases, found["queries"])
+        asked = found["queries"]
+        count = len(self.databases)
+        self.compare_queries(self.databases, {**asked, "found": asked["found"][:count]})
+        self.assertEqual([it for it, in asked["found"][count:]], faulty()[1])
         self.assertEqual([it["lines"] for it in found["whys"]], lines)
         self.assertTrue(all(it["isShown"] for it in found["whys"]))
         self.assertEqual((found["many"]["lost"], found["heap"]), (0, "well"))
@@ -152,7 +169,7 @@ class SharedTrials(Trials):
         valid = [pair for pair, line in wanted if len(line) == 9][:50]
         return {
             "pairs": {"pairs": [pair for pair, _ in wanted]}, "whys": {"pairs": valid},
-            "queries": {"databases": databases_given(self.databases)}, "many": {"calls": 5_000},
+            "queries": {"databases": databases_given(self.databases) + faulty()[0]}, "many": {"calls": 5_000},
             "shortOfMemory": {"modules": modules_of(PAGES)}, "heap": {"modules": modules_of([16])}, "onGrids": {"shapes": []},
         }
 
@@ -191,18 +208,10 @@ class InNode(SharedTrials, unittest.TestCase):
     @needs_build
     def test_every_fault(self):
         """The lines that are compared, here and of rows of pairs and queries, have all codes."""
-        with tempfile.TemporaryDirectory(prefix="sfq-faulty-") as room:
-            for at, (schema, tables, _) in enumerate(FAULTY):
-                write_all(f"{room}/{at}", {"schema.sql": schema})
-                for name, content in tables.items():
-                    with open(f"{room}/{at}/{name}.csv", "wb") as file:
-                        file.write(content)
-            given = answers.by_program([["run", f"{room}/{at}/schema.sql", f"{room}/{at}", query] for at, (_, _, query) in enumerate(FAULTY)])
-        lines = [it.err.decode().rstrip("\n") for it in given]
-        databases = [{"schema": schema, "tables": [list(it) for it in tables.values()], "queries": [query]} for schema, tables, query in FAULTY]
+        databases, lines = faulty()
         self.assertEqual([it for it, in tried("queries", {"databases": databases})["found"]], lines)
-        lines += [line for _, line in rows_that_relate() + rows_that_ask() if line.startswith("sfq: ")]
-        codes = {code for line in lines for code in re.findall(r"\b[SLQWV]\d+\b", line)}
+        others = [line for _, line in rows_that_relate() + rows_that_ask() if line.startswith("sfq: ")]
+        codes = {code for line in lines + others for code in re.findall(r"\b[SLQWV]\d+\b", line)}
         self.assertEqual(set(language.FAULTS) - codes, NOT_OF_CALLS)
 
     @needs_page
