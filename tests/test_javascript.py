@@ -424,6 +424,12 @@ class Package(unittest.TestCase):
             ran = subprocess.run(["tsc", "--noEmit", "-p", room], capture_output=True, text=True)
             self.assertIn("is not assignable to type 'string'", ran.stdout)
 
+
+class Installed(unittest.TestCase):
+    """The package in an empty folder."""
+
+    ASKS_LIBRARY = True
+
     @needs("nodejs", "node")
     @needs_page
     def test_examples_of_the_library_page(self):

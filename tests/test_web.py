@@ -44,12 +44,17 @@ FURTHER = {
 }
 
 
-@functools.lru_cache(maxsize=None)
+# The modules by their files, once they are found.
+CARRIED = {}
+
+
 def carried():
-    """Returns the bytes of each module by its file, where they are made of the present sources. Without the kit this isn't looked at."""
-    known = {it: javascript_package.made(it) for it in javascript_package.MODULES}
+    """Returns the bytes of each module by its file, or None where they aren't made of the present sources. Without the kit this isn't looked at."""
+    known = {} if CARRIED else {it: javascript_package.made(it) for it in javascript_package.MODULES}
     is_old = shutil.which("rt") and any(what and what["inputs"] != wasm.inputs(it) for it, what in known.items())
-    return None if is_old or None in known.values() else {it.file: javascript_package.read_module(it) for it in known}
+    if not is_old and None not in known.values():
+        CARRIED.update({it.file: javascript_package.read_module(it) for it in known})
+    return CARRIED or None
 
 
 def needs_page(test):
