@@ -7,7 +7,7 @@ pub mod Passes
 pub mod OffEdges
 pub mod ListedPositions
 pub mod Rest
-pub mod Apart
+pub mod ApartEdges
 pub mod OutsideEdges
 pub mod OutsidePositions
 pub mod PointsAndArea

@@ -44,3 +44,9 @@ shown_on g x c h e = on_not_off g x (sym h.on ∙ e)
 
 pub shown_off : (g : Geometry) (x : Point) (c : Crossings) (k : Kind) (l : Location) → AreCrossings c (edges g) x → c.on ≡ false → k ≡ kind g → l ≡ off_edges k c.odd_above → IsOffEdges g x × (l ≡ mostly g x)
 shown_off g x c k l h e ek el = (off_from g x (sym h.on ∙ e), el ∙ ap₂ off_edges ek h.above ∙ off_is_mostly g x (sym h.on ∙ e))
+
+-- a point that is on no edge lies where the parity of the edges above it says
+pub off_part : (g : Geometry) (x : Point) (c : Crossings) (k : Kind) (l : Location) → IsOffEdges g x → AreCrossings c (edges g)
+    x → k ≡ kind g → l ≡ off_edges k c.odd_above → l ≡ mostly g x
+off_part g x c k l off h ek el = el ∙ ap₂ off_edges ek h.above
+    ∙ off_is_mostly g x (none_passes (λ e. on e x) (edges g) (each_from_all (λ e. on e x ≡ false) (edges g) off))

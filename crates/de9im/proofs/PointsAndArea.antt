@@ -21,7 +21,7 @@ use Rattle.matrix_laws.proofs.CellTheorems.{covering_is_whole, covers_turned}
 use Rattle.matrix_laws.specs.Gaps.{of_own_edges}
 use Rattle.matrix_laws.specs.Covering.{ShowsOff, ShowsEnds}
 use Rattle.de9im.specs.Raising.{Grows, HasSides, of_area}
-use Rattle.de9im.proofs.Apart.{apart_is_there, apart_covers}
+use Rattle.de9im.proofs.ApartEdges.{apart_is_there, none_is_apart, lies_outside_none, outside_none_covers}
 use Rattle.de9im.proofs.Passes.{turned_shows}
 
 -- points have no edges, and areas list no positions
@@ -52,7 +52,9 @@ area_is_there a b points sides va vb = go
     wide = sides.edge.4
 
     shown : ShowsOff b (labelled_matrix b a) e Exterior
-    shown = apart_is_there b a e (no_edges a points) (sides.edge.0, sides.edge.2, sides.edge.3) (λ same. wide (ap (λ (p : Position). p.x) same)) vb va
+    shown = apart_is_there b a e Exterior (none_is_apart a e (no_edges a points)) (sides.edge.0, sides.edge.2, sides.edge.3)
+        (λ same. wide (ap (λ (p : Position). p.x) same))
+        (lies_outside_none a (no_edges a points) e.end) vb va
 
     there : (l k : Location) (d : Dimension) → Shows (labelled_matrix b a) l k d → Shows (labelled_matrix a b) k l d
     there l k d s = subst (λ (m : Matrix). Shows m k l d) (sym (labelled_is_transposed b a)) (turned_shows (labelled_matrix b a) l k d s)
@@ -96,7 +98,8 @@ area_is_covered a b n points area part positions = All-weaker (Contains (edges b
     }
 
     covered : (e : Edge) → Contains (edges b) e → Covers a b n e
-    covered e own = subst (λ (m : Matrix). Covers a b m e) (turned_twice n) ((covers_turned b a t).0 e (apart_covers b a e t (no_edges a points) own ends (off e)))
+    covered e own = subst (λ (m : Matrix). Covers a b m e) (turned_twice n)
+        ((covers_turned b a t).0 e (outside_none_covers b a e t (no_edges a points) own ends (off e)))
 
 -- so it is the label matrix
 pub points_give : (a b : Geometry) (m n : Matrix) → kind a ≡ kinds.Point → HasSides b → IsValid a → IsValid b → m ≡ of_area → Grows a b m n → All (CoversPosition a b n) (listed a) → n ≡ labelled_matrix a b

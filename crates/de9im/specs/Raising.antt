@@ -1,5 +1,6 @@
 -- How a matrix of two geometries grows while it is found.
 use Rattle.std.specs.Prelude.{◌≡◌, ◌≢◌, true, false, Bool, if◌then◌else◌, All, Any}
+use Rattle.std.specs.List.{list_any}
 use Rattle.geometry_model.specs.Points.{Position, Point, IsPoint, point_at}
 use Rattle.geometry_model.specs.Geometries.{Edge, Geometry, kind, edges, lines, listed}
 use Rattle.geometry_model.specs.Sides.{on}
@@ -7,12 +8,14 @@ use Rattle.geometry_model.specs.Locations.{is_odd_end, locate}
 use Rattle.geometry_model.specs.Dimensions.{Matrix}
 use Rattle.geometry_model.specs.Envelopes.{Envelope}
 use Rattle.geometry_model.specs.Validity.{IsValid}
+use Rattle.geometry_model.specs.FirstFaults.{share_point}
 use Rattle.geometry_model.specs.declared.shapes.Kind.{Kind}
 use Rattle.geometry_model.specs.declared.shapes.Kind.TheVariants as kinds
 use Rattle.geometry_model.specs.declared.point_sets.Location.{Location}
 use Rattle.geometry_model.specs.declared.point_sets.Location.TheVariants.{Interior, Exterior}
 use Rattle.geometry_model.specs.declared.point_sets.Dimension.TheVariants.{Zero, One, Two}
 use Rattle.edge_boxes.specs.NearEdges.{is_near}
+use Rattle.edge_boxes.specs.RingEdges.{edges_share}
 use Rattle.side_labels.specs.declared.piece_sides.Sides.{Sides}
 use Rattle.matrix_laws.specs.Gaps.{IsBetween, mostly}
 use Rattle.matrix_laws.specs.Cells.{Shows, raised, IsPartOf, IsSound, Covers, CoversPosition}
@@ -101,3 +104,16 @@ ShowsAllAlong pass a b m e = (y : Point) → IsPoint y → on e y ≡ true → S
 abbrev pub IsReady : Pass → Geometry → Geometry → Matrix → Type 0
 IsReady First a b m = Unit {0}
 IsReady Second a b m = All (Covers a b m) (edges b)
+
+-- the edge shares no point with an edge of the geometry (06-103r4, 6.1.15: intersection of point sets)
+abbrev pub IsApart : Edge → Geometry → Type 0
+IsApart e b = list_any (share_point e) (edges b) ≡ false
+
+-- no edge of the one geometry shares a point with an edge of the other (06-103r4, 6.1.15: intersection of point sets)
+abbrev pub AreApart : Geometry → Geometry → Type 0
+AreApart a b = edges_share (edges a) (edges b) ≡ false
+
+-- the position is on no edge of the geometry, and almost all points about it lie in this part
+pub record LiesOff (b : Geometry) (l : Location) (at : Position) : Type 0 where
+  pub off : IsOffEdges b (point_at at)
+  pub part : l ≡ mostly b (point_at at)

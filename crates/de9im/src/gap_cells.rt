@@ -30,7 +30,7 @@ pub(crate) enum Pass {
 }
 
 /// Where a point off the edges of a geometry of this kind lies in it, by the parity of the edges above the point.
-fn off_edges(kind: Kind, is_odd_above: bool) -> Location
+pub(crate) fn off_edges(kind: Kind, is_odd_above: bool) -> Location
     ensures { result ≡ off_edges kind is_odd_above }
 {
     match kind {

@@ -3,6 +3,7 @@
 //! matrix, and predicates follow from it; which of these hold only where envelopes meet is known without one.
 #![tactic(auto)]
 
+mod apart;
 mod fullness;
 mod gap_cells;
 mod labelled;

@@ -1,6 +1,6 @@
 //! Raises the cells of a matrix by the edges of a geometry.
 
-ghost use Rattle.std.specs.Prelude.{◌≡◌, [], true, Some, All, Contains, OnOk, pos, ◌≤ℤ◌};
+ghost use Rattle.std.specs.Prelude.{◌≡◌, true, Some, All, Contains, OnOk, pos, ◌≤ℤ◌};
 ghost use Rattle.geometry_model.specs.Geometries.{kind, edges};
 ghost use Rattle.geometry_model.specs.Locations.{locate};
 ghost use Rattle.geometry_model.specs.Dimensions.{cell};
@@ -18,12 +18,12 @@ ghost use Rattle.de9im.specs.Raising.{Grows, IsOnBoth, IsReady};
 
 use crate::MatrixCells;
 use crate::fullness::{is_full_along, is_full_off, is_full_off_by, is_full_on, of_own_edges};
-use crate::gap_cells::{Pass, raise_gaps, raise_off};
+use crate::gap_cells::{Pass, raise_gaps};
 use crate::matrix_positions::raise_point;
 use crate::outside_edges::left_to_raise;
 use crate::outside_positions::envelope_beside;
 use fraction::RatPoint;
-use geometry_model::{Dimension, Kind, Location};
+use geometry_model::{Dimension, Kind};
 use noding::{Gaps, MergedEdges};
 use orient::Segment;
 use rtree::Envelope;
@@ -165,23 +165,6 @@ fn raise_all(
     Ok(())
 }
 
-/// Raises cells by the edges of the first geometry where the second one has no edges, until no further one can raise a cell. All
-/// of each edge is in the second's exterior, but for a listed position.
-fn raise_apart(first: &Valid, second: &Valid, matrix: &mut MatrixCells)
-    requires none { edges second.now ≡ [] }
-    requires lengths { All HasLength (edges first.now) }
-    requires ends { ShowsEnds first.now second.now matrix.old }
-    ensures grows { Grows first.now second.now matrix.old matrix.new }
-    ensures covers { All (Covers first.now second.now matrix.new) (edges first.now) }
-{
-    for edge in first.segments() {
-        if is_full_off(first, second, matrix) {
-            return;
-        }
-        raise_off(first, edge, Location::Exterior, matrix);
-    }
-}
-
 /// Raises cells by what of an edge of the first geometry lies off the second's edges. It fails only when memory runs out.
 fn raise_edge_off(
     first: &Valid,
@@ -320,10 +303,6 @@ pub(crate) fn raise_edges(
     ensures grows { OnOk result (Grows first.now second.now matrix.old matrix.new) }
     ensures covers { OnOk result (All (Covers first.now second.now matrix.new) (edges first.now)) }
 {
-    if second.segments().is_empty() {
-        raise_apart(first, second, matrix);
-        return Ok(());
-    }
     if let Some(around) = envelope_beside(first.segments().len(), second) {
         return raise_edges_near(alloc, pass, first, second, &around, gaps, matrix);
     }

@@ -5,6 +5,7 @@ ghost use Rattle.geometry_model.specs.Dimensions.{IsMatrix};
 ghost use Rattle.geometry_model.specs.Labels.{labelled_matrix};
 
 use crate::MatrixCells;
+use crate::apart::{are_apart, find_apart};
 use crate::gap_cells::Pass;
 use crate::matrix_edges::raise_edges;
 use crate::matrix_positions::raise_own_ends;
@@ -42,6 +43,9 @@ pub fn find_matrix(alloc: Global, first: &Valid, second: &Valid) -> Result<Matri
     }
     if second.kind() == Kind::Point && has_sides(first) {
         return Ok(find_beside_area(second, first).transposed());
+    }
+    if are_apart(first, second) {
+        return Ok(find_apart(first, second));
     }
     find_by_edges(alloc, first, second)
 }

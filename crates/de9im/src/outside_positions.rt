@@ -41,7 +41,7 @@ pub(crate) fn is_between(number: i32, least: i32, greatest: i32) -> bool
 }
 
 /// Whether a position is in a rectangle, be it on its sides.
-fn is_in(around: &Envelope, at: GridPoint) -> bool
+pub(crate) fn is_in(around: &Envelope, at: GridPoint) -> bool
     ensures { result ≡ overlap (envelope_at at) around.now }
 {
     is_between(at.x(), around.least_x(), around.greatest_x())
