@@ -1,27 +1,30 @@
 -- Points and an area: all edges are the area's, and lie in the points' exterior.
-use Rattle.std.proofs.Common.{◌≡◌, ◌≢◌, refl, sym, ap, ◌∙◌, subst, []}
+use Rattle.std.proofs.Common.{◌≡◌, ◌≢◌, refl, sym, ap, ◌∙◌, subst, List, [], ◌∷◌, arith}
 use Rattle.std.specs.List.{All, Contains}
-use Rattle.std.proofs.lemmas.List.Elements.{All-nil, All-weaker, All-contains_itself}
-use Rattle.geometry_model.specs.Points.{Position}
+use Rattle.std.proofs.lemmas.List.Elements.{All-nil, All-cons, All-weaker, All-contains_itself}
+use Rattle.geometry_model.specs.Points.{Position, point_at}
 use Rattle.geometry_model.specs.Geometries.{Edge, Geometry, kind, edges, listed}
 use Rattle.geometry_model.specs.Dimensions.{Matrix, transposed}
 use Rattle.geometry_model.specs.Labels.{labelled_matrix}
+use Rattle.geometry_model.specs.Locations.{locate}
 use Rattle.geometry_model.specs.Validity.{IsValid}
 use Rattle.geometry_model.specs.declared.shapes.Kind.{Kind}
 use Rattle.geometry_model.specs.declared.shapes.Kind.TheVariants as kinds
 use Rattle.geometry_model.specs.declared.point_sets.Location.{Location}
 use Rattle.geometry_model.specs.declared.point_sets.Location.TheVariants.{Interior, Boundary, Exterior}
 use Rattle.geometry_model.specs.declared.point_sets.Dimension.{Dimension}
-use Rattle.geometry_model.specs.declared.point_sets.Dimension.TheVariants.{One, Two}
+use Rattle.geometry_model.specs.declared.point_sets.Dimension.TheVariants.{Zero, One, Two}
 use Rattle.matrix_laws.proofs.Closing.{valid_rings_are_closed}
 use Rattle.matrix_laws.proofs.Turned.{labelled_is_transposed}
-use Rattle.matrix_laws.specs.Cells.{Shows, IsPartOf, IsSound, Covers, CoversPosition}
+use Rattle.matrix_laws.specs.Cells.{Shows, raised, IsPartOf, IsSound, Covers, CoversPosition}
 use Rattle.matrix_laws.proofs.Growing.{still_shown}
 use Rattle.matrix_laws.proofs.CellTheorems.{covering_is_whole, covers_turned}
 use Rattle.matrix_laws.specs.Gaps.{of_own_edges}
 use Rattle.matrix_laws.specs.Covering.{ShowsOff, ShowsEnds}
-use Rattle.de9im.specs.Raising.{Grows, HasSides, of_area}
+use Rattle.de9im.specs.Raising.{Grows, HasSides, LiesIn, of_area}
 use Rattle.de9im.proofs.ApartEdges.{apart_is_there, none_is_apart, lies_outside_none, outside_none_covers}
+use Rattle.de9im.proofs.Growth.{raised_one}
+use Rattle.de9im.proofs.ListedPositions.{listed_is_interior, position_grows, position_shown}
 use Rattle.de9im.proofs.Passes.{turned_shows}
 
 -- points have no edges, and areas list no positions
@@ -102,17 +105,26 @@ area_is_covered a b n points area part positions = All-weaker (Contains (edges b
         ((covers_turned b a t).0 e (outside_none_covers b a e t (no_edges a points) own ends (off e)))
 
 -- so it is the label matrix
-pub points_give : (a b : Geometry) (m n : Matrix) → kind a ≡ kinds.Point → HasSides b → IsValid a → IsValid b → m ≡ of_area → Grows a b m n → All (CoversPosition a b n) (listed a) → n ≡ labelled_matrix a b
-points_give a b m n points sides va vb start grows positions = covering_is_whole a b (valid_rings_are_closed a va) (valid_rings_are_closed b vb) n
+pub points_give : (a b : Geometry) (n : Matrix) → kind a ≡ kinds.Point → HasSides b → IsValid a → IsValid b → Grows a b of_area n → All (CoversPosition a b n) (listed a) → n ≡ labelled_matrix a b
+points_give a b n points sides va vb grown positions = covering_is_whole a b (valid_rings_are_closed a va) (valid_rings_are_closed b vb) n
     (subst (All (Covers a b n)) (sym (no_edges a points)) (All-nil (Covers a b n)))
     (area_is_covered a b n points sides.is_area grown.grown positions)
     positions
     (subst (All (CoversPosition a b n)) (sym (none_listed b sides.is_area)) (All-nil (CoversPosition a b n)))
     (still_shown of_area n grown.grown Exterior Exterior Two refl)
     (grown.sound va vb (area_is_there a b points sides va vb))
+
+-- of one position it follows from where that lies
+pub one_gives : (a b : Geometry) (p : Position) (l : Location) (n : Matrix) → kind a ≡ kinds.Point → HasSides b → IsValid a → IsValid b → listed a ≡ p ∷ [] → l ≡ locate b (point_at p) → n ≡ raised of_area Interior l Zero → n ≡ labelled_matrix a b
+one_gives a b p l n points sides va vb one there e = points_give a b n points sides va vb
+    (position_grows a b p Interior l of_area n lies there e)
+    (subst (All (CoversPosition a b n)) (sym one) (All-cons (CoversPosition a b n) p [] shown (All-nil (CoversPosition a b n))))
   where
-    grown : Grows a b of_area n
-    grown = subst (λ (o : Matrix). Grows a b o n) start grows
+    lies : LiesIn Interior a p
+    lies = listed_is_interior a p (subst (λ (ps : List Position). Contains ps p) (sym one) (0, omega arith, refl))
+
+    shown : CoversPosition a b n p
+    shown = position_shown a b p Interior n lies (subst (λ (k : Location). Shows n Interior k Zero) there ((raised_one of_area n Interior l Zero e).shows))
 
 -- and turned, that of the geometries the other way round
 pub turned_gives : (a b : Geometry) (m n : Matrix) → m ≡ labelled_matrix b a → n ≡ transposed m → n ≡ labelled_matrix a b

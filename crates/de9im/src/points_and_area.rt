@@ -1,20 +1,24 @@
 //! The cells of points and an area: they follow from where the points lie in the area. Points have no edges, so nothing of the area
 //! but single points of it lies outside their exterior.
 
-ghost use Rattle.std.specs.Prelude.{◌≡◌, ◌≢◌, true, Any};
-ghost use Rattle.geometry_model.specs.Geometries.{edges, kind};
+ghost use Rattle.std.specs.Prelude.{◌≡◌, ◌≢◌, [], ◌∷◌, true, All, Any, IfSome};
+ghost use Rattle.geometry_model.specs.Geometries.{edges, kind, listed};
 ghost use Rattle.geometry_model.specs.Labels.{labelled_matrix};
 ghost use Rattle.geometry_model.specs.Validity.{IsValid};
 ghost use Rattle.geometry_model.specs.declared.shapes.Kind.TheVariants as kinds;
-ghost use Rattle.de9im.specs.Raising.{HasSides, of_area};
+ghost use Rattle.geometry_model.specs.declared.point_sets.Location.TheVariants.{Interior};
+ghost use Rattle.geometry_model.specs.declared.point_sets.Dimension.TheVariants.{Zero};
+ghost use Rattle.matrix_laws.specs.Cells.{CoversPosition, raised};
+ghost use Rattle.de9im.specs.Raising.{Grows, HasSides, of_area};
 
 use crate::MatrixCells;
 use crate::fullness::is_upright;
 use crate::matrix_positions::raise_listed;
-use fraction::GridPoint;
 use fraction::grid_points::COORDINATE_LIMIT;
-use geometry_model::{Dimension, Kind};
+use fraction::{GridPoint, RatPoint};
+use geometry_model::{Dimension, Kind, Location};
 use rtree::Envelope;
+use side_labels::locate;
 use validity::Valid;
 
 /// Whether the last edge before a place is one of the edges that has its interior on one side: it isn't vertical.
@@ -44,6 +48,15 @@ fn is_last_beside(valid: &Valid, least_x: i32, greatest_x: i32) -> bool
     is_beside_its_interior(valid, end)
 }
 
+/// Whether the last of the edges to the right of an x isn't vertical, or the last of those to the left of it. It is rarely called.
+#[inline(never)]
+fn has_sides_off(valid: &Valid, x: i32) -> bool
+    ensures { result ≡ true → Any (λ e. e.start.x ≢ e.end.x) (edges valid.now) }
+{
+    is_last_beside(valid, x.saturating_add(1), COORDINATE_LIMIT)
+        || is_last_beside(valid, -COORDINATE_LIMIT, x.saturating_sub(1))
+}
+
 /// Whether the geometry is an area of which an edge that isn't vertical is found: then its interior is on one side of that. Of a valid
 /// area whose last edge is vertical the last ring leaves that edge's line, and the last edge to the right of it, or the last one to the
 /// left of it, leads back to it.
@@ -53,14 +66,10 @@ pub(crate) fn has_sides(valid: &Valid) -> bool
     if valid.kind() != Kind::Area {
         return false;
     }
-    let segments = valid.segments();
-    let Some(last) = segments.last() else {
-        return false;
-    };
-    let x = last.end().x();
-    is_beside_its_interior(valid, segments.len())
-        || is_last_beside(valid, x.saturating_add(1), COORDINATE_LIMIT)
-        || is_last_beside(valid, -COORDINATE_LIMIT, x.saturating_sub(1))
+    match valid.segments().last() {
+        Some(last) => !is_upright(last) || has_sides_off(valid, last.end().x()),
+        None => false,
+    }
 }
 
 /// The cells that an area shows beside points, wherever these lie: its interior has an area in common with their exterior, and its
@@ -75,6 +84,47 @@ fn of_area() -> MatrixCells
     }
 }
 
+/// The position of points that list one alone.
+fn only_position(points: &Valid) -> Option<GridPoint>
+    ensures one { IfSome result (λ position. listed points.now ≡ position ∷ []) }
+{
+    match points.geometry().listed() {
+        [position] => Some(*position),
+        _ => None,
+    }
+}
+
+/// The cells of a point and an area: they follow from the part of the area in which the point lies (06-103r4, 6.1.15.2).
+fn beside_one(part: Location) -> MatrixCells
+    ensures { result ≡ raised of_area Interior part Zero }
+{
+    match part {
+        Location::Interior => MatrixCells {
+            interior_interior: Dimension::Zero,
+            ..of_area()
+        },
+        Location::Boundary => MatrixCells {
+            interior_boundary: Dimension::Zero,
+            ..of_area()
+        },
+        Location::Exterior => MatrixCells {
+            interior_exterior: Dimension::Zero,
+            ..of_area()
+        },
+    }
+}
+
+/// The cells of points and an area, by all listed positions.
+#[inline(never)]
+fn beside_all(points: &Valid, area: &Valid) -> MatrixCells
+    ensures grows { Grows points.now area.now of_area result }
+    ensures shows { All (CoversPosition points.now area.now result) (listed points.now) }
+{
+    let mut matrix = of_area();
+    raise_listed(points, area, &mut matrix);
+    matrix
+}
+
 /// The cells of the matrix of points and an area. Each listed position is located in the area once, and is in the interior of the
 /// points, which have no boundary (06-103r4, 6.1.4, 6.1.5 and 6.1.15.2).
 pub(crate) fn find_beside_area(points: &Valid, area: &Valid) -> MatrixCells
@@ -84,7 +134,10 @@ pub(crate) fn find_beside_area(points: &Valid, area: &Valid) -> MatrixCells
     ensures points_valid { IsValid points.now }
     ensures area_valid { IsValid area.now }
 {
-    let mut matrix = of_area();
-    raise_listed(points, area, &mut matrix);
-    matrix
+    let _points = points.geometry();
+    let _area = area.geometry();
+    match only_position(points) {
+        Some(at) => beside_one(locate(area, &RatPoint::of_grid(at))),
+        None => beside_all(points, area),
+    }
 }

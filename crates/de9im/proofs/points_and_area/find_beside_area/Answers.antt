@@ -1,6 +1,14 @@
-use Rattle.de9im.proofs.PointsAndArea.{points_give}
+use Rattle.std.proofs.Common.{◌∙◌, ap}
+use Rattle.geometry_model.specs.Locations.{locate}
+use Rattle.de9im.proofs.PointsAndArea.{one_gives, points_give}
 use Rattle.de9im.proofs.points_and_area.find_beside_area.Goals as goal
 
-pub returns-clause-labelled : goal.returns-clause-labelled
-returns-clause-labelled c = points_give c.args.points.now c.args.area.now c.of_area-matrix.result c.raise_listed.new.matrix c.requires.points c.requires.area c.raise_listed.ensures.first_valid c.raise_listed.ensures.second_valid c.of_area-matrix.ensures
-    c.raise_listed.ensures.grows c.raise_listed.ensures.shows
+pub returns-in-Some-clause-labelled : goal.returns-in-Some-clause-labelled
+returns-in-Some-clause-labelled c =
+    let b = c.args.area.now in
+    one_gives c.args.points.now b c.in-Some.at c.locate.result c.beside_one.result c.requires.points c.requires.area c.geometry-points.ensures.valid c.geometry-area.ensures.valid c.in-Some.ensures.one
+    (c.locate.ensures ∙ ap (locate b) c.of_grid.ensures) c.beside_one.ensures
+
+pub returns-in-None-clause-labelled : goal.returns-in-None-clause-labelled
+returns-in-None-clause-labelled c = points_give c.args.points.now c.args.area.now c.beside_all.result c.requires.points c.requires.area c.geometry-points.ensures.valid c.geometry-area.ensures.valid
+    c.beside_all.ensures.grows c.beside_all.ensures.shows
