@@ -169,7 +169,6 @@ LIBRARY = [
      "What calls return of geometries that the caller keeps, and what is owned of them.",
      [("library_calls", "Kept", "position"),
       ("library_calls", "Numbers", ""),
-      ("library_calls", "Meeting", ""),
       ("library_calls", "Keeping", "")]),
     ("Indexes of envelopes",
      "An index is made of the four bounds of each envelope, and a search finds the envelopes that meet a window.",

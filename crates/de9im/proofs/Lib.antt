@@ -3,6 +3,7 @@ pub mod Growth
 pub mod OddEnds
 pub mod GapCells
 pub mod EdgePoints
+pub mod CommonPoints
 pub mod Passes
 pub mod OffEdges
 pub mod ListedPositions

@@ -1,7 +1,7 @@
 //! The cells of two geometries of which no edge shares a point with an edge of the other: all of an edge lies in one part of the
 //! other geometry, and so do the edges that lead on from it.
 
-ghost use Rattle.std.specs.Prelude.{◌≡◌, ◌≤◌, ◌<◌, true, All, Contains, IfSome, Some, length, slice_range};
+ghost use Rattle.std.specs.Prelude.{◌≡◌, ◌≤◌, ◌<◌, true, false, All, Contains, IfSome, Some, length, slice_range};
 ghost use Rattle.geometry_model.specs.Points.{point_at};
 ghost use Rattle.geometry_model.specs.Geometries.{edges};
 ghost use Rattle.geometry_model.specs.Dimensions.{IsMatrix};
@@ -9,6 +9,7 @@ ghost use Rattle.geometry_model.specs.Envelopes.{envelope};
 ghost use Rattle.geometry_model.specs.Labels.{labelled_matrix};
 ghost use Rattle.geometry_model.specs.Validity.{IsValid};
 ghost use Rattle.validity.specs.ValidGeometries.{HasLength};
+ghost use Rattle.edge_boxes.specs.RingEdges.{edges_share};
 ghost use Rattle.matrix_laws.specs.Cells.{Covers};
 ghost use Rattle.matrix_laws.specs.Covering.{IsOffEdges, ShowsEnds};
 ghost use Rattle.de9im.specs.Raising.{AreApart, Grows, LiesOff};
@@ -29,7 +30,8 @@ use validity::Valid;
 /// Whether no edge of the first geometry shares a point with an edge of the second (06-103r4, 6.1.15: intersection of point sets).
 /// It stops at the first point that is shared, and takes no memory.
 pub(crate) fn are_apart(first: &Valid, second: &Valid) -> bool
-    ensures { result ≡ true → AreApart first.now second.now }
+    ensures apart { result ≡ true → AreApart first.now second.now }
+    ensures shared { result ≡ false → edges_share (edges first.now) (edges second.now) ≡ true }
 {
     let shares = first
         .boxes()

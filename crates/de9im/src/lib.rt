@@ -4,6 +4,7 @@
 #![tactic(auto)]
 
 mod apart;
+mod deciding;
 mod fullness;
 mod gap_cells;
 mod labelled;
@@ -22,6 +23,7 @@ mod relating;
 mod text;
 mod work;
 
+pub use deciding::decide;
 pub use geometry_model::{Dimension, Kind, Location, Pattern, PatternCharacter, Predicate};
 pub use labelled::matrix_of_labels;
 pub use matrix::Matrix;

@@ -15,7 +15,18 @@ use geometry_model::{Dimension, Kind, Predicate};
 pub fn holds(predicate: Predicate, first: Kind, second: Kind, matrix: &Matrix) -> bool
     ensures { result ≡ holds predicate first second matrix.now }
 {
-    let cells = matrix.cells();
+    holds_by_cells(predicate, first, second, matrix.cells())
+}
+
+/// Whether the predicate holds of two geometries of these kinds whose matrix has these cells.
+pub(crate) fn holds_by_cells(
+    predicate: Predicate,
+    first: Kind,
+    second: Kind,
+    cells: &MatrixCells,
+) -> bool
+    ensures { result ≡ holds predicate first second cells.now }
+{
     match predicate {
         Predicate::Equals => equals(cells),
         Predicate::Disjoint => disjoint(cells),

@@ -58,7 +58,7 @@ fn asked(alloc: Global, near: u8, far: u8, condition: &str) -> Result<Spent, Fai
 fn growths_rise_with_the_work(rt: HostRuntime) -> Result<(), Fail> {
     let mut before = 0;
     for near in 1..6u8 {
-        let found = asked(rt.alloc(), near, 0, "NOT ST_Disjoint(geom, line)")?;
+        let found = asked(rt.alloc(), near, 0, "NOT ST_Touches(geom, line)")?;
         assert!(rt; found.work == u64::from(near) && found.rows == usize::from(near));
         assert!(rt; (found.growths > before) == are_counted(rt.alloc()));
         before = found.growths;
@@ -70,9 +70,9 @@ fn growths_rise_with_the_work(rt: HostRuntime) -> Result<(), Fail> {
 #[test]
 fn ruled_out_by_a_filter(rt: HostRuntime) -> Result<(), Fail> {
     for condition in &[
-        "id < 1 AND NOT ST_Disjoint(geom, line)",
-        "NOT ST_Disjoint(geom, line) AND id < 1",
-        "NOT ST_Disjoint(geom, line) AND NOT ST_IsEmpty(geom) = 1 AND id = 0",
+        "id < 1 AND NOT ST_Touches(geom, line)",
+        "NOT ST_Touches(geom, line) AND id < 1",
+        "NOT ST_Touches(geom, line) AND NOT ST_IsEmpty(geom) = 1 AND id = 0",
     ] {
         let one = asked(rt.alloc(), 1, 0, condition)?;
         let many = asked(rt.alloc(), 5, 20, condition)?;
@@ -88,11 +88,11 @@ fn ruled_out_by_a_filter(rt: HostRuntime) -> Result<(), Fail> {
 /// Rows whose envelope the probe didn't find take nothing, nor those that it found and a filter ruled out.
 #[test]
 fn ruled_out_by_a_probe(rt: HostRuntime) -> Result<(), Fail> {
-    let few = asked(rt.alloc(), 4, 1, "ST_Intersects(geom, line)")?;
-    let many = asked(rt.alloc(), 4, 40, "ST_Intersects(geom, line)")?;
+    let few = asked(rt.alloc(), 4, 1, "ST_Crosses(geom, line)")?;
+    let many = asked(rt.alloc(), 4, 40, "ST_Crosses(geom, line)")?;
     assert!(rt; few == many && few.work == 4 && few.rows == 4);
-    let of_three = asked(rt.alloc(), 3, 41, "ST_Intersects(geom, line) AND id < 3")?;
-    let of_four = asked(rt.alloc(), 4, 40, "ST_Intersects(geom, line) AND id < 3")?;
+    let of_three = asked(rt.alloc(), 3, 41, "ST_Crosses(geom, line) AND id < 3")?;
+    let of_four = asked(rt.alloc(), 4, 40, "ST_Crosses(geom, line) AND id < 3")?;
     assert!(rt; of_three == of_four && of_four.work == 3 && of_four.rows == 3);
     assert!(rt; (of_four.growths < many.growths) == are_counted(rt.alloc()));
     Ok(())
@@ -102,7 +102,7 @@ fn ruled_out_by_a_probe(rt: HostRuntime) -> Result<(), Fail> {
 fn joined(alloc: Global, condition: &str, is_long: bool) -> Result<Spent, Fail> {
     let table = shores(alloc, 6, 6, is_long)?;
     let query = format!(in alloc;
-        "SELECT a.id, b.id FROM shore a JOIN shore b ON ST_Intersects(a.geom, b.geom) WHERE {condition}"
+        "SELECT a.id, b.id FROM shore a JOIN shore b ON ST_Crosses(a.geom, b.geom) WHERE {condition}"
     )?;
     find_all(alloc, SCHEMA, &table, &query)
 }

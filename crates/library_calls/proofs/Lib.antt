@@ -1,5 +1,4 @@
 pub mod ArrayFacts
-pub mod MeetingFacts
 pub mod Spelling
 pub mod AsTexts
 pub mod ArrayParts

@@ -5,19 +5,19 @@ ghost use Rattle.std.specs.Option.{option_map_or};
 ghost use Rattle.geometry_model.specs.CanonicalText.{canonical_text};
 ghost use Rattle.geometry_model.specs.Envelopes.{envelope};
 ghost use Rattle.geometry_model.specs.Geometries.{kind};
+ghost use Rattle.de9im.specs.Deciding.{IsDecided};
 ghost use Rattle.library_calls.specs.Kept.{HasMatrix, HasRelation, IsStatusOfPosition, LiesAt, Matches, bounds_of, status_of_pattern, status_of_relation, status_of_room};
 ghost use Rattle.library_calls.specs.Numbers.{dimension_of_kind, location_number};
 ghost use Rattle.library_calls.specs.Refusals.{none_there, ok, out_of_memory};
 ghost use Rattle.library_calls.specs.Relations.{relation_of};
 ghost use Rattle.streams.specs.MemorySinks.{memory_bytes};
 
-use crate::meeting::intersect;
 use crate::patterns::pattern_in;
 use crate::relations::{Relation, holds, relation_of};
 use crate::texts::matrix_of;
-use de9im::MatrixPattern;
+use de9im::{MatrixPattern, Work, decide};
 use fraction::{GridPoint, RatPoint};
-use geometry_model::{Kind, Location};
+use geometry_model::{Kind, Location, Predicate};
 use rtree::Envelope;
 use side_labels::locate;
 use std::alloc::{AllocError, Global};
@@ -74,11 +74,26 @@ fn find_relation(
     requires { relation_of number ≡ Some relation }
     ensures { IfOk result (HasRelation number first.now second.now) }
 {
-    if relation == Relation::Intersects {
-        return intersect(alloc, first, second);
+    match relation {
+        Relation::Disjoint => decided(alloc, Predicate::Disjoint, first, second),
+        Relation::Intersects => decided(alloc, Predicate::Intersects, first, second),
+        _ => {
+            let found = matrix_of(alloc, first, second)?;
+            Ok(holds(relation, first.kind(), second.kind(), &found))
+        }
     }
-    let found = matrix_of(alloc, first, second)?;
-    Ok(holds(relation, first.kind(), second.kind(), &found))
+}
+
+/// Whether a predicate holds of two geometries (06-103r4, 6.1.15.3). It fails only when memory runs out.
+fn decided(
+    alloc: Global,
+    predicate: Predicate,
+    first: &Valid,
+    second: &Valid,
+) -> Result<bool, AllocError>
+    ensures { IfOk result (IsDecided predicate first.now second.now) }
+{
+    decide(alloc, predicate, first, second, &mut Work::new())
 }
 
 /// Writes whether the matrix of two geometries matches a pattern of nine characters (06-103r4, 6.1.15.2); status 4 where the bytes

@@ -17,7 +17,6 @@ mod indexes;
 mod kept;
 mod kept_geometry;
 mod kept_index;
-mod meeting;
 pub mod parts;
 mod patterns;
 mod relations;

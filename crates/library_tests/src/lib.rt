@@ -9,6 +9,8 @@ mod box_tests;
 #[cfg(test)]
 mod constant_tests;
 #[cfg(test)]
+mod deciding_tests;
+#[cfg(test)]
 mod device_tests;
 #[cfg(test)]
 mod draws;

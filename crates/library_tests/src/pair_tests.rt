@@ -1,7 +1,8 @@
-//! Matrices of drawn pairs of geometries: found by their edges they are those that their labels show.
+//! Matrices of drawn pairs of geometries: found by their edges they are those that their labels show, and what is decided without
+//! them is what they say.
 
 use crate::draws::Draws;
-use de9im::{Work, matrix_of_labels, relate};
+use de9im::{Matrix, Predicate, Work, decide, holds, matrix_of_labels, relate};
 use side_labels::labels;
 use std::alloc::{AllocError, Global};
 use std::test::Fail;
@@ -130,13 +131,33 @@ fn by_labels(alloc: Global, first: &Valid, second: &Valid) -> Result<[u8; 9], Fa
     Ok(matrix_of_labels(&labels(alloc, first, second)?).text())
 }
 
-/// Whether the matrix of two geometries that are drawn from a seed is that which their labels show.
+/// Whether what is decided of two geometries is what their matrix says.
+fn decided_alike(
+    alloc: Global,
+    first: &Valid,
+    second: &Valid,
+    matrix: &Matrix,
+) -> Result<bool, Fail> {
+    for predicate in &[Predicate::Intersects, Predicate::Disjoint] {
+        let by_matrix = holds(*predicate, first.kind(), second.kind(), matrix);
+        if decide(alloc, *predicate, first, second, &mut Work::new())? != by_matrix {
+            return Ok(false);
+        }
+    }
+    Ok(true)
+}
+
+/// Whether the matrix of two geometries that are drawn from a seed is that which their labels show, and two predicates are as it
+/// says.
 fn agree(alloc: Global, seed: u64) -> Result<bool, Fail> {
     let mut draws = Draws::from_seed(seed);
     let first = drawn(&mut draws, alloc)?;
     let second = drawn(&mut draws, alloc)?;
     let matrix = relate(alloc, &first, &second, &mut Work::new())?;
-    Ok(matrix.text() == by_labels(alloc, &first, &second)?)
+    Ok(
+        matrix.text() == by_labels(alloc, &first, &second)?
+            && decided_alike(alloc, &first, &second, &matrix)?,
+    )
 }
 
 #[test]

@@ -6,24 +6,23 @@ use Rattle.std.specs.declared.alloc.AllocError.{AllocError}
 use Rattle.std.proofs.lemmas.List.{at_drop_more}
 use Rattle.std.proofs.lemmas.List.Folds.{list_any_at}
 use Rattle.std.proofs.lemmas.List.Sums.{get_or-le-sum_by, sum-map, sum_by-drop_more}
-use Rattle.geometry_model.specs.Dimensions.{IsMatrix, Matrix}
 use Rattle.geometry_model.specs.Geometries.{Geometry, kind}
 use Rattle.geometry_model.specs.GivenMatrix.{GivesMatrix}
 use Rattle.geometry_model.specs.Predicates.{holds}
 use Rattle.geometry_model.specs.Validity.{IsValid}
 use Rattle.geometry_model.specs.declared.relations.Predicate.{Predicate}
-use Rattle.geometry_model.specs.declared.shapes.Kind.{Kind}
 use Rattle.geometry_model.proofs.DimensionFacts.{only_matrix}
+use Rattle.de9im.specs.Deciding.{IsDecided}
 use Rattle.table_model.proofs.ListFacts.{list_any-map}
 use Rattle.table_model.specs.RunOutcomes.{MatrixOf, kept_count}
 use Rattle.table_model.specs.declared.values.Truth.{Truth}
 
--- the matrix that was computed is the one that every function gives, so the predicate holds by it
-pub holds_by_every : (matrix : MatrixOf) → GivesMatrix matrix → (p : Predicate) (a b : Geometry) (m : Matrix) (first second : Kind) → IsValid a → IsValid b
-    → IsMatrix a b m → first ≡ kind a → second ≡ kind b → holds p first second m ≡ holds p (kind a) (kind b) (matrix a b)
-holds_by_every matrix gives p a b m first second va vb is first_is second_is =
-    ap (λ k. holds p k second m) first_is ∙ ap (λ k. holds p (kind a) k m) second_is
-    ∙ ap (holds p (kind a) (kind b)) (only_matrix a b m (matrix a b) is (gives a b va vb))
+-- the matrix by which a predicate was decided is the one that every function gives, so the predicate holds by it
+pub holds_by_every : (matrix : MatrixOf) → GivesMatrix matrix → (p : Predicate) (a b : Geometry) (answer : Bool)
+    → IsValid a → IsValid b → IsDecided p a b answer → answer ≡ holds p (kind a) (kind b) (matrix a b)
+holds_by_every matrix gives p a b answer va vb decided =
+    decided.exact
+    ∙ ap (holds p (kind a) (kind b)) (only_matrix a b decided.matrix (matrix a b) decided.is_matrix (gives a b va vb))
 
 -- an answer is each truth that equals its own
 pub same_truth : (r : Result Truth AllocError) (x y : Truth) → IfOk r (λ t. t ≡ x) → y ≡ x → IfOk r (λ t. t ≡ y)

@@ -10,12 +10,12 @@ ghost use Rattle.table_model.specs.Truths as spec;
 ghost use Rattle.spatial_sql.specs.Evaluation.{computed_of};
 
 use crate::logic::truth_of;
-use de9im::{Predicate, Work, holds, relate};
+use de9im::{Predicate, Work, decide};
 use std::alloc::{AllocError, Global};
 use table_model::values::Truth;
 use validity::Valid;
 
-/// Whether a predicate holds of two geometries, by their matrix, which is computed once (06-103r4, 6.1.15.3).
+/// Whether a predicate holds of two geometries, by their matrix (06-103r4, 6.1.15.3). It adds one to the work.
 fn related(
     alloc: Global,
     predicate: Predicate,
@@ -28,10 +28,10 @@ fn related(
     ensures counted { OnOk result (work.new ≡ one_more work.old) }
     ensures refused { OnErr result (work.new ≡ work.old) }
 {
-    let matrix = relate(alloc, first, second, work)?;
-    let first_kind = first.geometry().kind();
-    let second_kind = second.geometry().kind();
-    Ok(truth_of(holds(predicate, first_kind, second_kind, &matrix)))
+    let _first = first.geometry();
+    let _second = second.geometry();
+    let answer = decide(alloc, predicate, first, second, work)?;
+    Ok(truth_of(answer))
 }
 
 /// The truth of a predicate of two arguments' geometries. With a NULL it is unknown, and no matrix is computed. Only the

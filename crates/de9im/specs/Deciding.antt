@@ -1,0 +1,35 @@
+-- Whether a predicate holds of two geometries, and where that is known without their matrix.
+use Rattle.std.specs.Prelude.{◌≡◌, ◌≢◌, Bool, true, false, Option, Some, None}
+use Rattle.geometry_model.specs.Dimensions.{IsMatrix, Matrix}
+use Rattle.geometry_model.specs.Geometries.{Geometry, kind}
+use Rattle.geometry_model.specs.Locations.{locate}
+use Rattle.geometry_model.specs.Points.{Point, IsPoint}
+use Rattle.geometry_model.specs.Predicates.{holds}
+use Rattle.geometry_model.specs.declared.point_sets.Location.TheVariants.{Exterior}
+use Rattle.geometry_model.specs.declared.relations.Predicate.{Predicate}
+use Rattle.geometry_model.specs.declared.relations.Predicate.TheVariants as predicates
+
+-- this is whether the predicate holds of two geometries, by their matrix (06-103r4, 6.1.15.3)
+pub record IsDecided (predicate : Predicate) (one other : Geometry) (answer : Bool) : Type 0 where
+  pub matrix : Matrix
+  pub is_matrix : IsMatrix one other matrix
+  pub exact : answer ≡ holds predicate (kind one) (kind other) matrix
+
+-- a point is in the exterior of neither (06-103r4, 6.1.15.2)
+pub record GeometriesShare (one other : Geometry) : Type 0 where
+  pub point : Point
+  pub is_point : IsPoint point
+  pub in_one : locate one point ≢ Exterior
+  pub in_other : locate other point ≢ Exterior
+
+-- whether the predicate holds of every two geometries that share a point; absent where that depends on the parts which share it
+abbrev pub where_shared : Predicate → Option Bool
+where_shared predicates.Equals = None
+where_shared predicates.Disjoint = Some false
+where_shared predicates.Intersects = Some true
+where_shared predicates.Touches = None
+where_shared predicates.Crosses = None
+where_shared predicates.Within = None
+where_shared predicates.Contains = None
+where_shared predicates.Overlaps = None
+where_shared (predicates.Relate pattern) = None
