@@ -10,7 +10,8 @@ pub mod Growing
 pub mod StripTaking
 pub mod Sharing
 pub mod Far
-pub mod BoxLines
+pub mod TestSteps
+pub mod SharedPoints
 pub mod Near
 pub mod Runs
 pub mod OverlappingBoxes

@@ -7,6 +7,7 @@ pub mod Walks
 pub mod Builds
 pub mod Sharings
 pub mod LineCrossings
+pub mod EdgeTests
 pub mod OneLine
 pub mod NearEdges
 pub mod RingEdges

@@ -5,7 +5,7 @@ use Rattle.geometry_model.specs.Geometries.{Edge}
 use Rattle.geometry_model.specs.Envelopes.{Envelope, overlap}
 use Rattle.edge_boxes.specs.RunLaws.{box_of}
 use Rattle.edge_boxes.specs.BoxLists.{covered}
-use Rattle.edge_boxes.specs.EdgeRuns.{SumsUp}
+use Rattle.edge_boxes.specs.EdgeTests.{NonePasses}
 use Rattle.edge_boxes.specs.declared.kept_runs.Run.{Run}
 use Rattle.edge_boxes.specs.declared.boxes.EdgeBox.{EdgeBox}
 
@@ -19,7 +19,7 @@ EndsNear around edges place = (e : Edge) → e ≡ get_or edges (place - 1) e �
 
 -- no edge of the run is near, whatever these are
 abbrev pub IsOutside : Run → Envelope → Type 0
-IsOutside run around = (es : List Edge) → SumsUp run es → list_any (is_near around) es ≡ false
+IsOutside run around = NonePasses (is_near around) run
 
 -- a step to an earlier place leads back over edges that aren't near, up to one that is or to where the boxes before that place end
 pub record IsStepBack (boxes : List EdgeBox) (edges : List Edge) (around : Envelope) (place left next before : ℕ) : Type 0 where

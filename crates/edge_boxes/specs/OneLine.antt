@@ -1,14 +1,11 @@
 -- Edges that share a stretch with an edge, on one line with it.
-use Rattle.std.specs.Prelude.{◌≡◌, ℕ, ◌<◌, Bool, false, not, ◌&&◌, ◌||◌, List, ◌++◌, drop}
-use Rattle.std.specs.List.{list_any}
+use Rattle.std.specs.Prelude.{Bool, not, ◌&&◌, ◌||◌}
 use Rattle.geometry_model.specs.Points.{Position}
 use Rattle.geometry_model.specs.Geometries.{Edge}
 use Rattle.geometry_model.specs.WellKnownText.{same_position}
 use Rattle.geometry_model.specs.Sides.{on_one_line}
 use Rattle.geometry_model.specs.FirstFaults.{share_point, share_other}
-use Rattle.edge_boxes.specs.BoxLists.{covered}
-use Rattle.edge_boxes.specs.EdgeRuns.{SumsUp}
-use Rattle.edge_boxes.specs.declared.boxes.EdgeBox.{EdgeBox}
+use Rattle.edge_boxes.specs.EdgeTests.{NonePasses}
 use Rattle.edge_boxes.specs.declared.kept_runs.Run.{Run}
 
 -- the position is an end of the second edge, and the edges share no other point; it is an end of the first edge too
@@ -25,11 +22,4 @@ overlap_on_one_line e f = on_one_line e f && share_point e f && not (touch e f)
 
 -- the edge shares no point with any edge of the run, whatever these are
 abbrev pub SharesNone : Run → Edge → Type 0
-SharesNone run e = (es : List Edge) → SumsUp run es → list_any (share_point e) es ≡ false
-
--- a step to an earlier place returns whether one of the edges between is on one line with the edge and shares more than a common end with it
-pub record IsLineStep (boxes : List EdgeBox) (edges : List Edge) (e : Edge) (place next : ℕ) (found : Bool) : Type 0 where
-  pub earlier : next < place
-  pub own : List Edge
-  pub split : drop (covered boxes next) edges ≡ own ++ drop (covered boxes place) edges
-  pub said : found ≡ list_any (overlap_on_one_line e) own
+SharesNone run e = NonePasses (share_point e) run

@@ -18,6 +18,7 @@ ghost use Rattle.edge_boxes.specs.EdgeCrossings.{AreCrossings, on_any};
 ghost use Rattle.edge_boxes.specs.BoxLists.{AreBoxes, BoxesOf, covered};
 ghost use Rattle.edge_boxes.specs.Sharings.{places_sharing};
 ghost use Rattle.edge_boxes.specs.OneLine.{overlap_on_one_line};
+ghost use Rattle.edge_boxes.specs.RingEdges.{edges_share};
 ghost use Rattle.edge_boxes.specs.NearEdges.{is_near, EndsNear};
 ghost use Rattle.edge_boxes.specs.Walks.{IsStep};
 
@@ -28,6 +29,7 @@ use crate::kept_runs::Run;
 use crate::lines::is_one_on_line_among;
 use crate::near_envelopes::last_near_among;
 use crate::point_crossings::{Crossings, none, of_edges, said};
+use crate::shared_points::share_among;
 use crate::sharing_edges::{Asked, push_asked};
 use fraction::RatPoint;
 use orient::Segment;
@@ -84,6 +86,22 @@ impl EdgeBoxes {
         ensures { result ≡ list_any (overlap_on_one_line edge.now) edges.now }
     {
         is_one_on_line_among(self.boxes.as_slice(), edges, edge)
+    }
+
+    /// Whether one of the edges shares a point with one of another list (06-103r4, 6.1.15: intersection of point sets). The
+    /// boxes are those of the edges, and the other boxes those of the others. It stops at the first shared point, passes over
+    /// boxes that are far from the other list's, and takes no memory.
+    pub fn share_with(&self, edges: &[Segment], others: &[Segment], other_boxes: &EdgeBoxes) -> bool
+        requires boxes { BoxesOf self.now edges.now }
+        requires others { BoxesOf other_boxes.now others.now }
+        ensures { result ≡ edges_share edges.now others.now }
+    {
+        share_among(
+            self.boxes.as_slice(),
+            edges,
+            other_boxes.boxes.as_slice(),
+            others,
+        )
     }
 
     /// The place after the last edge, before a place, that is near an envelope: its bounds overlap it. It is 0 if there is none.

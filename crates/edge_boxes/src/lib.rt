@@ -9,6 +9,7 @@ mod boxes;
 mod building;
 mod cells;
 mod edge_pairs;
+mod edge_tests;
 mod kept_runs;
 mod lines;
 pub mod near_edges;
@@ -16,6 +17,7 @@ mod near_envelopes;
 pub mod point_crossings;
 pub mod ring_laws;
 mod rings;
+mod shared_points;
 mod sharing_edges;
 mod strips;
 

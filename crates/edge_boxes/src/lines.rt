@@ -1,15 +1,16 @@
 //! Which edges are on one line with another and share a stretch with it.
 
-ghost use Rattle.std.specs.Prelude.{◌≡◌, ◌≤◌, ◌<◌, true, length};
+ghost use Rattle.std.specs.Prelude.{◌≡◌, true};
 ghost use Rattle.std.specs.List.{list_any};
 ghost use Rattle.geometry_model.specs.Sides.{on_one_line};
 ghost use Rattle.edge_boxes.specs.RunLaws.{box_of};
 ghost use Rattle.edge_boxes.specs.BoxLists.{AreBoxes};
-ghost use Rattle.edge_boxes.specs.OneLine.{touch_at, touch, overlap_on_one_line, SharesNone, IsLineStep};
+ghost use Rattle.edge_boxes.specs.OneLine.{touch_at, touch, overlap_on_one_line, SharesNone};
 
 use crate::bounds::Bounds;
-use crate::boxes::{EdgeBox, covered, run_of};
+use crate::boxes::EdgeBox;
 use crate::edge_pairs::share_other;
+use crate::edge_tests::{EdgeTest, is_any_among};
 use crate::kept_runs::Run;
 use crate::share_point;
 use fraction::GridPoint;
@@ -45,13 +46,6 @@ fn overlap_on_one_line(edge: &Segment, other: &Segment) -> bool
     meet_on_line && !touch(edge, other)
 }
 
-/// Whether one of the edges is on one line with another and shares more than a common end with it.
-fn is_one_on_line(edges: &[Segment], edge: &Segment) -> bool
-    ensures { result ≡ list_any (overlap_on_one_line edge.now) edges.now }
-{
-    edges.iter().any(|other| overlap_on_one_line(edge, other))
-}
-
 /// Whether an edge is far from a run, by the run's bounds or its strip. The bounds are the edge's.
 pub(crate) fn is_far(run: &Run, edge: &Segment, bounds: &Bounds) -> bool
     requires { bounds.now ≡ box_of edge.now }
@@ -66,49 +60,35 @@ pub(crate) fn is_far(run: &Run, edge: &Segment, bounds: &Bounds) -> bool
     }
 }
 
-/// Whether one of the edges is on one line with another and shares more than a common end with it, from the last box to the first.
+/// The test of edges that are on one line with this one and share more than a common end with it. The bounds are this one's.
+#[derive(Drop)]
+struct OverlapOnLine {
+    edge: Segment,
+    bounds: Bounds,
+}
+
+impl EdgeTest for OverlapOnLine {
+    ghost test = { λ t. overlap_on_one_line t.edge };
+
+    ghost is_ready = { λ t. t.bounds ≡ box_of t.edge };
+
+    fn passes(&self, edge: &Segment) -> bool {
+        overlap_on_one_line(&self.edge, edge)
+    }
+
+    fn rules_out(&self, run: &Run) -> bool {
+        is_far(run, &self.edge, &self.bounds)
+    }
+}
+
+/// Whether one of the edges is on one line with another and shares more than a common end with it.
 pub(crate) fn is_one_on_line_among(boxes: &[EdgeBox], edges: &[Segment], edge: &Segment) -> bool
     requires { AreBoxes boxes.now edges.now }
     ensures { result ≡ list_any (overlap_on_one_line edge.now) edges.now }
 {
-    let bounds = Bounds::of(edge);
-    let mut place = boxes.len();
-    let uncovered = run_of(edges, covered(boxes, place), edges.len());
-    if is_one_on_line(uncovered, edge) {
-        return true;
-    }
-    while place > 0 {
-        let (next, own) = line_step(boxes, edges, place, edge, &bounds);
-        if own {
-            return true;
-        }
-        place = next;
-    }
-    false
-}
-
-/// Whether there is such an edge between the place that is looked at next, which is before this one, and this one. The bounds are
-/// the edge's.
-fn line_step(
-    boxes: &[EdgeBox],
-    edges: &[Segment],
-    place: usize,
-    edge: &Segment,
-    bounds: &Bounds,
-) -> (usize, bool)
-    requires boxes { AreBoxes boxes.now edges.now }
-    requires first { 0 < place }
-    requires last { place ≤ length boxes.now }
-    requires bounds { bounds.now ≡ box_of edge.now }
-    ensures { IsLineStep boxes.now edges.now edge.now place result.0 result.1 }
-{
-    let last = &boxes[place - 1];
-    if is_far(&last.run, edge, bounds) {
-        return (place - 1 - last.size as usize, false);
-    }
-    if last.size == 0 {
-        let leaf = run_of(edges, covered(boxes, place - 1), last.end as usize);
-        return (place - 1, is_one_on_line(leaf, edge));
-    }
-    (place - 1, false)
+    let test = OverlapOnLine {
+        edge: *edge,
+        bounds: Bounds::of(edge),
+    };
+    is_any_among(boxes, edges, &test)
 }

@@ -1,7 +1,6 @@
 //! Which edges share a point with another.
 
 ghost use Rattle.std.specs.Prelude.{◌≡◌, ◌≤◌, ◌<◌, ◌++◌, ◌∷◌, [], cond, length, reverse, slice_range, OnOk, IfOk};
-ghost use Rattle.geometry_model.specs.FirstFaults as spec;
 ghost use Rattle.edge_boxes.specs.RunLaws.{box_of};
 ghost use Rattle.edge_boxes.specs.BoxLists.{AreBoxes, covered};
 ghost use Rattle.edge_boxes.specs.Sharings.{is_asked, places_asked, IsAskedStep};
@@ -9,7 +8,7 @@ ghost use Rattle.edge_boxes.specs.Sharings.{is_asked, places_asked, IsAskedStep}
 use crate::bounds::Bounds;
 use crate::boxes::{EdgeBox, covered};
 use crate::lines::is_far;
-use crate::share_point;
+use crate::shared_points::meets;
 use orient::Segment;
 use std::alloc::AllocError;
 
@@ -95,20 +94,12 @@ fn push_run(
     Ok(())
 }
 
-/// Whether an edge shares a point with the one that is asked about. Of most that don't, the bounds are apart.
-fn meets(asked: &Asked, edge: &Segment) -> bool
-    requires { asked.now.bounds ≡ box_of asked.now.edge }
-    ensures { result ≡ spec.share_point asked.now.edge edge.now }
-{
-    asked.bounds.overlap(&Bounds::of(edge)) && share_point(&asked.edge, edge)
-}
-
 /// Whether an edge is asked for.
 fn is_asked(asked: &Asked, place: usize, edge: &Segment) -> bool
     requires { asked.now.bounds ≡ box_of asked.now.edge }
     ensures { result ≡ is_asked asked.now place edge.now }
 {
-    asked.from <= place && meets(asked, edge)
+    asked.from <= place && meets(&asked.edge, &asked.bounds, edge)
 }
 
 /// Adds a place if it passes.

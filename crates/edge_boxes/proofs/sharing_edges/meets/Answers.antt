@@ -1,7 +1,0 @@
-use Rattle.std.proofs.Common.{sym, ap₂, ◌∙◌}
-use Rattle.geometry_model.specs.Envelopes.{overlap}
-use Rattle.edge_boxes.proofs.Sharing.{apart}
-use Rattle.edge_boxes.proofs.sharing_edges.meets.Goals as goal
-
-pub returns-else-overlap : goal.returns-else-overlap
-returns-else-overlap c = c.if-overlap.false ∙ sym (apart c.args.asked.now.edge c.args.edge.now (sym (ap₂ overlap c.requires c.of.ensures) ∙ sym c.overlap.ensures ∙ c.if-overlap.false))
