@@ -43,6 +43,15 @@ fn edges_near_an_envelope(rt: HostRuntime) -> Result<(), Fail> {
     Ok(())
 }
 
+/// A slanted line of edges, from (0 0) to (80 80).
+fn slanted_line(alloc: Global) -> Result<Vec<Segment>, Fail> {
+    let mut edges = Vec::new(alloc);
+    for x in 0..80 {
+        edges.push(segment((x, x), (x + 1, x + 1))?)?;
+    }
+    Ok(edges)
+}
+
 /// Whether one of the edges lies on the line of the segment between two places and shares more than an end with it.
 fn overlaps_on_line(alloc: Global, edges: &[Segment], a: Place, b: Place) -> Result<bool, Fail> {
     let boxes = EdgeBoxes::build(alloc, edges)?;
@@ -51,11 +60,7 @@ fn overlaps_on_line(alloc: Global, edges: &[Segment], a: Place, b: Place) -> Res
 
 #[test]
 fn edges_on_the_line_of_an_edge(rt: HostRuntime) -> Result<(), Fail> {
-    // A slanted line of edges, from (0 0) to (80 80).
-    let mut edges = Vec::new(rt.alloc());
-    for x in 0..80 {
-        edges.push(segment((x, x), (x + 1, x + 1))?)?;
-    }
+    let edges = slanted_line(rt.alloc())?;
     let edges = edges.as_slice();
     // Along one of the edges, and one that begins on the last.
     assert!(rt; overlaps_on_line(rt.alloc(), edges, (10, 10), (11, 11))?);
@@ -65,5 +70,31 @@ fn edges_on_the_line_of_an_edge(rt: HostRuntime) -> Result<(), Fail> {
     assert!(rt; !overlaps_on_line(rt.alloc(), edges, (81, 81), (90, 90))?);
     assert!(rt; !overlaps_on_line(rt.alloc(), edges, (0, 80), (80, 0))?);
     assert!(rt; !overlaps_on_line(rt.alloc(), edges, (0, 1), (79, 80))?);
+    Ok(())
+}
+
+/// Whether edges of two lists share a point.
+fn shares(alloc: Global, edges: &[Segment], others: &[Segment]) -> Result<bool, Fail> {
+    let boxes = EdgeBoxes::build(alloc, edges)?;
+    let other_boxes = EdgeBoxes::build(alloc, others)?;
+    Ok(boxes.share_with(edges, others, &other_boxes))
+}
+
+#[test]
+fn lists_of_edges_that_share_a_point(rt: HostRuntime) -> Result<(), Fail> {
+    let level = level_line(rt.alloc())?;
+    let slanted = slanted_line(rt.alloc())?;
+    // Many and many, which share (0 0) alone.
+    assert!(rt; shares(rt.alloc(), level.as_slice(), slanted.as_slice())?);
+    // Many and few: from the last position up, from the first one down, and beside the slanted line, within its bounds.
+    let at_last = [segment((80, 80), (90, 80))?];
+    let at_first = [segment((0, -5), (0, 0))?];
+    let beside = [segment((1, 2), (40, 41))?, segment((40, 41), (2, 79))?];
+    assert!(rt; shares(rt.alloc(), slanted.as_slice(), &at_last)?);
+    assert!(rt; shares(rt.alloc(), &at_first, slanted.as_slice())?);
+    assert!(rt; !shares(rt.alloc(), slanted.as_slice(), &beside)?);
+    assert!(rt; !shares(rt.alloc(), &beside, slanted.as_slice())?);
+    // Few and few.
+    assert!(rt; !shares(rt.alloc(), &beside, &at_last)?);
     Ok(())
 }
