@@ -8,7 +8,7 @@ use Rattle.geometry_model.specs.Geometries.{Edge, Geometry, edges, joined_rings,
 use Rattle.geometry_model.specs.Labels.{labelled_matrix}
 use Rattle.geometry_model.specs.Locations.{in_lines, in_rings, is_odd_end, locate, on_some}
 use Rattle.geometry_model.specs.Patterns.{takes}
-use Rattle.geometry_model.specs.Points.{Position, Point, IsPoint}
+use Rattle.geometry_model.specs.Points.{Position, Point, IsPoint, point_at}
 use Rattle.geometry_model.specs.Predicates.{holds, like}
 use Rattle.geometry_model.specs.Sides.{on}
 use Rattle.geometry_model.specs.Validity.{IsValid}
@@ -22,8 +22,10 @@ use Rattle.geometry_model.specs.declared.relations.Predicate.TheVariants as pred
 use Rattle.geometry_model.specs.declared.shapes.Kind.TheVariants as kinds
 use Rattle.geometry_laws.proofs.Cuts.{contains_of_among}
 use Rattle.geometry_laws.proofs.Each.{some_passed}
+use Rattle.geometry_laws.proofs.RingParity.{position_is_point}
 use Rattle.geometry_laws.proofs.SharedPoints.{shared_point_is_decided}
 use Rattle.matrix_laws.proofs.Matrices.{labels_give_matrix}
+use Rattle.matrix_laws.proofs.Shared.{start_on}
 use Rattle.edge_boxes.specs.RingEdges.{edges_share}
 use Rattle.de9im.specs.Deciding.{GeometriesShare, IsDecided, where_shared}
 use Rattle.de9im.proofs.EdgePoints.{no_edges, own_point}
@@ -64,6 +66,19 @@ on_edges_of_both a b share =
       in_other = on_own_edge b other.found shared.at (contains_of_among other.found (edges b) other.among)
           shared.on_second shared.is_point;
     }
+
+-- so is the start of an edge that isn't in the other's exterior
+pub start_is_shared : (a b : Geometry) (e : Edge) → Contains (edges a) e → locate b (point_at e.start) ≢ Exterior → GeometriesShare a b
+start_is_shared a b e own other = record {
+  point = point_at e.start;
+  is_point = position_is_point e.start;
+  in_one = on_own_edge a e (point_at e.start) own (start_on e) (position_is_point e.start);
+  in_other = other;
+}
+
+-- and it is shared the other way round
+pub shared_turned : (a b : Geometry) → GeometriesShare a b → GeometriesShare b a
+shared_turned a b s = record { point = s.point; is_point = s.is_point; in_one = s.in_other; in_other = s.in_one }
 
 -- ---- two geometries that share a point aren't disjoint
 -- whether a cell is F

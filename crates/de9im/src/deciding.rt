@@ -1,15 +1,20 @@
 //! Whether a predicate holds of two geometries. Intersects and Disjoint are known at the first point that edges of both share.
 
-ghost use Rattle.std.specs.Prelude.{◌≡◌, IfOk, OnOk, OnErr, Some};
+ghost use Rattle.std.specs.Prelude.{◌≡◌, ◌≢◌, IfOk, OnOk, OnErr, Some, Contains, true};
 ghost use Rattle.basics.specs.Counts.{one_more};
 ghost use Rattle.geometry_model.specs.Dimensions.{IsMatrix};
-ghost use Rattle.de9im.specs.Deciding.{IsDecided, where_shared};
+ghost use Rattle.geometry_model.specs.Geometries.{edges};
+ghost use Rattle.geometry_model.specs.declared.point_sets.Location.TheVariants.{Exterior};
+ghost use Rattle.de9im.specs.Deciding.{GeometriesShare, IsDecided, where_shared};
 
 use crate::apart::{are_apart, find_apart};
 use crate::predicate::holds_by_cells;
 use crate::work::Work;
 use crate::{MatrixCells, find_matrix};
-use geometry_model::{Kind, Predicate};
+use fraction::RatPoint;
+use geometry_model::{Kind, Location, Predicate};
+use orient::Segment;
+use side_labels::locate;
 use std::alloc::{AllocError, Global};
 use validity::Valid;
 
@@ -38,14 +43,43 @@ fn holds_by(predicate: Predicate, first: &Valid, second: &Valid, cells: &MatrixC
     holds_by_cells(predicate, first.kind(), second.kind(), cells)
 }
 
-/// Whether a predicate holds of two geometries for which a shared point settles it. Where their edges share one, that is all; where
-/// they don't, the matrix takes one position of each run of edges. It takes no memory.
+/// Whether a part is the interior or the boundary.
+fn is_no_exterior(part: Location) -> bool
+    ensures { result ≡ true → part ≢ Exterior }
+{
+    part != Location::Exterior
+}
+
+/// Whether the start of an edge of the first geometry isn't in the second one's exterior, nor in the first's, whose edge it is on.
+fn shares_start(first: &Valid, edge: &Segment, second: &Valid) -> bool
+    requires { Contains (edges first.now) edge.now }
+    ensures { result ≡ true → GeometriesShare first.now second.now }
+{
+    is_no_exterior(locate(second, &RatPoint::of_grid(edge.start())))
+}
+
+/// Whether the first position of the first geometry's edges is a point that both geometries share.
+fn shares_first_position(first: &Valid, second: &Valid) -> bool
+    ensures { result ≡ true → GeometriesShare first.now second.now }
+{
+    let segments = first.segments();
+    !segments.is_empty() && shares_start(first, &segments[0], second)
+}
+
+/// Whether a predicate holds of two geometries for which a shared point settles it. Their first positions may show one, as where one
+/// geometry is in the other; else their edges do, or the matrix takes one position of each run of edges. It takes no memory.
 fn decide_by_edges(predicate: Predicate, shared: bool, first: &Valid, second: &Valid) -> bool
     requires { where_shared predicate ≡ Some shared }
     ensures { IsDecided predicate first.now second.now result }
 {
     let _first = first.geometry();
     let _second = second.geometry();
+    if shares_first_position(first, second) {
+        return shared;
+    }
+    if shares_first_position(second, first) {
+        return shared;
+    }
     if are_apart(first, second) {
         return holds_by(predicate, first, second, &find_apart(first, second));
     }
