@@ -78,6 +78,15 @@ class Tables(WithFolder):
                 self.loads(columns, head.replace(", ", ","), rows, count)
 
     @needs_build
+    def test_rows_in_no_order_of_keys(self):
+        # Their cells are copied once, into the order of the keys.
+        for kind, cell, count in (("GEOMETRY", "", 65_537), ("TEXT", "a", 65_537), ("INTEGER", "1", 65_537)):
+            columns, head = ("".join(f", c{at}{more}" for at in range(31)) for more in (f" {kind}", ""))
+            with self.subTest(kind=kind):
+                rows = "".join(f"{at}{f',{cell}' * 31}\n" for at in reversed(range(count)))
+                self.loads(columns, head.replace(", ", ","), rows, count)
+
+    @needs_build
     def test_long_geometries(self):
         for text in (
             f"MULTIPOINT({','.join(['0 0'] * 10_000)})",

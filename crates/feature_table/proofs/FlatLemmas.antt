@@ -1,10 +1,10 @@
 -- Rows of one width, kept one after another.
-use Rattle.std.proofs.Common.{◌≡◌, ◌∙◌, ◌+◌, ◌*◌, ◌++◌, ◌<◌, ◌≤◌, ℕ, zero, suc, List, [], ◌∷◌, Some, ap, ap₂, arith, drop, get_or, length, map, refl, slice_get, subst, sym, take, length-append, length-drop}
+use Rattle.std.proofs.Common.{◌≡◌, ◌∙◌, ◌+◌, ◌*◌, ◌++◌, ◌<◌, ◌≤◌, ℕ, zero, suc, List, [], ◌∷◌, Some, ap, ap₂, arith, drop, flat_map, get_or, length, map, refl, slice_get, subst, sym, take, length-append, length-drop}
 use Rattle.std.proofs.Math.Nat.{mul-le-mul_left}
-use Rattle.std.proofs.Math.Seq.{drop-append_seam}
-use Rattle.std.proofs.lemmas.List.{drop-append-le, get_or-map, length-map, take-append-le, take_all, take_more}
-use Rattle.std.proofs.lemmas.List.Elements.{All-from_get_or, All-get_or}
-use Rattle.std.proofs.lemmas.List.FromFn.{get_or-range_with_len, length-range_with_len, map-range_with_len_more}
+use Rattle.std.proofs.Math.Seq.{drop-append-add, drop-append_seam}
+use Rattle.std.proofs.lemmas.List.{drop-append-le, flat_map_more, length-take-le, take-append-le, take_all, take_more}
+use Rattle.std.proofs.lemmas.List.Elements.{All-from_get_or, All-head, All-tail}
+use Rattle.std.proofs.lemmas.List.FromFn.{get_or-map-range_with_len, get_or-range_with_len, length-map-range_with_len, length-range_with_len, map-range_with_len_more}
 use Rattle.std.proofs.lemmas.Option.{slice_get-get_or}
 use Rattle.std.specs.List.{All, range_with_len}
 use Rattle.feature_table.specs.FlatRows.{IsWithin, first_rows, row_at, rows_at}
@@ -69,21 +69,69 @@ one_row_more {A = A} width values row count size whole =
     let last : row_at width (values ++ row) count ≡ row = ap (take width) seam ∙ take_all width row (omega (arith, whole)) in
     grown ∙ ap₂ (λ (l : List (List A)) (e : List A). l ++ e ∷ []) kept last
 
--- there are as many rows as places
-pub rows_counted : {A : Type 0} (width : ℕ) (values : List A) (order : List ℕ) → length (rows_at width values order) ≡ length order
-rows_counted width values order = simp length-map
+-- there are as many rows as are counted
+pub rows_counted : {A : Type 0} (width : ℕ) (values : List A) (count : ℕ) → length (first_rows width values count) ≡ count
+rows_counted width values count = length-map-range_with_len (row_at width values) 0 count
 
--- the row at a place of an order of rows, and that it is there
-pub row_there : {A : Type 0} (width : ℕ) (values : List A) (order : List ℕ) (i place : ℕ) → i < length order → place ≡ get_or order i place
-    → slice_get (rows_at width values order) i ≡ Some (row_at width values place)
-row_there {A = A} width values order i place within is =
-    let size = rows_counted width values order in
-    slice_get-get_or (rows_at width values order) i (row_at width values place) (omega (arith, within, size))
-    ∙ ap Some (get_or-map (row_at width values) order i place (row_at width values place) within ∙ ap (row_at width values) (sym is))
+-- the row at a place
+pub row_there : {A : Type 0} (width : ℕ) (values : List A) (count i : ℕ) → i < count
+    → slice_get (first_rows width values count) i ≡ Some (row_at width values i)
+row_there width values count i within =
+    let size = rows_counted width values count in
+    slice_get-get_or (first_rows width values count) i (row_at width values i) (omega (arith, within, size))
+    ∙ ap Some (get_or-map-range_with_len (row_at width values) 0 count i i (row_at width values i) within (omega arith))
 
-pub row_within : {A : Type 0} (width : ℕ) (values : List A) (order : List ℕ) (i place : ℕ) → i < length order → place ≡ get_or order i place
-    → All (IsWithin width values) order → IsWithin width values place
-row_within width values order i place within is all = subst (IsWithin width values) (sym is) (All-get_or (IsWithin width values) order i place within all)
+row_whole : {A : Type 0} (width : ℕ) (values : List A) (place : ℕ) → IsWithin width values place
+    → length (row_at width values place) ≡ width
+row_whole width values place h = length-take-le width (drop (place * width) values) (row_width width values place h)
+
+-- rows that are joined have as many values as there are places, times their width
+pub joined_size : {A : Type 0} (width : ℕ) (values : List A) (order : List ℕ) → All (IsWithin width values) order
+    → length (flat_map (row_at width values) order) ≡ length order * width
+joined_size width values [] h = omega arith
+joined_size width values (p ∷ ps) h =
+    let row = row_at width values p in
+    let whole = row_whole width values p (All-head (IsWithin width values) p ps h) in
+    let rest = joined_size width values ps (All-tail (IsWithin width values) p ps h) in
+    let sum = length-append row (flat_map (row_at width values) ps) in
+    omega (arith, whole, rest, sum)
+
+-- behind one row the places of the others are one more
+row_behind : {A : Type 0} (width : ℕ) (row rest : List A) (p : ℕ) → length row ≡ width
+    → row_at width (row ++ rest) (p + 1) ≡ row_at width rest p
+row_behind width row rest p whole =
+    let place : (p + 1) * width ≡ length row + p * width = omega (arith, whole) in
+    ap (λ n. take width (drop n (row ++ rest))) place ∙ ap (take width) (drop-append-add row rest (p * width))
+
+rows_behind : {A : Type 0} (width : ℕ) (row rest : List A) (a n : ℕ) → length row ≡ width
+    → map (row_at width (row ++ rest)) (range_with_len (a + 1) n) ≡ map (row_at width rest) (range_with_len a n)
+rows_behind width row rest a zero whole = refl
+rows_behind {A = A} width row rest a (suc n) whole =
+    ap₂ (λ (r : List A) (rs : List (List A)). r ∷ rs) (row_behind width row rest a whole)
+    (rows_behind width row rest (a + 1) n whole)
+
+-- the rows of those that are joined are the rows at the places
+pub rows_joined : {A : Type 0} (width : ℕ) (values : List A) (order : List ℕ) → All (IsWithin width values) order
+    → first_rows width (flat_map (row_at width values) order) (length order) ≡ rows_at width values order
+rows_joined width values [] h = refl
+rows_joined {A = A} width values (p ∷ ps) h =
+    let row = row_at width values p in
+    let rest = flat_map (row_at width values) ps in
+    let whole = row_whole width values p (All-head (IsWithin width values) p ps h) in
+    let none : 0 * width ≡ 0 = omega arith in
+    let first : row_at width (row ++ rest) 0 ≡ row =
+    ap (λ n. take width (drop n (row ++ rest))) none ∙ take-append-le width row rest (omega (arith, whole))
+    ∙ take_all width row (omega (arith, whole)) in
+    ap₂ (λ (r : List A) (rs : List (List A)). r ∷ rs) first
+    (rows_behind width row rest 0 (length ps) whole ∙ rows_joined width values ps (All-tail (IsWithin width values) p ps h))
+
+-- one row more is joined to the others
+pub joined_more : {A : Type 0} (width : ℕ) (values : List A) (order : List ℕ) (i : ℕ) → i < length order
+    → flat_map (row_at width values) (take i order) ++ row_at width values (get_or order i 0)
+    ≡ flat_map (row_at width values) (take (i + 1) order)
+joined_more width values order i within =
+    flat_map_more (row_at width values) [] (take i order) (get_or order i 0)
+    ∙ ap (flat_map (row_at width values)) (sym (take_more order i 0 within))
 
 -- a row that was appended to so many rows is one row more
 pub row_appended : {A : Type 0} (width : ℕ) (old new row : List A) (count : ℕ) → length old ≡ count * width → length new ≡ length old + width → new ≡ old ++ row

@@ -16,4 +16,5 @@ pub mod MapLemmas
 pub mod OrderLemmas
 pub mod PlaceOrderLemmas
 pub mod ReadingLemmas
+pub mod TextLemmas
 pub mod ValueLemmas

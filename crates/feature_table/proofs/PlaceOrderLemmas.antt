@@ -1,16 +1,16 @@
 -- Rows by the places of their keys, in the order of the keys.
-use Rattle.std.proofs.Common.{◌≡◌, ◌∙◌, ◌+◌, ◌*◌, ◌<◌, ℕ, ℤ, pos, List, None, Some, Ok, Err, ap, ap₂, arith, get_or, length, map, refl, subst, sym}
+use Rattle.std.proofs.Common.{◌≡◌, ◌∙◌, ◌+◌, ◌*◌, ◌<◌, ℕ, ℤ, pos, List, None, Some, Ok, Err, ap, ap₂, arith, flat_map, get_or, length, map, refl, subst, sym}
 use Rattle.std.specs.Prelude.{IsPermutation, IsSortedByKey, option_map}
 use Rattle.std.proofs.lemmas.List.{get_or-map, length-map}
 use Rattle.std.proofs.lemmas.List.Elements.{All-get_or, All-weaker}
-use Rattle.std.proofs.lemmas.List.FromFn.{get_or-map-range_with_len, length-map-range_with_len}
-use Rattle.std.proofs.lemmas.List.Sorted.{All-permutation, IsPermutation-map}
+use Rattle.std.proofs.lemmas.List.FromFn.{get_or-map-range_with_len, length-map-range_with_len, length-range_with_len}
+use Rattle.std.proofs.lemmas.List.Sorted.{All-permutation, IsPermutation-map, length_permutation}
 use Rattle.std.proofs.lemmas.Simd.{map-map}
 use Rattle.std.specs.List.{All, range_with_len}
 use Rattle.std.specs.Ordering.{int_cmp, is_lt}
-use Rattle.feature_table.proofs.FlatLemmas.{range_below, within_first}
+use Rattle.feature_table.proofs.FlatLemmas.{joined_size, range_below, rows_joined, within_first}
 use Rattle.feature_table.proofs.OrderLemmas.{the_order}
-use Rattle.feature_table.specs.FlatRows.{IsWithin}
+use Rattle.feature_table.specs.FlatRows.{IsWithin, first_rows, row_at, rows_at}
 use Rattle.feature_table.specs.KeyPlaces.{key_at}
 use Rattle.table_model.specs.Loading.{double_key, key_of, keyed_rows}
 use Rattle.table_model.specs.Meanings.{Row}
@@ -28,6 +28,22 @@ pub places_within : {A : Type 0} (width count : ℕ) (values : List A) (keys : L
 places_within width count values keys order size same moved =
     All-weaker (λ p. p < count) (IsWithin width values)
     (λ p h. let inside = within_first width count p h in omega (arith, inside, size)) order (places_below count keys order same moved)
+
+-- joined, they are as many rows as before, in that order
+pub joined_rows : {A : Type 0} (width count : ℕ) (values joined : List A) (keys : List ℤ) (order : List ℕ)
+    → length values ≡ count * width → length keys ≡ count → IsPermutation (range_with_len 0 (length keys)) order
+    → joined ≡ flat_map (row_at width values) order
+    → (length joined ≡ count * width) × (first_rows width joined count ≡ rows_at width values order)
+joined_rows width count values joined keys order size same moved are =
+    let within = places_within width count values keys order size same moved in
+    let long = length_permutation (range_with_len 0 (length keys)) order moved in
+    let places = length-range_with_len 0 (length keys) in
+    let many : length order ≡ count = omega (arith, long, places, same) in (
+      ap length are ∙ joined_size width values order within ∙ ap (λ n. n * width) many,
+      ap (λ v. first_rows width v count) are
+          ∙ ap (first_rows width (flat_map (row_at width values) order)) (sym many)
+          ∙ rows_joined width values order within,
+    )
 
 -- the rows in an order of places in which the keys ascend are the rows by key, where no key comes twice
 pub keyed_in_order : {G : Type 0} (key : ℕ) (row : ℕ → Row G) (count : ℕ) (keys : List ℤ) (order : List ℕ) → keys ≡ map (λ p. key_of key (row p)) (range_with_len 0 count)

@@ -1,7 +1,7 @@
 -- The values that cells name: more texts and geometries behind the others leave them as they were.
-use Rattle.std.proofs.Common.{◌≡◌, ◌∙◌, ◌*◌, ◌++◌, ◌∷◌, ◌<◌, ℕ, [], List, ap, ap₂, arith, drop, length, length-append, map, refl, sym, take}
+use Rattle.std.proofs.Common.{◌≡◌, ◌∙◌, ◌*◌, ◌++◌, ◌∷◌, ◌<◌, ℕ, [], List, ap, ap₂, arith, drop, flat_map, length, length-append, map, refl, sym, take}
 use Rattle.std.proofs.lemmas.List.{drop-map, map-append, take-map}
-use Rattle.std.proofs.lemmas.List.Elements.{All-head, All-tail, All-weaker}
+use Rattle.std.proofs.lemmas.List.Elements.{All-append, All-drop, All-head, All-nil, All-tail, All-take, All-weaker}
 use Rattle.std.specs.List.{All}
 use Rattle.basics.proofs.Lists.{in_front}
 use Rattle.feature_table.specs.FlatRows.{row_at}
@@ -55,3 +55,19 @@ values_pushed texts texts-2 geometries geometries-2 cells c v t g h is =
 pub row_in_cells : {X Y : Type 0} (f : X → Y) (width place : ℕ) (cells : List X) → map f (row_at width cells place) ≡ row_at width (map f cells) place
 row_in_cells f width place cells =
     sym (take-map f width (drop (place * width) cells)) ∙ ap (take width) (sym (drop-map f (place * width) cells))
+
+-- so it is of the cells of several rows, joined
+pub joined_in_cells : {X Y : Type 0} (f : X → Y) (width : ℕ) (cells : List X) (order : List ℕ)
+    → map f (flat_map (row_at width cells) order) ≡ flat_map (row_at width (map f cells)) order
+joined_in_cells f width cells [] = refl
+joined_in_cells {Y = Y} f width cells (p ∷ ps) =
+    map-append f (row_at width cells p) (flat_map (row_at width cells) ps)
+    ∙ ap₂ (λ (r : List Y) (rs : List Y). r ++ rs) (row_in_cells f width p cells) (joined_in_cells f width cells ps)
+
+-- and what is so of each cell is so of each of theirs
+pub all_joined : {X : Type 0} (P : X → Type 0) (width : ℕ) (cells : List X) (order : List ℕ) → All P cells
+    → All P (flat_map (row_at width cells) order)
+all_joined P width cells [] h = All-nil P
+all_joined P width cells (p ∷ ps) h =
+    All-append P (row_at width cells p) (flat_map (row_at width cells) ps)
+    (All-take P width (drop (p * width) cells) (All-drop P (p * width) cells h)) (all_joined P width cells ps h)

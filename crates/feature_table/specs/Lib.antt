@@ -11,4 +11,5 @@ pub mod Outcomes
 pub mod Reading
 pub mod ReadRows
 pub mod Records
+pub mod Texts
 pub mod Values

@@ -1,8 +1,7 @@
 //! Rows of one width, kept one after another.
 
-ghost use Rattle.std.specs.Prelude.{◌≡◌, ◌<◌, Some, length, slice_get};
-ghost use Rattle.std.specs.List.{All};
-ghost use Rattle.feature_table.specs.FlatRows.{IsWithin, rows_at};
+ghost use Rattle.std.specs.Prelude.{◌≡◌, ◌*◌, ◌<◌, Some, length, slice_get};
+ghost use Rattle.feature_table.specs.FlatRows.{first_rows};
 
 use crate::values::{Row, Values};
 use std::marker::Model;
@@ -16,40 +15,40 @@ pub(crate) struct ReadRows {
     pub(crate) count: usize,
 }
 
-/// Rows of one width in an order of their own. Contracts see them as the list of these rows.
+/// Rows of one width, one after another. Contracts see them as the list of these rows.
 #[derive(Drop)]
 pub struct FlatRows {
-    /// The values of the records, in the order of the records: for each as many as there are columns.
+    /// The values, row after row: for each as many as there are columns.
     values: Values,
     /// How many values a row has.
     width: usize,
-    /// The places of the records, from 0, in the order of the rows.
-    order: Vec<usize>,
+    /// How many rows there are.
+    count: usize,
 }
 
 impl Model for FlatRows {
-    ghost use Rattle.std.specs.List.{All};
+    ghost use Rattle.std.specs.Prelude.{◌≡◌, ◌*◌, length};
     ghost use Rattle.table_model.specs.Meanings as plain;
-    ghost use Rattle.feature_table.specs.FlatRows.{IsWithin, rows_at};
+    ghost use Rattle.feature_table.specs.FlatRows.{first_rows};
     ghost use Rattle.feature_table.specs.GeometryFields.{GeometryValue};
 
     ghost Value = { plain.Table GeometryValue };
 
-    ghost view = { λ r. rows_at r.width r.values r.order.items };
+    ghost view = { λ r. first_rows r.width r.values r.count };
 
-    ghost invariant = { λ r. All (IsWithin r.width r.values) r.order.items };
+    ghost invariant = { λ r. length r.values ≡ r.count * r.width };
 }
 
 impl FlatRows {
-    /// The rows at these places of the values.
-    pub(crate) fn new(values: Values, width: usize, order: Vec<usize>) -> FlatRows
-        requires { All (IsWithin width values) order.items }
-        ensures { result ≡ rows_at width values order.items }
+    /// The rows of this width that the values are, this many.
+    pub(crate) fn new(values: Values, width: usize, count: usize) -> FlatRows
+        requires { length values ≡ count * width }
+        ensures { result ≡ first_rows width values count }
     {
         FlatRows {
             values,
             width,
-            order,
+            count,
         }
     }
 
@@ -57,7 +56,7 @@ impl FlatRows {
     pub fn len(&self) -> usize
         ensures { result ≡ length self.now }
     {
-        self.order.len()
+        self.count
     }
 
     /// Lends the row at a place.
@@ -65,6 +64,6 @@ impl FlatRows {
         requires { i < length self.now }
         ensures { slice_get self.now i ≡ Some result }
     {
-        self.values.row(self.width, self.order[i])
+        self.values.row(self.width, i)
     }
 }

@@ -171,7 +171,7 @@ pub fn order_by_key(alloc: Global, keys: &[i64]) -> Result<Vec<usize>, LoadFault
 /// The rows that were read, by ascending key. The fault is DoubleKey, with the record's number, or OutOfMemory.
 pub(crate) fn rows_by_key(
     alloc: Global,
-    read: ReadRows,
+    mut read: ReadRows,
     width: usize,
     key: usize,
 ) -> Result<FlatRows, LoadFault>
@@ -181,6 +181,11 @@ pub(crate) fn rows_by_key(
     ensures fault { IfErr result (λ f. f ≢ fault.OutOfMemory → spec.keyed_rows key (rows_read width read) ≡ Err f) }
 {
     let keys = keys_of(alloc, &read.values, width, read.count, key)?;
+    // Records mostly come in the order of their keys.
+    if ascend(keys.as_slice()) {
+        return Ok(FlatRows::new(read.values, width, read.count));
+    }
     let order = order_by_key(alloc, keys.as_slice())?;
-    Ok(FlatRows::new(read.values, width, order))
+    read.values.put_in_order(alloc, width, order.as_slice())?;
+    Ok(FlatRows::new(read.values, width, read.count))
 }

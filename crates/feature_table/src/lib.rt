@@ -13,6 +13,7 @@ mod keys;
 mod loading;
 pub mod records;
 mod tables;
+mod texts;
 mod typed_rows;
 mod values;
 

@@ -53,7 +53,7 @@ impl<I: EnvelopeIndex + Drop> Table<I> {
         requires { IsTrue (lawful (table.now ∷ [])) }
         ensures { IfOk result (λ t. t ≡ []) }
     {
-        let rows = FlatRows::new(Values::new(alloc), table.columns.len(), Vec::new(alloc));
+        let rows = FlatRows::new(Values::new(alloc), table.columns.len(), 0);
         let indexes = Indexes::build(alloc, table, &rows)?;
         Ok(Table { rows, indexes })
     }

@@ -1,15 +1,16 @@
 //! The values of rows, one after another: a cell for each, with the texts and geometries beside.
 
 ghost use Rattle.std.specs.Prelude.{◌≡◌, ◌++◌, ◌∷◌, ◌<◌, [], IfOk, OnOk, Some, length, option_map, slice_get};
+ghost use Rattle.std.specs.List.{All, flat_map};
 ghost use Rattle.feature_table.specs.Cells.{shown};
 ghost use Rattle.feature_table.specs.FlatRows.{IsWithin, row_at};
 ghost use Rattle.feature_table.specs.Values.{IsBehind, IsBacked, value_in};
 
 use crate::cells::Field;
 use crate::geometry_fields::Geometry;
+use crate::texts::Texts;
 use std::alloc::{AllocError, Global};
 use std::marker::Model;
-use table_model::texts::OwnedText;
 use table_model::values::Value;
 
 /// A value of a table: what isn't of one word is kept beside it, at a place.
@@ -26,14 +27,14 @@ pub(crate) enum Cell {
 }
 
 /// The field that a cell names.
-fn field_of<'a>(texts: &'a [OwnedText], geometries: &'a [Geometry], cell: Cell) -> Field<'a>
+fn field_of<'a>(texts: &'a Texts, geometries: &'a [Geometry], cell: Cell) -> Field<'a>
     ensures { shown result ≡ value_in texts.entry.now geometries.entry.now cell }
 {
     match cell {
         Cell::Null => Field::Null,
         Cell::Int(number) => Field::Int(number),
         Cell::Text(place) => match texts.get(place) {
-            Some(text) => Field::Text(text.as_str()),
+            Some(text) => Field::Text(text),
             None => Field::Null,
         },
         Cell::Geom(place) => match geometries.get(place) {
@@ -45,21 +46,21 @@ fn field_of<'a>(texts: &'a [OwnedText], geometries: &'a [Geometry], cell: Cell) 
 
 /// Keeps the text or geometry of a value behind the others, and returns the value's cell.
 fn cell_of(
-    texts: &mut Vec<OwnedText>,
+    texts: &mut Texts,
     geometries: &mut Vec<Geometry>,
     value: Value<Geometry>,
 ) -> Result<Cell, AllocError>
-    ensures texts { IsBehind texts.old.items texts.new.items }
+    ensures texts { IsBehind texts.old texts.new }
     ensures geometries { IsBehind geometries.old.items geometries.new.items }
-    ensures kept { IfOk result (IsBacked texts.new.items geometries.new.items) }
-    ensures value { IfOk result (λ cell. value_in texts.new.items geometries.new.items cell ≡ value) }
+    ensures kept { IfOk result (IsBacked texts.new geometries.new.items) }
+    ensures value { IfOk result (λ cell. value_in texts.new geometries.new.items cell ≡ value) }
 {
     match value {
         Value::Null => Ok(Cell::Null),
         Value::Integer(number) => Ok(Cell::Int(number)),
         Value::Text(text) => {
             let place = texts.len();
-            texts.push(text)?;
+            texts.push(text.as_str())?;
             Ok(Cell::Text(place))
         }
         Value::Geometry(geometry) => {
@@ -79,11 +80,28 @@ fn cells_at(cells: &[Cell], width: usize, place: usize) -> &[Cell]
     &cells[start..start + width]
 }
 
+/// The cells of the rows of this width at these places, one row after another.
+fn cells_in_order(
+    alloc: Global,
+    cells: &[Cell],
+    width: usize,
+    order: &[usize],
+) -> Result<Vec<Cell>, AllocError>
+    requires { All (IsWithin width cells.now) order.now }
+    ensures { IfOk result (λ moved. moved.items ≡ flat_map (row_at width cells.now) order.now) }
+{
+    let mut moved = Vec::with_capacity(alloc, cells.len())?;
+    for place in order {
+        moved.extend_from_slice(cells_at(cells, width, *place))?;
+    }
+    Ok(moved)
+}
+
 /// Values one after another: a cell for each, its texts and geometries beside. Contracts see the list of the values.
 #[derive(Drop)]
 pub(crate) struct Values {
     cells: Vec<Cell>,
-    texts: Vec<OwnedText>,
+    texts: Texts,
     geometries: Vec<Geometry>,
 }
 
@@ -95,9 +113,9 @@ impl Model for Values {
 
     ghost Value = { plain.Row GeometryValue };
 
-    ghost view = { λ v. values_in v.texts.items v.geometries.items v.cells.items };
+    ghost view = { λ v. values_in v.texts v.geometries.items v.cells.items };
 
-    ghost invariant = { λ v. All (IsBacked v.texts.items v.geometries.items) v.cells.items };
+    ghost invariant = { λ v. All (IsBacked v.texts v.geometries.items) v.cells.items };
 }
 
 impl Values {
@@ -107,7 +125,7 @@ impl Values {
     {
         Values {
             cells: Vec::new(alloc),
-            texts: Vec::new(alloc),
+            texts: Texts::new(alloc),
             geometries: Vec::new(alloc),
         }
     }
@@ -121,6 +139,21 @@ impl Values {
         Ok(())
     }
 
+    /// Keeps the rows of this width at these places, in this order.
+    pub(crate) fn put_in_order(
+        &mut self,
+        alloc: Global,
+        width: usize,
+        order: &[usize],
+    ) -> Result<(), AllocError>
+        requires { All (IsWithin width self.old) order.now }
+        ensures { OnOk result (self.new ≡ flat_map (row_at width self.old) order.now) }
+    {
+        let cells = cells_in_order(alloc, self.cells.as_slice(), width, order)?;
+        self.cells = cells;
+        Ok(())
+    }
+
     /// Lends the row at a place, of rows of this width.
     pub(crate) fn row(&self, width: usize, place: usize) -> Row<'_>
         requires { IsWithin width self.now place }
@@ -128,7 +161,7 @@ impl Values {
     {
         Row {
             cells: cells_at(self.cells.as_slice(), width, place),
-            texts: self.texts.as_slice(),
+            texts: &self.texts,
             geometries: self.geometries.as_slice(),
         }
     }
@@ -139,7 +172,7 @@ impl Values {
 pub struct Row<'a> {
     cells: &'a [Cell],
     /// The texts and geometries that cells name.
-    texts: &'a [OwnedText],
+    texts: &'a Texts,
     geometries: &'a [Geometry],
 }
 

@@ -1,7 +1,6 @@
 -- The definition lent is that at the place.
-use Rattle.std.proofs.Common.{rules, ◌≡◌, ap}
+use Rattle.std.proofs.Common.{ap}
 use Rattle.std.proofs.lemmas.Option.{get_or_from_slice_get}
-use Rattle.std.specs.List.{slice_index_or}
 use Rattle.table_model.specs.Databases.{at_table}
 use Rattle.feature_table.proofs.databases.load_table.Goals as goal
 

@@ -9,7 +9,7 @@ pub cells_at-requires : goal.cells_at-requires
 cells_at-requires c =
     let inside = c.self.inside in
     let view = ap length c.self.view_is in
-    let size : length (values_in inside.texts.items inside.geometries.items inside.cells.items) ≡ length inside.cells.items = simp length-map in
+    let size : length (values_in inside.texts inside.geometries.items inside.cells.items) ≡ length inside.cells.items = simp length-map in
     rw c.as_slice.ensures.value (omega (arith, view, size, c.requires))
 
 pub returns : goal.returns
@@ -17,7 +17,7 @@ returns c =
     let inside = c.self.inside in
     let width = c.args.width in
     let place = c.args.place in
-    let value = value_in inside.texts.items inside.geometries.items in
+    let value = value_in inside.texts inside.geometries.items in
     let lent = c.cells_at.ensures ∙ ap (λ cells. row_at width cells place) c.as_slice.ensures.value in
-    rw (c.as_slice-2.ensures.value, c.as_slice-3.ensures.value)
-    (ap (values_in inside.texts.items inside.geometries.items) lent ∙ row_in_cells value width place inside.cells.items ∙ ap (λ values. row_at width values place) c.self.view_is)
+    rw (c.as_slice-2.ensures.value)
+    (ap (values_in inside.texts inside.geometries.items) lent ∙ row_in_cells value width place inside.cells.items ∙ ap (λ values. row_at width values place) c.self.view_is)
