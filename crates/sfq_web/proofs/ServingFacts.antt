@@ -1,21 +1,21 @@
 -- What came of words, by what came of the order that they are; and files that are handed in.
-use Rattle.std.proofs.Common.{◌≡◌, ◌∙◌, ◌+◌, ◌++◌, ◌<◌, ◌≤◌, [], ◌∷◌, Bool, Bor, Err, IfOk, List, Ok, Option, Result, Some, ap, append_assoc, append-nil, drop, false, find, get_or, length, map, refl, subst, sym, ℕ}
+use Rattle.std.proofs.Common.{◌≡◌, ◌∙◌, ◌+◌, ◌++◌, ◌<◌, ◌≤◌, [], ◌∷◌, Bool, Bor, Err, IfOk, IfSome, List, None, Ok, Option, Result, Some, String, ap, append_assoc, append-nil, drop, false, get_or, length, map, option_map, refl, string_bytes, subst, sym, ℕ}
 use Rattle.std.proofs.lemmas.List.{at_drop_all, at_drop_more, map_push}
-use Rattle.std.specs.Option.{option_and_then, option_map}
-use Rattle.std.specs.Str.{bytes_eq}
+use Rattle.std.specs.Option.{option_and_then}
 use Rattle.clap.specs.Words.{HasKind, fault_of}
 use Rattle.command_line.specs.CommandWords.{sfq}
 use Rattle.command_line.specs.Orders.{Orders}
 use Rattle.command_line.specs.declared.known_commands.Order.{Order}
 use Rattle.command_line.specs.declared.misuse.Misuse.{Misuse}
-use Rattle.library_calls.specs.Refusals.{ok}
+use Rattle.library_calls.specs.Explained.{HandsOut}
 use Rattle.streams.specs.MemorySinks.{memory_bytes}
 use Rattle.text_commands.specs.Files.{path_of}
 use Rattle.text_commands.specs.declared.files.File.{File}
-use Rattle.sfq_web.specs.HandedFiles.{Handed, OpensAs, OpensBy, bytes_in, is_standard, opened_text, text_at}
-use Rattle.sfq_web.specs.Servings.{AreWritten, HandsOutTexts, IsDone, IsMisusedAs, IsServed, IsServedOver, ServesGiven, ServesWords, asking}
+use Rattle.sfq_web.specs.HandedFiles.{Handed, IsNotHanded, OpensAs, OpensBy, bytes_in, file_at, is_standard, opened_text, text_at}
+use Rattle.sfq_web.specs.Servings.{AreWritten, FailsOrder, HandsOutTexts, IsDone, IsMisuse, IsMisuseOf, IsMisusedAs, IsPathOf, IsServed, IsServedOver, MissesFile, MissesGiven, ServesGiven, ServesWords, asking, handed_of}
 use Rattle.sfq_web.specs.declared.handed_files.HandedFile.{HandedFile}
 use Rattle.sfq_web.specs.declared.handed_files.HandedReader.{HandedReader}
+use Rattle.sfq_web.specs.declared.handing.Missed.{Missed}
 use Rattle.sfq_web.specs.declared.serve_call.Said.{Said}
 use Rattle.sfq_web.specs.declared.served.Served.{Served}
 use Rattle.sfq_web.specs.declared.served.Served.TheVariants as served
@@ -28,7 +28,8 @@ pub is_served : {E : Type 0} (words : List (List ℕ)) (asks : Bool) (order aske
 is_served words asks order asked files (Ok (served.Done w)) orders same done =
     (order, orders, subst (λ it. IsDone it files (served.Done w)) same done)
 is_served words asks order asked files (Ok (served.Misused w)) orders same done = absurd done
-is_served words asks order asked files (Ok (served.Missing missed)) orders same done = tt
+is_served words asks order asked files (Ok (served.Missing missed)) orders same done =
+    ((order, orders, subst (λ it. FailsOrder it files) same done.0), done.1)
 is_served words asks order asked files (Err e) orders same done = done
 
 -- the words are no order
@@ -65,7 +66,7 @@ all_files f g done xs i end cut =
 pub opened_file : (files : Handed) (file : File) (path : List ℕ) (found : HandedFile) (reader : Option HandedReader) (standard :
     Bool)
     → standard ≡ is_standard file → standard ≡ false → path ≡ path_of file
-    → Some found ≡ find (λ it. bytes_eq it.path.now path) files.files → option_map bytes_in reader ≡ opened_text found
+    → Some found ≡ file_at files.files path → option_map bytes_in reader ≡ opened_text found
     → OpensAs files file reader files
 opened_file files file path found reader standard is isnt same there opens =
     let given : option_map bytes_in reader ≡ text_at files (path_of file) =
@@ -96,21 +97,66 @@ given words asks paths texts found lent input w over same status out err more ar
     w.more)) (sym are.2) by_out in
     (files, over.1, subst (λ t. Serves input status out err t) (sym are.3) by_err)
 
--- the same, as they are handed out
-pub given_texts : (words : List (List ℕ)) (asks : Bool) (paths texts : List (List ℕ)) (found : List ℕ) (lent : Option (Bor (List
-    ℕ)))
-    (shown input : Option (List ℕ)) (w : Written) (old new : List ℕ) (said : Said)
-    → IsServedOver words asks paths texts found lent (served.Done w) → option_map (λ bytes. bytes.now) lent ≡ shown → shown ≡
-    input
-    → HandsOutTexts (AreWritten w) old new said ok → HandsOutTexts (ServesGiven words asks paths texts found input) old new said
-    ok
-given_texts words asks paths texts found lent shown input w old new said over is same texts_of = record {
+-- texts that are handed out as these are handed out as those too
+more_texts : (Are Those : ℕ → List ℕ → List ℕ → List ℕ → Type 0) (old new : List ℕ) (said : Said) (code : ℕ)
+    → ((status : ℕ) (out err more : List ℕ) → Are status out err more → Those status out err more)
+    → HandsOutTexts Are old new said code → HandsOutTexts Those old new said code
+more_texts Are Those old new said code those texts_of = record {
   out = texts_of.out;
   err = texts_of.err;
   more = texts_of.more;
-  are = given words asks paths texts found lent input w over (is ∙ same) said.code texts_of.out texts_of.err texts_of.more
-      texts_of.are;
+  are = those said.code texts_of.out texts_of.err texts_of.more texts_of.are;
   out_is = texts_of.out_is;
   err_is = texts_of.err_is;
   handed_out = texts_of.handed_out;
+}
+
+-- the texts of a command that was done, as they are handed out
+pub given_texts : (words : List (List ℕ)) (asks : Bool) (paths texts : List (List ℕ)) (found : List ℕ)
+    (lent : Option (Bor (List ℕ))) (shown input : Option (List ℕ)) (w : Written) (old new : List ℕ) (said : Said) (code : ℕ)
+    → IsServedOver words asks paths texts found lent (served.Done w) → option_map (λ bytes. bytes.now) lent ≡ shown
+    → shown ≡ input → HandsOutTexts (AreWritten w) old new said code
+    → HandsOutTexts (ServesGiven words asks paths texts found input) old new said code
+given_texts words asks paths texts found lent shown input w old new said code over is same =
+    more_texts (AreWritten w) (ServesGiven words asks paths texts found input) old new said code
+    (given words asks paths texts found lent input w over (is ∙ same))
+
+-- and those of words that are no order
+pub misused_texts : (words : List (List ℕ)) (asks : Bool) (paths texts : List (List ℕ)) (found : List ℕ)
+    (lent : Option (Bor (List ℕ))) (w : Written) (old new : List ℕ) (said : Said) (code : ℕ)
+    → IsServedOver words asks paths texts found lent (served.Misused w) → HandsOutTexts (AreWritten w) old new said code
+    → HandsOutTexts (IsMisuseOf words) old new said code
+misused_texts words asks paths texts found lent w old new said code over =
+    more_texts (AreWritten w) (IsMisuseOf words) old new said code
+    (λ status out err more are. subst (λ n. IsMisuse words n) (sym are.0) over.2)
+
+-- a file that is missed isn't handed in
+not_handed : {Z : Type 0} (files : Handed) (path : Option (String Z)) (text : List ℕ) → option_map string_bytes path ≡ Some text
+    → IfSome path (λ it. IsNotHanded files (string_bytes it)) → IsNotHanded files text
+not_handed files (Some path) text is missing = let same : string_bytes path ≡ text = cc in subst (IsNotHanded files) same missing
+not_handed files None text is missing = let no : ⊥ = cc in absurd no
+
+-- the path of a file that is missed, over the files that are handed in
+missed_path : (words : List (List ℕ)) (asks : Bool) (paths texts : List (List ℕ)) (found : List ℕ)
+    (lent : Option (Bor (List ℕ))) (input : Option (List ℕ)) (missed : Missed) (path : List ℕ)
+    → IsServedOver words asks paths texts found lent (served.Missing missed) → option_map (λ bytes. bytes.now) lent ≡ input
+    → IsPathOf missed path → MissesGiven words asks paths texts found input path
+missed_path words asks paths texts found lent input missed path over same is =
+    let files = over.0 in
+    let misses : MissesFile words asks (handed_of files lent) path =
+    (over.2.0, not_handed (handed_of files lent) missed.path path is over.2.1) in
+    (files, over.1, subst (λ i. MissesFile words asks (record { files = files; input = i }) path) same misses)
+
+-- the same, as it is handed out
+pub given_path : (words : List (List ℕ)) (asks : Bool) (paths texts : List (List ℕ)) (found : List ℕ)
+    (lent : Option (Bor (List ℕ))) (shown input : Option (List ℕ)) (missed : Missed) (old new : List ℕ) (size code : ℕ)
+    → IsServedOver words asks paths texts found lent (served.Missing missed) → option_map (λ bytes. bytes.now) lent ≡ shown
+    → shown ≡ input → HandsOut (IsPathOf missed) old new size code
+    → HandsOut (MissesGiven words asks paths texts found input) old new size code
+given_path words asks paths texts found lent shown input missed old new size code over is same handed_out = record {
+  text = handed_out.text;
+  is_one = missed_path words asks paths texts found lent input missed handed_out.text over (is ∙ same) handed_out.is_one;
+  size_of = handed_out.size_of;
+  status_of = handed_out.status_of;
+  room = handed_out.room;
 }

@@ -1,5 +1,5 @@
 -- Files as a caller hands them in.
-use Rattle.std.specs.Prelude.{◌≡◌, ◌==◌, ℕ, Bool, true, false, if◌then◌else◌, codes, find, List, [], map, Option, Some, None}
+use Rattle.std.specs.Prelude.{◌≡◌, ◌==◌, ◌⊎◌, ℕ, Bool, true, false, if◌then◌else◌, codes, find, List, [], map, Option, Some, None}
 use Rattle.std.specs.Option.{option_and_then, option_map}
 use Rattle.std.specs.Str.{bytes_eq}
 use denote.Ref.{Bor}
@@ -55,6 +55,10 @@ is_standard (role.Query path) = is_dash path.now
 is_standard (role.Geometry path) = is_dash path.now
 is_standard (role.Pairs path) = is_dash path.now
 
+-- the first of some files that is at a path
+abbrev pub file_at : List HandedFile → List ℕ → Option HandedFile
+file_at files path = find (λ file. bytes_eq file.path.now path) files
+
 -- the files have these paths and bytes, and these numbers say what was found, in order
 pub record AreFiles (files : List HandedFile) (paths texts : List (List ℕ)) (numbers : List ℕ) : Type 0 where
   pub are_paths : map (λ file. file.path.now) files ≡ paths
@@ -70,7 +74,11 @@ pub record Handed : Type 0 where
 
 -- the bytes of the file at a path, if it is handed in and can be opened
 abbrev pub text_at : Handed → List ℕ → Option (List ℕ)
-text_at handed path = option_and_then opened_text (find (λ file. bytes_eq file.path.now path) handed.files)
+text_at handed path = option_and_then opened_text (file_at handed.files path)
+
+-- no file is handed in at a path; or the path is that of standard input, and that isn't
+abbrev pub IsNotHanded : Handed → List ℕ → Type 0
+IsNotHanded handed path = (file_at handed.files path ≡ None) ⊎ ((is_dash path ≡ true) × (handed.input ≡ None))
 
 -- what is left of them once standard input was opened, if that is handed in: it has no more bytes
 abbrev pub emptied : Handed → Handed

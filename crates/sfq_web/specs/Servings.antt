@@ -1,6 +1,7 @@
 -- What words order over files that are handed in, and what came of it.
-use Rattle.std.specs.Prelude.{◌≡◌, ◌++◌, ⊤, ℕ, Bool, false, if◌then◌else◌, length, List, [], map, Option, Some, None}
+use Rattle.std.specs.Prelude.{◌≡◌, ◌≢◌, ◌⊎◌, ◌++◌, ℕ, Bool, false, if◌then◌else◌, length, List, [], Option, Some, None, IfSome, Any, IsUtf8}
 use Rattle.std.specs.Option.{option_map}
+use Rattle.std.specs.String.{string_bytes}
 use denote.Ref.{Bor}
 use Rattle.clap.specs.Words.{HasKind, fault_of, kind_of}
 use Rattle.command_line.specs.CommandWords.{sfq}
@@ -9,14 +10,18 @@ use Rattle.command_line.specs.Orders.{Orders, asks_why, with_why}
 use Rattle.command_line.specs.declared.known_commands.Order.{Order}
 use Rattle.command_line.specs.declared.misuse.Misuse.{Misuse}
 use Rattle.engine.specs.Commands.{ServesOrder}
+use Rattle.failures.specs.Failures.{failure_status}
+use Rattle.failures.specs.declared.failure.Failure.TheVariants as f
 use Rattle.library_calls.specs.Explained.{HandsOut}
+use Rattle.library_calls.specs.Refusals.{too_small}
 use Rattle.streams.specs.MemorySinks.{memory_bytes, memory_failures}
 use Rattle.streams.specs.declared.memory.MemorySink.{MemorySink}
-use Rattle.sfq_web.specs.HandedFiles.{AreFiles, Handed, OpensHanded, bytes_in, is_there}
+use Rattle.sfq_web.specs.HandedFiles.{AreFiles, Handed, IsNotHanded, OpensHanded, bytes_in, is_there}
 use Rattle.sfq_web.specs.declared.handed_files.Found.{Found}
 use Rattle.sfq_web.specs.declared.handed_files.HandedFile.{HandedFile}
 use Rattle.sfq_web.specs.declared.handed_files.HandedReader.{HandedReader}
 use Rattle.sfq_web.specs.declared.handing.Handing.{Handing}
+use Rattle.sfq_web.specs.declared.handing.Missed.{Missed}
 use Rattle.sfq_web.specs.declared.serve_call.Said.{Said}
 use Rattle.sfq_web.specs.declared.served.Served.{Served}
 use Rattle.sfq_web.specs.declared.served.Served.TheVariants as served
@@ -46,25 +51,46 @@ ServesHanded = ServesOrder OpensHanded known_in known_bytes memory_failures know
 abbrev pub asking : Bool → Order → Order
 asking asks order = if asks then with_why order else order
 
+-- doing an order over the files gives this status; its sinks had nothing before, and are these then
+pub record EndsOrder (order : Order) (files : Handed) (status : ℕ) (out err : MemorySink) : Type 0 where
+  pub old_out : MemorySink
+  pub old_err : MemorySink
+  pub no_out : memory_bytes old_out ≡ []
+  pub no_err : memory_bytes old_err ≡ []
+  pub serves : ServesHanded old_out out files order status old_err err
+
 -- doing an order over the files has written these texts to standard output and standard error, whole, and gives this status; what explains a
 -- fault is nothing where the order doesn't ask why
 pub record DoesOrder (order : Order) (files : Handed) (status : ℕ) (out err more : List ℕ) : Type 0 where
-  pub old_out : MemorySink
   pub new_out : MemorySink
-  pub old_err : MemorySink
   pub new_err : MemorySink
-  pub no_out : memory_bytes old_out ≡ []
-  pub no_err : memory_bytes old_err ≡ []
-  pub serves : ServesHanded old_out new_out files order status old_err new_err
+  pub ends : EndsOrder order files status new_out new_err
   pub out_is : out ≡ memory_bytes new_out
   pub err_is : err ≡ memory_bytes new_err
   pub whole_out : memory_failures new_out ≡ 0
   pub whole_err : memory_failures new_err ≡ 0
   pub unasked : asks_why order ≡ false → more ≡ []
 
+-- the status of a command that can't open or read a file
+abbrev pub unread_status : ℕ
+unread_status = failure_status f.SchemaUnreadable
+
+-- doing an order over the files ends with that status
+abbrev pub FailsOrder : Order → Handed → Type 0
+FailsOrder order files = (out err : MemorySink) × EndsOrder order files unread_status out err
+
 -- the words are an order, which asks why where the caller does, and it was done
 abbrev pub ServesWords : List (List ℕ) → Bool → Handed → ℕ → List ℕ → List ℕ → List ℕ → Type 0
 ServesWords words asks files status out err more = (order : Order) × Orders words order × DoesOrder (asking asks order) files status out err more
+
+-- the words are an order, which asks why where the caller does, and doing it over the files ends with the status of a file that can't be opened or
+-- read
+abbrev pub FailsWords : List (List ℕ) → Bool → Handed → Type 0
+FailsWords words asks files = (order : Order) × Orders words order × FailsOrder (asking asks order) files
+
+-- the file that an order misses isn't handed in, if its path is known
+abbrev pub IsMissed : Handed → Missed → Type 0
+IsMissed files missed = IfSome missed.path (λ path. IsNotHanded files (string_bytes path))
 
 -- the words are no order: `clap` names a kind of misuse, whose status this is, or memory ran out
 abbrev pub IsMisuse : List (List ℕ) → ℕ → Type 0
@@ -75,7 +101,7 @@ abbrev pub IsServed : List (List ℕ) → Bool → Handed → Served → Type 0
 IsServed words asks files (served.Done w) =
     ServesWords words asks files w.status (memory_bytes w.out) (memory_bytes w.err) (memory_bytes w.more)
 IsServed words asks files (served.Misused w) = IsMisuse words w.status
-IsServed words asks files (served.Missing missed) = ⊤
+IsServed words asks files (served.Missing missed) = FailsWords words asks files × IsMissed files missed
 
 -- standard input, if that is handed in
 abbrev pub input_of : Found → List ℕ → Option (List ℕ)
@@ -93,6 +119,24 @@ ServesGiven words asks paths texts found input status out err more =
 abbrev pub IsMisuseOf : List (List ℕ) → ℕ → List ℕ → List ℕ → List ℕ → Type 0
 IsMisuseOf words status out err more = IsMisuse words status
 
+-- doing the order of the words ends so over the files, and none is handed in at this path
+abbrev pub MissesFile : List (List ℕ) → Bool → Handed → List ℕ → Type 0
+MissesFile words asks files path = FailsWords words asks files × IsNotHanded files path
+
+-- the same of files of these paths, texts and numbers of what was found
+abbrev pub MissesGiven : List (List ℕ) → Bool → List (List ℕ) → List (List ℕ) → List ℕ → Option (List ℕ) → List ℕ → Type 0
+MissesGiven words asks paths texts found input path =
+    (files : List HandedFile) × AreFiles files paths texts found × MissesFile words asks (record { files = files; input = input }) path
+
+-- one of these texts isn't UTF-8
+abbrev pub HasNoString : List (List ℕ) → Type 0
+HasNoString texts = Any (λ text. ¬ IsUtf8 text) texts
+
+-- one of the words or paths isn't UTF-8, or there is another number of texts, or of numbers of what was found, than of paths
+abbrev pub IsUnfit : List (List ℕ) → List (List ℕ) → List (List ℕ) → List ℕ → Type 0
+IsUnfit words paths texts found =
+    HasNoString words ⊎ HasNoString paths ⊎ (length texts ≢ length paths) ⊎ (length found ≢ length paths)
+
 -- three texts of a command are handed out, one after another, with the lengths of the first two
 pub record HandsOutTexts (Are : ℕ → List ℕ → List ℕ → List ℕ → Type 0) (old new : List ℕ) (said : Said) (status : ℕ) : Type 0 where
   pub out : List ℕ
@@ -103,13 +147,20 @@ pub record HandsOutTexts (Are : ℕ → List ℕ → List ℕ → List ℕ → T
   pub err_is : said.err ≡ length err
   pub handed_out : HandsOut (λ text. text ≡ (out ++ err) ++ more) old new said.size status
 
+-- the room is too small for what is to be handed out, whose size is said: the texts of a command, or the path of a file that isn't handed in
+abbrev pub LacksRoom : List (List ℕ) → Bool → List (List ℕ) → List (List ℕ) → List ℕ → Option (List ℕ) → List ℕ → List ℕ → Said → Type 0
+LacksRoom words asks paths texts found input old new said =
+    HandsOutTexts (ServesGiven words asks paths texts found input) old new said too_small
+    ⊎ HandsOutTexts (IsMisuseOf words) old new said too_small
+    ⊎ HandsOut (MissesGiven words asks paths texts found input) old new said.size too_small
+
 -- ---- steps by which it is found
 
 -- what came of an order
 abbrev pub IsDone : Order → Handed → Served → Type 0
 IsDone order files (served.Done w) = DoesOrder order files w.status (memory_bytes w.out) (memory_bytes w.err) (memory_bytes w.more)
 IsDone order files (served.Misused w) = ⊥
-IsDone order files (served.Missing missed) = ⊤
+IsDone order files (served.Missing missed) = FailsOrder order files × IsMissed files missed
 
 -- what came of words that are no order
 abbrev pub IsMisusedAs : Misuse → Served → Type 0
@@ -126,3 +177,7 @@ IsServedOver words asks paths texts found input it =
 abbrev pub AreWritten : Written → ℕ → List ℕ → List ℕ → List ℕ → Type 0
 AreWritten w status out err more =
     (status ≡ w.status) × (out ≡ memory_bytes w.out) × (err ≡ memory_bytes w.err) × (more ≡ memory_bytes w.more)
+
+-- the text is the path of a file that an order misses
+abbrev pub IsPathOf : Missed → List ℕ → Type 0
+IsPathOf missed text = option_map string_bytes missed.path ≡ Some text

@@ -1,15 +1,14 @@
 //! The files of a command as a caller hands them in, who has read them before.
 
-ghost use Rattle.std.specs.Prelude.{◌≡◌, find, option_map};
-ghost use Rattle.std.specs.Str.{bytes_eq};
-ghost use Rattle.sfq_web.specs.HandedFiles.{bytes_in, found_of, is_standard, is_there, opened_text};
+ghost use Rattle.std.specs.Prelude.{◌≡◌, option_map};
+ghost use Rattle.sfq_web.specs.HandedFiles.{bytes_in, file_at, found_of, is_standard, is_there, opened_text};
 
 use std::io::{self, Error, ErrorKind, Read};
 use streams::BoundedReader;
 use text_commands::File;
 
 /// The path that means standard input, for a query, a geometry and pairs. A file of this name is `./-`.
-const STANDARD_INPUT: &str = "-";
+pub(crate) const STANDARD_INPUT: &str = "-";
 
 /// What a caller found at a path.
 #[derive(Clone, Copy, Debug, PartialEq, Eq)]
@@ -163,7 +162,7 @@ pub(crate) fn is_standard(file: File<'_>) -> bool
 
 /// The first of some files that is at a path.
 pub(crate) fn file_at<'f>(files: &[HandedFile<'f>], path: &str) -> Option<HandedFile<'f>>
-    ensures { result ≡ find (λ file. bytes_eq file.path.now path.now) files.now }
+    ensures { result ≡ file_at files.now path.now }
 {
     files.iter().find(|file| file.path == path).copied()
 }

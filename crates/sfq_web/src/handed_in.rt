@@ -1,9 +1,9 @@
 //! What a caller hands in, as words and files: texts are one after another, each of its length.
 
-ghost use Rattle.std.specs.Prelude.{◌≡◌, IfOk, IfSome, length, map};
+ghost use Rattle.std.specs.Prelude.{◌≡◌, IfOk, IfSome, None, length, map};
 ghost use Rattle.sfq_web.specs.HandedFiles.{AreFiles};
 ghost use Rattle.sfq_web.specs.Pieces.{pieces};
-ghost use Rattle.sfq_web.specs.Servings.{IsServedOver};
+ghost use Rattle.sfq_web.specs.Servings.{HasNoString, IsServedOver, IsUnfit};
 
 use crate::cutting::cut;
 use crate::handed_files::{Found, HandedFile};
@@ -54,9 +54,11 @@ pub fn serve_given(
     found: &[u8],
     input: Input<'_>,
 ) -> Result<Option<Served>, AllocError>
-    ensures { IfOk result (λ it. IfSome it (IsServedOver (pieces words.entry.text.now words.entry.lengths.now) asks
+    ensures served { IfOk result (λ it. IfSome it (IsServedOver (pieces words.entry.text.now words.entry.lengths.now) asks
         (pieces paths.entry.text.now paths.entry.lengths.now) (pieces texts.entry.text.now texts.entry.lengths.now)
         found.now input.entry.text)) }
+    ensures unfit { IfOk result (λ it. it ≡ None → IsUnfit (pieces words.entry.text.now words.entry.lengths.now)
+        (pieces paths.entry.text.now paths.entry.lengths.now) (pieces texts.entry.text.now texts.entry.lengths.now) found.now) }
 {
     let Some(words) = strings_of(alloc, words.text, words.lengths)? else {
         return Ok(None);
@@ -80,8 +82,9 @@ fn strings_of<'t>(
     text: &'t [u8],
     lengths: &[usize],
 ) -> Result<Option<Vec<&'t str>>, AllocError>
-    ensures { IfOk result (λ all. IfSome all (λ strings. map (λ one. one.now) strings.items
+    ensures strings { IfOk result (λ all. IfSome all (λ strings. map (λ one. one.now) strings.items
         ≡ pieces text.now lengths.now)) }
+    ensures other { IfOk result (λ all. all ≡ None → HasNoString (pieces text.now lengths.now)) }
 {
     let mut rest = text;
     let mut all = Vec::new(alloc);

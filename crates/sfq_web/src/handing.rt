@@ -1,6 +1,12 @@
 //! Opens the files that are handed in, for a command.
 
-use crate::handed_files::{Found, HandedFile, HandedReader, file_at, is_standard, reader_of};
+ghost use Rattle.std.specs.Prelude.{◌≡◌, true};
+ghost use Rattle.sfq_web.specs.HandedFiles.{IsNotHanded};
+ghost use Rattle.sfq_web.specs.Servings.{handed_of};
+
+use crate::handed_files::{
+    Found, HandedFile, HandedReader, STANDARD_INPUT, file_at, is_standard, reader_of,
+};
 use explanations::{file_explained, said_line};
 use std::alloc::{AllocError, Global};
 use streams::{MemorySink, put_all};
@@ -15,20 +21,35 @@ pub struct Missed {
     pub path: Option<String>,
 }
 
+impl Missed {
+    ghost use Rattle.std.specs.Prelude.{◌≡◌, true};
+    ghost use Rattle.sfq_web.specs.Servings.{IsMissed, handed_of};
+
+    /// Whether it is neither among these files nor standard input that is handed in. Without its path nobody knows.
+    fn is_missing(&self, files: &[HandedFile<'_>], input: Option<&[u8]>) -> bool
+        ensures { result ≡ true → IsMissed (handed_of files.now input.entry) self.now }
+    {
+        match &self.path {
+            Some(path) => is_absent(files, input, path.as_str()),
+            None => true,
+        }
+    }
+}
+
 /// The files that are handed in, and standard input, if that is; and the first file that was asked for and isn't.
 #[derive(Drop)]
 pub struct Handing<'f> {
-    files: &'f [HandedFile<'f>],
-    input: Option<&'f [u8]>,
+    pub(crate) files: &'f [HandedFile<'f>],
+    pub(crate) input: Option<&'f [u8]>,
     // Whether reading standard input fails behind these bytes.
     is_broken: bool,
     missed: Option<Missed>,
 }
 
 impl<'f> Handing<'f> {
-    ghost use Rattle.std.specs.Prelude.{◌≡◌, option_map};
+    ghost use Rattle.std.specs.Prelude.{◌≡◌, IfSome, option_map};
     ghost use Rattle.sfq_web.specs.HandedFiles.{OpensAs, OpensInput};
-    ghost use Rattle.sfq_web.specs.Servings.{handed, handed_of};
+    ghost use Rattle.sfq_web.specs.Servings.{IsMissed, handed, handed_of};
 
     /// These files, and standard input, whose reading may fail behind its bytes.
     pub fn new(files: &'f [HandedFile<'f>], input: Option<&'f [u8]>, is_broken: bool) -> Handing<'f>
@@ -86,11 +107,23 @@ impl<'f> Handing<'f> {
         }
     }
 
-    /// The first file that was asked for and isn't handed in, if there is one. It isn't kept any more.
-    pub(crate) fn take_missed(&mut self) -> Option<Missed>
-        ensures { handed self.new ≡ handed self.old }
+    /// The first file that was asked for and is none of these, if there is one. It isn't kept any more.
+    pub(crate) fn take_missed(
+        &mut self,
+        files: &[HandedFile<'_>],
+        input: Option<&[u8]>,
+    ) -> Option<Missed>
+        ensures kept { handed self.new ≡ handed self.old }
+        ensures missed { IfSome result (IsMissed (handed_of files.now input.entry)) }
     {
-        self.missed.take()
+        let Some(missed) = self.missed.take() else {
+            return None;
+        };
+        if missed.is_missing(files, input) {
+            Some(missed)
+        } else {
+            None
+        }
     }
 
     /// The reader of a file that is opened once more, to explain a fault. If it isn't a file that can be read again, a line says that, and
@@ -129,6 +162,16 @@ impl<'f> Handing<'f> {
             None => (found.opened(file), None),
         }
     }
+}
+
+/// Whether none of some files is at a path; or it is the path of standard input, and that isn't handed in.
+fn is_absent(files: &[HandedFile<'_>], input: Option<&[u8]>, path: &str) -> bool
+    ensures { result ≡ true → IsNotHanded (handed_of files.now input.entry) path.now }
+{
+    if file_at(files, path).is_none() {
+        return true;
+    }
+    path == STANDARD_INPUT && input.is_none()
 }
 
 /// The line that says of a file why it isn't opened: its path, and these words behind it. A path that is empty can't be shown.

@@ -1,10 +1,11 @@
 //! The call that does what words order.
 
 ghost use Rattle.std.specs.Prelude.{◌≡◌, ◌≢◌, ◌⊎◌, ◌<◌, length};
+ghost use Rattle.library_calls.specs.Explained.{HandsOut};
 ghost use Rattle.library_calls.specs.Refusals.{first_refused, none_there, ok, out_of_memory, too_small, unknown};
 ghost use Rattle.sfq_web.specs.HandedFiles.{found_of};
 ghost use Rattle.sfq_web.specs.Pieces.{pieces};
-ghost use Rattle.sfq_web.specs.Servings.{AreWritten, HandsOutTexts, IsMisuseOf, ServesGiven, input_of};
+ghost use Rattle.sfq_web.specs.Servings.{AreWritten, HandsOutTexts, IsMisuseOf, IsPathOf, IsUnfit, LacksRoom, MissesGiven, ServesGiven, input_of};
 
 use crate::handed_files::Found;
 use crate::handed_in::{Given, Input, serve_given};
@@ -32,9 +33,10 @@ pub struct Said {
 /// number that says what was found there: 0 a file, 1 what can be read only once, 2 a folder, 3 what can't be read to its end, 4 nothing,
 /// 5 what this user may not read, another what can't be opened; so is standard input. Texts are one after another, each of its length.
 ///
-/// The status is 0 where the order was done or failed, and 1 where the words are none. Where it is 6, the order needs a file that isn't
-/// handed in, whose path is handed out: a caller reads it, and calls again (SQL, the query; 06-103r4, 6.1 and 7.2; the order of all else:
-/// this project's choice).
+/// The status is 0 where the order was done or failed, and 1 where the words are none. Where it is 6, the order can't be done without a file
+/// that isn't handed in, whose path is handed out: a caller reads it, and calls again. It is 5 where the room is too small for what would be
+/// handed out, whose size is said; 4 where a word or a path isn't UTF-8, or there are more or fewer texts or numbers than paths; and 3 where
+/// memory ran out (SQL, the query; 06-103r4, 6.1 and 7.2; the order of all else: this project's choice).
 #[unsafe(no_mangle)]
 pub extern "C" fn sfq_proved_serve(
     alloc: Global,
@@ -56,8 +58,16 @@ pub extern "C" fn sfq_proved_serve(
         (pieces texts.now text_lengths.now) found.now (input_of (found_of input_found) input.now)) room.old room.new said.new ok }
     ensures misused { result ≡ first_refused
         → HandsOutTexts (IsMisuseOf (pieces words.now word_lengths.now)) room.old room.new said.new ok }
+    ensures missing { result ≡ none_there → HandsOut
+        (MissesGiven (pieces words.now word_lengths.now) asks (pieces paths.now path_lengths.now)
+        (pieces texts.now text_lengths.now) found.now (input_of (found_of input_found) input.now)) room.old room.new said.new.size ok }
+    ensures unfit { result ≡ unknown → IsUnfit (pieces words.now word_lengths.now) (pieces paths.now path_lengths.now)
+        (pieces texts.now text_lengths.now) found.now }
     ensures kept { result ≢ ok → result ≢ first_refused → result ≢ none_there → room.new ≡ room.old }
     ensures no_room { result ≡ too_small → length room.old < said.new.size }
+    ensures size { result ≡ too_small → LacksRoom
+        (pieces words.now word_lengths.now) asks (pieces paths.now path_lengths.now)
+        (pieces texts.now text_lengths.now) found.now (input_of (found_of input_found) input.now) room.old room.new said.new }
     ensures status { (result ≡ ok) ⊎ (result ≡ first_refused) ⊎ (result ≡ out_of_memory) ⊎ (result ≡ unknown)
         ⊎ (result ≡ too_small) ⊎ (result ≡ none_there) }
 {
@@ -89,6 +99,7 @@ fn hand_out_texts(written: Written, done: u32, room: &mut [u8], said: &mut Said)
     ensures texts { result ≡ done → HandsOutTexts (AreWritten written) room.old room.new said.new ok }
     ensures kept { result ≢ done → room.new ≡ room.old }
     ensures no_room { result ≡ too_small → length room.old < said.new.size }
+    ensures size { result ≡ too_small → HandsOutTexts (AreWritten written) room.old room.new said.new too_small }
     ensures status { (result ≡ done) ⊎ (result ≡ out_of_memory) ⊎ (result ≡ too_small) }
 {
     let Written {
@@ -111,8 +122,10 @@ fn hand_out_texts(written: Written, done: u32, room: &mut [u8], said: &mut Said)
 
 /// Hands out the path of a missing file, if the room is large enough.
 fn hand_out_path(missed: &Missed, room: &mut [u8], said: &mut Said) -> u32
+    ensures path { result ≡ none_there → HandsOut (IsPathOf missed.now) room.old room.new said.new.size ok }
     ensures kept { result ≢ none_there → room.new ≡ room.old }
     ensures no_room { result ≡ too_small → length room.old < said.new.size }
+    ensures size { result ≡ too_small → HandsOut (IsPathOf missed.now) room.old room.new said.new.size too_small }
     ensures status { (result ≡ none_there) ⊎ (result ≡ out_of_memory) ⊎ (result ≡ too_small) }
 {
     let Some(path) = &missed.path else {

@@ -13,6 +13,8 @@ use std::alloc::{AllocError, Global};
 use streams::{MemorySink, Unobserved, put_all};
 use text_commands::File;
 
+/// The status of a command that can't open or read a file.
+const UNREAD: u8 = 6;
 /// The status of a command in which memory ran out.
 const OUT_OF_MEMORY: u8 = 7;
 
@@ -36,7 +38,7 @@ pub enum Served {
     Done(Written),
     /// They are no order: `clap` says why, or gives the help that they ask for.
     Misused(Written),
-    /// The order needs a file that isn't handed in.
+    /// The order can't be done without a file that isn't handed in.
     Missing(Missed),
 }
 
@@ -69,8 +71,11 @@ fn serve_asked(alloc: Global, order: Order, handing: &mut Handing<'_>) -> Result
 {
     let mut out = MemorySink::new(alloc);
     let mut err = MemorySink::new(alloc);
+    let (files, input) = (handing.files, handing.input);
     let status = serve_handed(alloc, &order, handing, &mut out, &mut err);
-    if let Some(missed) = handing.take_missed() {
+    if status == UNREAD
+        && let Some(missed) = handing.take_missed(files, input)
+    {
         return Ok(Served::Missing(missed));
     }
     // A sink over memory fails only when memory runs out.

@@ -1,16 +1,33 @@
 -- Both sinks were empty before, and have failed no more than before.
-use Rattle.std.proofs.Common.{◌∙◌, refl, rules, sym}
+use Rattle.std.proofs.Common.{◌∙◌, refl, subst, sym}
+use Rattle.sfq_web.specs.Servings.{EndsOrder, ServesHanded, handed, unread_status}
 use Rattle.sfq_web.proofs.served.serve_asked.Goals as goal
 
 pub returns : goal.returns
-returns c = record {
-  old_out = c.new-out.result;
+returns c =
+    let served = c.serve_handed-status in
+    let files = handed c.args.handing.now in
+    let ends : EndsOrder c.args.order files unread_status served.new.out served.new.err = record {
+      old_out = c.new-out.result;
+      old_err = c.new-err.result;
+      no_out = c.new-out.ensures.empty;
+      no_err = c.new-err.ensures.empty;
+      serves = subst (λ n. ServesHanded c.new-out.result served.new.out files c.args.order n c.new-err.result served.new.err)
+          c.if-status-eq-UNREAD.true served.ensures;
+    } in
+    ((served.new.out, served.new.err, ends), c.in-Some.ensures.missed)
+
+pub returns-2 : goal.returns-2
+returns-2 c = record {
   new_out = c.serve_handed-status.new.out;
-  old_err = c.new-err.result;
   new_err = c.serve_handed-status.new.err;
-  no_out = c.new-out.ensures.empty;
-  no_err = c.new-err.ensures.empty;
-  serves = c.serve_handed-status.ensures;
+  ends = record {
+    old_out = c.new-out.result;
+    old_err = c.new-err.result;
+    no_out = c.new-out.ensures.empty;
+    no_err = c.new-err.ensures.empty;
+    serves = c.serve_handed-status.ensures;
+  };
   out_is = refl;
   err_is = refl;
   whole_out = sym c.failures.ensures ∙ c.if-failures-ne0.false;
