@@ -8,8 +8,8 @@ those whose figures don't depend on the clock, `--times` the others, which want 
 and write no table run too.
 
 At its end it prints what was written and how long each program took; the tables that have other figures than those of this run, with
-their day; and the lines of prose with a figure that was in a table and changed by more than a tenth, for a writer to mend: in
-bench/README.md, README.md and docs. It ends with status 1 where a program didn't end well. It measures what ./build,
+their day; and the lines of prose with a figure that was in a table and changed by more than a tenth, for a writer to mend: those of
+bench/README.md, and of README.md and docs in paragraphs that name bench. It ends with status 1 where a program didn't end well. It measures what ./build,
 ./build --library, ./build --tiles, ./build --javascript, and `rt run` in crates/gauge have made of the present sources.
 """
 
@@ -203,16 +203,18 @@ class Report:
     def print_prose(self, text):
         """Prints the lines of prose whose figures aren't those of the tables any longer."""
         by_section = changes(self.before, text)
+        found = list(figures.lines_to_mend(text, "bench/README.md", by_section))
         for name, path in self.documents.items():
-            for line in figures.lines_to_mend(path.read_text(), name, by_section):
-                print(line)
+            found += figures.lines_elsewhere(path.read_text(), name, by_section)
+        for line in found:
+            print(line)
         for section, numbers in figures.other_lines(text, by_section).items():
             print(f"bench/README.md: {section}: look at the other figures too, in the lines {', '.join(map(str, numbers))}")
 
 
 def documents():
-    """The documents that may have figures in prose, by their names."""
-    return {str(it.relative_to(ROOT)): it for it in (README, ROOT / "README.md", *sorted(ROOT.glob("docs/*.md")))}
+    """The other documents that may have figures in prose, by their names."""
+    return {str(it.relative_to(ROOT)): it for it in (ROOT / "README.md", *sorted(ROOT.glob("docs/*.md")))}
 
 
 def chosen(options):

@@ -1,6 +1,7 @@
 """The tables of a document, which figures of theirs changed, and which lines of prose have these."""
 
 import re
+from itertools import takewhile
 from typing import NamedTuple
 
 from timing import STAMP
@@ -9,7 +10,7 @@ from timing import STAMP
 NUMBER = re.compile(r"(?<![\w.,-])(?:\d{1,3}(?:,\d{3})+|\d+)(?:\.\d+)?(?![\w-]|[.,]\d)")
 # A figure that differs by more than this part of it has changed.
 A_TENTH = 0.1
-# Elsewhere than below its table a figure is looked for where it has so many digits; a shorter one may be any other number.
+# Below another heading than its table's a figure is looked for where it has so many digits; a shorter one may be any other number.
 DIGITS = 3
 
 
@@ -77,22 +78,42 @@ def changed(old, new):
 
 
 def prose(text):
-    """The lines of prose of a document, with their numbers and headings."""
+    """The lines of prose of a document, with their numbers and headings, without the number of a point of a list."""
     for number, line, heading, is_code in sections(text):
         if not is_code and line and not line.startswith(("|", "#", "<!--", "!", "```")):
-            yield number, line, heading
+            yield number, re.sub(r"^\s*\d+\. ", "", line), heading
+
+
+def is_long(figure):
+    """Whether a figure has so many digits that it is hardly another number, zeros at its ends left out."""
+    return len(figure.replace(",", "").replace(".", "").strip("0")) >= DIGITS
 
 
 def lines_to_mend(text, name, by_section):
-    """Says of each line of prose of a document which figures it has that changed: `by_section` has those by the heading of their
-    table in the document with the measures, which is this one where `name` is among their places."""
-    everywhere = {figure: there for each in by_section.values() for figure, there in each.items() if sum(map(str.isdigit, figure)) >= DIGITS}
+    """Says of each line of prose of the document with the measures which figures it has that changed: `by_section` has those by the
+    heading of their table."""
+    everywhere = {figure: there for each in by_section.values() for figure, there in each.items() if is_long(figure)}
     for number, line, heading in prose(text):
-        own = by_section.get(heading, {}) if name == "bench/README.md" else {}
-        found = {it: {**everywhere, **own}[it] for it in NUMBER.findall(line) if it in own or it in everywhere}
-        if found:
-            said = ", ".join(f"{figure} ({' or '.join(sorted(set(there))[:3])} now)" for figure, there in found.items())
-            yield f"{name}:{number}: {said}: {line.strip()}"
+        yield from to_mend(name, number, line, {**everywhere, **by_section.get(heading, {})})
+
+
+def lines_elsewhere(text, name, by_section):
+    """The same of a document of which some paragraphs name bench."""
+    known = {figure: there for each in by_section.values() for figure, there in each.items()}
+    lines = text.split("\n")
+    for number, line, _ in prose(text):
+        before, after = lines[: number - 1][::-1], lines[number:]
+        paragraph = [line, *(it for part in (before, after) for it in takewhile(str.strip, part))]
+        if any("bench/" in it for it in paragraph):
+            yield from to_mend(name, number, line, known)
+
+
+def to_mend(name, number, line, known):
+    """What is to be said of a line of prose, where it has a figure of those that changed."""
+    found = {it: known[it] for it in NUMBER.findall(line) if it in known}
+    if found:
+        said = ", ".join(f"{figure} ({' or '.join(sorted(set(there))[:3])} now)" for figure, there in found.items())
+        yield f"{name}:{number}: {said}: {line.strip()}"
 
 
 def other_lines(text, by_section):

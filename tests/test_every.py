@@ -23,18 +23,18 @@ For whoever reads this.
 
 ## One
 
-`one.py --fast`: the ratio is 0.25 to 3,400, and 12 rows.
+`one.py --fast`: the ratio is 0.25 to 3,411, and 12 rows.
 It takes 777 ns.
 
 <!-- 2026-01-02, commit 12345678 -->
 | input | ratio | ns |
 |---|---|---|
 | a | 0.25 | 12 |
-| b, 10 | 3,400 | 5 |
+| b, 10 | 3,411 | 5 |
 
 ## Two
 
-Of 3,400 rows 12 are long.
+Of 3,411 rows, 0.25 or 12 are long.
 
 <!-- 2026-01-03, commit 12345678 -->
 | other | ms |
@@ -71,8 +71,8 @@ class Run(unittest.TestCase):
 
     def run_all(self, *measures, builds=None):
         """Runs measures, and returns the status, the lines of the report and the document."""
-        report = every.Report(self.readme, {"bench/README.md": self.readme, "docs/X.md": self.room / "X.md"})
-        (self.room / "X.md").write_text("## Any\n\nElsewhere it is 3,400, or 0.25, or 12.\n", encoding="utf-8")
+        report = every.Report(self.readme, {"docs/X.md": self.room / "X.md"})
+        (self.room / "X.md").write_text("Elsewhere it is 0.25.\n\nThe ratio is 0.25,\nby bench/one.py.\n", encoding="utf-8")
         printed = io.StringIO()
         with contextlib.redirect_stdout(printed), contextlib.redirect_stderr(io.StringIO()):
             status = every.run_all(measures, self.room, builds or {}, report)
@@ -94,10 +94,10 @@ class Run(unittest.TestCase):
     def test_prose_with_changed_figures(self):
         _, lines, text = self.run_all(every.Measure("one.py --fast", every.COUNTS, ()))
         at = {line: number for number, line in enumerate(text.splitlines(), 1)}
-        one, two = "`one.py --fast`: the ratio is 0.25 to 3,400, and 12 rows.", "Of 3,400 rows 12 are long."
-        self.assertIn(f"bench/README.md:{at[one]}: 0.25 (0.31 now), 3,400 (2,000 now): {one}", lines)
-        self.assertIn(f"bench/README.md:{at[two]}: 3,400 (2,000 now): {two}", lines)
-        self.assertIn("docs/X.md:3: 3,400 (2,000 now), 0.25 (0.31 now): Elsewhere it is 3,400, or 0.25, or 12.", lines)
+        one, two = "`one.py --fast`: the ratio is 0.25 to 3,411, and 12 rows.", "Of 3,411 rows, 0.25 or 12 are long."
+        self.assertIn(f"bench/README.md:{at[one]}: 0.25 (0.31 now), 3,411 (2,000 now): {one}", lines)
+        self.assertIn(f"bench/README.md:{at[two]}: 3,411 (2,000 now): {two}", lines)
+        self.assertEqual([it for it in lines if "docs" in it], ["docs/X.md:3: 0.25 (0.31 now): The ratio is 0.25,"])
         numbers = f"{at[one]}, {at['It takes 777 ns.']}"
         self.assertEqual(lines[-1], f"bench/README.md: One: look at the other figures too, in the lines {numbers}")
 
