@@ -84,9 +84,15 @@ PACKAGE = ROOT / "bindings" / "javascript" / "out" / "sfq"
 
 
 def is_gauge_made():
-    """Whether the program gauge is there, and is later than the sources of the crates."""
-    sources = (it for it in ROOT.glob("crates/*/src/**/*.rt"))
-    return GAUGE.exists() and max(it.stat().st_mtime for it in sources) <= GAUGE.stat().st_mtime
+    """Whether the program gauge is there, and is later than the sources of the crates: than their files or, where git has them
+    unchanged, than their last commit, since a checkout makes files new."""
+    if not GAUGE.exists():
+        return False
+    changed = max(it.stat().st_mtime for it in ROOT.glob("crates/*/src/**/*.rt"))
+    committed = machine.git("log", "-1", "--format=%ct", "--", "crates")
+    if committed and not machine.git("status", "--porcelain", "--", "crates"):
+        changed = min(changed, int(committed))
+    return changed <= GAUGE.stat().st_mtime
 
 
 # What builds make: the command, and whether it is there, of the present sources.
@@ -236,19 +242,21 @@ def main():
         for it in asked:
             print(f"{it.kind:14}{it.words}{f': {lacking(it, BUILDS)}' if lacking(it, BUILDS) else ''}")
         return 0
+    for it in signal.SIGINT, signal.SIGTERM, signal.SIGHUP:
+        signal.signal(it, end_well)
     if any(it.kind == TIMES for it in asked) and os.getloadavg()[0] > 1:
         print(f"the machine isn't quiet: its load is {os.getloadavg()[0]:.1f}", file=sys.stderr)
     return run_all(asked, pathlib.Path(__file__).resolve().parent, BUILDS, Report(README, documents()))
 
 
+def end_well(number, _):
+    """Has a signal end the run as Ctrl-C does; a second one isn't heard."""
+    signal.signal(number, signal.SIG_IGN)
+    raise KeyboardInterrupt
+
+
 def run_all(asked, folder, builds, report):
     """Runs the measures, prints the report of those that have ended, whatever ends the run, and returns the status."""
-    def end(number, _):
-        signal.signal(number, signal.SIG_IGN)
-        raise KeyboardInterrupt
-
-    for it in signal.SIGINT, signal.SIGTERM, signal.SIGHUP:
-        signal.signal(it, end)
     try:
         for it in asked:
             report.outcomes.append(run(it, folder, builds))

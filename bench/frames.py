@@ -24,7 +24,7 @@ os.environ.setdefault("SFQ_LIBRARY", str(LIBRARY.with_name("libsfq.so.0")))
 
 import geopandas
 import sfq.geopandas
-from sfq import _columns, _library
+from sfq import _frames, _library
 from shapely import wkt
 
 # What is joined, by which predicate, and at which number of points and parcels on a side.
@@ -78,7 +78,7 @@ def main():
     parser.add_argument("--repeats", type=int, default=3, help="how often each is measured (3)")
     options = read_options(parser)
     parts = Parts()
-    parts.around(_columns, "binaries", "writing")
+    parts.around(_frames, "binaries", "writing")
     parts.around(_library, "KeptMany", "reading")
     parts.around(sfq.geopandas.Index, "query", "pairs")
     # GeoPandas 1 joins in C; the table of each is one of its own.

@@ -77,6 +77,7 @@ def main():
             for size in SIZES:
                 write_input(given, size)
                 compare(points, [what], size, (ours, theirs), POINTS, 300)
+        print()
         stars = Table(["stars", "asked", *columns])
         for what, by in MOVED:
             for how, asked in ("meet", "intersects"), ("relate", "relate"):
