@@ -134,14 +134,16 @@ def run(measure, folder, builds):
         name, *more = shlex.split(measure.words)
         python = DEBIAN if name in OF_DEBIAN and os.path.exists(DEBIAN) else sys.executable
         words = [python, "-B", str(folder / name), *more, *(["--write"] if measure.has_table else [])]
-        with subprocess.Popen(words, stdout=subprocess.PIPE, stderr=subprocess.STDOUT, text=True) as running:
+        # In a session of its own, so that it hears of Ctrl-C once, from here, and removes its temporary files.
+        streams = {"stdout": subprocess.PIPE, "stderr": subprocess.STDOUT, "text": True}
+        with subprocess.Popen(words, start_new_session=True, **streams) as running:
             last = ""
             try:
                 for line in running.stdout:
                     print(line, end="", file=sys.stderr, flush=True)
                     last = line.strip() or last
             except BaseException:
-                running.terminate()
+                running.send_signal(signal.SIGINT)
                 raise
         reason = running.returncode and (last or f"status {running.returncode}")
     return Outcome(measure, reason, time.monotonic() - began)
