@@ -228,7 +228,10 @@ def documents():
 def chosen(options):
     """The measures that are asked for."""
     kinds = [it for it, is_asked in ((COUNTS, options.instructions), (TIMES, options.times)) if is_asked] or [COUNTS, TIMES]
-    return [it for it in MEASURES if it.kind in kinds and options.only in it.words]
+    def has(measure, words):
+        return any(it in measure.words for it in words)
+
+    return [it for it in MEASURES if it.kind in kinds and has(it, options.only or [""]) and not has(it, options.without)]
 
 
 def main():
@@ -236,7 +239,8 @@ def main():
     parser = argparse.ArgumentParser(description=about, epilog="\n".join(more))
     parser.add_argument("--instructions", action="store_true", help="only what doesn't depend on the clock")
     parser.add_argument("--times", action="store_true", help="only what does, on a quiet machine")
-    parser.add_argument("--only", default="", help="the programs whose words have this word")
+    parser.add_argument("--only", nargs="+", default=[], metavar="WORD", help="the programs whose words have one of these")
+    parser.add_argument("--without", nargs="+", default=[], metavar="WORD", help="none of the programs whose words have one of these")
     parser.add_argument("--list", action="store_true", help="print what would be run, and what has to be built for it, and run nothing")
     options = parser.parse_args()
     asked = chosen(options)
