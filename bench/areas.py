@@ -2,9 +2,9 @@
 """Measures reading, checking and locating in areas beside GEOS's C interface, in one run.
 
 Shapes: a star of 100, 1,000 and 9,999 positions, the same with a corner thrown across, a square with 9, 99 and 999
-holes, a spiral, and the shared border of two parcels. For each it prints the nanoseconds a position of reading and of
-checking (what reading and checking takes beyond reading), and a point of locating 10,000 points, here and in GEOS
-(prepared), their ratio, and the growth from size to size. Times are the least of several runs, start-up left out.
+holes, a spiral, and the shared border of two parcels. For each it prints a row of a Markdown table: the nanoseconds a position
+of reading and of checking (what reading and checking takes beyond reading), and a point of locating 10,000 points, here and in
+GEOS (prepared), and their ratio. Times are the least of several runs, start-up left out.
 
 It needs Python's standard library, gcc and `libgeos-dev` from the distribution's packages, and the built program: run
 `rt run` once in crates/gauge. It is no test: the gate doesn't run it.
@@ -17,10 +17,12 @@ import sys
 import tempfile
 
 from gauged import GAUGE, built_peer, each, options_of
-from timing import exponent
+from timing import README, Table, read_options
 
 SPAN = 1_000_000
 POINTS = 10_000
+# What is measured, by the words of `gauge`.
+WORDS = ("read", "check", "locate")
 
 
 def ring(positions):
@@ -112,20 +114,21 @@ def points_for(rings):
 
 
 def main():
-    options = options_of(__doc__.splitlines()[0]).parse_args()
+    options = read_options(options_of(__doc__.splitlines()[0]), ("only",))
     with tempfile.TemporaryDirectory() as name:
         folder = pathlib.Path(name)
         programs = ([str(GAUGE)], built_peer(folder))
-        print(f"{'shape':22} {'size':>6} {'':7} {'sfq ns':>10} {'GEOS ns':>10} {'ratio':>7} {'growth':>7}")
+        table = Table(["shape", "size", *(f"{word}: `sfq`, GEOS, ratio" for word in WORDS)])
         for label, shape, sizes in CASES:
-            before = None
             for size in sizes if options.only in label else ():
                 rings = shape(size)
                 ours, theirs = (measures(program, rings, folder, options.repeats) for program in programs)
                 if ours["answers"] != theirs["answers"]:
                     sys.exit(f"{label} of {size}: the answers differ: {ours} and {theirs}")
-                print_rows(label, size, sum(len(positions) + 1 for positions in rings), ours, theirs, before)
-                before = size, ours
+                count = sum(len(positions) + 1 for positions in rings)
+                table.add([label, f"{size:,}", *(cell(word, count, ours, theirs) for word in WORDS)])
+    if options.write:
+        table.write_into(README)
 
 
 def measures(program, rings, folder, repeats):
@@ -141,14 +144,13 @@ def measures(program, rings, folder, repeats):
     return {"read": read, "check": max(whole - read, 1e-9), "locate": located, "answers": valid + inside}
 
 
-def print_rows(label, size, count, ours, theirs, before):
-    """Prints what a position or a point takes, the ratios, and the exponents of growth since the size before."""
-    for word in ("read", "check", "locate"):
-        if word in ours:
-            unit = 1e9 / (POINTS if word == "locate" else count)
-            growth = exponent(before and (before[0], before[1][word]), (size, ours[word]))
-            here, there = ours[word] * unit, theirs[word] * unit
-            print(f"{label:22} {size:>6} {word:7} {here:>10.1f} {there:>10.1f} {here / there:>7.2f} {growth:>7}", flush=True)
+def cell(word, count, ours, theirs):
+    """What a position or a point takes here and in GEOS, and the ratio; nothing where it isn't measured."""
+    if word not in ours:
+        return ""
+    unit = 1e9 / (POINTS if word == "locate" else count)
+    here, there = ours[word] * unit, theirs[word] * unit
+    return f"{here:,.0f}, {there:,.0f}, {here / there:.2f}"
 
 
 if __name__ == "__main__":

@@ -2,10 +2,12 @@
 """Measures `sfq run` beside `sqlite3` on the same CSV tables and the same SELECT.
 
 For 1,000, 10,000 and 100,000 rows of id, pop, name it makes a table, has the SELECT run by `sfq run` and by
-`sqlite3` importing the same CSV into memory, compares the rows, and prints for both wall time, processor time and
-peak memory, their ratio, and the growth from size to size. Times are the least of several runs.
+`sqlite3` importing the same CSV into memory, compares the rows, and prints a row of a Markdown table: wall time and
+processor time of both, their ratios, the exponent by which the processor time of `sfq` grows from size to size, and its peak
+memory. Times are the least of several runs. Under `--instructions` it counts the instructions of the whole run of `sfq` instead,
+by valgrind.
 
-It needs Python's standard library, the built program (run ./build), and `sqlite3` from the distribution's
+It needs Python's standard library, the built program (run ./build), and `sqlite3` and `valgrind` from the distribution's
 packages. It is no test: the gate doesn't run it.
 """
 
@@ -16,11 +18,12 @@ import shutil
 import sys
 import tempfile
 
-from timing import PROGRAM, best
+from timing import PROGRAM, README, Table, best, exponent, figure, instructions, read_options
 
 SIZES = (1_000, 10_000, 100_000)
 SCHEMA = "CREATE TABLE t (id INTEGER PRIMARY KEY, pop INTEGER, name TEXT);"
 QUERY = "SELECT id, name FROM t WHERE pop > 500000 AND NOT name = 'bern' OR pop IS NULL"
+COMMAND = [str(PROGRAM), "run", "schema.sql", ".", QUERY]
 NAMES = ("alma", "bern", "cork", "dale", "elm street", "fern, upper", "gull's rest", "hay")
 
 
@@ -54,33 +57,52 @@ def sqlite_command():
     return ["sqlite3", ":memory:", *script]
 
 
+def folders(room):
+    """Makes a folder with a table of each size; returns sizes, folders and the bytes of the table."""
+    for rows in SIZES:
+        folder = pathlib.Path(room) / str(rows)
+        folder.mkdir()
+        yield rows, folder, make_table(folder, rows)
+
+
+def table_of_times(room, repeats):
+    """The table of times beside `sqlite3`."""
+    heads = ["`sfq` wall", "`sqlite3` wall", "ratio", "`sfq` processor", "`sqlite3` processor", "ratio", "growth", "`sfq` peak, MB"]
+    table, before = Table(["rows", "CSV, KB", *heads]), None
+    for rows, folder, size in folders(room):
+        ours, theirs = (best(command, folder, repeats) for command in (COMMAND, sqlite_command()))
+        if ours[3] != theirs[3]:
+            sys.exit(f"at {rows} rows the answers differ in their number of lines")
+        cells = [cell for at in (0, 1) for cell in (f"{ours[at]:.3f}", f"{theirs[at]:.3f}", f"{ours[at] / theirs[at]:.2f}")]
+        growth = exponent(before, (rows, ours[1]))
+        table.add([f"{rows:,}", f"{size / 1024:,.0f}", *cells, growth, f"{ours[2] / 1024:.1f}"])
+        before = rows, ours[1]
+    return table
+
+
+def table_of_counts(room):
+    """The table of the instructions of `sfq`."""
+    table, before = Table(["rows", "instructions, in millions", "times the row above"]), None
+    for rows, folder, _ in folders(room):
+        counted = instructions(COMMAND, folder)
+        table.add([f"{rows:,}", figure(counted / 1e6), f"{counted / before:.1f}" if before else ""])
+        before = counted
+    return table
+
+
 def main():
     parser = argparse.ArgumentParser(description=__doc__.splitlines()[0])
     parser.add_argument("--repeats", type=int, default=5, help="runs of each command (5)")
-    repeats = parser.parse_args().repeats
+    parser.add_argument("--instructions", action="store_true", help="count instructions of sfq in place of time")
+    options = read_options(parser)
     if not PROGRAM.exists():
         sys.exit("the program isn't built: run ./build")
     if shutil.which("sqlite3") is None:
         sys.exit("sqlite3 isn't installed: apt-get install sqlite3")
-    sfq_command = [str(PROGRAM), "run", "schema.sql", ".", QUERY]
-    print(f"{'rows':>7} {'CSV KB':>7}  {'':8} {'wall s':>8} {'cpu s':>8} {'peak MB':>8}")
-    before = None
-    for rows in SIZES:
-        with tempfile.TemporaryDirectory() as name:
-            folder = pathlib.Path(name)
-            size = make_table(folder, rows)
-            ours = best(sfq_command, folder, repeats)
-            theirs = best(sqlite_command(), folder, repeats)
-        if ours[3] != theirs[3]:
-            sys.exit(f"at {rows} rows the answers differ in their number of lines")
-        for who, run in (("sfq", ours), ("sqlite3", theirs)):
-            print(f"{rows:>7} {size / 1024:>7.0f}  {who:8} {run[0]:>8.3f} {run[1]:>8.3f} {run[2] / 1024:>8.1f}")
-        print(f"{'':15}  {'ratio':8} {ours[0] / theirs[0]:>8.2f} {ours[1] / theirs[1]:>8.2f} {ours[2] / theirs[2]:>8.2f}")
-        if before is not None:
-            print(f"{'':15}  {'growth':8} {ours[0] / before[0]:>8.2f} {ours[1] / before[1]:>8.2f} {ours[2] / before[2]:>8.2f}")
-        allowed = 30 + 8 * size / 1024 / 1024
-        print(f"{'':15}  memory allowed {allowed:.1f} MB: {'within' if ours[2] / 1024 <= allowed else 'OVER'}")
-        before = ours
+    with tempfile.TemporaryDirectory() as room:
+        table = table_of_counts(room) if options.instructions else table_of_times(room, options.repeats)
+    if options.write:
+        table.write_into(README)
 
 
 if __name__ == "__main__":

@@ -4,7 +4,7 @@
 Points with a number each, in a grid of square parcels, are loaded, and then 1,000 windows are asked for, each of which finds
 some ten points, 100 numbers, 1,000 keys, and the parcels of each point. Each engine asks by a statement or a tree that it made
 before, into which the values are put. Shapes are such that an R*Tree of `sqlite3`, of whole numbers, gives the same answers. It
-compares the answers, and prints the instructions that valgrind counts, and with `--time` the microseconds of processor, as the
+compares the answers, and prints the instructions that valgrind counts, or with `--time` the microseconds of processor, as the
 least of runs that alternate: of a row for loading and the join, else of a window, a number or a key. What comes before the
 first turn is left out. With `--profile` it prints on the standard error where the instructions go of what takes more than is
 aimed at.
@@ -22,7 +22,7 @@ import sys
 import tempfile
 
 from peers import FOLDER
-from timing import ROOT, counted_shares, figure, marked, measure, print_columns, print_heads
+from timing import README, ROOT, Table, counted_shares, figure, marked, measure, read_options
 
 SIZES = (1_000, 10_000, 100_000)
 ENGINES = ("sfq", "sqlite", "geos")
@@ -69,12 +69,11 @@ def built(folder):
 def main():
     parser = argparse.ArgumentParser(description=__doc__.splitlines()[0])
     parser.add_argument("what", nargs="*", help=f"what is measured, of {', '.join(WHAT)}: all of it, if nothing is named")
-    parser.add_argument("--time", action="store_true", help="microseconds too")
+    parser.add_argument("--time", action="store_true", help="microseconds in place of instructions")
     parser.add_argument("--profile", action="store_true", help="where the instructions go of what takes more than is aimed at")
-    options = parser.parse_args()
+    options = read_options(parser, ("what", "time"))
     if not WHAT.keys() >= set(options.what):
         parser.error(f"what is measured is of {', '.join(WHAT)}")
-    units = ["instructions", "microseconds"] if options.time else ["instructions"]
     with tempfile.TemporaryDirectory() as room:
         folder = pathlib.Path(room)
         program = built(folder)
@@ -90,7 +89,7 @@ def main():
                     times[:] = [min(old, measure(words(it, what, many), folder)[1]) for old, many in zip(times, (0, TURNS))]
             return [(least[it][1] - least[it][0]) / TURNS * 1e6 for it in engines]
 
-        print_heads(["what", "rows", "found", "unit", "sfq", "sqlite3", "GEOS", "to the best"])
+        table = Table(["what", "rows", "found", "`sfq`", "`sqlite3`", "GEOS", "to the best"])
         for what in options.what or WHAT:
             count, engines = WHAT[what]
             for size in SIZES:
@@ -101,18 +100,19 @@ def main():
                     said.append((folder / "output").read_text())
                 if len(set(said)) > 1:
                     sys.exit(f"{what}, {size}: {said}")
-                for unit in units:
-                    # The last one that is counted is sfq, of which callgrind's file says where its instructions go.
-                    counts = [marked(words(it, what, 1), folder) for it in reversed(engines)] if unit == "instructions" else []
-                    taken = counts[::-1] or timed(engines, what)
-                    each = [it / (count or size) for it in taken]
-                    found = f"{int(said[0].split()[0]) / (count or size):.3g}" if said else ""
-                    ratio = each[0] / min(each[1:])
-                    if unit == "instructions" and ratio > AIMS.get(what, 1):
-                        behind = ", ".join(f"`{name}` {share:.0f}" for name, share in counted_shares(folder)[:8])
-                    print_columns([what, f"{size:,}", found, unit, *map(figure, each), *[""] * (3 - len(each)), f"{ratio:.2g}"])
+                # The last one that is counted is sfq, of which callgrind's file says where its instructions go.
+                counts = [] if options.time else [marked(words(it, what, 1), folder) for it in reversed(engines)]
+                taken = counts[::-1] or timed(engines, what)
+                each = [it / (count or size) for it in taken]
+                found = f"{int(said[0].split()[0]) / (count or size):.3g}" if said else ""
+                ratio = each[0] / min(each[1:])
+                if counts and ratio > AIMS.get(what, 1):
+                    behind = ", ".join(f"`{name}` {share:.0f}" for name, share in counted_shares(folder)[:8])
+                table.add([what, f"{size:,}", found, *map(figure, each), *[""] * (3 - len(each)), f"{ratio:.2g}"])
                 if behind and options.profile:
                     print(f"{what}: of 100 instructions {behind}", file=sys.stderr, flush=True)
+    if options.write:
+        table.write_into(README)
 
 
 if __name__ == "__main__":

@@ -1,34 +1,37 @@
 #!/usr/bin/env python3
 """Measures joins of `sfq.geopandas` beside those of GeoPandas over the same frames, in one process.
 
-Points in land parcels (10,000 in a grid of 30 a side, 100,000 in one of 100), by `within` and `intersects`, and the parcels that touch
-one another. Each join begins with frames that have no index yet, so what is measured has the shapes as well-known binary, the index,
+Points in land parcels (100,000 in a grid of 100 a side), by `within` and `intersects`, and the parcels that touch one another. Each join begins with frames that have no index yet, so what is measured has the shapes as well-known binary, the index,
 the pairs and the frame of the result. It compares the pairs, and prints a Markdown table: processor seconds of both, the ratio, and
 how much of the time of `sfq` goes to writing the shapes as well-known binary, to reading them, to finding the pairs and to the frame.
 Times are the least of several runs. The step of the grid is proposed.
 
-It needs GeoPandas with an index of its own (Debian's packages python3-geopandas and python3-rtree) and the library
-(run ./build --library):
-
-    PYTHONPATH=bindings/python SFQ_LIBRARY=bindings/c/out/libsfq.so.0 /usr/bin/python3 bench/frames.py
-
-It is no test: the gate doesn't run it.
+It needs GeoPandas with an index of its own (Debian's packages python3-geopandas and python3-rtree, which are for
+/usr/bin/python3) and the library (run ./build --library). It is no test: the gate doesn't run it.
 """
 
 import argparse
+import os
+import runpy
 import time
+
+from joins import parcels, points
+from peers import LIBRARY
+from timing import README, ROOT, Table, read_options
+
+runpy.run_path(str(ROOT / "tools" / "paths.py"))
+os.environ.setdefault("SFQ_LIBRARY", str(LIBRARY.with_name("libsfq.so.0")))
 
 import geopandas
 import sfq.geopandas
-from joins import parcels, points
-from sfq import _columns, _library
+from sfq import _frames, _library
 from shapely import wkt
 
-# What is joined, by which predicate, and at which numbers of points and parcels on a side.
+# What is joined, by which predicate, and at which number of points and parcels on a side.
 CASES = (
-    ("points within parcels", "within", ((10_000, 30), (100_000, 100))),
-    ("points that intersect parcels", "intersects", ((10_000, 30), (100_000, 100))),
-    ("parcels that touch", "touches", ((0, 30), (0, 100))),
+    ("points within parcels", "within", 100_000, 100),
+    ("points that intersect parcels", "intersects", 100_000, 100),
+    ("parcels that touch", "touches", 0, 100),
 )
 
 
@@ -73,25 +76,26 @@ def least(repeats, join, left, right, parts):
 def main():
     parser = argparse.ArgumentParser(description=__doc__.splitlines()[0])
     parser.add_argument("--repeats", type=int, default=3, help="how often each is measured (3)")
-    options = parser.parse_args()
+    options = read_options(parser)
     parts = Parts()
-    parts.around(_columns, "binaries", "writing")
+    parts.around(_frames, "binaries", "writing")
     parts.around(_library, "KeptMany", "reading")
     parts.around(sfq.geopandas.Index, "query", "pairs")
-    print("| join | rows | pairs | sfq | GeoPandas | ratio | writing | reading | pairs | frame and the rest |")
-    print("|---|---|---|---|---|---|---|---|---|---|")
-    for label, predicate, sizes in CASES:
-        for count, side in sizes:
-            cells = [wkt.loads(it) for it in parcels(side)]
-            left = [wkt.loads(it) for it in points(count)] if count else cells
-            own = least(options.repeats, lambda *both: sfq.geopandas.sjoin(*both, predicate=predicate), left, cells, parts)
-            theirs = least(options.repeats, lambda *both: geopandas.sjoin(*both, predicate=predicate), left, cells, parts)
-            if own[2] != theirs[2]:
-                raise SystemExit(f"{label}: the pairs differ")
-            of_parts = [own[1].get(it, 0) for it in ("writing", "reading", "pairs")]
-            shown = " | ".join(f"{it:.2f}" for it in (*of_parts, own[0] - sum(of_parts)))
-            print(f"| {label} | {count or side * side:,} and {side * side:,} | {len(own[2]):,} | {own[0]:.2f} | {theirs[0]:.2f} "
-                  f"| {own[0] / theirs[0]:.2f} | {shown} |", flush=True)
+    # GeoPandas 1 joins in C; the table of each is one of its own.
+    before = "before 1" if int(geopandas.__version__.split(".")[0]) < 1 else "from 1 on"
+    table = Table([f"join, GeoPandas {before}", "rows", "sfq", "GeoPandas", "ratio", "writing", "reading", "pairs", "the rest"])
+    for label, predicate, count, side in CASES:
+        cells = [wkt.loads(it) for it in parcels(side)]
+        left = [wkt.loads(it) for it in points(count)] if count else cells
+        own = least(options.repeats, lambda *both: sfq.geopandas.sjoin(*both, predicate=predicate), left, cells, parts)
+        theirs = least(options.repeats, lambda *both: geopandas.sjoin(*both, predicate=predicate), left, cells, parts)
+        if own[2] != theirs[2]:
+            raise SystemExit(f"{label}: the pairs differ")
+        of_parts = [own[1].get(it, 0) for it in ("writing", "reading", "pairs")]
+        seconds = [own[0], theirs[0], own[0] / theirs[0], *of_parts, own[0] - sum(of_parts)]
+        table.add([label, f"{count or side * side:,} and {side * side:,}", *(f"{it:.2f}" for it in seconds)])
+    if options.write:
+        table.write_into(README)
 
 
 if __name__ == "__main__":

@@ -14,7 +14,7 @@ import subprocess
 import sys
 import tempfile
 
-from timing import ROOT, Table, figure, measure
+from timing import README, ROOT, Table, figure, measure, read_options
 
 LIBRARY = ROOT / "bindings" / "c" / "out" / "libsfq.so.0"
 MOST = 4
@@ -80,7 +80,7 @@ def main():
     parser = argparse.ArgumentParser(description=__doc__.splitlines()[0])
     parser.add_argument("--repeats", type=int, default=3, help="runs of each command (3)")
     parser.add_argument("--rows", type=int, default=100_000, help="rows of each source (100000)")
-    options = parser.parse_args()
+    options = read_options(parser, ("rows",))
     is_ready()
     os.environ["SFQ_LIBRARY"] = str(LIBRARY)
     # What the commands say of each import isn't shown, what this program says is.
@@ -94,6 +94,8 @@ def main():
                 ours, theirs, peak = seconds(path, room, options.repeats)
                 worst = max(worst, ours / theirs)
                 table.add([f"{options.rows:,} {kind}, {form}", figure(ours), figure(theirs), f"{ours / theirs:.2f}", f"{peak / 1024:.0f}"])
+    if options.write:
+        table.write_into(README)
     print(f"greatest ratio {worst:.2f} of at most {MOST}")
     return 0 if worst <= MOST else 1
 

@@ -3,7 +3,7 @@
 
 1,000, 10,000 and 100,000 envelopes of three kinds are indexed: small ones at random, parcels side by side, and long bands. Then
 1,000 windows are asked for, each of which finds some ten. It prints the instructions that valgrind counts, of a search and of
-building for each envelope, and with `--time` the nanoseconds of processor too, as the least of runs that alternate. Reading the
+building for each envelope, or with `--time` the nanoseconds of processor, as the least of runs that alternate. Reading the
 input and making GEOS's geometries are left out, being what a run with no turns takes.
 
 It needs Python's standard library, valgrind, gcc and `libgeos-dev` from the distribution's packages, and the library: run
@@ -18,7 +18,7 @@ import sys
 import tempfile
 
 from peers import build_beside_geos
-from timing import figure, instructions, measure, print_columns, print_heads
+from timing import README, Table, figure, instructions, measure, read_options
 
 SIZES = (1_000, 10_000, 100_000)
 WINDOWS = 1_000
@@ -64,8 +64,8 @@ def write_input(path, kind, size):
 
 def main():
     parser = argparse.ArgumentParser(description=__doc__.splitlines()[0])
-    parser.add_argument("--time", action="store_true", help="nanoseconds too")
-    units = ["instructions", "nanoseconds"] if parser.parse_args().time else ["instructions"]
+    parser.add_argument("--time", action="store_true", help="nanoseconds in place of instructions")
+    options = read_options(parser, ("time",))
     with tempfile.TemporaryDirectory() as room:
         folder = pathlib.Path(room)
         program, given = build_beside_geos("indexes", folder), folder / "input"
@@ -74,9 +74,9 @@ def main():
             measure([program, how, turns], folder, given)
             return (folder / "output").read_text()
 
-        def taken(unit, ways, turns):
+        def taken(ways, turns):
             """What a turn takes by each of two ways, which alternate."""
-            if unit == "instructions":
+            if not options.time:
                 return [(instructions([program, it, turns], folder, given) - instructions([program, it, 0], folder, given)) / turns for it in ways]
             least = [[math.inf, math.inf] for _ in ways]
             for _ in range(5):
@@ -84,7 +84,7 @@ def main():
                     times[:] = [min(old, measure([program, it, many], folder, given)[1]) for old, many in zip(times, (0, turns))]
             return [(times[1] - times[0]) / turns * 1e9 for times in least]
 
-        print_heads(["envelopes", "number", "what", "found", "unit", "sfq", "GEOS", "ratio"])
+        table = Table(["envelopes", "what", "found", "`sfq`", "GEOS", "ratio"])
         for name, kind in KINDS:
             for size in SIZES:
                 write_input(given, kind, size)
@@ -93,10 +93,11 @@ def main():
                     found = [output(it, 1) for it in ways]
                     if found[0] != found[1]:
                         sys.exit(f"{name}, {size}: {found[0]} and {found[1]} are found")
-                    for unit in units:
-                        ours, theirs = (it / count for it in taken(unit, ways, turns if unit == "instructions" else 20 * turns))
-                        each = f"{int(found[0].split()[0]) / WINDOWS:.1f}" if what == "search" else ""
-                        print_columns([name, f"{size:,}", what, each, unit, figure(ours), figure(theirs), f"{ours / theirs:.2g}"])
+                    ours, theirs = (it / count for it in taken(ways, 20 * turns if options.time else turns))
+                    each = f"{int(found[0].split()[0]) / WINDOWS:.1f}" if what == "search" else ""
+                    table.add([f"{name}, {size:,}", what, each, figure(ours), figure(theirs), f"{ours / theirs:.2g}"])
+    if options.write:
+        table.write_into(README)
 
 
 if __name__ == "__main__":

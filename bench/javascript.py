@@ -6,14 +6,16 @@ are left out. It needs Node, gcc and `libgeos-dev` from the distribution's packa
 `./build --javascript` make. It is no test: the gate doesn't run it.
 """
 
+import argparse
 import pathlib
+import shutil
 import subprocess
 import sys
 import tempfile
 
 from peers import build_beside_geos
 from prepared import MOVED, POINTS, SIZES, beyond_start, write_input, write_two
-from timing import ROOT, figure, measure, print_columns, print_heads
+from timing import README, ROOT, Table, figure, measure, read_options
 
 PACKAGE = ROOT / "bindings" / "javascript" / "out" / "sfq"
 # A measure has so many turns at most, and takes this long at least, in seconds.
@@ -43,17 +45,20 @@ def in_node(given, how, turns):
 
 
 def main():
+    options = read_options(argparse.ArgumentParser(description=__doc__.splitlines()[0]))
+    if not PACKAGE.exists() or shutil.which("node") is None:
+        sys.exit("the package isn't there, or Node: run ./build --javascript once; apt-get install nodejs")
     with tempfile.TemporaryDirectory() as room:
         folder = pathlib.Path(room)
         program, given = build_beside_geos("prepared", folder), folder / "input"
-        print_heads(["asked", "positions", "C, ns", "Node, ns", "ratio"])
+        table = Table(["asked", "positions", "C", "Node", "ratio"])
 
         def compare(what, size, how, count):
             ours, turns, found = native(program, folder, given, how, count)
             theirs, shown = in_node(given, how, turns)
             if found != shown:
                 sys.exit(f"{what}, {size} positions: {found} and {shown} are found")
-            print_columns([what, f"{size:,}", figure(ours), figure(theirs), f"{theirs / ours:.2f}"])
+            table.add([what, f"{size:,}", figure(ours), figure(theirs), f"{theirs / ours:.2f}"])
 
         for what, how in ASKED.items():
             for size in SIZES:
@@ -64,6 +69,8 @@ def main():
                 for size in SIZES:
                     write_two(given, size, by)
                     compare(f"stars that {what}, {how}", size, how, 1)
+    if options.write:
+        table.write_into(README)
 
 
 if __name__ == "__main__":

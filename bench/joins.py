@@ -20,8 +20,8 @@ import random
 import tempfile
 from typing import Callable, NamedTuple, Optional
 
-from peers import Comparison, add_options, build_extension, build_geos, is_ready, print_table_heads, spatialite_command
-from timing import PROGRAM
+from peers import Comparison, add_options, build_extension, build_geos, is_ready, spatialite_command, table_of_rows
+from timing import PROGRAM, README, read_options
 
 SPAN = 1_000_000
 
@@ -164,28 +164,30 @@ def main():
     add_options(parser)
     parser.add_argument("--only", default="", help="the joins whose name has this word")
     parser.add_argument("--sqlite", action="store_true", help="sqlite3 with the extension sfq0 in place of the program sfq")
-    options = parser.parse_args()
+    options = read_options(parser, ("only",))
     is_ready()
     with tempfile.TemporaryDirectory() as name:
         geos = build_geos(pathlib.Path(name))
         extension = build_extension(pathlib.Path(name)) if options.sqlite else None
-        print_table_heads("joins", options)
+        table = table_of_rows("joins by SQLite", options, "sfq0") if extension else table_of_rows("joins", options)
         for number, case in enumerate(CASES):
             if options.only in case.label:
                 folder = pathlib.Path(name) / str(number)
                 folder.mkdir()
-                measure_case(case, geos, folder, options, extension)
+                measure_case(case, geos, folder, options, extension, table)
+    if options.write:
+        table.write_into(README)
 
 
-def measure_case(case, geos, folder, options, extension):
-    """Measures a join at its sizes, and prints its rows."""
+def measure_case(case, geos, folder, options, extension, table):
+    """Measures a join at its sizes, and adds its rows to the table."""
     runs = commands(geos, case.predicate, "first" if case.second is None else "second", extension)
     make_tables(folder / "bare", case, None)
-    comparison = Comparison(runs, folder / "bare", options)
+    comparison = Comparison(runs, folder / "bare", options, table)
     for size in case.sizes:
         tables = folder / str(size[0])
         first, second = make_tables(tables, case, size)
-        comparison.print_row(f"{case.label}, {first:,} by {second:,}", first, runs, tables)
+        comparison.add_row(f"{case.label}, {first:,} by {second:,}", first, runs, tables)
 
 
 if __name__ == "__main__":

@@ -14,7 +14,7 @@ import pathlib
 import re
 
 import bad_shapes as shapes
-from timing import Table, figure
+from timing import README, Table, figure, read_options
 
 # How many consecutive edges a leaf has.
 LEAF = 8
@@ -102,8 +102,7 @@ def row(label, first, second):
 
 def main():
     parser = argparse.ArgumentParser(description=__doc__.splitlines()[0])
-    parser.add_argument("--write", action="store_true", help="write the table into bench/README.md")
-    options = parser.parse_args()
+    options = read_options(parser)
     table = Table(["input", "edges", "of the other", "of 100 leaves", "of 100 edges", "share a point with an edge"])
     for label, make, size in PAIRS:
         table.add(row(label, *map(edges_of, make(size))))
@@ -111,7 +110,7 @@ def main():
         edges = edges_of(make(size))
         table.add(row(label, edges, edges))
     if options.write:
-        table.write_into(pathlib.Path(__file__).resolve().parent / "README.md")
+        table.write_into(README)
 
 
 if __name__ == "__main__":

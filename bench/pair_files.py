@@ -4,8 +4,8 @@ same texts.
 
 Each of two geometries is a point, two to four points, a line of two to five positions, or a polygon that is a box or a triangle,
 on a grid of 20 by 20, where they touch and cross often. All are valid. For each size it prints a row of a Markdown table: processor
-seconds of both, their ratio, the peak memory of `sfq`, and how many lines differ; with `--instructions N` also how many instructions
-both take for a pair of N, by valgrind, and their ratio. Times are the least of several runs.
+seconds of both, their ratio, the peak memory of `sfq`, and how many lines differ. Times are the least of several runs. With
+`--instructions N` it prints how many instructions both take for a pair of N instead, by valgrind, and their ratio.
 
 It needs Python's standard library, gcc and `libgeos-dev` (and `valgrind` for instructions) from the distribution's packages, and the
 built program: run ./build. It is no test: the gate doesn't run it.
@@ -19,7 +19,7 @@ import subprocess
 import sys
 import tempfile
 
-from timing import PROGRAM, instructions, measure, print_columns, print_heads
+from timing import PROGRAM, README, Table, instructions, measure, read_options
 
 PEER = pathlib.Path(__file__).resolve().parent / "geos_pairs.c"
 GRID = 20
@@ -78,9 +78,9 @@ def main():
     parser = argparse.ArgumentParser(description=__doc__.split("\n\n")[0])
     parser.add_argument("--sizes", type=int, nargs="+", default=[1_000_000], help="numbers of pairs (1000000)")
     parser.add_argument("--repeats", type=int, default=3, help="runs of each program (3)")
-    parser.add_argument("--instructions", type=int, default=0, metavar="N", help="count instructions over N pairs too")
+    parser.add_argument("--instructions", type=int, default=0, metavar="N", help="count instructions over N pairs in place of time")
     parser.add_argument("--program", default=str(PROGRAM), help="the program, if it isn't that of ./build")
-    options = parser.parse_args()
+    options = read_options(parser, ("sizes", "program"))
     if not pathlib.Path(options.program).exists():
         sys.exit("the program isn't built: run ./build")
     if shutil.which("gcc") is None:
@@ -90,18 +90,27 @@ def main():
         peer, file = folder / "geos_pairs", folder / "pairs.csv"
         subprocess.run(["gcc", "-O2", "-o", str(peer), str(PEER), "-lgeos_c"], check=True)
         ours, theirs = [options.program, "pairs", str(file)], [str(peer), str(file)]
-        print_heads(["pairs", "`sfq` s", "GEOS s", "ratio", "`sfq` MB", "lines that differ"])
-        for size in options.sizes:
-            write_pairs(file, size)
-            taken, peak, lines = least(ours, folder, options.repeats)
-            other, _, wanted = least(theirs, folder, options.repeats)
-            differing = sum(a != b for a, b in zip(lines, wanted, strict=True))
-            columns = [f"{size:,}", f"{taken:.2f}", f"{other:.2f}", f"{taken / other:.2f}", f"{peak / 1024:.1f}", f"{differing:,}"]
-            print_columns(columns)
         if options.instructions:
+            table = Table(["pairs", "`sfq`, instructions a pair", "GEOS", "ratio"])
             write_pairs(file, options.instructions)
             counts = [instructions(command, folder) / options.instructions for command in (ours, theirs)]
-            print(f"instructions a pair of {options.instructions:,}: sfq {counts[0]:,.0f}, GEOS {counts[1]:,.0f}, ratio {counts[0] / counts[1]:.2f}")
+            table.add([f"{options.instructions:,}", *(f"{it:,.0f}" for it in counts), f"{counts[0] / counts[1]:.2f}"])
+        else:
+            table = table_of_times(options, ours, theirs, file)
+    if options.write:
+        table.write_into(README)
+
+
+def table_of_times(options, ours, theirs, file):
+    """The table of times at each size."""
+    table = Table(["pairs", "`sfq` s", "GEOS s", "ratio", "`sfq` MB", "lines that differ"])
+    for size in options.sizes:
+        write_pairs(file, size)
+        taken, peak, lines = least(ours, file.parent, options.repeats)
+        other, _, wanted = least(theirs, file.parent, options.repeats)
+        differing = sum(a != b for a, b in zip(lines, wanted, strict=True))
+        table.add([f"{size:,}", f"{taken:.2f}", f"{other:.2f}", f"{taken / other:.2f}", f"{peak / 1024:.1f}", f"{differing:,}"])
+    return table
 
 
 if __name__ == "__main__":

@@ -1,15 +1,17 @@
 """What measures beside peers share: the commands of the peers, the lines that compare them with `sfq`, and the programs over GEOS."""
 
+import os
 import pathlib
+import re
 import shutil
 import subprocess
 import sys
 import time
 
-from timing import PROGRAM, ROOT, exponent, figure, instructions, measure, print_columns, print_heads, ratios
+from timing import PROGRAM, ROOT, Table, exponent, figure, instructions, measure, ratios
 
 FOLDER = pathlib.Path(__file__).resolve().parent
-TABLES = FOLDER / "geos_tables.c"
+TABLES, SHAPES = FOLDER / "geos_tables.c", FOLDER / "geos_peer.c"
 LIBRARY = ROOT / "bindings" / "c" / "out" / "libsfq.a"
 
 # A row is measured for as many seconds at the least, so that short runs are measured often.
@@ -23,6 +25,20 @@ def is_ready():
     for tool, package in (("gcc", "gcc libgeos-dev"), ("sqlite3", "sqlite3 libsqlite3-mod-spatialite")):
         if shutil.which(tool) is None:
             sys.exit(f"{tool} isn't installed: apt-get install {package}")
+
+
+def compiled(source, folder, *libraries):
+    """Compiles a program, and returns its path; None where gcc, a header or a library isn't there."""
+    if shutil.which("gcc") is None:
+        return None
+    program = folder / source.stem
+    words = ["gcc", "-O2", "-o", str(program), str(source), *libraries]
+    ran = subprocess.run(words, stderr=subprocess.PIPE, text=True, env={**os.environ, "LC_ALL": "C"})
+    if ran.returncode == 0:
+        return str(program)
+    if re.search(r"\.h: No such file|cannot find -l", ran.stderr):
+        return None
+    sys.exit(f"gcc can't compile {source.name}: {(re.findall('.*error.*', ran.stderr) or ['it was ended'])[0]}")
 
 
 def build_geos(folder):
@@ -69,21 +85,20 @@ def add_options(parser):
     parser.add_argument("--instructions", action="store_true", help="count instructions of sfq and GEOS in place of time")
 
 
-def print_table_heads(title, options):
-    """Prints the heads of the columns that a comparison's rows have."""
+def table_of_rows(title, options, ours="sfq"):
+    """The table whose rows a comparison adds, with what is asked for of our program, which is named."""
     if options.instructions:
-        print_heads([title, "sfq, millions", "GEOS, millions", "ratio", "growth"])
-        return
+        return Table([title, f"{ours}, millions", "GEOS, millions", "ratio", "growth"])
     peers = ["SpatiaLite ms", "ratio", "GEOS ms", "ratio", "to the best"]
-    print_heads([title, "sfq ms", *peers, "growth", "sfq, SpatiaLite, GEOS MB"])
+    return Table([title, f"{ours} ms", *peers, "growth", f"{ours}, SpatiaLite, GEOS MB"])
 
 
 class Comparison:
     """The rows of a case, from size to size: `sfq` beside its peers, each in one process, start-up left out."""
 
-    def __init__(self, commands, bare, options):
+    def __init__(self, commands, bare, options, table):
         """Takes the commands that run in a folder with tables without rows, which is the start-up of each program."""
-        self.starts, self.bare, self.options = commands, bare, options
+        self.starts, self.bare, self.options, self.table = commands, bare, options, table
         self.before = None
 
     def measured(self, commands, folder):
@@ -106,18 +121,18 @@ class Comparison:
         """The instructions of a program's command beyond its start-up, in millions."""
         return (instructions(commands[who], folder) - instructions(self.starts[who], self.bare)) / 1e6
 
-    def print_row(self, label, rows, commands, folder):
-        """Measures each command in a folder, and prints what was asked for."""
+    def add_row(self, label, rows, commands, folder):
+        """Measures each command in a folder, and adds what was asked for to the table."""
         if self.options.instructions:
             ours, theirs = (self.counted(who, commands, folder) for who in ("sfq", "geos"))
             growth = exponent(self.before, (rows, ours))
-            print_columns([label, figure(ours), figure(theirs), f"{ours / theirs:.2g}", growth])
+            self.table.add([label, figure(ours), figure(theirs), f"{ours / theirs:.2g}", growth])
             self.before = rows, ours
         else:
-            self.print_times(label, rows, commands, folder)
+            self.add_times(label, rows, commands, folder)
 
-    def print_times(self, label, rows, commands, folder):
-        """Prints processor times, ratios, the exponent of growth in rows, and memory, and compares the answers."""
+    def add_times(self, label, rows, commands, folder):
+        """Adds processor times, ratios, the exponent of growth in rows, and memory, and compares the answers."""
         times, peaks, answers = {}, [], {}
         for who, (start, processor, peak) in self.measured(commands, folder).items():
             times[who] = max(processor - start, 1e-5) * 1e3
@@ -127,7 +142,7 @@ class Comparison:
             answers[who] = set((folder / "output").read_text().splitlines()[1:])
         ours, *peers = times.values()
         growth = exponent(self.before, (rows, ours))
-        print_columns([label, figure(ours), *ratios(ours, peers), growth, ", ".join(peaks)])
+        self.table.add([label, figure(ours), *ratios(ours, peers), growth, ", ".join(peaks)])
         self.before = rows, ours
         for who in commands:
             apart = answers["sfq"] ^ answers[who]

@@ -2,8 +2,8 @@
 """Measures points in a kept polygon, and two kept polygons, by the C library beside GEOS's prepared geometries, by `prepared.c`.
 
 A polygon of 5, 100, 1,000 and 9,999 positions is read, tested and kept once. Then 1,000 positions around it are asked for:
-whether each intersects it, and whether it contains each. Per position it prints the instructions that valgrind counts, and with
-`--time` the nanoseconds of processor too; reading, testing and keeping are left out, being what a run with no turns takes. Then
+whether each intersects it, and whether it contains each. Per position it prints the instructions that valgrind counts, or with
+`--time` the nanoseconds of processor; reading, testing and keeping are left out, being what a run with no turns takes. Then
 two stars that cross, and two that are apart while their envelopes meet, are asked for whether they intersect and for their matrix.
 
 It needs Python's standard library, valgrind, gcc and `libgeos-dev` from the distribution's packages, and the library: run
@@ -18,7 +18,7 @@ import tempfile
 
 from areas import SPAN, ring, star
 from peers import build_beside_geos
-from timing import figure, instructions, measure, print_columns, print_heads, ratios
+from timing import README, Table, figure, instructions, measure, read_options
 
 SIZES = (5, 100, 1_000, 9_999)
 # Two stars: what they are, and by how much one of them is moved either way.
@@ -49,40 +49,44 @@ def beyond_start(run, turns, count=POINTS):
 
 def main():
     parser = argparse.ArgumentParser(description=__doc__.splitlines()[0])
-    parser.add_argument("--time", action="store_true", help="nanoseconds too")
-    is_timed = parser.parse_args().time
-    units = ["instructions", "nanoseconds"] if is_timed else ["instructions"]
+    parser.add_argument("--time", action="store_true", help="nanoseconds in place of instructions")
+    options = read_options(parser, ("time",))
     with tempfile.TemporaryDirectory() as room:
         folder = pathlib.Path(room)
         program, given = build_beside_geos("prepared", folder), folder / "input"
-        print_heads(["asked", "positions", "unit", "sfq", "GEOS", "ratio", "to the best"])
 
-        def compare(what, size, ours, theirs, count, turns):
-            for unit in units:
-                taken, found = [], []
-                for how in (ours, theirs):
-                    if unit == "instructions":
-                        taken.append(beyond_start(lambda turns: instructions([program, how, turns], folder, given), 2, count))
-                    else:
-                        def seconds(turns):
-                            return min(measure([program, how, turns], folder, given)[1] for _ in range(3))
+        def compare(table, what, size, ways, count, turns):
+            taken, found = [], []
+            for how in ways:
+                def seconds(turns):
+                    return min(measure([program, how, turns], folder, given)[1] for _ in range(3))
 
-                        taken.append(beyond_start(seconds, turns, count) * 1e9)
-                    measure([program, how, 1], folder, given)
-                    found.append((folder / "output").read_text())
-                if found[0] != found[1]:
-                    sys.exit(f"{what}, {size} positions: {found[0]} and {found[1]} are found")
-                print_columns([what, f"{size:,}", unit, figure(taken[0]), *ratios(taken[0], taken[1:])])
+                if options.time:
+                    taken.append(beyond_start(seconds, turns, count) * 1e9)
+                else:
+                    taken.append(beyond_start(lambda turns: instructions([program, how, turns], folder, given), 2, count))
+                measure([program, how, 1], folder, given)
+                found.append((folder / "output").read_text())
+            if found[0] != found[1]:
+                sys.exit(f"{', '.join(what)}, {size} positions: {found[0]} and {found[1]} are found")
+            table.add([*what, f"{size:,}", *map(figure, taken), f"{taken[0] / taken[1]:.2g}"])
 
+        columns = ["positions", "`sfq`", "GEOS", "ratio"]
+        points = Table(["asked", *columns])
         for what, ours, theirs in ASKED:
             for size in SIZES:
                 write_input(given, size)
-                compare(what, size, ours, theirs, POINTS, 300)
+                compare(points, [what], size, (ours, theirs), POINTS, 300)
+        print()
+        stars = Table(["stars", "asked", *columns])
         for what, by in MOVED:
-            for how in ("meet", "relate"):
+            for how, asked in ("meet", "intersects"), ("relate", "relate"):
                 for size in SIZES:
                     write_two(given, size, by)
-                    compare(f"stars that {what}, {how}", size, how, f"geos_{how}", 1, 200)
+                    compare(stars, [what.removeprefix("are "), asked], size, (how, f"geos_{how}"), 1, 200)
+    if options.write:
+        for it in points, stars:
+            it.write_into(README)
 
 
 if __name__ == "__main__":

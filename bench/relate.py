@@ -22,7 +22,7 @@ import tempfile
 
 from areas import SPAN, border, holed, ring, star
 from gauged import GAUGE, JTS, built_peer, each, each_in_java, java_peer, options_of
-from timing import exponent, figure, print_columns, print_heads, ratios
+from timing import README, Table, exponent, figure, ratios, read_options
 
 
 def polygon(rings, across=0, up=0):
@@ -122,19 +122,23 @@ def main():
     parser = options_of(__doc__.splitlines()[0])
     parser.add_argument("--largest", type=int, default=3, help="how many sizes of each (3)")
     parser.add_argument("--jts", default=JTS, help=f"the jar of JTS ({JTS})")
-    options = parser.parse_args()
+    options = read_options(parser, ("only", "largest"))
     with tempfile.TemporaryDirectory() as name:
         folder = pathlib.Path(name)
         programs = programs_of(folder, options.jts)
+        if options.write and "JTS" not in programs:
+            sys.exit("JTS is missing, which has its columns in the table that would be written")
         heads = [head for who in list(programs)[1:] for head in (f"{who} µs", "ratio")]
-        print_heads(["shapes", "size", "sfq µs", *heads, "to the best", "growth", ", ".join(programs) + " MB"])
+        table = Table(["shapes", "size", "sfq µs", *heads, "to the best", "growth", ", ".join(programs) + " MB"])
         for label, shape, sizes in CASES:
             before = None
             for size in sizes[: options.largest] if options.only in label else ():
                 (folder / "input").write_text("\n".join(shape(size)) + "\n")
                 runs = {who: time(command, "relate", folder, options.repeats) for who, (command, time) in programs.items()}
-                print_row(label, size, runs, before)
+                add_row(table, label, size, runs, before)
                 before = size, runs["sfq"][0] * 1e6
+    if options.write:
+        table.write_into(README)
 
 
 def programs_of(folder, jar):
@@ -146,12 +150,12 @@ def programs_of(folder, jar):
     return programs
 
 
-def print_row(label, size, runs, before):
-    """Prints a row of the table, and a line where a matrix differs."""
+def add_row(table, label, size, runs, before):
+    """Adds a row to the table, and prints a line where a matrix differs."""
     ours, *peers = (seconds * 1e6 for seconds, _, _ in runs.values())
     growth = exponent(before, (size, ours))
     peaks = ", ".join(f"{peak / 1024:.0f}" for _, _, peak in runs.values())
-    print_columns([label, f"{size:,}", figure(ours), *ratios(ours, peers), growth, peaks])
+    table.add([label, f"{size:,}", figure(ours), *ratios(ours, peers), growth, peaks])
     matrix = runs["sfq"][1].strip()
     for who, (_, answer, _) in runs.items():
         if answer.strip() != matrix:

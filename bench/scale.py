@@ -23,7 +23,7 @@ import tempfile
 import time
 
 import plots
-from timing import PROGRAM, ROOT, Table, exponent, figure, measure
+from timing import PROGRAM, README, ROOT, Table, exponent, figure, measure, read_options
 
 runpy.run_path(str(ROOT / "tools" / "paths.py"))
 import scale_cluster
@@ -189,8 +189,7 @@ def main():
     parser.add_argument("--workers", type=int, nargs="+", default=[1, 4], help="the workers of each cluster")
     parser.add_argument("--sizes", type=int, nargs="+", default=[10_000, 100_000, 1_000_000], help="trees")
     parser.add_argument("--room", help="a folder for tables and tiles")
-    parser.add_argument("--write", action="store_true", help="write the tables and the picture")
-    given = parser.parse_args()
+    given = read_options(parser)
     clusters = {}
     try:
         for number in given.workers:
@@ -204,7 +203,7 @@ def main():
     tables = costs, compare_workers(every), compare_aims(every)
     if given.write:
         for it in tables:
-            it.write_into(ROOT / "bench" / "README.md")
+            it.write_into(README)
         PICTURE.write_text(plots.times([(label, lines(each, max(given.sizes))) for label, each in points.items()]))
 
 

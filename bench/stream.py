@@ -14,7 +14,7 @@ import sys
 import tempfile
 
 from limits import make_table
-from timing import PROGRAM, best, print_columns, print_heads
+from timing import PROGRAM, README, Table, best, read_options
 
 QUERIES = (
     "SELECT id, name FROM t LIMIT 0",
@@ -29,20 +29,22 @@ QUERIES = (
 def main():
     parser = argparse.ArgumentParser(description=__doc__.splitlines()[0])
     parser.add_argument("--repeats", type=int, default=15, help="runs of each query (15)")
-    repeats = parser.parse_args().repeats
+    options = read_options(parser)
     if not PROGRAM.exists():
         sys.exit("the program isn't built: run ./build")
     loading = None
     with tempfile.TemporaryDirectory() as name:
         folder = pathlib.Path(name)
         make_table(folder)
-        print_heads(["query", "lines", "ms", "beyond loading", "MB"])
+        table = Table(["query", "lines", "ms", "beyond loading", "MB"])
         for query in QUERIES:
             command = [str(PROGRAM), "run", "schema.sql", ".", query]
-            _, processor, peak, lines = best(command, folder, repeats)
+            _, processor, peak, lines = best(command, folder, options.repeats)
             loading = processor if loading is None else loading
             beyond = max(processor - loading, 0) * 1_000
-            print_columns([f"`{query}`", f"{lines:,}", f"{processor * 1_000:.0f}", f"{beyond:.0f}", f"{peak / 1_024:.1f}"])
+            table.add([f"`{query}`", f"{lines:,}", f"{processor * 1_000:.0f}", f"{beyond:.0f}", f"{peak / 1_024:.1f}"])
+    if options.write:
+        table.write_into(README)
 
 
 if __name__ == "__main__":

@@ -1,4 +1,4 @@
-"""What the measures share: how a process is timed, and how figures are printed."""
+"""What the measures share: how a process is timed, how figures are printed, and how tables come into documents."""
 
 import math
 import os
@@ -8,18 +8,25 @@ import shutil
 import subprocess
 import sys
 
+import machine
+
 ROOT = pathlib.Path(__file__).resolve().parent.parent
 PROGRAM = ROOT / "crates" / "sfq" / "out" / "sfq"
+# The document that has the tables of the measures.
+README = ROOT / "bench" / "README.md"
 
 # Runs a command and prints its wall seconds, processor seconds, peak kilobytes and status. It is a process of its own,
-# since a process starts with its parent's peak: so a peak below that of this small one can't be shown.
+# since a process starts with its parent's peak: so a peak below that of this small one can't be shown. A signal that ends
+# it ends the command too.
 PROBE = """
-import os, resource, sys, time
+import os, resource, signal, sys, time
+signal.signal(signal.SIGINT, signal.SIG_DFL)
 resource.setrlimit(resource.RLIMIT_CPU, (int(sys.argv[1]), int(sys.argv[1]) + 1))
 begun = time.perf_counter()
 child = os.posix_spawnp(sys.argv[4], sys.argv[4:], os.environ, file_actions=[
     (os.POSIX_SPAWN_OPEN, 0, sys.argv[2], os.O_RDONLY, 0),
     (os.POSIX_SPAWN_OPEN, 1, sys.argv[3], os.O_WRONLY | os.O_CREAT | os.O_TRUNC, 0o600)])
+signal.signal(signal.SIGTERM, lambda *_: (os.kill(child, signal.SIGKILL), os.waitpid(child, 0), os._exit(1)))
 _, status, usage = os.wait4(child, 0)
 wall = time.perf_counter() - begun
 print(wall, usage.ru_utime + usage.ru_stime, usage.ru_maxrss, os.waitstatus_to_exitcode(status))
@@ -34,10 +41,15 @@ def probe(command, folder, given, seconds):
     """Runs a command on a file within a limit of processor seconds; returns wall seconds, processor seconds, peak kilobytes
     and the status, which is negative where a signal ended it. Its output goes to a file."""
     words = [str(seconds), str(given), str(folder / "output"), *map(str, command)]
-    ran = subprocess.run(
-        [sys.executable, "-S", "-E", "-c", PROBE, *words], cwd=folder, stdout=subprocess.PIPE, check=True
-    )
-    wall, processor, peak, status = ran.stdout.split()
+    with subprocess.Popen([sys.executable, "-S", "-E", "-c", PROBE, *words], cwd=folder, stdout=subprocess.PIPE) as running:
+        try:
+            said, _ = running.communicate()
+        except BaseException:
+            running.terminate()
+            raise
+    if running.returncode:
+        sys.exit(f"{command[0]} couldn't be run")
+    wall, processor, peak, status = said.split()
     return float(wall), float(processor), int(peak), int(status)
 
 
@@ -150,19 +162,49 @@ class Table:
         print_columns(columns)
 
     def write_into(self, path):
-        """Writes the table in place of the one of a document that has the same heads."""
-        path.write_text(with_table(path.read_text(), self.lines))
+        """Writes the table in place of the one of a document that has the same heads, in bench/README.md below the day and the commit."""
+        stamp = f"<!-- {machine.day()}, commit {machine.commit()} -->" if path == README else None
+        write_whole(path, with_table(path.read_text(), self.lines, stamp))
 
 
-def with_table(text, table):
-    """A document's text in which a table, given as lines, is in place of the one with the same heads."""
+# What is above a table of bench/README.md: the day and the commit of its figures.
+STAMP = re.compile(r"<!-- (\d{4}-\d\d-\d\d), commit (.+) -->")
+
+
+def with_table(text, table, stamp=None):
+    """A document's text in which a table, given as lines, is in place of the one with the same heads, below a stamp, if there is one,
+    in place of the one above that."""
     lines = text.split("\n")
     if table[0] not in lines:
         sys.exit(f"no table begins with {table[0]}")
     start = end = lines.index(table[0])
     while lines[end].startswith("|"):
         end += 1
+    if stamp:
+        table = [stamp, *table]
+        start -= bool(STAMP.fullmatch(lines[start - 1]))
     return "\n".join(lines[:start] + table + lines[end:])
+
+
+def write_whole(path, text):
+    """Writes a file anew. It stays as it was where that fails."""
+    beside = path.with_name(f".{path.name}.new")
+    try:
+        beside.write_text(text)
+        beside.replace(path)
+    finally:
+        beside.unlink(missing_ok=True)
+
+
+def read_options(parser, parts=()):
+    """The options of a program whose tables are in bench/README.md, `--write` among them. That is refused beside each of the options
+    in `parts`, which leave a part of the tables out."""
+    parser.add_argument("--write", action="store_true", help="write the tables into bench/README.md")
+    options = parser.parse_args()
+    for it in parts:
+        if options.write and (getattr(options, it) or None) != (parser.get_default(it) or None):
+            parser.error(f"--write needs whole tables: leave '{it}' out")
+    return options
 
 
 def figure(number):

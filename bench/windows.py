@@ -19,8 +19,8 @@ import pathlib
 import random
 import tempfile
 
-from peers import Comparison, add_options, build_geos, is_ready, print_table_heads, spatialite_command
-from timing import PROGRAM
+from peers import Comparison, add_options, build_geos, is_ready, spatialite_command, table_of_rows
+from timing import PROGRAM, README, read_options
 
 SIZES = (1_000, 10_000, 100_000)
 POSITIONS = (5, 100, 2_000)
@@ -66,18 +66,20 @@ def commands(folder, geos, text):
 def main():
     parser = argparse.ArgumentParser(description=__doc__.splitlines()[0])
     add_options(parser)
-    options = parser.parse_args()
+    options = read_options(parser)
     is_ready()
     with tempfile.TemporaryDirectory() as name:
         geos = build_geos(pathlib.Path(name))
-        print_table_heads("points in a polygon", options)
+        table = table_of_rows("points in a polygon", options)
         for positions in POSITIONS:
             bare = new_folder(name, positions, 0)
-            comparison = Comparison(commands(bare, geos, window(5)), bare, options)
+            comparison = Comparison(commands(bare, geos, window(5)), bare, options, table)
             for rows in SIZES:
                 folder = new_folder(name, positions, rows)
                 runs = commands(folder, geos, window(positions))
-                comparison.print_row(f"{rows:,} points, {positions:,} positions", rows, runs, folder)
+                comparison.add_row(f"{rows:,} points, {positions:,} positions", rows, runs, folder)
+    if options.write:
+        table.write_into(README)
 
 
 def new_folder(name, positions, rows):

@@ -33,10 +33,8 @@ from typing import Callable, NamedTuple, Optional
 import bad_shapes as shapes
 import bad_tables as tables
 from joins import commands as spatial_commands
-from peers import TABLES, spatialite_command
-from timing import PROGRAM, Table, exponent, figure, instructions, probe, shares
-
-GEOS_PEER = pathlib.Path(__file__).resolve().parent / "geos_peer.c"
+from peers import SHAPES, TABLES, compiled, spatialite_command
+from timing import PROGRAM, README, Table, exponent, figure, instructions, read_options, probe, shares
 
 
 # The size at which the first input of a kind takes little more than start-up.
@@ -275,18 +273,25 @@ class Peers:
     """The peers that are there; GEOS is compiled here."""
 
     def __init__(self, folder):
-        self.sqlite = shutil.which("sqlite3") is not None
-        self.geos, self.geos_tables = (compiled(source, folder) for source in (GEOS_PEER, TABLES))
+        self.sqlite = has_spatialite()
+        self.geos, self.geos_tables = (compiled(source, folder, "-lgeos_c") for source in (SHAPES, TABLES))
+
+    def name_lacking(self, is_written):
+        """Says which are left out, and ends the program where the table is to be written."""
+        lacking = [] if self.geos and self.geos_tables else ["GEOS is left out: apt-get install gcc libc6-dev libgeos-dev"]
+        if not self.sqlite:
+            lacking.append("sqlite3 and SpatiaLite are left out: apt-get install sqlite3 libsqlite3-mod-spatialite")
+        if lacking and is_written:
+            sys.exit("; ".join(lacking))
+        for it in lacking:
+            print(it, file=sys.stderr)
+        return self
 
 
-def compiled(source, folder):
-    """Compiles a peer over GEOS, and returns its path; None where it can't be compiled, which it says."""
-    program = folder / source.stem
-    command = ["gcc", "-O2", "-o", str(program), str(source), "-lgeos_c"]
-    if shutil.which("gcc") and subprocess.run(command, stderr=subprocess.DEVNULL).returncode == 0:
-        return str(program)
-    print(f"{source.name} is left out: apt-get install gcc libgeos-dev", file=sys.stderr)
-    return None
+def has_spatialite():
+    """Whether `sqlite3` is there, and loads SpatiaLite."""
+    return shutil.which("sqlite3") and subprocess.run(
+        ["sqlite3", ":memory:", ".load mod_spatialite"], stdout=subprocess.DEVNULL, stderr=subprocess.DEVNULL).returncode == 0
 
 
 def runs_of(bad, size, folder, program, peers):
@@ -473,12 +478,9 @@ def main():
     parser.add_argument("--instructions", action="store_true", help="count instructions of sfq in place of time")
     parser.add_argument("--bounds", action="store_true", help="with --instructions: write the bounds that follow into this file")
     parser.add_argument("--profile", action="store_true", help="show where the time of what grows with a square goes")
-    parser.add_argument("--write", action="store_true", help="write the table into bench/README.md")
-    options = parser.parse_args()
+    options = read_options(parser, ("only", "instructions"))
     if not os.access(options.program, os.X_OK):
         sys.exit("the program isn't built: run ./build")
-    if options.write and (options.only or options.instructions):
-        parser.error("--write needs all inputs, and times or profiles")
     program = os.path.abspath(options.program)
     chosen = [bad for bad in ALL if options.only in bad.label]
     with tempfile.TemporaryDirectory() as room:
@@ -487,9 +489,10 @@ def main():
         elif options.profile:
             table = table_of_profiles(chosen, Profiles(room, program, options), options)
         else:
-            table = table_of_times(chosen, Measures(room, program, Peers(pathlib.Path(room)), options), options)
+            peers = Peers(pathlib.Path(room)).name_lacking(options.write)
+            table = table_of_times(chosen, Measures(room, program, peers, options), options)
     if options.write:
-        table.write_into(pathlib.Path(__file__).resolve().parent / "README.md")
+        table.write_into(README)
 
 
 def with_bounds(text, growths):

@@ -1,0 +1,56 @@
+"""Where and when figures are taken: the machine, its system, the commit and the day."""
+
+import datetime
+import os
+import pathlib
+import platform
+import re
+import subprocess
+
+ROOT = pathlib.Path(__file__).resolve().parent.parent
+
+
+def day():
+    """The day of today, such as 2026-11-23."""
+    return datetime.date.today().isoformat()
+
+
+def git(*words):
+    """What a command of git prints of this repository; nothing where it can't be asked."""
+    try:
+        ran = subprocess.run(["git", "-C", str(ROOT), *words], capture_output=True, text=True)
+    except OSError:
+        return ""
+    return ran.stdout.strip() if ran.returncode == 0 else ""
+
+
+def commit():
+    """The commit of this repository, and whether its crates or its C were changed since."""
+    found = git("rev-parse", "--short=8", "HEAD") or "unknown"
+    return f"{found} with changes" if git("status", "--porcelain", "--", "crates", "bindings/c") else found
+
+
+def processor():
+    """The processor as it calls itself, and how many of it there are."""
+    name = said_in("/proc/cpuinfo", r"^model name\s*: (.+)") or platform.machine()
+    return f"{' '.join(name.split())}, {os.cpu_count()} processors"
+
+
+def system():
+    """The system and its kernel."""
+    name = said_in("/etc/os-release", r'^PRETTY_NAME="?([^"\n]+)')
+    return ", ".join(filter(None, [name, f"{platform.system()} {platform.release()} {platform.machine()}"]))
+
+
+def said_in(path, pattern):
+    """What a pattern finds in a file of the system; nothing where it isn't there."""
+    try:
+        found = re.search(pattern, pathlib.Path(path).read_text(), re.M)
+    except OSError:
+        return ""
+    return found[1] if found else ""
+
+
+def described():
+    """All of it in a line."""
+    return f"{processor()}; {system()}; commit {commit()}; {day()}"
