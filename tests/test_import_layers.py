@@ -79,7 +79,9 @@ class Layers(WithLayers):
         (layer,) = json.loads(read(f"{folder}/grid.json"))["layers"]
         self.assertEqual((layer["parted"]["records"], layer["left_out"]), (2, 0))
         self.assertIn("nybb: 2 records are parted into ", said)
-        for it in self.geos("wholes", path, folder, "nybb"):
+        wholes = self.geos("wholes", path, folder, "nybb")
+        self.assertEqual([it["parts"] > 1 for it in wholes].count(True), 2)
+        for it in wholes:
             self.assertTrue(it["are_valid"])
             self.assertLess(abs(it["overlap"]), 1)
             self.assertLessEqual(it["differs"], layer["parted"]["greatest"] / 0.01 * it["length"] + 1)
