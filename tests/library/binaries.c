@@ -212,16 +212,11 @@ bool is_binary_call(char *const words[WORDS])
 struct printed run_binary(char *const words[WORDS])
 {
     struct one_call it = { false, NULL, { "" } };
-    struct printed all;
     if (strcmp(words[0], "join") == 0)
         run_one_join(&it, words);
     else if (strcmp(words[0], "extent") == 0)
         run_extent(&it, words[1]);
     else
         run_one_binary(&it, words[1], words[2]);
-    if (it.wrong != NULL)
-        snprintf(all.text, sizeof all.text, "wrong: %s", it.wrong);
-    else
-        snprintf(all.text, sizeof all.text, "%s%.990s", it.was_refused ? "3 " : "", it.out.text);
-    return all;
+    return printed_of(it.wrong, it.was_refused, &it.out);
 }
