@@ -8,14 +8,14 @@ import sys
 import tempfile
 import unittest
 
-from support import python_command, python_with, read, write
+from support import ROOT, python_command, python_with, read, write
 
 import answers
 import engine_rows
 import library
 import repository
 
-PYTHON = python_with("osgeo.ogr")
+PYTHON, SHAPELY = python_with("osgeo.ogr"), python_with("shapely, osgeo.ogr")
 csv.field_size_limit(sys.maxsize)
 
 
@@ -97,3 +97,21 @@ class WithImports(engine_rows.WithLibrary):
 
     def columns(self, folder, table=0):
         return {it["name"]: it["type"] for it in json.loads(read(f"{folder}/grid.json"))["layers"][table]["columns"]}
+
+
+class WithGeos(WithImports):
+    """A test case of imports, and of what GEOS says of them."""
+
+    @classmethod
+    def setUpClass(cls):
+        super().setUpClass()
+        if not SHAPELY:
+            cls.tearDownClass()
+            raise unittest.SkipTest("needs the packages python3-gdal and python3-shapely")
+
+    def geos(self, *words):
+        """Returns what GEOS says, by the words of geos_answers.py."""
+        known = {**os.environ, "PYTHONPATH": f"{ROOT}/bindings/python", "PYTHONDONTWRITEBYTECODE": "1"}
+        ran = subprocess.run([SHAPELY, f"{ROOT}/tests/geos_answers.py", *words], env=known, capture_output=True, text=True)
+        self.assertEqual((ran.returncode, ran.stderr), (0, ""))
+        return json.loads(ran.stdout)

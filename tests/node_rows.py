@@ -112,4 +112,7 @@ def played(cases: Sequence[tuple[list[str], Optional[dict[str, bytes]], bool]]) 
     ran = subprocess.run(["node", DRIVER, PACKAGE], input=json.dumps(coded).encode(), capture_output=True, timeout=PATIENCE)
     if ran.returncode:
         raise AssertionError(ran.stderr.decode(errors="replace"))
-    return [Given(status, *(base64.b64decode(it) for it in texts)) for status, *texts in json.loads(ran.stdout)]
+    found = [Given(status, *(base64.b64decode(it) for it in texts)) for status, *texts in json.loads(ran.stdout)]
+    if len(found) != len(cases):
+        raise AssertionError(f"{len(found)} answers to {len(cases)} cases")
+    return found

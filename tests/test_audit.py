@@ -49,6 +49,19 @@ WRONG = """
 """
 
 
+def without_repeats(lines):
+    """Returns lines without the positions that are the same as the one before them."""
+    return [[p for at, p in enumerate(line) if not at or p != line[at - 1]] for line in lines]
+
+
+def elements_in(text):
+    """Returns how many elements a text has."""
+    if text.endswith("EMPTY"):
+        return 0
+    parts = r"\)\),\(\(" if text.startswith("MULTIPOLYGON") else r"\),\(" if text.startswith("MULTI") else "$^"
+    return 1 + len(re.findall(parts, text))
+
+
 def matrix(first, second):
     """Returns the matrix of two texts by the exact model."""
     return "".join(it.split()[2] for it in exact_cells.lines(first, second).splitlines())
@@ -120,11 +133,13 @@ class Families(unittest.TestCase):
             self.assertEqual(matrix(two[0].text, two[1].text), matrix(it.first, it.second))
 
     def test_texts_are_read_as_they_were_written(self):
+        """The exact model reads them by code of its own."""
         for it in families.pairs(300, 4):
             for text in it[2:]:
-                kept = [[[p for at, p in enumerate(line) if not at or p != line[at - 1]] for line in element] for element in shapes.read(text).elements]
-                self.assertEqual(shapes.read(text).elements, kept)
-                self.assertEqual(shapes.read(shapes.read(text).text), shapes.read(text))
+                found = shapes.read(text)
+                self.assertEqual((found.word, found.lines), (text.partition("(")[0].split()[0], without_repeats(exact_cells.read(text).parts)), text)
+                self.assertEqual(len(found.elements), elements_in(text), text)
+                self.assertEqual(shapes.read(found.text), found)
 
 
 class Predicates(unittest.TestCase):
@@ -374,7 +389,7 @@ class Ends(WithRoom):
             with self.subTest(how=how):
                 self.setUp()
                 self.fails(how)
-                self.ended(text.format(self.room.sfq), status, self.pairs('POINT(1 1),"{SQUARE}"\n'), why=0)
+                self.ended(text.format(self.room.sfq), status, self.pairs(f'POINT(1 1),"{SQUARE}"\n'), why=0)
 
     def test_sfq_fails_when_a_case_is_made_smaller(self):
         self.fails("exit 3", 2)
@@ -474,9 +489,10 @@ class AgainstTheModel(WithRoom):
         kept = [at for at, it in enumerate(wanted) if it]
         text = "".join(f'"{pairs[at][0]}","{pairs[at][1]}"\n' for at in kept)
         answers = subprocess.run([python, "-c", BY_SHAPELY], input=text, capture_output=True, text=True, check=True).stdout.split()
-        self.assertEqual(reported, {at: (wanted[at], it) for at, it in zip(kept, answers) if it != wanted[at]})
+        self.assertEqual(reported, {at: (wanted[at], it) for at, it in zip(kept, answers, strict=True) if it != wanted[at]})
         self.assertEqual((found["engines"][0]["differ"], found["compared"]), (len(reported), len(kept)))
-        self.assertGreater(len(reported), count / 1000 - 1)
+        self.assertGreater(len(kept), count * 4 // 5)
+        self.assertGreaterEqual(len(reported), count // 1000)
 
     def test_some_hundreds(self):
         self.compare(400 if repository.is_built() else 150, 5)
@@ -582,12 +598,17 @@ class Page(unittest.TestCase):
 
 class Smaller(unittest.TestCase):
     def test_each_smaller_shape_is_one(self):
+        """Its text is read as it is but for positions that coincide, its lines have as many as a line or a ring needs, and rings are closed."""
+        made = 0
         for it in families.pairs(60, 2):
             both = shapes.read(it.first), shapes.read(it.second)
-            for other in smaller.smaller_pairs(both):
+            for made, other in enumerate(smaller.smaller_pairs(both), made + 1):
                 for shape in other:
-                    self.assertTrue(shape.elements or shape.word)
-                    self.assertIsInstance(shape.text, str)
+                    elements = [without_repeats(it) for it in shape.elements]
+                    self.assertEqual(shapes.read(shape.text), shape._replace(elements=elements), (it, shape))
+                    self.assertTrue(all(len(line) > (0, 1, 3)[shape.dimension] for line in shape.lines), (it, shape))
+                    self.assertTrue(shape.dimension < 2 or all(line[0] == line[-1] for line in shape.lines), (it, shape))
+        self.assertGreater(made, 5_000)
 
 
 if __name__ == "__main__":

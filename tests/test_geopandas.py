@@ -20,8 +20,11 @@ class GeoPandas(engine_rows.WithLibrary):
         return subprocess.run([PYTHON, *words], cwd=ROOT, env=known, capture_output=True, text=True)
 
     def check(self, name):
+        """Runs a class of checks. Some of it may be skipped, but not all."""
         ran = self.run_python(f"{ROOT}/tests/geopandas_checks.py", name)
         self.assertEqual(ran.returncode, 0, ran.stderr)
+        count, skipped = re.search(r"^Ran (\d+) tests? .*?^OK(?: \(skipped=(\d+)\))?$", ran.stderr, re.M | re.S).groups(default="0")
+        self.assertGreater(int(count), int(skipped), ran.stderr)
 
     def test_joins(self):
         self.check("Joins")

@@ -2,15 +2,13 @@
 the same rounded shapes."""
 import json
 import os
-import subprocess
 import unittest
 
-from support import ROOT, python_with, read
+from support import read
 
 import sfq
-from import_calls import WithImports
+from import_calls import WithGeos
 
-SHAPELY = python_with("shapely, osgeo.ogr")
 R, GEOPANDAS = "/usr/lib/R/site-library", "/usr/lib/python3/dist-packages/geopandas/datasets"
 # Each with its package, the options, how many records are kept, and of how many.
 NC = ("r-cran-sf", f"{R}/sf/shape/nc.shp", (), 98, 100)
@@ -26,17 +24,10 @@ BOROUGHS = ("python3-geopandas", f"{GEOPANDAS}/nybb_16a.zip", ("--part",), 5, 5)
 CYCLES = ("r-cran-spdata", f"{R}/spData/misc/cycle_hire_xy.csv", ("--xy", "X,Y"), 742, 742)
 
 
-class WithLayers(WithImports):
+class WithLayers(WithGeos):
     """A test case over layers of packages."""
 
     ASKS_PROGRAM = False
-
-    @classmethod
-    def setUpClass(cls):
-        super().setUpClass()
-        if not SHAPELY:
-            cls.tearDownClass()
-            raise unittest.SkipTest("needs the packages python3-gdal and python3-shapely")
 
     def path(self, layer):
         """Returns the path of a layer, as GDAL takes it. The test is skipped where its package isn't there."""
@@ -44,13 +35,6 @@ class WithLayers(WithImports):
         if not os.path.exists(path):
             self.skipTest(f"needs the package {package}")
         return f"/vsizip/{path}" if path.endswith(".zip") else path
-
-    def geos(self, *words):
-        """Returns what GEOS says."""
-        known = {**os.environ, "PYTHONPATH": f"{ROOT}/bindings/python", "PYTHONDONTWRITEBYTECODE": "1"}
-        ran = subprocess.run([SHAPELY, f"{ROOT}/tests/geos_answers.py", *words], env=known, capture_output=True, text=True)
-        self.assertEqual((ran.returncode, ran.stderr), (0, ""))
-        return json.loads(ran.stdout)
 
     def relate_alike(self, folder, one, key, other, other_key):
         """Checks that sfq and GEOS find the same pairs of two tables in each relation."""
@@ -95,7 +79,9 @@ class Layers(WithLayers):
         (layer,) = json.loads(read(f"{folder}/grid.json"))["layers"]
         self.assertEqual((layer["parted"]["records"], layer["left_out"]), (2, 0))
         self.assertIn("nybb: 2 records are parted into ", said)
-        for it in self.geos("wholes", path, folder, "nybb"):
+        wholes = self.geos("wholes", path, folder, "nybb")
+        self.assertEqual([it["parts"] > 1 for it in wholes].count(True), 2)
+        for it in wholes:
             self.assertTrue(it["are_valid"])
             self.assertLess(abs(it["overlap"]), 1)
             self.assertLessEqual(it["differs"], layer["parted"]["greatest"] / 0.01 * it["length"] + 1)

@@ -6,13 +6,11 @@ import random
 import subprocess
 import unittest
 
-from support import ROOT, python_with, read
+from support import read
 
 import sfq
-from import_calls import WithImports, feature, square
+from import_calls import SHAPELY, WithGeos, feature, square
 from sfq import _parting, _texts
-
-SHAPELY = python_with("shapely, osgeo.ogr")
 
 
 def coast(count, size, seed=11):
@@ -83,22 +81,8 @@ class Cuts(unittest.TestCase):
         self.assertEqual([it.count("((") for it in found.texts], [1_000, 1_000, 1])
 
 
-class Parts(WithImports):
+class Parts(WithGeos):
     """Parts by the command, and what GEOS says of them."""
-
-    @classmethod
-    def setUpClass(cls):
-        super().setUpClass()
-        if not SHAPELY:
-            cls.tearDownClass()
-            raise unittest.SkipTest("needs the packages python3-gdal and python3-shapely")
-
-    def wholes(self, source, folder, table):
-        """Returns what GEOS says of each record and its parts."""
-        known = {**os.environ, "PYTHONPATH": f"{ROOT}/bindings/python", "PYTHONDONTWRITEBYTECODE": "1"}
-        ran = subprocess.run([SHAPELY, f"{ROOT}/tests/geos_answers.py", "wholes", source, folder, table], env=known, capture_output=True, text=True)
-        self.assertEqual((ran.returncode, ran.stderr), (0, ""))
-        return json.loads(ran.stdout)
 
     def parted(self, features, *words, grid="0.01", name="t"):
         """Imports features with --part; returns the source, the folder, what was said, and what grid.json says of the table."""
@@ -118,7 +102,7 @@ class Parts(WithImports):
         features = [feature(("Polygon", [ring]), name="coast"), feature(("Polygon", square(1, 1)), name="small"), feature(None, name="none")]
         source, folder, said, layer = self.parted(features, "--origin", "45000,45000")
         self.assertEqual(self.table(folder)[0], ["part", "whole", "name", "geom"])
-        found, _ = self.wholes(source, folder, "t")
+        found, _ = self.geos("wholes", source, folder, "t")
         self.assertGreaterEqual(found["parts"], 2)
         self.is_whole(found, layer)
         self.assertEqual([it[:3] for it in self.table(folder)[1:]], [
@@ -157,7 +141,7 @@ class Parts(WithImports):
         far = [square(200_000 + 10 * it, 0) for it in range(1_500)]
         many = feature(("MultiPolygon", [[square(0, 0, 90_000)[0], *holes], *far]))
         source, folder, said, layer = self.parted([many], "--origin", "100000,45000", grid="0.05")
-        (found,) = self.wholes(source, folder, "t")
+        (found,) = self.geos("wholes", source, folder, "t")
         self.is_whole(found, layer, 0.05)
         # Whole coordinates are on the grid, and lines that cut squares through bend nothing.
         self.assertTrue(found["is_equal"])
@@ -167,7 +151,7 @@ class Parts(WithImports):
         """No line of the grid is free of positions."""
         teeth = [[it, 20_000 if it % 2 else 10] for it in range(10_002)]
         source, folder, said, layer = self.parted([feature(("Polygon", [[[0, 0], [10_001, 0], *reversed(teeth), [0, 0]]]))], grid="1")
-        (found,) = self.wholes(source, folder, "t")
+        (found,) = self.geos("wholes", source, folder, "t")
         self.is_whole(found, layer, 1)
         self.assertTrue(found["is_equal"])
 

@@ -15,7 +15,7 @@ import unittest
 from decimal import Decimal
 from unittest import mock
 
-from support import python_command, read, write
+from support import ROOT, python_command, read, write
 
 import library
 from import_calls import PYTHON, WithImports, collection, feature, square
@@ -68,6 +68,12 @@ class Proposals(unittest.TestCase):
         self.assertEqual(self.proposed((563_000, 565_000, 0, 5), METRES, "0.001"), ("0.001", ("564000", "0")))
         self.assertEqual(self.proposed((563_000, 565_000, 0, 5), METRES, "", "500000,0"), ("0.01", ("500000", "0")))
         self.assertEqual(self.proposed((0, 300_000, 0, 5), METRES, "", "0,0"), ("0.05", ("0", "0")))
+
+    def test_documents_have_the_rule(self):
+        rule = " ".join(_proposing.__doc__.partition("\n\n")[2].split())
+        self.assertRegex(rule, r"^The step is the finest .* The origin is 0,0 where .* as metres\.$")
+        for it in ("docs/DATA.md", "docs/LIBRARY.md", "packaging/man/sfq-import.1", "bindings/qgis/sfq_qgis/basis.py"):
+            self.assertEqual(" ".join(read(f"{ROOT}/{it}").split()).count(rule), 1, it)
 
     def test_nothing_to_go_by(self):
         self.assertEqual(_proposing.proposed(None, 1.0).spelled, ("0.01", ("0", "0")))
@@ -125,8 +131,8 @@ class Folders(unittest.TestCase):
             found = _folders.without(schema, table)
             self.assertEqual(found.replace("\n", ""), wanted.replace("\n", ""))
             self.assertEqual([it.name.lower() for it in _statements.tables(found)], ["b" if name == "a" else "a"])
-        self.assertEqual([_folders.ended(it) for it in ("", "-- a;\n", f"{second};\n", f"{second}\n-- b\n")],
-                         ["", "-- a;\n", f"{second};\n", f"{second}\n-- b;\n"[:-2] + ";\n"])
+        self.assertEqual([_folders.ended(it) for it in ("", "-- a;\n", f"{second};\n", f"{second}\n", f"{second}\n-- b\n")],
+                         ["", "-- a;\n", f"{second};\n", f"{second};\n", f"{second};\n-- b\n"])
 
     def test_folders_change_places(self):
         """By one step of the system, and by three where it has none."""
@@ -424,6 +430,7 @@ class Sources(WithImports):
         for it in threads:
             it.join()
         self.assertLessEqual(set(endings.values()), {0, 6})
+        self.assertIn(0, endings.values())
         wanted = ["a", *sorted(it for it, status in endings.items() if status == 0)]
         self.assertEqual(sorted(it["table"] for it in json.loads(read(f"{folder}/grid.json"))["layers"]), wanted)
         self.assertEqual(sorted(it.name for it in _statements.tables(read(f"{folder}/schema.sql"))), wanted)

@@ -1,6 +1,7 @@
 """The package sfq for JavaScript: in Node, Chromium and Firefox against the program, its types, what it rounds, and its installation."""
 import base64
 import functools
+import itertools
 import json
 import os
 import random
@@ -10,6 +11,7 @@ import subprocess
 import tarfile
 import tempfile
 import unittest
+from unittest import mock
 
 from support import ROOT, needs, needs_build, read, write_all
 
@@ -199,7 +201,7 @@ class InNode(SharedTrials, unittest.TestCase):
         rows = [(texts, printed) for texts, printed in rows if not any("@" in it for it in texts) and "! " not in printed]
         pairs = [(texts, printed.splitlines()) for texts, printed in rows if len(texts) == 2 and len(printed.splitlines()) == 9]
         ones = [(texts[0], printed.strip()) for texts, printed in rows if len(texts) == 1]
-        self.assertGreaterEqual((len(pairs), len(ones)), (5, 5))
+        self.assertGreaterEqual(min(len(pairs), len(ones)), 5)
         self.assertEqual([it["lines"] for it in tried("whys", {"pairs": [texts for texts, _ in pairs]})], [lines for _, lines in pairs])
         found = tried("pairs", {"pairs": [[text, "POINT(1 1)"] for text, _ in ones]})["found"]
         self.assertEqual([it["reasons"][0] for it in found], [reason for _, reason in ones])
@@ -233,7 +235,9 @@ class InNode(SharedTrials, unittest.TestCase):
     @needs_page
     def test_four_threads(self):
         wanted = rows_that_relate()
-        for it in tried("workers", {"pairs": [pair for pair, _ in wanted]}):
+        found = tried("workers", {"pairs": [pair for pair, _ in wanted]})
+        self.assertEqual(len(found), 4)
+        for it in found:
             self.compare_pairs(wanted, it)
 
     @needs_page
@@ -382,7 +386,8 @@ class ManyCalls(SharedTrials, unittest.TestCase):
     @needs_page
     def test_each_page_is_refused_in_turn(self):
         found = tried("shortOfMemory", {"modules": modules_of(range(200))})
-        self.assertNotIn("differs", found)
+        self.assertEqual(set(found), {"refused", "well"})
+        self.assertEqual(len(found), 3 * 200)
 
 
 class Package(unittest.TestCase):
@@ -392,7 +397,8 @@ class Package(unittest.TestCase):
         return javascript_package.files_of_package({it.file: it.file.encode() for it in javascript_package.MODULES})
 
     def test_its_archive_has_the_same_bytes_each_time(self):
-        one, other = (javascript_package.archive_of(self.files()) for _ in range(2))
+        with mock.patch("time.time", side_effect=itertools.count(1_000_000_000, 100_000)):
+            one, other = (javascript_package.archive_of(self.files()) for _ in range(2))
         self.assertEqual(one, other)
 
     def test_it_needs_no_other_package(self):

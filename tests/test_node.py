@@ -88,7 +88,7 @@ class InOneProcess(Node):
         rows = node_rows.all_rows()
         self.assertGreater(len(rows), 800)
         given = node_rows.played([(it.words, it.files, False) for it in rows])
-        for row, it in zip(rows, given):
+        for row, it in zip(rows, given, strict=True):
             with self.subTest(words=row.words):
                 if row.words[0] == "sfq" and row.printed.startswith(b"status ") and it.status in (0, 2):
                     self.assertEqual(b"status %d\n" % it.status, row.printed)
@@ -103,12 +103,13 @@ class InOneProcess(Node):
     @needs_package
     def test_all_wrong_inputs(self):
         cases = [it for it in wrong_cases.all_cases() if it.words[0] in ("run", "relate", "why", "pairs", "check")]
+        self.assertGreater(len(cases), 100)
         with tempfile.TemporaryDirectory(prefix="sfq-wrong-") as room:
             words = [["sfq", *it.make(f"{room}/{at}")] for at, it in enumerate(cases)]
             switched = [[it[0], it[1], "--why", *it[2:]] for it in words]
             given = node_rows.played([(it, None, False) for it in (*words, *switched)] + [(it, None, True) for it in words])
         plain, switched, asked = (given[at : at + len(cases)] for at in (0, len(cases), 2 * len(cases)))
-        for at, (case, one, more, again) in enumerate(zip(cases, plain, switched, asked)):
+        for at, (case, one, more, again) in enumerate(zip(cases, plain, switched, asked, strict=True)):
             with self.subTest(case=case.name):
                 self.assertEqual((one.out.decode(), one.err.decode(), one.more, one.status), (case.out, case.fault, b"", case.status))
                 self.assertEqual(more, again)
@@ -196,6 +197,8 @@ class Processes(Node):
         os.close(ours)
         first, *more = said.replace(b"\r", b"").splitlines()
         self.assertNotIn(b"\x1b", first)
+        # The line of the text, that of the caret, and the sentence.
+        self.assertEqual(len(more), 3, said)
         for line in more:
             self.assertRegex(line, rb"\A\x1b\[36m.*\x1b\[0m\Z")
 

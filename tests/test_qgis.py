@@ -3,6 +3,7 @@ import contextlib
 import csv
 import functools
 import glob
+import itertools
 import json
 import os
 import re
@@ -11,6 +12,7 @@ import subprocess
 import tempfile
 import unittest
 import zipfile
+from unittest import mock
 
 from support import ROOT, python_with, read, write
 
@@ -93,8 +95,9 @@ class Packing(WithLibrary):
         self.assertEqual(names[0], f"{PLUGIN}/__init__.py")
         of_package = {f"{PLUGIN}/package/sfq/{os.path.basename(it)}" for it in glob.glob(f"{ROOT}/bindings/python/sfq/*.*")}
         self.assertLessEqual({f"{PLUGIN}/metadata.txt", f"{PLUGIN}/icon.svg", f"{PLUGIN}/package/sfq/{library.NAME}", *of_package}, set(names))
-        made = wheels.zipped(files, packages.released()[1])
-        self.assertEqual(made, wheels.zipped(qgis_plugin.files(), packages.released()[1]))
+        with mock.patch("time.time", side_effect=itertools.count(1_000_000_000, 100_000)):
+            made, again = (wheels.zipped(it, packages.released()[1]) for it in (files, qgis_plugin.files()))
+        self.assertEqual(made, again)
 
 
 class Description(unittest.TestCase):

@@ -143,23 +143,24 @@ class Sqlite(sqlite_sessions.WithExtension):
         self.assertGreater(int(re.match(r"(\d+) refused, 0 bad$", ran.stdout)[1]), 500)
 
     def two_threads(self, times, *before):
+        """Has two threads ask for the matrices of pairs so often. Returns what came of it, and how many they ask for."""
         program = self.program("threads")
-        lines = "".join(f"{it.first}\t{it.second}\t{it.matrix}\n" for it in engine_rows.pairs() if self.is_line(it))
+        lines = [f"{it.first}\t{it.second}\t{it.matrix}\n" for it in engine_rows.pairs() if self.is_line(it)]
         call = [*before, program, f"{self.room.name}/sfq0", str(times)]
-        return subprocess.run(call, input=lines, capture_output=True, text=True)
+        return subprocess.run(call, input="".join(lines), capture_output=True, text=True), 2 * times * len(lines)
 
     @staticmethod
     def is_line(pair):
         return pair.matrix and not set("\t\n\r") & set(pair.first + pair.second) and len(pair.first) + len(pair.second) < 2_000
 
     def test_two_connections_in_two_threads(self):
-        ran = self.two_threads(20)
-        self.assertEqual((ran.returncode, ran.stderr), (0, ""), ran.stdout)
-        self.assertIn(" 0 differ", ran.stdout)
+        ran, count = self.two_threads(20)
+        self.assertEqual((ran.returncode, ran.stdout, ran.stderr), (0, f"{count} asked, 0 differ\n", ""))
+        self.assertGreater(count, 4_000)
 
     @needs("valgrind", "valgrind")
     def test_valgrind_finds_nothing(self):
-        ran = self.two_threads(1, "valgrind", "-q", "--leak-check=full", "--show-leak-kinds=definite,indirect", "--error-exitcode=9")
+        ran, _ = self.two_threads(1, "valgrind", "-q", "--leak-check=full", "--show-leak-kinds=definite,indirect", "--error-exitcode=9")
         self.assertEqual((ran.returncode, ran.stderr), (0, ""))
 
     def test_only_the_entry_can_be_seen(self):

@@ -223,10 +223,12 @@ class Plans(WithFolders):
             self.assertEqual(self.plan(f"SELECT * FROM parcel WHERE ST_{it}(geom, 'POINT(1 1)')", ["parcel"]), wanted, it)
 
     def test_no_sort_by_the_key(self):
-        for query in ("SELECT * FROM parcel ORDER BY id", "SELECT * FROM parcel WHERE id > 103 ORDER BY id DESC",
-                      "SELECT * FROM parcel WHERE ST_Touches(geom, 'POINT(6 4)') ORDER BY id DESC"):
+        for query, is_sorted in (
+            ("SELECT * FROM parcel ORDER BY id", False), ("SELECT * FROM parcel WHERE id > 103 ORDER BY id DESC", False),
+            ("SELECT * FROM parcel WHERE ST_Touches(geom, 'POINT(6 4)') ORDER BY id DESC", False), ("SELECT * FROM parcel ORDER BY name", True),
+        ):
             out = self.rows(f"{made(['parcel'], PARCELS)}EXPLAIN QUERY PLAN {query};")
-            self.assertNotIn("TEMP B-TREE", out, query)
+            self.assertEqual("TEMP B-TREE" in out, is_sorted, query)
 
 
 class Options(WithFolders):

@@ -27,26 +27,35 @@ static void fault_place(const sfq_fault *fault, char place[FAULT_PLACE])
     }
 }
 
+/* The code of a fault: what it means, and what to do. */
+struct meaning {
+    uint8_t letter;
+    uint8_t number;
+    const char *words;
+};
+
+/* The words of a code among these, and of any other that it is unknown. */
+static const char *words_of(const struct meaning *known, size_t count, uint8_t letter, uint8_t number)
+{
+    for (size_t at = 0; at < count; at++) {
+        if (known[at].letter == letter && known[at].number == number) {
+            return known[at].words;
+        }
+    }
+    return "an unknown fault";
+}
+
 /* What a fault means, and what to do. */
 static const char *fault_meaning(const sfq_fault *fault)
 {
-    static const struct {
-        uint8_t letter;
-        uint8_t number;
-        const char *words;
-    } known[] = {
+    static const struct meaning known[] = {
 #define FAULT(letter, number, words) { letter, number, words },
 #define TABLE_FAULT(letter, number, words)
 #include "../python/sfq/fault_words.h"
 #undef FAULT
 #undef TABLE_FAULT
     };
-    for (size_t at = 0; at < sizeof known / sizeof known[0]; at++) {
-        if (known[at].letter == fault->letter && known[at].number == fault->number) {
-            return known[at].words;
-        }
-    }
-    return "an unknown fault";
+    return words_of(known, sizeof known / sizeof known[0], fault->letter, fault->number);
 }
 
 #endif

@@ -582,52 +582,44 @@ struct join {
     size_t count;
 };
 
-/* Writes the pairs of one geometry. A pair is written in front of the candidates that are left. */
+/* Writes a pair, in front of the candidates that are left, where both are there and the relation holds: of no candidate it does. */
+static int join_pair(const struct join *it, size_t place, bool is_candidate, size_t *room, size_t *pairs)
+{
+    bool answer = is_there(&it->second[place]);
+    int status = SFQ_OK;
+    if (answer && is_candidate) {
+        status = sfq_holds(it->relation, it->geometry, &it->second[place], &answer);
+    }
+    if (status == SFQ_OK && answer) {
+        room[2 * *pairs] = it->place;
+        room[2 * *pairs + 1] = place;
+        ++*pairs;
+    }
+    return status;
+}
+
+/* Writes the pairs of one geometry, which are among its candidates. */
 static int join_one(const struct join *it, size_t *room, size_t *pairs)
 {
-    bool answer;
-    int status;
+    int status = SFQ_OK;
     size_t i;
-    for (i = 0; i < it->count; i++) {
-        size_t place = it->candidates[i];
-        if (is_there(&it->second[place])) {
-            status = sfq_holds(it->relation, it->geometry, &it->second[place], &answer);
-            if (status != SFQ_OK) {
-                return status;
-            }
-            if (answer) {
-                room[2 * *pairs] = it->place;
-                room[2 * *pairs + 1] = place;
-                ++*pairs;
-            }
-        }
+    for (i = 0; status == SFQ_OK && i < it->count; i++) {
+        status = join_pair(it, it->candidates[i], true, room, pairs);
     }
-    return SFQ_OK;
+    return status;
 }
 
 /* The same of disjoint ones, of all geometries: those that are no candidates are. */
 static int join_disjoint(const struct join *it, size_t second_count, size_t *room, size_t *pairs)
 {
-    bool answer;
-    int status;
+    int status = SFQ_OK;
     size_t i = 0, place;
-    for (place = 0; place < second_count; place++) {
+    for (place = 0; status == SFQ_OK && place < second_count; place++) {
         bool is_candidate = i < it->count && it->candidates[i] == place;
         i += is_candidate;
-        answer = is_there(&it->second[place]);
-        if (answer && is_candidate) {
-            status = sfq_holds(SFQ_DISJOINT, it->geometry, &it->second[place], &answer);
-            if (status != SFQ_OK) {
-                return status;
-            }
-        }
-        if (answer) {
-            room[2 * *pairs] = it->place;
-            room[2 * *pairs + 1] = place;
-            ++*pairs;
-        }
+        status = join_pair(it, place, is_candidate, room, pairs);
     }
-    return SFQ_OK;
+    return status;
 }
 
 int sfq_join(uint32_t relation, sfq_geometry *first, size_t *next, size_t end, sfq_geometry *second, size_t second_count,

@@ -13,7 +13,7 @@ import runpy
 import shutil
 import sys
 import tarfile
-from typing import Mapping, Optional
+from typing import Callable, Mapping, NamedTuple, Optional, Sequence
 
 HERE = os.path.dirname(os.path.realpath(__file__))
 runpy.run_path(f"{os.path.dirname(os.path.dirname(HERE))}/tools/paths.py")
@@ -120,27 +120,38 @@ def modules_of(compiled: Mapping[str, calls.Compiled]) -> Modules:
     return {it.file: wasm.module_of(kit, it, [compiled[name] for name in it.crates]) for it in MODULES}
 
 
-def build(jobs: int = 0) -> int:
-    """Makes the package. Returns the status to end with."""
-    try:
-        write_package(make_modules(jobs))
-    except Failure as error:
-        print(f"sfq: no package for JavaScript: {error}", file=sys.stderr)
-        return 1
-    print(f"built: {os.path.relpath(OUT, repository.ROOT)}/sfq-{repository.version()}.tgz")
-    for it in MODULES:
-        print(f"{it.file}: {(made(it) or {}).get('about')}")
-    return 0
+class Maker(NamedTuple):
+    """A command that makes something of modules: its usage, what it makes, of which modules, in which file, and how, given the bytes of each."""
 
+    usage: str
+    what: str
+    modules: Sequence[wasm.Module]
+    file: str
+    write: Callable[[Modules], None]
 
-def main(words: list[str]) -> int:
-    if not words:
-        return build()
-    if len(words) == 2 and words[0] == "--jobs" and words[1].isdigit():
-        return build(int(words[1]))
-    print(__doc__.strip(), file=sys.stdout if words == ["--help"] else sys.stderr)
-    return 0 if words == ["--help"] else 2
+    def build(self, jobs: int = 0) -> int:
+        """Makes it. Returns the status to end with."""
+        try:
+            modules = make_modules(jobs)
+            self.write(modules)
+        except Failure as error:
+            print(f"sfq: no {self.what}: {error}", file=sys.stderr)
+            return 1
+        print(f"built: {os.path.relpath(self.file, repository.ROOT)}")
+        for it in self.modules:
+            print(f"{it.file}: {about(it, modules[it.file])}")
+        return 0
+
+    def main(self, words: list[str]) -> int:
+        """Does what the words say. Returns the status to end with."""
+        if not words:
+            return self.build()
+        if len(words) == 2 and words[0] == "--jobs" and words[1].isdigit():
+            return self.build(int(words[1]))
+        print(self.usage.strip(), file=sys.stdout if words == ["--help"] else sys.stderr)
+        return 0 if words == ["--help"] else 2
 
 
 if __name__ == "__main__":
-    sys.exit(main(sys.argv[1:]))
+    maker = Maker(__doc__, "package for JavaScript", MODULES, f"{OUT}/sfq-{repository.version()}.tgz", write_package)
+    sys.exit(maker.main(sys.argv[1:]))

@@ -64,33 +64,42 @@ static int ask_matrix(struct function *function, sqlite3_value **values, char ma
     return status != SFQ_OK ? status : sfq_relate(both[0], both[1], matrix);
 }
 
-/* Whether the function's relation holds of the first two arguments. */
-static int ask_relation(struct function *function, sqlite3_value **values, bool *answer, sfq_fault *fault)
+/* Whether the function's relation holds of the first two arguments: 1 or 0. */
+static int ask_relation(struct function *function, sqlite3_value **values, int64_t *number, sfq_fault *fault)
 {
     sfq_geometry *both[2];
+    bool answer = false;
     int status = take_both(function, values, both, fault);
-    return status != SFQ_OK ? status : sfq_holds((uint32_t)function->of, both[0], both[1], answer);
+    status = status != SFQ_OK ? status : sfq_holds((uint32_t)function->of, both[0], both[1], &answer);
+    *number = answer;
+    return status;
 }
 
-/* Whether the matrix of the first two arguments matches the third. */
-static int ask_pattern(struct function *function, sqlite3_value **values, bool *answer, sfq_fault *fault)
+/* Whether the matrix of the first two arguments matches the third: 1 or 0. */
+static int ask_pattern(struct function *function, sqlite3_value **values, int64_t *number, sfq_fault *fault)
 {
     sfq_geometry *both[2];
+    bool answer = false;
     size_t length;
     int status = take_both(function, values, both, fault);
     const char *pattern = text_of(values[2], &length);
     if (status != SFQ_OK || pattern == NULL) {
         return status != SFQ_OK ? status : SFQ_OUT_OF_MEMORY;
     }
-    return sfq_relate_pattern(both[0], both[1], pattern, length, answer);
+    status = sfq_relate_pattern(both[0], both[1], pattern, length, &answer);
+    *number = answer;
+    return status;
 }
 
-/* Whether the argument is the empty set of points. */
-static int ask_empty(struct function *function, sqlite3_value **values, bool *answer, sfq_fault *fault)
+/* Whether the argument is the empty set of points: 1 or 0. */
+static int ask_empty(struct function *function, sqlite3_value **values, int64_t *number, sfq_fault *fault)
 {
     sfq_geometry *geometry;
+    bool answer = false;
     int status = take_argument(function, 0, values[0], &geometry, fault);
-    return status != SFQ_OK ? status : sfq_is_empty(geometry, answer);
+    status = status != SFQ_OK ? status : sfq_is_empty(geometry, &answer);
+    *number = answer;
+    return status;
 }
 
 /* The dimension of the argument. */

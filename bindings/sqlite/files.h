@@ -77,23 +77,14 @@ static int read_path(const char *path, size_t least, struct bytes *bytes, char *
 /* What a fault of a schema or a table means, and what to do. */
 static const char *table_fault_meaning(const sfq_tables_fault *fault)
 {
-    static const struct {
-        uint8_t letter;
-        uint8_t number;
-        const char *words;
-    } known[] = {
+    static const struct meaning known[] = {
 #define FAULT(letter, number, words)
 #define TABLE_FAULT(letter, number, words) { letter, number, words },
 #include "../python/sfq/fault_words.h"
 #undef FAULT
 #undef TABLE_FAULT
     };
-    for (size_t at = 0; at < sizeof known / sizeof known[0]; at++) {
-        if (known[at].letter == fault->letter && known[at].number == fault->number) {
-            return known[at].words;
-        }
-    }
-    return "an unknown fault";
+    return words_of(known, sizeof known / sizeof known[0], fault->letter, fault->number);
 }
 
 /* The error of a fault: the file of the schema, or the table, and the code with its places, as `sfq check` prints them. */

@@ -68,22 +68,22 @@ static void relate(sqlite3_context *context, int count, sqlite3_value **values)
     }
 }
 
-/* What the functions of conditions ask: one of ask_relation and ask_pattern. */
-typedef int asking(struct function *, sqlite3_value **, bool *, sfq_fault *);
+/* What the functions of numbers ask: one of ask_relation, ask_pattern, ask_empty, ask_dimension and ask_bound. */
+typedef int asking(struct function *, sqlite3_value **, int64_t *, sfq_fault *);
 
-/* The result of a condition: 1 or 0. */
-static void condition(sqlite3_context *context, int count, sqlite3_value **values, asking *ask)
+/* The result of a number, NULL where there is none. */
+static void number(sqlite3_context *context, int count, sqlite3_value **values, asking *ask)
 {
-    bool answer = false;
+    int64_t found = 0;
     sfq_fault fault;
     int status;
     if (!are_texts(context, count, values)) {
         return;
     }
-    status = ask(sqlite3_user_data(context), values, &answer, &fault);
+    status = ask(sqlite3_user_data(context), values, &found, &fault);
     if (status == SFQ_OK) {
-        sqlite3_result_int(context, answer);
-    } else {
+        sqlite3_result_int64(context, found);
+    } else if (status != SFQ_NONE) {
         refuse(context, status, &fault);
     }
 }
@@ -91,13 +91,13 @@ static void condition(sqlite3_context *context, int count, sqlite3_value **value
 /* ST_Relate(a, b, pattern): whether the matrix matches the pattern. */
 static void relate_pattern(sqlite3_context *context, int count, sqlite3_value **values)
 {
-    condition(context, count, values, ask_pattern);
+    number(context, count, values, ask_pattern);
 }
 
 /* The predicates: whether the function's relation holds. */
 static void relation(sqlite3_context *context, int count, sqlite3_value **values)
 {
-    condition(context, count, values, ask_relation);
+    number(context, count, values, ask_relation);
 }
 
 /* ST_IsValid(a): whether the text is that of a valid geometry. */
@@ -140,27 +140,7 @@ static void is_valid_reason(sqlite3_context *context, int count, sqlite3_value *
 /* ST_IsEmpty(a): whether it is the empty set of points. */
 static void is_empty(sqlite3_context *context, int count, sqlite3_value **values)
 {
-    condition(context, count, values, ask_empty);
-}
-
-/* What the functions of numbers ask: one of ask_dimension and ask_bound. */
-typedef int counting(struct function *, sqlite3_value **, int64_t *, sfq_fault *);
-
-/* The result of a number, NULL where there is none. */
-static void number(sqlite3_context *context, int count, sqlite3_value **values, counting *ask)
-{
-    int64_t found = 0;
-    sfq_fault fault;
-    int status;
-    if (!are_texts(context, count, values)) {
-        return;
-    }
-    status = ask(sqlite3_user_data(context), values, &found, &fault);
-    if (status == SFQ_OK) {
-        sqlite3_result_int64(context, found);
-    } else if (status != SFQ_NONE) {
-        refuse(context, status, &fault);
-    }
+    number(context, count, values, ask_empty);
 }
 
 /* ST_Dimension(a): 0 of points, 1 of lines, 2 of areas. */

@@ -125,29 +125,12 @@ def write_page(modules: javascript_package.Modules, to: str = OUT) -> None:
             file.write(text)
 
 
-def build(jobs: int = 0) -> int:
-    """Makes the package and the page. Returns the status to end with."""
-    try:
-        modules = javascript_package.make_modules(jobs)
-        javascript_package.write_package(modules)
-        write_page(modules)
-    except Failure as error:
-        print(f"sfq: no web page: {error}", file=sys.stderr)
-        return 1
-    print(f"built: {os.path.relpath(OUT, repository.ROOT)}/index.html")
-    for it in MODULES:
-        print(f"{it.file}: {javascript_package.about(it, modules[it.file])}")
-    return 0
-
-
-def main(words: list[str]) -> int:
-    if not words:
-        return build()
-    if len(words) == 2 and words[0] == "--jobs" and words[1].isdigit():
-        return build(int(words[1]))
-    print(__doc__.strip(), file=sys.stdout if words == ["--help"] else sys.stderr)
-    return 0 if words == ["--help"] else 2
+def write_both(modules: javascript_package.Modules) -> None:
+    """Writes the package and the page."""
+    javascript_package.write_package(modules)
+    write_page(modules)
 
 
 if __name__ == "__main__":
-    sys.exit(main(sys.argv[1:]))
+    maker = javascript_package.Maker(__doc__, "web page", tuple(MODULES), f"{OUT}/index.html", write_both)
+    sys.exit(maker.main(sys.argv[1:]))

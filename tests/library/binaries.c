@@ -63,7 +63,7 @@ static void compare_many(struct one_call *it, const sfq_grid *grid, const unsign
     sfq_fault faults[3];
     uint32_t statuses[3] = { 99, 99, 99 };
     size_t lengths[3], done = 99, i;
-    bool same = true;
+    bool same;
     int status;
     lengths[0] = lengths[2] = length;
     lengths[1] = 0;
@@ -81,6 +81,7 @@ static void compare_many(struct one_call *it, const sfq_grid *grid, const unsign
         it->wrong = "another status of many";
     if (status == SFQ_OK && ((int)statuses[0] != (length > 0 ? wanted : SFQ_NONE) || statuses[1] != SFQ_NONE || statuses[2] != statuses[0]))
         it->wrong = "another status of one of many";
+    same = many[0].kept == NULL && many[2].kept == NULL;
     if (many[0].kept != NULL && again(it, sfq_holds(SFQ_EQUALS, &many[0], &many[2], &same)))
         sfq_holds(SFQ_EQUALS, &many[0], &many[2], &same);
     if (!same)
@@ -211,16 +212,11 @@ bool is_binary_call(char *const words[WORDS])
 struct printed run_binary(char *const words[WORDS])
 {
     struct one_call it = { false, NULL, { "" } };
-    struct printed all;
     if (strcmp(words[0], "join") == 0)
         run_one_join(&it, words);
     else if (strcmp(words[0], "extent") == 0)
         run_extent(&it, words[1]);
     else
         run_one_binary(&it, words[1], words[2]);
-    if (it.wrong != NULL)
-        snprintf(all.text, sizeof all.text, "wrong: %s", it.wrong);
-    else
-        snprintf(all.text, sizeof all.text, "%s%.990s", it.was_refused ? "3 " : "", it.out.text);
-    return all;
+    return printed_of(it.wrong, it.was_refused, &it.out);
 }

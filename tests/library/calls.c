@@ -25,6 +25,16 @@ void print_fault(struct printed *out, int status, const sfq_fault *fault)
     snprintf(out->text, sizeof out->text, "%d %c%d %zu %zu", status, fault->letter, fault->number, fault->first, fault->second);
 }
 
+struct printed printed_of(const char *wrong, bool was_refused, const struct printed *out)
+{
+    struct printed all;
+    if (wrong != NULL)
+        snprintf(all.text, sizeof all.text, "wrong: %s", wrong);
+    else
+        snprintf(all.text, sizeof all.text, "%s%.990s", was_refused ? "3 " : "", out->text);
+    return all;
+}
+
 /* A call that is refused leaves what it would have written. */
 static const char before[10] = "unchanged";
 

@@ -118,7 +118,6 @@ bool is_index_call(char *const words[WORDS])
 struct printed run_index(char *const words[WORDS])
 {
     struct one_call it = { SFQ_EMPTY, false, NULL, { "" } };
-    struct printed all;
     int32_t bounds[4 * ENVELOPES], window[4] = { 0 };
     size_t count = read_numbers(words[1], bounds, 4 * ENVELOPES);
     if (read_numbers(words[2], window, 4) != 4 || count % 4 != 0)
@@ -131,9 +130,5 @@ struct printed run_index(char *const words[WORDS])
     sfq_index_free(&it.index);
     if (it.index.kept != NULL)
         it.wrong = "an index isn't empty after it was freed";
-    if (it.wrong != NULL)
-        snprintf(all.text, sizeof all.text, "wrong: %s", it.wrong);
-    else
-        snprintf(all.text, sizeof all.text, "%s%.990s", it.was_refused ? "3 " : "", it.out.text);
-    return all;
+    return printed_of(it.wrong, it.was_refused, &it.out);
 }

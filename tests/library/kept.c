@@ -361,7 +361,6 @@ bool is_kept_call(char *const words[WORDS])
 struct printed run_kept(char *const words[WORDS])
 {
     struct one_call it = { SFQ_EMPTY, SFQ_EMPTY, NULL, false, NULL, { "" } };
-    struct printed all;
     if (strcmp(words[0], "without") == 0) {
         print_without(&it);
     } else if (strcmp(words[0], "array") == 0) {
@@ -385,11 +384,7 @@ struct printed run_kept(char *const words[WORDS])
     sfq_free(&it.second);
     if (it.first.kept != NULL || it.second.kept != NULL)
         it.wrong = "a geometry isn't empty after it was freed";
-    if (it.wrong != NULL)
-        snprintf(all.text, sizeof all.text, "wrong: %s", it.wrong);
-    else
-        snprintf(all.text, sizeof all.text, "%s%.990s", it.was_refused ? "3 " : "", it.out.text);
-    return all;
+    return printed_of(it.wrong, it.was_refused, &it.out);
 }
 
 /* ---- from one thread to another ---- */

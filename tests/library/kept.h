@@ -15,6 +15,9 @@ struct printed {
 /* The status and the fault as they are printed. */
 void print_fault(struct printed *out, int status, const sfq_fault *fault);
 
+/* What is printed of a call over what is kept: what went wrong, if anything, else its own text, behind `3 ` where memory was refused. */
+struct printed printed_of(const char *wrong, bool was_refused, const struct printed *out);
+
 /* Whether the words are a call over geometries that are kept. */
 bool is_kept_call(char *const words[WORDS]);
 

@@ -95,7 +95,6 @@ bool is_why_call(char *const words[WORDS])
 struct printed run_why(char *const words[WORDS])
 {
     struct one_call it = { words, SFQ_EMPTY, SFQ_EMPTY, false, NULL, { "" } };
-    struct printed all;
     size_t length = 5;
     if (sfq_why(&it.first, &it.first, NULL, 0, &length) != SFQ_NO_GEOMETRY || length != 5)
         it.wrong = "no geometry";
@@ -105,9 +104,5 @@ struct printed run_why(char *const words[WORDS])
         print_lines(&it);
     sfq_free(&it.first);
     sfq_free(&it.second);
-    if (it.wrong != NULL)
-        snprintf(all.text, sizeof all.text, "wrong: %s", it.wrong);
-    else
-        snprintf(all.text, sizeof all.text, "%s%.990s", it.was_refused ? "3 " : "", it.out.text);
-    return all;
+    return printed_of(it.wrong, it.was_refused, &it.out);
 }

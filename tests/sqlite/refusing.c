@@ -4,38 +4,11 @@
  *
  * usage: refusing EXTENSION    prints `N refused, N bad`
  */
+#include "refused.h"
+
 #include <sqlite3.h>
-#include <stdbool.h>
 #include <stdio.h>
-#include <stdlib.h>
 #include <string.h>
-
-void *__libc_malloc(size_t size);
-void *__libc_calloc(size_t number, size_t size);
-void *__libc_realloc(void *old, size_t size);
-
-/* The allocation that is refused, counted from 1; none at 0. */
-static long refused, asked;
-
-static bool is_refused(void)
-{
-    return ++asked == refused;
-}
-
-void *malloc(size_t size)
-{
-    return is_refused() ? NULL : __libc_malloc(size);
-}
-
-void *calloc(size_t number, size_t size)
-{
-    return is_refused() ? NULL : __libc_calloc(number, size);
-}
-
-void *realloc(void *old, size_t size)
-{
-    return is_refused() ? NULL : __libc_realloc(old, size);
-}
 
 /* Asks each function about other texts, so that none has anything left of those that are tried. */
 static const char OTHERS[] =

@@ -195,8 +195,9 @@ def without(schema: str, table: _statements.Table) -> str:
 
 def ended(schema: str) -> str:
     """Returns a schema that has a `;` behind its last table, so that one more can come."""
-    last = [it[0] for it in _statements.tokens(schema)][-1:]
-    return schema if last in ([], [";"]) else schema.rstrip() + ";\n"
+    last = list(_statements.tokens(schema))[-1:]
+    ends = [it.end() for it in last if it[0] != ";"]
+    return f"{schema[: ends[0]]};{schema[ends[0] :]}" if ends else schema
 
 
 def written(folder: Folder, made_by: str, grid: tuple[str, tuple[str, ...]], layers: list[dict[str, Any]], schemas: list[str]) -> None:

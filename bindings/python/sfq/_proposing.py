@@ -1,9 +1,9 @@
 """Proposes a grid for what people didn't choose one for.
 
 The step is the finest of 1, 2 and 5 times a power of ten at which every coordinate is within 10,000,000 steps of the origin, but not
-finer than about a centimetre: 0.0000001 of a degree, or the power of ten of a length that is a centimetre or the next below. The
-origin is 0,0 where that takes the same step, else the middle of everything, to the nearest 100,000 steps. Where no reference system
-says the unit, coordinates within 180 and 90 either way are taken as degrees, and others as metres.
+finer than about a centimetre: 0.0000001 of a degree, 0.01 of a metre or a foot. The origin is 0,0 where that takes the same step, else
+the middle of everything to the nearest 100,000 steps. Where no reference system says the unit, coordinates within 180 and 90 either way
+are taken as degrees, and others as metres.
 """
 from __future__ import annotations
 
@@ -44,7 +44,10 @@ def joined(extents: Iterable[Optional[Extent]]) -> Optional[Extent]:
 
 
 def finest(metres: Optional[float], found: Optional[Extent]) -> Decimal:
-    """Returns the finest step that is proposed for a unit of so many metres, DEGREES, or None where no reference system says it."""
+    """Returns the finest step that is proposed for a unit of so many metres, DEGREES, or None where no reference system says it.
+
+    Of a length that is the power of ten that is a centimetre, or the next below.
+    """
     if metres is None:
         is_small = found is None or (-180 <= found.left and found.right <= 180 and -90 <= found.low and found.high <= 90)
         return DEGREE if is_small else METRE
