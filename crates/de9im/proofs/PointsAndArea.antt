@@ -105,8 +105,10 @@ area_is_covered a b n points area part positions = All-weaker (Contains (edges b
         ((covers_turned b a t).0 e (outside_none_covers b a e t (no_edges a points) own ends (off e)))
 
 -- so it is the label matrix
-pub points_give : (a b : Geometry) (n : Matrix) → kind a ≡ kinds.Point → HasSides b → IsValid a → IsValid b → Grows a b of_area n → All (CoversPosition a b n) (listed a) → n ≡ labelled_matrix a b
-points_give a b n points sides va vb grown positions = covering_is_whole a b (valid_rings_are_closed a va) (valid_rings_are_closed b vb) n
+pub points_give : (a b : Geometry) (n : Matrix) → kind a ≡ kinds.Point → HasSides b → IsValid a → IsValid b → Grows a b of_area n
+    → All (CoversPosition a b n) (listed a) → n ≡ labelled_matrix a b
+points_give a b n points sides va vb grown positions =
+    covering_is_whole a b (valid_rings_are_closed a va) (valid_rings_are_closed b vb) n
     (subst (All (Covers a b n)) (sym (no_edges a points)) (All-nil (Covers a b n)))
     (area_is_covered a b n points sides.is_area grown.grown positions)
     positions
@@ -115,7 +117,8 @@ points_give a b n points sides va vb grown positions = covering_is_whole a b (va
     (grown.sound va vb (area_is_there a b points sides va vb))
 
 -- of one position it follows from where that lies
-pub one_gives : (a b : Geometry) (p : Position) (l : Location) (n : Matrix) → kind a ≡ kinds.Point → HasSides b → IsValid a → IsValid b → listed a ≡ p ∷ [] → l ≡ locate b (point_at p) → n ≡ raised of_area Interior l Zero → n ≡ labelled_matrix a b
+pub one_gives : (a b : Geometry) (p : Position) (l : Location) (n : Matrix) → kind a ≡ kinds.Point → HasSides b → IsValid a → IsValid b
+    → listed a ≡ p ∷ [] → l ≡ locate b (point_at p) → n ≡ raised of_area Interior l Zero → n ≡ labelled_matrix a b
 one_gives a b p l n points sides va vb one there e = points_give a b n points sides va vb
     (position_grows a b p Interior l of_area n lies there e)
     (subst (All (CoversPosition a b n)) (sym one) (All-cons (CoversPosition a b n) p [] shown (All-nil (CoversPosition a b n))))
@@ -124,7 +127,8 @@ one_gives a b p l n points sides va vb one there e = points_give a b n points si
     lies = listed_is_interior a p (subst (λ (ps : List Position). Contains ps p) (sym one) (0, omega arith, refl))
 
     shown : CoversPosition a b n p
-    shown = position_shown a b p Interior n lies (subst (λ (k : Location). Shows n Interior k Zero) there ((raised_one of_area n Interior l Zero e).shows))
+    shown = position_shown a b p Interior n lies
+        (subst (λ (k : Location). Shows n Interior k Zero) there ((raised_one of_area n Interior l Zero e).shows))
 
 -- and turned, that of the geometries the other way round
 pub turned_gives : (a b : Geometry) (m n : Matrix) → m ≡ labelled_matrix b a → n ≡ transposed m → n ≡ labelled_matrix a b
