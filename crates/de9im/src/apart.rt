@@ -27,6 +27,9 @@ use rtree::{Envelope, Enveloped};
 use side_labels::crossings;
 use validity::Valid;
 
+/// A geometry with this many times as many edges as another isn't walked along for the other's sake.
+const MANY_TIMES: usize = 8;
+
 /// Whether no edge of the first geometry shares a point with an edge of the second (06-103r4, 6.1.15: intersection of point sets).
 /// It stops at the first point that is shared, and takes no memory.
 pub(crate) fn are_apart(first: &Valid, second: &Valid) -> bool
@@ -120,6 +123,17 @@ fn left_beside(
     }
 }
 
+/// The envelope of the second geometry, unless it has many times as many edges as the first: a walk along these would take longer
+/// than what passing over edges saves.
+fn envelope_if_small(first: &Valid, second: &Valid) -> Option<Envelope>
+    ensures { IfSome result (λ e. envelope second.now ≡ Some e) }
+{
+    if first.segments().len() < second.segments().len() / MANY_TIMES {
+        return None;
+    }
+    second.envelope()
+}
+
 /// Raises cells by the edges of the first geometry, from the last one back, until no further one can raise a cell.
 fn raise_edges_apart(first: &Valid, second: &Valid, matrix: &mut MatrixCells)
     requires valid { IsValid second.now }
@@ -129,7 +143,7 @@ fn raise_edges_apart(first: &Valid, second: &Valid, matrix: &mut MatrixCells)
     ensures grows { Grows first.now second.now matrix.old matrix.new }
     ensures covers { All (Covers first.now second.now matrix.new) (edges first.now) }
 {
-    let around = second.envelope();
+    let around = envelope_if_small(first, second);
     let mut known = None;
     let mut left = first.segments().len();
     while left > 0 {
