@@ -68,6 +68,7 @@ MEASURES = (
     Measure("frames.py", TIMES, ("library",)),
     Measure("javascript.py", TIMES, ("library", "package")),
     Measure("relate.py --repeats 2", TIMES, ("gauge",)),
+    Measure("peer_benchmarks.py", TIMES, ("library",)),
     Measure("windows.py --repeats 5", TIMES, ("sfq",)),
     Measure("joins.py --repeats 4", TIMES, ("sfq",)),
     Measure("joins.py --sqlite --repeats 3", TIMES, ("sfq", "library")),
