@@ -167,7 +167,8 @@ class Parts(WithGeos):
             self.assertEqual((layer["parted"]["put_in"], layer["left_out"]), (0, 0))
             wanted = given if name == "MultiPoint" else [[tuple(sorted((a, b))) for a, b in zip(it, it[1:])] for it in ([walk] if name == "LineString" else given)]
             found = [_texts.coordinates(it) for it in self.column(folder)]
-            self.assertTrue(all(kind == ("MultiPoint" if name == "MultiPoint" else kind) for kind, _ in found))
+            self.assertEqual({kind for kind, _ in found}, {name})
+            self.assertGreater(len(found), 1)
             if name == "MultiPoint":
                 self.assertEqual(sorted([x + 5_000, y + 5_000] for _, each in found for x, y in each), sorted(wanted))
                 continue
