@@ -2,14 +2,16 @@
 use Rattle.std.proofs.Common.{◌≡◌, ◌≢◌, ◌⊎◌, inl, inr, refl, sym, ap, ◌∙◌, Bool, true, false, not, ◌&&◌, if◌then◌else◌}
 use Rattle.std.proofs.Common.{Some, List, [], ◌∷◌, codes}
 use Rattle.std.specs.List.{Contains, list_any}
-use Rattle.geometry_model.specs.Dimensions.{HasDimension, IsMatrix, Matrix, cell, common}
+use Rattle.std.proofs.lemmas.Bool.{false≢true}
+use Rattle.geometry_model.specs.Dimensions.{HasDimension, IsMatrix, Matrix, cell, common, transposed}
+use Rattle.geometry_model.specs.Envelopes.{envelope, meets}
 use Rattle.geometry_model.specs.FirstFaults.{share_point}
 use Rattle.geometry_model.specs.Geometries.{Edge, Geometry, edges, joined_rings, kind}
 use Rattle.geometry_model.specs.Labels.{labelled_matrix}
 use Rattle.geometry_model.specs.Locations.{in_lines, in_rings, is_odd_end, locate, on_some}
 use Rattle.geometry_model.specs.Patterns.{takes}
 use Rattle.geometry_model.specs.Points.{Position, Point, IsPoint, point_at}
-use Rattle.geometry_model.specs.Predicates.{holds, like}
+use Rattle.geometry_model.specs.Predicates.{forces_meeting, holds, like}
 use Rattle.geometry_model.specs.Sides.{on}
 use Rattle.geometry_model.specs.Validity.{IsValid}
 use Rattle.geometry_model.specs.declared.point_sets.Dimension.{Dimension}
@@ -20,14 +22,16 @@ use Rattle.geometry_model.specs.declared.relations.PatternCharacter.TheVariants 
 use Rattle.geometry_model.specs.declared.relations.Predicate.{Predicate}
 use Rattle.geometry_model.specs.declared.relations.Predicate.TheVariants as predicates
 use Rattle.geometry_model.specs.declared.shapes.Kind.TheVariants as kinds
+use Rattle.geometry_model.proofs.DimensionFacts.{is_false}
 use Rattle.geometry_laws.proofs.Cuts.{contains_of_among}
 use Rattle.geometry_laws.proofs.Each.{some_passed}
 use Rattle.geometry_laws.proofs.RingParity.{position_is_point}
 use Rattle.geometry_laws.proofs.SharedPoints.{shared_point_is_decided}
 use Rattle.matrix_laws.proofs.Matrices.{labels_give_matrix}
+use Rattle.matrix_laws.proofs.MeetingFacts.{predicate_forces_meeting}
 use Rattle.matrix_laws.proofs.Shared.{start_on}
 use Rattle.edge_boxes.specs.RingEdges.{edges_share}
-use Rattle.de9im.specs.Deciding.{GeometriesShare, IsDecided, where_shared}
+use Rattle.de9im.specs.Deciding.{GeometriesShare, HasPointOutside, IsDecided, where_shared}
 use Rattle.de9im.proofs.EdgePoints.{no_edges, own_point}
 
 -- ---- a point on an edge of a geometry isn't in its exterior
@@ -68,7 +72,8 @@ on_edges_of_both a b share =
     }
 
 -- so is the start of an edge that isn't in the other's exterior
-pub start_is_shared : (a b : Geometry) (e : Edge) → Contains (edges a) e → locate b (point_at e.start) ≢ Exterior → GeometriesShare a b
+pub start_is_shared : (a b : Geometry) (e : Edge) → Contains (edges a) e → locate b (point_at e.start) ≢ Exterior
+    → GeometriesShare a b
 start_is_shared a b e own other = record {
   point = point_at e.start;
   is_point = position_is_point e.start;
@@ -79,6 +84,16 @@ start_is_shared a b e own other = record {
 -- and it is shared the other way round
 pub shared_turned : (a b : Geometry) → GeometriesShare a b → GeometriesShare b a
 shared_turned a b s = record { point = s.point; is_point = s.is_point; in_one = s.in_other; in_other = s.in_one }
+
+-- and the start of an edge in the other's exterior is in that alone
+pub start_is_outside : (a b : Geometry) (e : Edge) → Contains (edges a) e → locate b (point_at e.start) ≡ Exterior
+    → HasPointOutside a b
+start_is_outside a b e own other = record {
+  point = point_at e.start;
+  is_point = position_is_point e.start;
+  in_one = on_own_edge a e (point_at e.start) own (start_on e) (position_is_point e.start);
+  outside = other;
+}
 
 -- ---- two geometries that share a point aren't disjoint
 -- whether a cell is F
@@ -175,3 +190,102 @@ known_where_shared p a b answer known va vb shared =
     go predicates.Contains answer known fails = absurd cc
     go predicates.Overlaps answer known fails = absurd cc
     go (predicates.Relate pattern) answer known fails = absurd cc
+
+-- ---- one with a point in the other's exterior alone
+-- the cells of the first geometry's parts with that exterior aren't both F
+leaves : (a b : Geometry) (m : Matrix) → IsMatrix a b m → HasPointOutside a b
+    → (is_empty m.interior_exterior && is_empty m.boundary_exterior) ≡ false
+leaves a b m is out = go (locate a out.point) refl out.in_one
+  where
+    second : (c : Bool) → (c && false) ≡ false
+    second true = refl
+    second false = refl
+
+    go : (l : Location) → locate a out.point ≡ l → l ≢ Exterior → (is_empty m.interior_exterior && is_empty m.boundary_exterior)
+        ≡ false
+    go Interior e n = rw (shown a b Interior Exterior m.interior_exterior out.point out.is_point e out.outside
+        (is Interior Exterior)) refl
+    go Boundary e n = rw (shown a b Boundary Exterior m.boundary_exterior out.point out.is_point e out.outside
+        (is Boundary Exterior))
+        (second (is_empty m.interior_exterior))
+    go Exterior e n = absurd (n refl)
+
+-- nor are those of the second one's parts with the first one's exterior
+leaves_turned : (a b : Geometry) (m : Matrix) → IsMatrix a b m → HasPointOutside b a
+    → (is_empty m.exterior_interior && is_empty m.exterior_boundary) ≡ false
+leaves_turned a b m is out = go (locate b out.point) refl out.in_one
+  where
+    second : (c : Bool) → (c && false) ≡ false
+    second true = refl
+    second false = refl
+
+    go : (l : Location) → locate b out.point ≡ l → l ≢ Exterior → (is_empty m.exterior_interior && is_empty m.exterior_boundary)
+        ≡ false
+    go Interior e n = rw (shown a b Exterior Interior m.exterior_interior out.point out.is_point out.outside e
+        (is Exterior Interior)) refl
+    go Boundary e n = rw (shown a b Exterior Boundary m.exterior_boundary out.point out.is_point out.outside e
+        (is Exterior Boundary))
+        (second (is_empty m.exterior_interior))
+    go Exterior e n = absurd (n refl)
+
+-- so the pattern of Within doesn't match, nor does that of Equals
+not_within : (m : Matrix) → (is_empty m.interior_exterior && is_empty m.boundary_exterior) ≡ false → like (codes "T*F**F***") m
+    ≡ false
+not_within m = go (takes characters.True m.interior_interior) (is_empty m.interior_exterior) (is_empty m.boundary_exterior)
+  where
+    go : (a c f : Bool) → (c && f) ≡ false → (a && true && c && true && true && f && true && true && true) ≡ false
+    go false c f e = refl
+    go true false f e = refl
+    go true true false e = refl
+    go true true true e = absurd cc
+
+not_equal : (m : Matrix) → (is_empty m.interior_exterior && is_empty m.boundary_exterior) ≡ false → like (codes "**F**FFF*") m ≡
+    false
+not_equal m = go (is_empty m.interior_exterior) (is_empty m.boundary_exterior) (is_empty m.exterior_interior)
+    (is_empty m.exterior_boundary)
+  where
+    go : (c f g h : Bool) → (c && f) ≡ false → (true && true && c && true && true && f && g && h && true) ≡ false
+    go false f g h e = refl
+    go true false g h e = refl
+    go true true g h e = absurd cc
+
+not_equal_turned : (m : Matrix) → (is_empty m.exterior_interior && is_empty m.exterior_boundary) ≡ false
+    → like (codes "**F**FFF*") m ≡ false
+not_equal_turned m = go (is_empty m.interior_exterior) (is_empty m.boundary_exterior) (is_empty m.exterior_interior)
+    (is_empty m.exterior_boundary)
+  where
+    go : (c f g h : Bool) → (g && h) ≡ false → (true && true && c && true && true && f && g && h && true) ≡ false
+    go false f g h e = refl
+    go true false g h e = refl
+    go true true false h e = refl
+    go true true true false e = refl
+    go true true true true e = absurd cc
+
+-- the predicate doesn't hold of the label matrix, which is theirs
+fails : (p : Predicate) (a b : Geometry) → IsValid a → IsValid b → holds p (kind a) (kind b) (labelled_matrix a b) ≡ false
+    → IsDecided p a b false
+fails p a b va vb h = record { matrix = labelled_matrix a b; is_matrix = labels_give_matrix a b va vb; exact = sym h }
+
+pub not_within_where_outside : (a b : Geometry) → IsValid a → IsValid b → HasPointOutside a b → IsDecided predicates.Within a b
+    false
+not_within_where_outside a b va vb out = fails predicates.Within a b va vb
+    (not_within (labelled_matrix a b) (leaves a b (labelled_matrix a b) (labels_give_matrix a b va vb) out))
+
+pub not_containing_where_outside : (a b : Geometry) → IsValid a → IsValid b → HasPointOutside b a
+    → IsDecided predicates.Contains a b false
+not_containing_where_outside a b va vb out = fails predicates.Contains a b va vb
+    (not_within (transposed (labelled_matrix a b)) (leaves_turned a b (labelled_matrix a b) (labels_give_matrix a b va vb) out))
+
+pub not_equal_where_outside : (a b : Geometry) → IsValid a → IsValid b → HasPointOutside a b ⊎ HasPointOutside b a
+    → IsDecided predicates.Equals a b false
+not_equal_where_outside a b va vb (inl out) = fails predicates.Equals a b va vb
+    (not_equal (labelled_matrix a b) (leaves a b (labelled_matrix a b) (labels_give_matrix a b va vb) out))
+not_equal_where_outside a b va vb (inr out) = fails predicates.Equals a b va vb
+    (not_equal_turned (labelled_matrix a b) (leaves_turned a b (labelled_matrix a b) (labels_give_matrix a b va vb) out))
+
+-- ---- where envelopes don't meet
+pub fails_where_far : (p : Predicate) (a b : Geometry) → forces_meeting p ≡ true → IsValid a → IsValid b
+    → meets (envelope a) (envelope b) ≡ false → IsDecided p a b false
+fails_where_far p a b forces va vb far = fails p a b va vb (is_false (holds p (kind a) (kind b) (labelled_matrix a b))
+    (λ h. false≢true (sym far ∙ predicate_forces_meeting p a b (labelled_matrix a b) forces va vb (labels_give_matrix a b va vb)
+    h)))

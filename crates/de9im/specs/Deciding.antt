@@ -22,6 +22,13 @@ pub record GeometriesShare (one other : Geometry) : Type 0 where
   pub in_one : locate one point ≢ Exterior
   pub in_other : locate other point ≢ Exterior
 
+-- a point is in the exterior of the second alone (06-103r4, 6.1.15.2)
+pub record HasPointOutside (one other : Geometry) : Type 0 where
+  pub point : Point
+  pub is_point : IsPoint point
+  pub in_one : locate one point ≢ Exterior
+  pub outside : locate other point ≡ Exterior
+
 -- whether the predicate holds of every two geometries that share a point; absent where that depends on the parts which share it
 abbrev pub where_shared : Predicate → Option Bool
 where_shared predicates.Equals = None

@@ -1,19 +1,23 @@
-//! Whether a predicate holds of two geometries. Intersects and Disjoint are known at the first point that edges of both share.
+//! Whether a predicate holds of two geometries. Intersects and Disjoint are known at the first point that both are found to share,
+//! Within, Contains and Equals at a position of one in the other's exterior.
 
-ghost use Rattle.std.specs.Prelude.{◌≡◌, ◌≢◌, IfOk, OnOk, OnErr, Some, Contains, true};
+ghost use Rattle.std.specs.Prelude.{◌≡◌, ◌≢◌, IfOk, OnOk, OnErr, IfSome, Some, Contains, true, false};
 ghost use Rattle.basics.specs.Counts.{one_more};
 ghost use Rattle.geometry_model.specs.Dimensions.{IsMatrix};
+ghost use Rattle.geometry_model.specs.Envelopes.{envelope, meets};
 ghost use Rattle.geometry_model.specs.Geometries.{edges};
 ghost use Rattle.geometry_model.specs.declared.point_sets.Location.TheVariants.{Exterior};
-ghost use Rattle.de9im.specs.Deciding.{GeometriesShare, IsDecided, where_shared};
+ghost use Rattle.de9im.specs.Deciding.{GeometriesShare, HasPointOutside, IsDecided, where_shared};
 
 use crate::apart::{are_apart, find_apart};
+use crate::meeting::SpatialPredicate;
 use crate::predicate::holds_by_cells;
 use crate::work::Work;
 use crate::{MatrixCells, find_matrix};
 use fraction::RatPoint;
 use geometry_model::{Kind, Location, Predicate};
 use orient::Segment;
+use rtree::{Enveloped, meets};
 use side_labels::locate;
 use std::alloc::{AllocError, Global};
 use validity::Valid;
@@ -86,6 +90,90 @@ fn decide_by_edges(predicate: Predicate, shared: bool, first: &Valid, second: &V
     shared
 }
 
+/// Of two geometries with at most this many edges each the envelopes are looked at.
+const FEW: usize = 16;
+
+/// How many positions of a geometry are tried.
+const TRIED: usize = 8;
+
+/// Whether two small geometries have envelopes that don't meet. If it returns false, that may be so as well.
+fn are_far(first: &Valid, second: &Valid) -> bool
+    ensures { result ≡ true → meets (envelope first.now) (envelope second.now) ≡ false }
+{
+    let is_small = first.segments().len() <= FEW && second.segments().len() <= FEW;
+    is_small && !meets(first.envelope(), second.envelope())
+}
+
+/// Whether a part is the exterior.
+fn is_exterior(part: Location) -> bool
+    ensures { result ≡ true → part ≡ Exterior }
+{
+    part == Location::Exterior
+}
+
+/// Whether the start of an edge of the first geometry is in the second one's exterior.
+fn starts_outside(first: &Valid, edge: &Segment, second: &Valid) -> bool
+    requires { Contains (edges first.now) edge.now }
+    ensures { result ≡ true → HasPointOutside first.now second.now }
+{
+    is_exterior(locate(second, &RatPoint::of_grid(edge.start())))
+}
+
+/// Whether one of a few positions of the first geometry's edges is in the second one's exterior. If it returns false, others may be.
+pub fn has_position_outside(first: &Valid, second: &Valid) -> bool
+    ensures { result ≡ true → HasPointOutside first.now second.now }
+{
+    let edges = first.segments();
+    let step = edges.len() / TRIED + 1;
+    let mut at = 0;
+    while at < edges.len() {
+        if starts_outside(first, &edges[at], second) {
+            return true;
+        }
+        at = at.saturating_add(step);
+    }
+    false
+}
+
+/// Whether a few positions show that a predicate doesn't hold of two geometries. If it returns false, it may not hold either.
+fn is_refuted(predicate: Predicate, first: &Valid, second: &Valid) -> bool
+    ensures { result ≡ true → IsDecided predicate first.now second.now false }
+{
+    let _first = first.geometry();
+    let _second = second.geometry();
+    match predicate {
+        Predicate::Within => has_position_outside(first, second),
+        Predicate::Contains => has_position_outside(second, first),
+        Predicate::Equals => {
+            has_position_outside(first, second) || has_position_outside(second, first)
+        }
+        Predicate::Disjoint
+        | Predicate::Intersects
+        | Predicate::Touches
+        | Predicate::Crosses
+        | Predicate::Overlaps
+        | Predicate::Relate(_) => false,
+    }
+}
+
+/// Whether a predicate holds of two lines or areas, if that is known without their matrix.
+fn answer_at_once(predicate: Predicate, first: &Valid, second: &Valid) -> Option<bool>
+    ensures { IfSome result (IsDecided predicate first.now second.now) }
+{
+    let _first = first.geometry();
+    let _second = second.geometry();
+    if predicate.forces_meeting() && are_far(first, second) {
+        return Some(false);
+    }
+    if let Some(shared) = where_shared(predicate) {
+        return Some(decide_by_edges(predicate, shared, first, second));
+    }
+    if is_refuted(predicate, first, second) {
+        return Some(false);
+    }
+    None
+}
+
 /// Whether a predicate holds of two geometries. It fails only when memory runs out.
 fn answer(
     alloc: Global,
@@ -96,8 +184,8 @@ fn answer(
     ensures { IfOk result (IsDecided predicate first.now second.now) }
 {
     if first.kind() != Kind::Point && second.kind() != Kind::Point {
-        if let Some(shared) = where_shared(predicate) {
-            return Ok(decide_by_edges(predicate, shared, first, second));
+        if let Some(known) = answer_at_once(predicate, first, second) {
+            return Ok(known);
         }
     }
     let cells = find_matrix(alloc, first, second)?;
