@@ -97,7 +97,7 @@ start_is_outside a b e own other = record {
 
 -- ---- two geometries that share a point aren't disjoint
 -- whether a cell is F
-abbrev is_empty : Dimension → Bool
+abbrev pub is_empty : Dimension → Bool
 is_empty d = takes characters.False d
 
 -- a cell whose parts share a point isn't
@@ -193,7 +193,7 @@ known_where_shared p a b answer known va vb shared =
 
 -- ---- one with a point in the other's exterior alone
 -- the cells of the first geometry's parts with that exterior aren't both F
-leaves : (a b : Geometry) (m : Matrix) → IsMatrix a b m → HasPointOutside a b
+pub leaves : (a b : Geometry) (m : Matrix) → IsMatrix a b m → HasPointOutside a b
     → (is_empty m.interior_exterior && is_empty m.boundary_exterior) ≡ false
 leaves a b m is out = go (locate a out.point) refl out.in_one
   where
@@ -211,7 +211,7 @@ leaves a b m is out = go (locate a out.point) refl out.in_one
     go Exterior e n = absurd (n refl)
 
 -- nor are those of the second one's parts with the first one's exterior
-leaves_turned : (a b : Geometry) (m : Matrix) → IsMatrix a b m → HasPointOutside b a
+pub leaves_turned : (a b : Geometry) (m : Matrix) → IsMatrix a b m → HasPointOutside b a
     → (is_empty m.exterior_interior && is_empty m.exterior_boundary) ≡ false
 leaves_turned a b m is out = go (locate b out.point) refl out.in_one
   where

@@ -23,7 +23,7 @@ mod relating;
 mod text;
 mod work;
 
-pub use deciding::decide;
+pub use deciding::{decide, has_position_outside};
 pub use geometry_model::{Dimension, Kind, Location, Pattern, PatternCharacter, Predicate};
 pub use labelled::matrix_of_labels;
 pub use matrix::Matrix;
