@@ -8,3 +8,4 @@ pub mod BoxWords
 pub mod ValidParts
 pub mod IndexParts
 pub mod BoundsFacts
+pub mod CoverFacts

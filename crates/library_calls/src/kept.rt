@@ -13,7 +13,7 @@ ghost use Rattle.library_calls.specs.Relations.{relation_of};
 ghost use Rattle.streams.specs.MemorySinks.{memory_bytes};
 
 use crate::patterns::pattern_in;
-use crate::relations::{Relation, holds, relation_of};
+use crate::relations::{Relation, holds, is_refuted, predicate_of, relation_of};
 use crate::texts::matrix_of;
 use de9im::{MatrixPattern, Work, decide};
 use fraction::{GridPoint, RatPoint};
@@ -74,26 +74,14 @@ fn find_relation(
     requires { relation_of number ≡ Some relation }
     ensures { IfOk result (HasRelation number first.now second.now) }
 {
-    match relation {
-        Relation::Disjoint => decided(alloc, Predicate::Disjoint, first, second),
-        Relation::Intersects => decided(alloc, Predicate::Intersects, first, second),
-        _ => {
-            let found = matrix_of(alloc, first, second)?;
-            Ok(holds(relation, first.kind(), second.kind(), &found))
-        }
+    if let Some(predicate) = predicate_of(relation) {
+        return decide(alloc, predicate, first, second, &mut Work::new());
     }
-}
-
-/// Whether a predicate holds of two geometries (06-103r4, 6.1.15.3). It fails only when memory runs out.
-fn decided(
-    alloc: Global,
-    predicate: Predicate,
-    first: &Valid,
-    second: &Valid,
-) -> Result<bool, AllocError>
-    ensures { IfOk result (IsDecided predicate first.now second.now) }
-{
-    decide(alloc, predicate, first, second, &mut Work::new())
+    if is_refuted(relation, first, second) {
+        return Ok(false);
+    }
+    let found = matrix_of(alloc, first, second)?;
+    Ok(holds(relation, first.kind(), second.kind(), &found))
 }
 
 /// Writes whether the matrix of two geometries matches a pattern of nine characters (06-103r4, 6.1.15.2); status 4 where the bytes

@@ -1,11 +1,15 @@
 //! The relations that are asked for by number.
 
-ghost use Rattle.std.specs.Prelude.{◌≡◌};
+ghost use Rattle.std.specs.Prelude.{◌≡◌, IfSome, Some, true, false, ℕ};
+ghost use Rattle.geometry_model.specs.Dimensions.{Matrix};
+ghost use Rattle.geometry_model.specs.declared.shapes.Kind.{Kind};
+ghost use Rattle.library_calls.specs.Kept.{HasRelation};
 ghost use Rattle.geometry_model.specs.Predicates as predicates;
 ghost use Rattle.library_calls.specs.Relations.{all_hold, contains_properly, covered_by, covers, relation_holds, relation_of};
 
-use de9im::{Matrix, MatrixPattern, PatternText, holds as predicate_holds};
+use de9im::{Matrix, MatrixPattern, PatternText, has_position_outside, holds as predicate_holds};
 use geometry_model::{Kind, Pattern, Predicate};
+use validity::Valid;
 
 /// A relation of two geometries that has a number: the eight named predicates (06-103r4, 6.1.15.3), and three that engines
 /// besides have (their patterns: this project's choice).
@@ -44,6 +48,39 @@ pub fn relation_of(number: u32) -> Option<Relation>
         9 => Some(Relation::CoveredBy),
         10 => Some(Relation::ContainsProperly),
         _ => None,
+    }
+}
+
+/// The named predicate that a relation is; none of the three that engines besides have.
+pub(crate) fn predicate_of(relation: Relation) -> Option<Predicate>
+    ensures { IfSome result (λ p. (k l : Kind) (m : Matrix) → relation_holds relation k l m ≡ predicates.holds p k l m) }
+{
+    match relation {
+        Relation::Equals => Some(Predicate::Equals),
+        Relation::Disjoint => Some(Predicate::Disjoint),
+        Relation::Intersects => Some(Predicate::Intersects),
+        Relation::Touches => Some(Predicate::Touches),
+        Relation::Crosses => Some(Predicate::Crosses),
+        Relation::Within => Some(Predicate::Within),
+        Relation::Contains => Some(Predicate::Contains),
+        Relation::Overlaps => Some(Predicate::Overlaps),
+        Relation::Covers | Relation::CoveredBy | Relation::ContainsProperly => None,
+    }
+}
+
+/// Whether a position of one geometry in the other's exterior shows that one of these three relations doesn't hold. If it returns
+/// false, the relation may not hold either.
+pub(crate) fn is_refuted(relation: Relation, first: &Valid, second: &Valid) -> bool
+    ensures { result ≡ true → (number : ℕ) → relation_of number ≡ Some relation
+        → HasRelation number first.now second.now false }
+{
+    let _first = first.geometry();
+    let _second = second.geometry();
+    match relation {
+        Relation::Covers => has_position_outside(second, first),
+        Relation::ContainsProperly => has_position_outside(second, first),
+        Relation::CoveredBy => has_position_outside(first, second),
+        _ => false,
     }
 }
 
