@@ -45,8 +45,9 @@ Of 3,411 rows, 0.25 or 12 are long.
 """
 # A program that writes the table of the first section anew, one that writes the second and then fails, one that lacks something.
 PROGRAM = """import sys
-sys.path.insert(0, {bench!r})
-import pathlib, timing
+import pathlib, site
+site.addsitedir({bench!r})
+import timing
 timing.README = pathlib.Path({readme!r})
 {body}
 """

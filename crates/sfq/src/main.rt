@@ -35,6 +35,8 @@ fn main(rt: HostRuntime) -> ExitCode {
         Ok(order) => asking(&rt, order),
         Err(misuse) => return ExitCode::from(failed_order(&rt, &misuse, &mut err)),
     };
+    // The order has its own copy of the query, whose text may be long.
+    drop(words);
     let buffer = match BufWriter::new(rt.alloc(), progress.before(rt.stdout())) {
         Ok(buffer) => buffer,
         Err(_) => return ExitCode::from(failed(&Failure::OutOfMemory, &mut err)),
