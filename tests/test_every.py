@@ -128,7 +128,7 @@ class Run(unittest.TestCase):
 
 class Figures(unittest.TestCase):
     def test_numbers(self):
-        text = "0.29 to 0.88, 14,550 of 3.11.1 on 2026-11-23; R2, 9-fold, 128 bits, 1,234.5. The 2.62."
+        text = "0.29 to 0.88, 14,550 of 3.11.1 on 2026-11-23; x86, 9-fold, 128 bits, 1,234.5. The 2.62."
         self.assertEqual(figures.NUMBER.findall(text), ["0.29", "0.88", "14,550", "128", "1,234.5", "2.62"])
 
     def test_a_tenth(self):
