@@ -15,6 +15,7 @@ pub mod SharedPoints
 pub mod Near
 pub mod Runs
 pub mod OverlappingBoxes
+pub mod BareEdges
 pub mod Beside
 pub mod NearRingFacts
 pub mod Rests

@@ -22,6 +22,7 @@ ghost use Rattle.edge_boxes.specs.RingEdges.{edges_share};
 ghost use Rattle.edge_boxes.specs.NearEdges.{is_near, EndsNear};
 ghost use Rattle.edge_boxes.specs.Walks.{IsStep};
 
+use crate::bare_edges::of_bare_edges;
 use crate::bounds::Bounds;
 use crate::building::boxes_over;
 use crate::cells::Cell;
@@ -68,7 +69,10 @@ impl EdgeBoxes {
         requires { BoxesOf self.now edges.now }
         ensures { AreCrossings result edges.now point.now }
     {
-        crossings_among(self.boxes.as_slice(), edges, point)
+        match point.position() {
+            Some(at) if self.boxes.is_empty() => of_bare_edges(edges, at),
+            _ => crossings_among(self.boxes.as_slice(), edges, point),
+        }
     }
 
     /// Whether a point lies on one of the edges (06-103r4, 6.1.7). It stops at the first box whose edges hold it.
@@ -210,6 +214,7 @@ fn is_held_among(boxes: &[EdgeBox], edges: &[Segment], point: &RatPoint) -> bool
 }
 
 /// How the point lies to the edges between the place before this one that is looked at next and this one.
+#[inline(always)]
 fn step(
     boxes: &[EdgeBox],
     edges: &[Segment],

@@ -3,6 +3,7 @@
 //! near another or an envelope, is found without a look at each edge. A list of boxes is built in one pass.
 #![tactic(auto)]
 
+mod bare_edges;
 mod bounds;
 pub mod box_laws;
 mod boxes;

@@ -146,7 +146,7 @@ fn of_edge(edge: &Segment, point: &RatPoint, cell: &Cell) -> Crossings
 }
 
 /// How a position of the grid lies relative to one edge. A side is as quick to compute as a look at the edge's bounds.
-fn of_edge_at(edge: &Segment, at: GridPoint) -> Crossings
+pub(crate) fn of_edge_at(edge: &Segment, at: GridPoint) -> Crossings
     ensures { AreCrossings result (edge.now ∷ []) (point_at at) }
 {
     of_crossing(crossing_at_position(edge, at))
