@@ -4,6 +4,7 @@ pub mod OddEnds
 pub mod GapCells
 pub mod EdgePoints
 pub mod CommonPoints
+pub mod FirstEdges
 pub mod Passes
 pub mod OffEdges
 pub mod ListedPositions

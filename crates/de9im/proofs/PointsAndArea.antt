@@ -1,5 +1,5 @@
 -- Points and an area: all edges are the area's, and lie in the points' exterior.
-use Rattle.std.proofs.Common.{◌≡◌, ◌≢◌, refl, sym, ap, ◌∙◌, subst, List, [], ◌∷◌, arith}
+use Rattle.std.proofs.Common.{◌≡◌, ◌≢◌, refl, sym, ap, ◌∙◌, subst, Bool, Option, Some, None, IfSome, List, [], ◌∷◌, arith}
 use Rattle.std.specs.List.{All, Contains}
 use Rattle.std.proofs.lemmas.List.Elements.{All-nil, All-cons, All-weaker, All-contains_itself}
 use Rattle.geometry_model.specs.Points.{Position, point_at}
@@ -7,6 +7,7 @@ use Rattle.geometry_model.specs.Geometries.{Edge, Geometry, kind, edges, listed}
 use Rattle.geometry_model.specs.Dimensions.{Matrix, transposed}
 use Rattle.geometry_model.specs.Labels.{labelled_matrix}
 use Rattle.geometry_model.specs.Locations.{locate}
+use Rattle.geometry_model.specs.Predicates.{holds}
 use Rattle.geometry_model.specs.Validity.{IsValid}
 use Rattle.geometry_model.specs.declared.shapes.Kind.{Kind}
 use Rattle.geometry_model.specs.declared.shapes.Kind.TheVariants as kinds
@@ -14,6 +15,7 @@ use Rattle.geometry_model.specs.declared.point_sets.Location.{Location}
 use Rattle.geometry_model.specs.declared.point_sets.Location.TheVariants.{Interior, Boundary, Exterior}
 use Rattle.geometry_model.specs.declared.point_sets.Dimension.{Dimension}
 use Rattle.geometry_model.specs.declared.point_sets.Dimension.TheVariants.{Zero, One, Two}
+use Rattle.geometry_model.specs.declared.relations.Predicate.{Predicate}
 use Rattle.matrix_laws.proofs.Closing.{valid_rings_are_closed}
 use Rattle.matrix_laws.proofs.Turned.{labelled_is_transposed}
 use Rattle.matrix_laws.specs.Cells.{Shows, raised, IsPartOf, IsSound, Covers, CoversPosition}
@@ -21,11 +23,12 @@ use Rattle.matrix_laws.proofs.Growing.{still_shown}
 use Rattle.matrix_laws.proofs.CellTheorems.{covering_is_whole, covers_turned}
 use Rattle.matrix_laws.specs.Gaps.{of_own_edges}
 use Rattle.matrix_laws.specs.Covering.{ShowsOff, ShowsEnds}
-use Rattle.de9im.specs.Raising.{Grows, HasSides, LiesIn, of_area}
+use Rattle.de9im.specs.Deciding.{IsDecided, LiesInPart}
+use Rattle.de9im.specs.Raising.{Grows, HasSides, LiesIn, beside_area, of_area}
 use Rattle.de9im.proofs.ApartEdges.{apart_is_there, none_is_apart, lies_outside_none, outside_none_covers}
 use Rattle.de9im.proofs.Growth.{raised_one}
 use Rattle.de9im.proofs.ListedPositions.{listed_is_interior, position_grows, position_shown}
-use Rattle.de9im.proofs.Passes.{turned_shows}
+use Rattle.de9im.proofs.Passes.{is_matrix, turned_shows}
 
 -- points have no edges, and areas list no positions
 no_edges : (g : Geometry) → kind g ≡ kinds.Point → edges g ≡ []
@@ -133,3 +136,23 @@ one_gives a b p l n points sides va vb one there e = points_give a b n points si
 -- and turned, that of the geometries the other way round
 pub turned_gives : (a b : Geometry) (m n : Matrix) → m ≡ labelled_matrix b a → n ≡ transposed m → n ≡ labelled_matrix a b
 turned_gives a b m n e t = t ∙ ap transposed e ∙ sym (labelled_is_transposed b a)
+
+-- ---- so a predicate holds of a point and an area, or of these turned, as of the matrix of the part in which the point lies
+pub decided_by_part : (p : Predicate) (a b : Geometry) (l : Location) (answer : Option Bool) → LiesInPart a b l
+    → IfSome answer (λ t. t ≡ holds p kinds.Point kinds.Area (beside_area l)) → IfSome answer (IsDecided p a b)
+decided_by_part p a b l None lies exact = tt
+decided_by_part p a b l (Some t) lies exact = record {
+  matrix = beside_area l;
+  is_matrix = is_matrix a b (beside_area l) lies.point_valid lies.area_valid lies.labelled;
+  exact = exact ∙ λ i. holds p (sym lies.is_point i) (sym lies.is_area i) (beside_area l);
+}
+
+pub decided_turned : (p : Predicate) (a b : Geometry) (l : Location) (answer : Option Bool) → LiesInPart b a l
+    → IfSome answer (λ t. t ≡ holds p kinds.Area kinds.Point (transposed (beside_area l))) → IfSome answer (IsDecided p a b)
+decided_turned p a b l None lies exact = tt
+decided_turned p a b l (Some t) lies exact = record {
+  matrix = transposed (beside_area l);
+  is_matrix = is_matrix a b (transposed (beside_area l)) lies.area_valid lies.point_valid
+      (turned_gives a b (beside_area l) (transposed (beside_area l)) lies.labelled refl);
+  exact = exact ∙ λ i. holds p (sym lies.is_area i) (sym lies.is_point i) (transposed (beside_area l));
+}

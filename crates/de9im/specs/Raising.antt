@@ -69,6 +69,10 @@ pub record HasSides (g : Geometry) : Type 0 where
 abbrev pub of_area : Matrix
 of_area = record of_exteriors { exterior_interior = Two; exterior_boundary = One }
 
+-- the matrix of a point and an area, by the part of the area in which the point lies (06-103r4, 6.1.15.2)
+abbrev pub beside_area : Location → Matrix
+beside_area part = raised of_area Interior part Zero
+
 -- the point is on edges of both geometries
 pub record IsOnBoth (a b : Geometry) (p : Point) : Type 0 where
   pub is_point : IsPoint p

@@ -1,16 +1,17 @@
 //! Whether a predicate holds of two geometries. Intersects and Disjoint are known at the first point that both are found to share,
-//! Within, Contains and Equals at a position of one in the other's exterior.
+//! Within, Contains and Equals at a position of one in the other's exterior, and of a point and an area each by where the point lies.
 
-ghost use Rattle.std.specs.Prelude.{◌≡◌, ◌≢◌, IfOk, OnOk, OnErr, IfSome, Some, Contains, true, false};
+ghost use Rattle.std.specs.Prelude.{◌≡◌, ◌≢◌, ◌↔◌, All, IfOk, IsTrue, OnOk, OnErr, IfSome, Some, Contains, take, true, false};
 ghost use Rattle.basics.specs.Counts.{one_more};
 ghost use Rattle.geometry_model.specs.Dimensions.{IsMatrix};
 ghost use Rattle.geometry_model.specs.Envelopes.{envelope, meets};
 ghost use Rattle.geometry_model.specs.Geometries.{edges};
 ghost use Rattle.geometry_model.specs.declared.point_sets.Location.TheVariants.{Exterior};
-ghost use Rattle.de9im.specs.Deciding.{GeometriesShare, HasPointOutside, IsDecided, where_shared};
+ghost use Rattle.de9im.specs.Deciding.{GeometriesShare, HasPointOutside, IsDecided, StartsInside, where_shared};
 
 use crate::apart::{are_apart, find_apart};
 use crate::meeting::SpatialPredicate;
+use crate::point_and_area::decide_by_part;
 use crate::predicate::holds_by_cells;
 use crate::work::Work;
 use crate::{MatrixCells, find_matrix};
@@ -106,7 +107,7 @@ fn are_far(first: &Valid, second: &Valid) -> bool
 
 /// Whether a part is the exterior.
 fn is_exterior(part: Location) -> bool
-    ensures { result ≡ true → part ≡ Exterior }
+    ensures { IsTrue result ↔ (part ≡ Exterior) }
 {
     part == Location::Exterior
 }
@@ -114,14 +115,17 @@ fn is_exterior(part: Location) -> bool
 /// Whether the start of an edge of the first geometry is in the second one's exterior.
 fn starts_outside(first: &Valid, edge: &Segment, second: &Valid) -> bool
     requires { Contains (edges first.now) edge.now }
-    ensures { result ≡ true → HasPointOutside first.now second.now }
+    ensures outside { result ≡ true → HasPointOutside first.now second.now }
+    ensures inside { result ≡ false → StartsInside second.now edge.now }
 {
     is_exterior(locate(second, &RatPoint::of_grid(edge.start())))
 }
 
-/// Whether one of a few positions of the first geometry's edges is in the second one's exterior. If it returns false, others may be.
+/// Whether one of a few positions of the first geometry's edges is in the second one's exterior (06-103r4, 6.1.15.2). If it returns
+/// false, the first edge doesn't start there; others may.
 pub fn has_position_outside(first: &Valid, second: &Valid) -> bool
-    ensures { result ≡ true → HasPointOutside first.now second.now }
+    ensures outside { result ≡ true → HasPointOutside first.now second.now }
+    ensures inside { result ≡ false → All (StartsInside second.now) (take 1 (edges first.now)) }
 {
     let edges = first.segments();
     let step = edges.len() / TRIED + 1;
@@ -183,10 +187,12 @@ fn answer(
 ) -> Result<bool, AllocError>
     ensures { IfOk result (IsDecided predicate first.now second.now) }
 {
-    if first.kind() != Kind::Point && second.kind() != Kind::Point {
-        if let Some(known) = answer_at_once(predicate, first, second) {
+    if first.kind() == Kind::Point || second.kind() == Kind::Point {
+        if let Some(known) = decide_by_part(predicate, first, second) {
             return Ok(known);
         }
+    } else if let Some(known) = answer_at_once(predicate, first, second) {
+        return Ok(known);
     }
     let cells = find_matrix(alloc, first, second)?;
     Ok(holds_by(predicate, first, second, &cells))

@@ -17,6 +17,7 @@ mod meeting;
 mod outside_edges;
 mod outside_positions;
 mod pattern;
+mod point_and_area;
 mod points_and_area;
 mod predicate;
 mod relating;

@@ -6,10 +6,8 @@ ghost use Rattle.geometry_model.specs.Geometries.{edges, kind, listed};
 ghost use Rattle.geometry_model.specs.Labels.{labelled_matrix};
 ghost use Rattle.geometry_model.specs.Validity.{IsValid};
 ghost use Rattle.geometry_model.specs.declared.shapes.Kind.TheVariants as kinds;
-ghost use Rattle.geometry_model.specs.declared.point_sets.Location.TheVariants.{Interior};
-ghost use Rattle.geometry_model.specs.declared.point_sets.Dimension.TheVariants.{Zero};
-ghost use Rattle.matrix_laws.specs.Cells.{CoversPosition, raised};
-ghost use Rattle.de9im.specs.Raising.{Grows, HasSides, of_area};
+ghost use Rattle.matrix_laws.specs.Cells.{CoversPosition};
+ghost use Rattle.de9im.specs.Raising.{Grows, HasSides, beside_area, of_area};
 
 use crate::MatrixCells;
 use crate::fullness::is_upright;
@@ -85,7 +83,7 @@ fn of_area() -> MatrixCells
 }
 
 /// The position of points that list one alone.
-fn only_position(points: &Valid) -> Option<GridPoint>
+pub(crate) fn only_position(points: &Valid) -> Option<GridPoint>
     ensures one { IfSome result (λ position. listed points.now ≡ position ∷ []) }
 {
     match points.geometry().listed() {
@@ -96,7 +94,7 @@ fn only_position(points: &Valid) -> Option<GridPoint>
 
 /// The cells of a point and an area: they follow from the part of the area in which the point lies (06-103r4, 6.1.15.2).
 fn beside_one(part: Location) -> MatrixCells
-    ensures { result ≡ raised of_area Interior part Zero }
+    ensures { result ≡ beside_area part }
 {
     match part {
         Location::Interior => MatrixCells {

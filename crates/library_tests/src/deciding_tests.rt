@@ -1,9 +1,11 @@
-//! Intersects and Disjoint of pairs of which it is known by hand whether they share a point.
+//! Intersects and Disjoint of pairs of which it is known by hand whether they share a point, and each predicate of a point and a
+//! square.
 
 use crate::shapes::valid;
 use de9im::{Predicate, Work, decide};
 use std::alloc::Global;
 use std::test::Fail;
+use validity::Valid;
 
 const SQUARE: &str = "POLYGON((0 0,9 0,9 9,0 9,0 0))";
 
@@ -44,6 +46,69 @@ fn are_decided(alloc: Global, pair: &(&str, &str, bool)) -> Result<bool, Fail> {
 fn pairs_that_share_a_point(rt: HostRuntime) -> Result<(), Fail> {
     for pair in &PAIRS {
         assert!(rt; are_decided(rt.alloc(), pair)?);
+    }
+    Ok(())
+}
+
+const PREDICATES: [Predicate; 8] = [
+    Predicate::Equals,
+    Predicate::Disjoint,
+    Predicate::Intersects,
+    Predicate::Touches,
+    Predicate::Crosses,
+    Predicate::Within,
+    Predicate::Contains,
+    Predicate::Overlaps,
+];
+
+/// A point, and two predicates that alone hold of it and the square, and of the square and it.
+const POINTS: [(&str, [Predicate; 2], [Predicate; 2]); 4] = [
+    (
+        "POINT(4 4)",
+        [Predicate::Intersects, Predicate::Within],
+        [Predicate::Intersects, Predicate::Contains],
+    ),
+    (
+        "POINT(9 5)",
+        [Predicate::Intersects, Predicate::Touches],
+        [Predicate::Touches, Predicate::Intersects],
+    ),
+    (
+        "MULTIPOINT(0 0)",
+        [Predicate::Intersects, Predicate::Touches],
+        [Predicate::Touches, Predicate::Intersects],
+    ),
+    (
+        "POINT(10 5)",
+        [Predicate::Disjoint, Predicate::Disjoint],
+        [Predicate::Disjoint, Predicate::Disjoint],
+    ),
+];
+
+/// Whether of all predicates just these hold of two geometries, and each is counted once.
+fn hold_alone(
+    alloc: Global,
+    first: &Valid,
+    second: &Valid,
+    wanted: &[Predicate; 2],
+) -> Result<bool, Fail> {
+    let mut work = Work::new();
+    for predicate in &PREDICATES {
+        let holds = decide(alloc, *predicate, first, second, &mut work)?;
+        if holds != (*predicate == wanted[0] || *predicate == wanted[1]) {
+            return Ok(false);
+        }
+    }
+    Ok(work.count() == 8)
+}
+
+#[test]
+fn points_and_a_square(rt: HostRuntime) -> Result<(), Fail> {
+    let square = valid(rt.alloc(), SQUARE)?;
+    for (text, of_point, of_square) in &POINTS {
+        let point = valid(rt.alloc(), text)?;
+        assert!(rt; hold_alone(rt.alloc(), &point, &square, of_point)?);
+        assert!(rt; hold_alone(rt.alloc(), &square, &point, of_square)?);
     }
     Ok(())
 }
