@@ -72,7 +72,7 @@ MEASURES = (
     Measure("windows.py --repeats 5", TIMES, ("sfq",)),
     Measure("joins.py --repeats 4", TIMES, ("sfq",)),
     Measure("joins.py --sqlite --repeats 3", TIMES, ("sfq", "library")),
-    Measure("worst.py --seconds 5 --repeats 2 --jobs 4", TIMES, ("sfq",)),
+    Measure("worst.py --seconds 5 --repeats 3 --jobs 3", TIMES, ("sfq",)),
     Measure("worst.py --profile --seconds 120 --repeats 1", TIMES, ("sfq",)),
     Measure("pair_files.py", TIMES, ("sfq",)),
     Measure("stream.py --repeats 15", TIMES, ("sfq",)),
