@@ -50,7 +50,7 @@ class WithImports(engine_rows.WithLibrary):
     @classmethod
     def tearDownClass(cls):
         try:
-            # An unproved build would take too long over so many folders.
+            # The unproved program would take too long over so many folders.
             found = answers.ask([["check", f"{it}/schema.sql", it] for it in cls.made]) if repository.is_built() else []
             for folder, it in zip(cls.made, found):
                 if it.status:

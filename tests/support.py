@@ -23,20 +23,32 @@ HELP_CALLS = [
     ["rum"], ["relate", "POINT(1 1)"], ["relate", "--help"], ["fault", "-h"], ["-V"], ["fault", "v3"], ["fault", "L10"], ["fault", "V9"],
 ]
 
-# A stand-in for `rt`. It notes each call, and does what the file `behaviour` beside it says, a piece of Python.
+# A stand-in for `rt`. It notes each call, and does what the file `behaviour` in its folder says, a piece of Python.
 STAND_IN = """#!{python}
-import os, sys
-room = os.path.dirname(os.path.realpath(__file__))
+import os, subprocess, sys, tempfile
+room = "{room}"
 words = sys.argv[1:]
 with open(room + "/calls", "a") as calls:
     calls.write(repr((os.getcwd(), words)) + "\\n")
 data = dict(words[at + 1].split("=", 1) for at, it in enumerate(words) if it == "--data")
+def link():
+    # Has the linker of the kit in which this file is make a program, as `rt try` does.
+    linker = os.path.realpath(os.path.dirname(os.path.realpath(__file__)) + "/..") + "/toolchain/bin/ld.lld"
+    with tempfile.TemporaryDirectory() as folder:
+        subprocess.run([linker, "-o", "program"], cwd=folder, env=dict(), check=True)
 def finish(out, err, status):
     sys.stdout.write(out)
     sys.stderr.write(err)
     sys.stdout.flush()
     sys.exit(status)
 exec(open(room + "/behaviour").read())
+"""
+# What the stand-in does as `rt try` in a call that builds, and the end that it reports then.
+BUILDS = "link()\nfinish('sfq 9\\n', 'run=ended status=0 runners=1 proved=no\\n', 0)"
+# A stand-in for the program: it writes its words and its standard input, and ends with 5.
+PROGRAM = """#!/bin/sh
+[ "$1" != --version ] || { echo "sfq 9"; exit 0; }
+printf "%s|" "$@"; cat; echo >&2 an error; exit 5
 """
 
 
@@ -118,7 +130,10 @@ class Checkout:
             name = "main" if it.startswith("sfq") else "lib"
             write(f"{self.root}/crates/{it}/src/{name}.rt", f"//! {it}\n")
         self.behave("finish('', '', 0)")
-        write(f"{self.room}/bin/rt", STAND_IN.replace("{python}", sys.executable), stat.S_IRWXU)
+        stand_in = STAND_IN.replace("{python}", sys.executable).replace("{room}", f"{self.room}/bin")
+        write(f"{self.room}/bin/rt", stand_in, stat.S_IRWXU)
+        write(f"{self.room}/toolchain/bin/ld.lld", f"#!/bin/sh\ncp '{self.room}/bin/program' program\n", stat.S_IRWXU)
+        write(f"{self.room}/bin/program", PROGRAM, stat.S_IRWXU)
 
     def behave(self, text):
         """Sets what the stand-in does. `words` are its words, `data` the files that it is handed."""

@@ -8,7 +8,7 @@ import printed
 
 
 class ShownCalls(unittest.TestCase):
-    """Each call with its output, asked of the built program, or of one unproved build for them all."""
+    """Each call with its output, asked of the proved program, or else of the unproved one."""
 
     ASKS_PROGRAM = True
 
@@ -51,29 +51,8 @@ class HowCallsAreFound(unittest.TestCase):
         self.assertEqual([(it.words, it.text) for it in found], [(["relate", "A", "B"], "FF-\n"), (["--help"], None)])
 
 
-class ManyCallsOfOneBuild(unittest.TestCase):
-    """How what `rt try --cases` writes is taken apart."""
-
-    def test_split(self):
-        out = b"== 00000\na\n== x\n== 00001\n== 00002\nUsage: program y\n"
-        said = (
-            b"case=00000 run=ended status=0 runners=1 proved=no\n"
-            b"sfq: no\ncase=00001 run=ended status=5 runners=1 proved=no\n"
-            b"case=00002 run=ended status=0 runners=1 proved=no\n"
-            b"cases=3 ended=3 fault=0 differs=0 no-answer=0 proved=no\n"
-        )
-        found = answers.split([["relate"], ["relate"], ["--help"]], out, said)
-        wanted = [(b"a\n== x\n", b"", 0), (b"", b"sfq: no\n", 5), (b"Usage: sfq y\n", b"", 0)]
-        self.assertEqual([tuple(it) for it in found], wanted)
-
-    def test_a_case_without_an_answer(self):
-        for said in (b"case=00000 run=no-answer proved=no\n", b"run=none proved=no\n"):
-            with self.assertRaises(answers.NoAnswers):
-                answers.split([["relate"]], b"", said)
-
-
 class ProvedAndUnproved(unittest.TestCase):
-    """The proved program and an unproved build write the same bytes and end with the same status."""
+    """The proved program and the unproved one write the same bytes and end with the same status."""
 
     ASKS_PROGRAM, IS_LONG, IN_GATE = True, True, True
 
@@ -82,7 +61,7 @@ class ProvedAndUnproved(unittest.TestCase):
         with tempfile.TemporaryDirectory(prefix="sfq-documents-") as room:
             calls = [it.words for it in printed.everything(room)]
             calls += [*support.HELP_CALLS, ["run"], ["relate", "a", "b", "c"], ["relate", "--", "-1", "b"], ["check", "nothing.sql", "nowhere"]]
-            proved, unproved = answers.by_program(calls), answers.by_one_try(calls)
+            proved, unproved = answers.by_program(calls), answers.by_unproved(calls)
         for words, one, other in zip(calls, proved, unproved):
             with self.subTest(call=words):
                 self.assertEqual(one, other)

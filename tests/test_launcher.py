@@ -1,147 +1,167 @@
-"""./sfq: what it hands in to an unproved build, what it passes on, and when the proved program is run."""
+"""./sfq: how it builds, keeps and runs a program that isn't proved, and when it runs the proved one."""
 import os
-import pty
+import signal
 import subprocess
 import time
+import unittest
 
-from support import WithCheckout, read, write
+from support import BUILDS, PROGRAM, WithCheckout, read, write
 
-NOTICE = (
-    b"sfq: answered by an unproved build with run-time checks, made anew for each call; "
-    b"./build proves and keeps the program\n"
-)
-
-
-def ended(status):
-    return f"checked: ended status={status}\\nrun=ended status={status} runners=1 proved=no\\n"
+NOTICE = b"sfq: not the proved program, which ./build makes\n"
+BUILDING = b"sfq: building the program without proof, once, which takes one to two minutes; ./build makes the proved one\n"
 
 
-class AnswersUnproved(WithCheckout):
+class Unproved(WithCheckout):
     """Calls where ./build hasn't made the program."""
 
     def setUp(self):
         super().setUp()
-        self.folder = f"{self.checkout.room}/a town"
-        write(f"{self.folder}/schema.sql", "CREATE TABLE t (id INTEGER PRIMARY KEY); -- not u_v")
-        write(f"{self.folder}/tables/t.csv", "id\n7\n")
-        write(f"{self.folder}/tables/other.csv", "id\n")
+        self.checkout.behave(BUILDS)
+        self.kept = f"{self.checkout.root}/out/unproved"
 
-    def answer(self, out, err, status, words, **how):
-        """Has the unproved build write this, and returns the call's result."""
-        self.checkout.behave(f"finish({out!r}, {err!r} + '{ended(status)}', {status})")
-        return self.checkout.run(["sfq", *words], **how)
+    def call(self, *words, **how):
+        return self.checkout.run(["sfq", *(words or ("a", "b"))], **how)
 
-    def test_passes_on_output_and_status(self):
-        for status in (0, 2, 3, 4, 5, 6, 7):
-            ran = self.answer("id\n7\n", "sfq: a line\n", status, ["relate", "a", "b"])
-            self.assertEqual(ran.stdout, b"id\n7\n")
-            self.assertEqual(ran.stderr, NOTICE + b"sfq: a line\n")
-            self.assertEqual(ran.returncode, status)
+    def builds(self):
+        """Returns how many times the program was built so far."""
+        return sum(words[0] == "try" for _, words in self.checkout.calls())
 
-    def test_lines_of_the_program_that_look_like_those_of_rt_are_passed_on(self):
-        ran = self.answer("run=ended status=4 proved=no\n", "run=ended status=4 proved=no\n", 5, ["relate", "a", "b"])
-        self.assertEqual((ran.stdout, ran.returncode), (b"run=ended status=4 proved=no\n", 5))
-        self.assertEqual(ran.stderr, NOTICE + b"run=ended status=4 proved=no\n")
+    def hasten(self, seconds=0.3):
+        """Has a line come more often than each ten seconds."""
+        path = f"{self.checkout.root}/tools/unproved.py"
+        write(path, read(path).replace("PACE = 10.0", f"PACE = {seconds}"))
+
+    def test_the_first_call_builds_and_the_next_ones_run_what_is_kept(self):
+        for building in (BUILDING, b"", b""):
+            ran = self.call("a", "b c", "", given=b"given")
+            self.assertEqual((ran.stdout, ran.returncode), (b"a|b c||given", 5))
+            self.assertEqual(ran.stderr, building + NOTICE + b"an error\n")
+        self.assertEqual(self.builds(), 1)
+        self.assertEqual(sorted(os.listdir(self.kept)), ["sfq", "stamp"])
 
     def test_words_pass_through(self):
         words = ["relate", "", "a  b", "it's", 'a "b"', "--", "-x", "two\nlines", "ä"]
-        self.answer("", "", 0, words)
-        handed = self.checkout.calls()[-1][1]
-        self.assertEqual(handed[handed.index("--") + 1 :], words)
+        for _ in range(2):
+            self.assertEqual(self.call(*words).stdout.decode(), "".join(f"{it}|" for it in words))
 
-    def test_schema_and_tables_are_handed_in(self):
-        self.checkout.behave(
-            "named = [it for it in words[words.index('--') + 1:] if it != '--']\n"
-            "text = open(data[named[1]]).read() + open(data[named[2] + '/t.csv']).read()\n"
-            f"finish(text + str(len(data)), '{ended(0)}', 0)"
-        )
-        wanted = read(f"{self.folder}/schema.sql") + "id\n7\n2"
-        for words in (
-            ["run", "schema.sql", "tables", "SELECT id FROM t"],
-            ["run", f"{self.folder}/schema.sql", "./tables/", "SELECT id FROM t"],
-            ["check", "../a town/schema.sql", f"{self.folder}/tables"],
-            ["run", "--", "schema.sql", "tables", "-"],
-        ):
-            ran = self.checkout.run(["sfq", *words], folder=self.folder)
-            self.assertEqual(ran.stdout.decode(), wanted, words)
+    def test_paths_count_from_where_the_user_is(self):
+        write(f"{self.checkout.room}/bin/program", "#!/bin/sh\n[ $1 != --version ] || echo sfq 9\n[ $1 = --version ] || pwd\n")
+        for _ in range(2):
+            self.assertEqual(self.call(folder=self.checkout.room).stdout.decode(), f"{self.checkout.room}\n")
 
-    def test_a_query_that_is_the_name_of_a_file_is_left_as_it_is(self):
-        self.checkout.behave(f"finish(words[-1], '{ended(0)}', 0)")
-        ran = self.checkout.run(["sfq", "run", "schema.sql", "tables", "schema.sql"], folder=self.folder)
-        self.assertEqual(ran.stdout, b"schema.sql")
+    def test_quiet(self):
+        os.environ["SFQ_QUIET"] = "1"
+        self.addCleanup(os.environ.pop, "SFQ_QUIET")
+        for _ in range(2):
+            self.assertEqual(self.call().stderr, b"an error\n")
 
-    def test_schema_from_standard_input_and_from_a_pipe(self):
-        self.checkout.behave(
-            "named = words[words.index('--') + 1:]\n"
-            f"finish(open(data[named[1]]).read() + str(sorted(data)), '{ended(0)}', 0)"
-        )
-        schema = b"CREATE TABLE t (id INTEGER PRIMARY KEY);" + b" " * 100000
-        words = ["sfq", "check", "/dev/stdin", "tables"]
-        ran = self.checkout.run(words, given=schema, folder=self.folder)
-        self.assertTrue(ran.stdout.startswith(schema) and b"/t.csv" in ran.stdout)
-        pipe = f"{self.folder}/pipe"
-        os.mkfifo(pipe)
-        with subprocess.Popen(["sh", "-c", f"echo 'TABLE t' >'{pipe}'"]):
-            ran = self.checkout.run(["sfq", "check", "pipe", "tables"], folder=self.folder)
-        self.assertTrue(ran.stdout.startswith(b"TABLE t\n"))
+    def test_the_version_says_that_it_is_not_the_proved_program(self):
+        write(f"{self.checkout.root}/crates/command_line/src/command_words.rt", 'pub const VERSION: &str = "9";\n')
+        wanted = self.call("--version")
+        self.assertEqual((wanted.stderr, wanted.returncode, self.builds()), (NOTICE, 0, 0))
+        self.assertEqual(wanted.stdout, b"sfq 9\n")
+        self.call()
+        os.environ["SFQ_QUIET"] = "1"
+        self.addCleanup(os.environ.pop, "SFQ_QUIET")
+        for word in ("--version", "-V"):
+            self.assertEqual(self.call(word).stderr.partition(b"\n")[0] + b"\n", NOTICE)
 
-    def test_files_of_texts_are_handed_in(self):
-        self.checkout.behave(
-            "named = words[words.index('--') + 1:]\n"
-            "texts = [open(data[it.lstrip('@')]).read() for it in named[1:] if it.lstrip('@') in data]\n"
-            f"finish(str(texts), '{ended(0)}', 0)"
-        )
-        for name, text in (("square", "POLYGON"), ("@", "POINT"), ("-", "LINESTRING")):
-            write(f"{self.folder}/{name}", text)
-        for words, wanted in (
-            (["relate", "@square", "@./-"], ["POLYGON", "LINESTRING"]),
-            (["why", "@@"], ["POINT"]),
-            (["why", "@-", "@-"], ["given", ""]),
-            (["relate", "square", "@none"], []),
-            (["pairs", "square"], ["POLYGON"]),
-            (["pairs", "@"], ["POINT"]),
-            (["pairs", "-"], ["given"]),
-            (["run", "schema.sql", "tables", "@square"], [read(f"{self.folder}/schema.sql"), "POLYGON"]),
-            (["check", "-", "tables"], ["LINESTRING"]),
-        ):
-            ran = self.checkout.run(["sfq", *words], folder=self.folder, given=b"given")
-            found = eval(ran.stdout)
-            self.assertEqual(sorted(found), sorted(wanted), words)
+    def test_changed_sources_are_built_anew_and_touched_ones_are_not(self):
+        source = f"{self.checkout.root}/crates/low/src/lib.rt"
+        self.call()
+        os.utime(source, (1, 1))
+        self.call()
+        self.assertEqual(self.builds(), 1)
+        write(source, "//! new\n")
+        self.assertIn(BUILDING, self.call().stderr)
+        self.assertEqual(self.builds(), 2)
 
-    def test_what_is_missing_is_left_to_the_program(self):
-        self.checkout.behave(f"finish(str(len(data)), 'sfq: schema unreadable\\n{ended(6)}', 6)")
-        for words in (["run", "nothing.sql", "tables", "q"], ["check", "tables", "nowhere"], ["check", "", ""]):
-            ran = self.checkout.run(["sfq", *words], folder=self.folder)
-            self.assertEqual((ran.stdout, ran.returncode), (b"0", 6), words)
-            self.assertEqual(ran.stderr, NOTICE + b"sfq: schema unreadable\n")
+    def test_another_program_in_its_place_is_not_run(self):
+        self.call()
+        write(f"{self.kept}/sfq", PROGRAM + "#\n", 0o755)
+        self.call()
+        self.assertEqual(self.builds(), 2)
 
-    def test_the_name_in_texts_of_the_command_line(self):
-        usage = "error: 'program' requires a subcommand\n\nUsage: program <COMMAND>\n"
-        ran = self.answer("", usage, 2, [])
-        self.assertEqual(ran.stderr, NOTICE + usage.replace("program", "sfq").encode())
-        ran = self.answer("Usage: program run\n", "", 0, ["run", "--help"])
-        self.assertEqual(ran.stdout, b"Usage: sfq run\n")
-        ran = self.answer("Usage: program run\n", "", 0, ["run", "a", "b", "SELECT help FROM t"])
-        self.assertEqual(ran.stdout, b"Usage: program run\n")
+    def test_a_line_for_each_ten_seconds(self):
+        self.hasten()
+        self.checkout.behave(f"import time\ntime.sleep(1.5)\n{BUILDS}")
+        lines = self.call().stderr.decode().splitlines()
+        self.assertEqual((lines[0] + "\n").encode(), BUILDING)
+        self.assertGreaterEqual(len(lines), 5)
+        for it in lines[1:-2]:
+            self.assertRegex(it, r"\Asfq: building, \d+ s so far\Z")
 
-    def test_no_cut_answer(self):
-        for last in ("run=no-answer proved=no", "run=fault runners=1 proved=no", "run=none proved=no", ""):
-            for status in (0, 1, 2, 3, 4, 6):
-                self.checkout.behave(f"finish('half an ans', 'rt: a reason\\n{last}\\n', {status})")
-                ran = self.checkout.run(["sfq", "relate", "a", "b"])
-                self.assertEqual((ran.stdout, ran.returncode), (b"", 1))
-                self.assertIn(b"./build", ran.stderr)
+    def test_of_two_first_calls_one_builds_and_the_other_waits(self):
+        self.hasten()
+        self.checkout.behave(f"import time\ntime.sleep(2)\n{BUILDS}")
+        environment = {**os.environ, "PATH": f"{self.checkout.room}/bin:{os.environ['PATH']}"}
+        pipe = subprocess.PIPE
+        how = {"env": environment, "stdin": subprocess.DEVNULL, "stdout": pipe, "stderr": pipe}
+        calls = [subprocess.Popen([f"{self.checkout.root}/sfq", "a"], **how) for _ in range(2)]
+        ended = [it.communicate(timeout=60) for it in calls]
+        self.assertEqual([out for out, _ in ended], [b"a|", b"a|"])
+        self.assertEqual(self.builds(), 1)
+        self.assertEqual(sum(BUILDING in err for _, err in ended), 1)
+        self.assertEqual(sum(b"sfq: another call is building the program, " in err for _, err in ended), 1)
 
-    def test_output_that_cannot_be_written(self):
-        self.checkout.behave(f"finish('id\\n' * 100000, '{ended(0)}', 0)")
-        with open("/dev/full", "wb") as full:
-            ran = self.checkout.run(["sfq", "relate", "a", "b"], stdout=full)
-        self.assertEqual((ran.stderr, ran.returncode), (NOTICE + b"sfq: write failed\n", 6))
+    def test_an_interrupted_build_leaves_nothing_and_ends_rt(self):
+        for number in (signal.SIGINT, signal.SIGTERM, signal.SIGHUP):
+            path = f"{self.checkout.room}/bin/pid"
+            self.checkout.behave(f"import time\nlink()\nopen({path!r}, 'w').write(str(os.getpid()))\ntime.sleep(60)")
+            environment = {**os.environ, "PATH": f"{self.checkout.room}/bin:{os.environ['PATH']}"}
+            start = lambda: signal.signal(signal.SIGINT, signal.default_int_handler)
+            with subprocess.Popen(
+                [f"{self.checkout.root}/sfq", "a"], env=environment, stderr=subprocess.DEVNULL, preexec_fn=start
+            ) as child:
+                for _ in range(400):
+                    if os.path.isfile(path) and read(path):
+                        break
+                    time.sleep(0.05)
+                child.send_signal(number)
+                self.assertEqual(child.wait(timeout=20), 128 + number)
+            with self.assertRaises(ProcessLookupError):
+                os.kill(int(read(path)), 0)
+            os.remove(path)
+            self.assertEqual(os.listdir(self.kept), [])
 
-    def test_a_word_that_is_not_text(self):
-        ran = self.checkout.run(["sfq", "relate", b"\xff", "b"])
-        self.assertEqual(ran.returncode, 2)
-        self.assertEqual(ran.stderr, b"error: invalid UTF-8 was detected in one or more arguments\n")
+    def test_what_a_killed_build_left_is_removed(self):
+        write(f"{self.kept}/new-x/program/sfq", "")
+        self.call()
+        self.assertEqual(sorted(os.listdir(self.kept)), ["sfq", "stamp"])
+
+    def test_where_nothing_can_be_kept_each_call_builds(self):
+        write(f"{self.checkout.root}/out", "")
+        for count in (1, 2):
+            ran = self.call("a", given=b"given")
+            self.assertEqual((ran.stdout, ran.returncode, self.builds()), (b"a|given", 5, count))
+            self.assertIn(b"sfq: this checkout can't be written, so each call builds the program anew\n", ran.stderr)
+
+    def test_a_source_that_is_edited_during_the_build(self):
+        source = f"{self.checkout.root}/crates/low/src/lib.rt"
+        self.checkout.behave(f"open({source!r}, 'a').write('//! more\\n')\n{BUILDS}")
+        ran = self.call()
+        self.assertEqual((ran.stdout, ran.returncode, os.listdir(self.kept)), (b"", 1, []))
+        self.assertIn(b"sfq: a source was edited during the build; repeat the call\n", ran.stderr)
+
+    def test_a_build_that_fails(self):
+        for last in ("run=fault runners=1 proved=no", "run=none proved=no", ""):
+            self.checkout.behave(f"finish('', 'error: a reason\\n{last}\\n', 2)")
+            ran = self.call()
+            self.assertEqual((ran.stdout, ran.returncode, os.listdir(self.kept)), (b"", 1, []))
+            self.assertIn(b"error: a reason\n", ran.stderr)
+            self.assertTrue(ran.stderr.endswith(b"\nsfq: the program couldn't be built, as the lines above say\n"))
+
+    def test_a_kit_that_leaves_no_program(self):
+        self.checkout.behave(BUILDS.replace("link()", ""))
+        ran = self.call()
+        self.assertEqual(ran.returncode, 1)
+        self.assertTrue(ran.stderr.endswith(b"sfq: this kit's rt builds a program without leaving it; ./build makes the proved one\n"))
+
+    def test_a_program_that_does_not_run_here(self):
+        write(f"{self.checkout.room}/bin/program", "#!/bin/sh\necho no >&2\nexit 127\n", 0o755)
+        ran = self.call()
+        self.assertEqual((ran.returncode, os.listdir(self.kept)), (1, []))
+        self.assertTrue(ran.stderr.endswith(b"no\nsfq: the program that was built doesn't run on this machine\n"))
 
     def test_without_rt(self):
         os.remove(f"{self.checkout.room}/bin/rt")
@@ -150,45 +170,24 @@ class AnswersUnproved(WithCheckout):
             if name == "python3":
                 path = os.path.realpath(os.sys.executable)
             os.symlink(path, f"{self.checkout.room}/bin/{name}")
-        ran = self.checkout.run(["sfq", "--version"], path=f"{self.checkout.room}/bin")
-        self.assertEqual(ran.returncode, 1)
-        self.assertIn(b"the command rt of the Rattle kit is needed", ran.stderr)
+        ran = self.call(path=f"{self.checkout.room}/bin")
+        self.assertEqual((ran.stdout, ran.returncode), (b"", 1))
+        self.assertRegex(ran.stderr.decode(), r"\Asfq: building the program needs the Rattle kit, and its command rt isn't on the path \(.*\)\n\Z")
 
-    def test_a_terminal_shows_that_a_build_is_made_and_for_how_long(self):
-        self.checkout.behave(f"import time\ntime.sleep(2.5)\nfinish('FF', '{ended(0)}', 0)")
-        ours, theirs = pty.openpty()
-        self.addCleanup(os.close, ours)
-        ran = self.checkout.run(["sfq", "relate", "a", "b"], stderr=theirs)
-        os.close(theirs)
-        shown = os.read(ours, 1 << 16)
-        self.assertEqual((ran.stdout, ran.returncode), (b"FF", 0))
-        self.assertIn(b"\rsfq: making an unproved build, one to two minutes: 2 s\x1b[K", shown)
-        # The line is gone before the answer.
-        self.assertTrue(shown.endswith(b"\r\x1b[K" + NOTICE.replace(b"\n", b"\r\n")), shown)
-
-    def test_a_call_that_is_ended_ends_rt(self):
-        self.checkout.behave("import time\nopen(room + '/pid', 'w').write(str(os.getpid()))\ntime.sleep(60)")
-        environment = {**os.environ, "PATH": f"{self.checkout.room}/bin:{os.environ['PATH']}"}
-        path = f"{self.checkout.room}/bin/pid"
-        with subprocess.Popen([f"{self.checkout.root}/sfq", "--help"], env=environment, stderr=subprocess.DEVNULL) as child:
-            for _ in range(200):
-                if os.path.isfile(path) and read(path):
-                    break
-                time.sleep(0.05)
-            child.terminate()
-            self.assertEqual(child.wait(timeout=20), 143)
-        with self.assertRaises(ProcessLookupError):
-            os.kill(int(read(path)), 0)
+    def test_closed_and_full_streams(self):
+        self.call()
+        with open("/dev/full", "wb") as full:
+            self.assertEqual(self.call(stderr=full).stdout, b"a|b|")
+        closed = subprocess.run(["sh", "-c", f"'{self.checkout.root}/sfq' a 2>&-"], input=b"", stdout=subprocess.PIPE)
+        self.assertEqual(closed.stdout, b"a|")
 
 
 class RunsTheProgram(WithCheckout):
     """Calls once the program is built."""
 
-    PROGRAM = '#!/bin/sh\nprintf "%s|" "$@"; cat; echo >&2 an error; exit 5\n'
-
     def setUp(self):
         super().setUp()
-        write(f"{self.checkout.root}/crates/sfq/out/sfq", self.PROGRAM, 0o755)
+        write(f"{self.checkout.root}/crates/sfq/out/sfq", PROGRAM, 0o755)
         self.tool("stamp", self.tool("sum"))
 
     def tool(self, *words):
@@ -198,7 +197,8 @@ class RunsTheProgram(WithCheckout):
         return ran.stdout.strip()
 
     def is_run(self):
-        return self.checkout.run(["sfq", "a", "b c", ""], given=b"given").stdout == b"a|b c||given"
+        ran = self.checkout.run(["sfq", "a", "b c", ""], given=b"given")
+        return (ran.stdout, ran.stderr) == (b"a|b c||given", b"an error\n")
 
     def test_everything_passes_through(self):
         ran = self.checkout.run(["sfq", "a", "b c", ""], given=b"given")
@@ -234,5 +234,9 @@ class RunsTheProgram(WithCheckout):
             self.assertTrue(self.is_run())
 
     def test_another_program_is_not_run(self):
-        write(f"{self.checkout.root}/crates/sfq/out/sfq", self.PROGRAM + "#\n", 0o755)
+        write(f"{self.checkout.root}/crates/sfq/out/sfq", PROGRAM + "#\n", 0o755)
         self.assertFalse(self.is_run())
+
+
+if __name__ == "__main__":
+    unittest.main()

@@ -11,7 +11,6 @@ from support import ROOT, asked, write
 import fault_pages
 import own_texts
 import repository
-import unproved
 
 
 class Recorded(unittest.TestCase):
@@ -47,14 +46,9 @@ class AtOnce(unittest.TestCase):
         """Where there is no command rt, no build can be made."""
         for words in (["--help"], [], ["--version"], ["help", "run"], ["pairs", "-h"], ["fault", "Q2"], ["fault", "Q99"]):
             ran = subprocess.run([sys.executable, "-B", f"{ROOT}/tools/unproved.py", *words], capture_output=True, text=True, env={"PATH": "/nowhere"})
-            self.assertEqual(own_texts.Text(ran.stdout, ran.stderr, ran.returncode), own_texts.text_of(words))
-
-    def test_who_waited_is_told_what_ends_it(self):
-        said = []
-        with mock.patch.object(unproved, "say", said.append), mock.patch.object(unproved, "minutes_of_build", lambda: 21):
-            unproved.say_waiting(9.0)
-            unproved.say_waiting(74.4)
-        self.assertEqual(said, ["this took 74 s, as each call will; ./build takes about 21 min, once, and then a call takes milliseconds"])
+            notice = "sfq: not the proved program, which ./build makes\n" if words == ["--version"] else ""
+            wanted = own_texts.text_of(words)
+            self.assertEqual(own_texts.Text(ran.stdout, ran.stderr, ran.returncode), wanted._replace(err=notice + wanted.err))
 
 
 class OfTheProgram(unittest.TestCase):

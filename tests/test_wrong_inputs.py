@@ -76,7 +76,7 @@ class Cases(unittest.TestCase):
 
 
 class Played(unittest.TestCase):
-    """What the proved program writes: an unproved build would take too long over so many cases."""
+    """What the proved program writes: the unproved one would take too long over so many cases."""
 
     ASKS_PROGRAM = True
 

@@ -1,11 +1,20 @@
-# Whether the built program was made from the present sources. ./sfq reads this file; the Python tools run it as
-#   sh tools/current.sh is|sum|stamp SUM
-# with the root of the repository as the working directory.
+# Whether a program was made from the present sources: the proved one of ./build, or the unproved one that ./sfq keeps.
+# ./sfq reads this file; the Python tools run it, with the root of the repository as the working folder, as
+#   sh tools/current.sh is|stamp|is-unproved|stamp-unproved [SUM]
+#   sh tools/current.sh sum
 
-program=crates/sfq/out/sfq
-stamp=crates/sfq/out/stamp
+# Chooses the proved program, or the unproved one.
+of_proved() {
+    program=crates/sfq/out/sfq
+    stamp=crates/sfq/out/stamp
+}
 
-# Lists what the program and its contracts are made from: 'sources -print' and the like. Proofs aren't among it: what was
+of_unproved() {
+    program=out/unproved/sfq
+    stamp=out/unproved/stamp
+}
+
+# Lists what the program and its contracts are made from: 'sources -print' and the like. Proofs don't count: what was
 # proved once stays true when a proof is written anew.
 sources() {
     find crates crates.txt \( -name out -o -name proofs \) -prune -o \
@@ -37,7 +46,9 @@ is_current() {
 }
 
 case ${0##*/}:${1-} in
-current.sh:is) is_current ;;
+current.sh:is) of_proved && is_current ;;
+current.sh:is-unproved) of_unproved && is_current ;;
 current.sh:sum) sum_of_sources ;;
-current.sh:stamp) write_stamp "$2" ;;
+current.sh:stamp) of_proved && write_stamp "$2" ;;
+current.sh:stamp-unproved) of_unproved && write_stamp "$2" ;;
 esac

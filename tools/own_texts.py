@@ -1,7 +1,7 @@
 #!/usr/bin/env python3
 """The texts that sfq prints whatever it is given: help, the version, and the page of each fault, from the files of this repository.
 
-    python3 tools/own_texts.py     writes packaging/help anew, which has the texts of help, by the program or an unproved build of it
+    python3 tools/own_texts.py     writes packaging/help anew, which has the texts of help, by the program
 
 ./sfq prints them where ./build hasn't made the program, so that nobody waits for a build to read them. The pages of faults are those in
 the program's source. The texts of help were printed by the program; where its words were changed since then, none is taken from here.

@@ -1,110 +1,44 @@
-"""The parts of ./test, and how what they found is counted."""
+"""The parts of ./test: what each runs, and what the gate adds to them."""
 import glob
+import json
 import os
 import re
 import shutil
 import subprocess
 import sys
 import tempfile
-import threading
 import time
-import traceback
-import unittest
-from concurrent.futures import ThreadPoolExecutor
-from types import TracebackType
-from typing import IO, Any, Iterable, Iterator, Optional, Union
+from typing import Iterable, Optional
 
 import calls
 import cost
 import edits
+import front_door
 import library
-import proving
 import repository
 import tiles
 import unproved
+from parts import Beat, Counts, Failure, Part, Report, Skipped, read, room, run, side_by_side
 
 ROOT = repository.ROOT
-PRINTING = threading.Lock()
-CHILDREN: set[subprocess.Popen[str]] = set()
-# A function and its arguments.
-Part = tuple[Any, ...]
-# What unittest hands on of an exception.
-Error = Union[tuple[type[BaseException], BaseException, TracebackType], tuple[None, None, None]]
-
-
-class Counts:
-    """What passed, failed and was skipped so far."""
-
-    def __init__(self) -> None:
-        self.passed = 0
-        self.failed: list[str] = []
-        self.skipped: list[str] = []
-
-    def take(self, name: str, is_well: bool, took: float, number: int = 1, text: str = "") -> None:
-        """Counts a test, and prints its line, below the text of one that failed."""
-        with PRINTING:
-            if is_well:
-                self.passed += number
-            else:
-                self.failed.append(name)
-                print(text.rstrip() or "(it printed nothing)")
-            print(f"{'ok' if is_well else 'FAILED'}: {name} ({proving.span(took)})", flush=True)
-
-    def skip(self, name: str, reason: str) -> None:
-        with PRINTING:
-            self.skipped.append(name)
-            print(f"skipped: {name}: {reason}", flush=True)
-
-    def close(self) -> int:
-        """Prints the last line, and returns the status."""
-        if self.failed:
-            print(f"failed: {', '.join(self.failed)}")
-        print(f"{self.passed} passed, {len(self.failed)} failed, {len(self.skipped)} skipped")
-        return 1 if self.failed else 0
-
-
-def run(words: list[str], folder: str = ROOT, given: Union[int, IO[bytes]] = subprocess.DEVNULL) -> tuple[int, str, str, float]:
-    """Runs a command, and returns its status, its two streams and how long it took."""
-    begun = time.monotonic()
-    pipe = subprocess.PIPE
-    with subprocess.Popen(words, cwd=folder, stdin=given, stdout=pipe, stderr=pipe, text=True, errors="replace") as child:
-        CHILDREN.add(child)
-        out, err = child.communicate()
-        CHILDREN.discard(child)
-    return child.returncode, out, err, time.monotonic() - begun
-
-
-def side_by_side(parts: Iterable[Part]) -> None:
-    """Runs the parts, as many at a time as half the processors, since `rt try` uses more than one.
-
-    Where they are broken off, ends what they started.
-    """
-    with ThreadPoolExecutor(max(1, proving.processors() // 2)) as pool:
-        started = [pool.submit(*it) for it in parts]
-        try:
-            for it in started:
-                it.result()
-        except BaseException:
-            for it in started:
-                it.cancel()
-            for child in CHILDREN:
-                child.terminate()
-            for call in unproved.RUNNING:
-                call.terminate()
-            raise
-
-
-def lint(counts: Counts) -> None:
-    if os.path.isfile(f"{ROOT}/lint"):
-        status, out, err, took = run([f"{ROOT}/lint"])
-        counts.take("./lint", status == 0, took, text=out + err)
-
-
 # For how many seconds a program may run without proof. With run-time checks the scripts take a minute where nothing else runs.
 PLAYING = "600"
+# The name of the part that builds the program without proof, for which the files of tests wait that ask it.
+PROGRAM = "the unproved program"
+LIBRARIES = "the C libraries, the package for JavaScript and the web page"
 
 
-def play_program(counts: Counts, crate: str) -> None:
+def outcome(name: str, is_well: bool, text: str, part: str, number: int = 1) -> Report:
+    """Returns what came of a part whose tests pass or fail together, where `part` is its word for ./test."""
+    return Report(number) if is_well else Report(failures=[Failure(name, text, f"./test {part}")])
+
+
+def lint() -> Report:
+    status, out, err = run([f"{ROOT}/lint"])
+    return outcome("./lint", status == 0, out + err, "lint")
+
+
+def play_program(rt: str, crate: str) -> Report:
     """Runs a program on the files beside its source, without proof, and compares what it writes."""
     folder = f"{ROOT}/crates/{crate}"
     words = []
@@ -114,104 +48,54 @@ def play_program(counts: Counts, crate: str) -> None:
             words += ["--data", f"{os.path.relpath(path, f'{folder}/data')}={path}"]
     arguments = read(f"{folder}/args").splitlines()
     with open(f"{folder}/stdin" if os.path.isfile(f"{folder}/stdin") else os.devnull, "rb") as given:
-        status, out, err, took = run(["rt", "try", "--seconds", PLAYING, *words, "--", *arguments], folder, given)
+        status, out, err = run([sys.executable, "-B", rt, "try", "--seconds", PLAYING, *words, "--", *arguments], folder, given)
     is_well = out == read(f"{folder}/stdout") and status == int(read(f"{folder}/status") or 0)
-    counts.take(f"program {crate}", is_well and "run=ended" in err, took, text=out + err)
+    return outcome(f"program {crate}", is_well and "run=ended" in err, out + err, crate)
 
 
-def read(path: str) -> str:
-    if not os.path.isfile(path):
-        return ""
-    with open(path, encoding="utf-8") as file:
-        return file.read()
-
-
-def try_tests(counts: Counts, crate: str) -> None:
+def try_tests(rt: str, crate: str) -> Report:
     """Runs the #[test] functions of a crate, without proof."""
-    status, out, err, took = run(["rt", "try", "--test"], f"{ROOT}/crates/{crate}")
+    status, out, err = run([sys.executable, "-B", rt, "try", "--test"], f"{ROOT}/crates/{crate}")
     found = re.findall(r"^test \S+ \.\.\. (\S+)", out, re.M)
     passed = found.count("ok")
-    failed = len(found) - passed
-    name = f"tests of {crate}"
-    if passed and (failed or status):
-        counts.passed += passed
-    counts.take(name, status == 0 and passed > 0 and failed == 0, took, passed, out + err)
+    is_well = status == 0 and 0 < passed == len(found)
+    failures = [] if is_well else [Failure(f"tests of {crate}", out + err, f"./test {crate}")]
+    return Report(passed, failures)
 
 
-def shown(err: Error) -> str:
-    """Returns the text of an exception, without the calls within unittest."""
-    if err[1] is None:
-        return ""
-    found, own = traceback.TracebackException.from_exception(err[1]), os.path.dirname(unittest.__file__)
-    found.stack = traceback.StackSummary.from_list([it for it in found.stack if os.path.dirname(it.filename) != own])
-    return "".join(found.format())
+def build_program() -> Report:
+    """Builds the program that ./sfq keeps, where none of the present sources is there."""
+    status, out, err = run([sys.executable, "-B", f"{ROOT}/tools/unproved.py", "relate", "POINT(1 1)", "POINT(1 1)"])
+    return outcome(PROGRAM, status == 0 and out == "0FFFFFFF2\n", out + err, "program")
 
 
-class Result(unittest.TestResult):
-    """Hands what unittest finds to the counts."""
-
-    def __init__(self, counts: Counts) -> None:
-        super().__init__()
-        self.counts, self.begun = counts, 0.0
-        self.texts: list[str] = []
-
-    def startTest(self, test: unittest.TestCase) -> None:
-        super().startTest(test)
-        self.begun, self.texts = time.monotonic(), []
-
-    def stopTest(self, test: unittest.TestCase) -> None:
-        name = test.id()
-        if self.texts:
-            self.counts.take(name, False, time.monotonic() - self.begun, text="\n".join(self.texts))
-        super().stopTest(test)
-
-    def addSuccess(self, test: unittest.TestCase) -> None:
-        if not self.texts:
-            self.counts.take(test.id(), True, time.monotonic() - self.begun)
-
-    def addSkip(self, test: unittest.TestCase, reason: str) -> None:
-        self.counts.skip(test.id(), reason)
-
-    def addError(self, test: unittest.TestCase, err: Error) -> None:
-        text = shown(err)
-        if "setUpClass" in str(test) or not hasattr(test, "_testMethodName"):
-            self.counts.take(str(test), False, 0, text=text)
-        else:
-            self.texts.append(text)
-
-    addFailure = addError
-
-    def addSubTest(self, test: unittest.TestCase, subtest: unittest.TestCase, err: Optional[Error]) -> None:
-        if err:
-            self.texts.append(f"{subtest}\n{shown(err)}")
+def run_file(name: str, choice: str) -> Report:
+    """Runs the tests of a file of tests/ that a choice of tools/system_tests.py takes."""
+    with room() as folder:
+        results = f"{folder}/results"
+        status, out, err = run([sys.executable, "-B", f"{ROOT}/tools/system_tests.py", name, choice, results])
+        rows = [json.loads(it) for it in read(results).splitlines()]
+    command = f"./test {'--long ' if choice == 'all' else ''}{name}"
+    failures = [Failure(it["name"], it["text"], command) for it in rows if it["what"] == "failed"]
+    if status:
+        failures.append(Failure(name, f"{out}{err}\nThe tests of this file ended with status {status}.", command))
+    skipped = [Skipped(it["name"], it["text"]) for it in rows if it["what"] == "skipped"]
+    return Report(sum(it["what"] == "passed" for it in rows), failures, skipped)
 
 
-def flat(suite: unittest.TestSuite) -> Iterator[unittest.TestCase]:
-    for it in suite:
-        if isinstance(it, unittest.TestSuite):
-            yield from flat(it)
-        else:
-            yield it
+def files_of_tests() -> dict[str, str]:
+    """Returns the text of each file of tests/ by its name."""
+    return {os.path.basename(it)[:-3]: read(it) for it in sorted(glob.glob(f"{ROOT}/tests/test_*.py"))}
 
 
-def find_tests() -> list[unittest.TestCase]:
-    """Returns the tests in tests/."""
-    found = unittest.defaultTestLoader.discover(f"{ROOT}/tests", top_level_dir=f"{ROOT}/tests")
-    return list(flat(found))
-
-
-def system_tests(counts: Counts, tests: Iterable[unittest.TestCase]) -> None:
-    unittest.TestSuite(tests).run(Result(counts))
-
-
-def marked(test: unittest.TestCase, mark: str) -> bool:
-    """Whether the test's class has the mark.
-
-    ASKS_PROGRAM: it asks sfq itself, the proved program where it is built and else an unproved build.
-    ASKS_LIBRARY: it calls the C library or the module of the web page, so the gate makes both first.
-    IS_LONG: it takes minutes, so only ./test --long runs it. IN_GATE: and ./test --all.
-    """
-    return getattr(test, mark, False)
+def file_parts(choice: str, program: Optional[str] = None, libraries: Optional[str] = None) -> list[Part]:
+    """Returns a part for each file of tests/: those that ask the program come after that part, those that call the libraries after that."""
+    found = []
+    for name, text in files_of_tests().items():
+        after = [program] if program and "ASKS_PROGRAM" in text else []
+        after += [libraries] if libraries and "ASKS_LIBRARY" in text else []
+        found.append(Part(name, lambda name=name: run_file(name, choice), tuple(after)))  # type: ignore[misc]
+    return found
 
 
 def programs() -> list[str]:
@@ -219,52 +103,49 @@ def programs() -> list[str]:
     return [
         it for it in repository.read_crates()
         if it != "sfq" and os.path.isfile(f"{ROOT}/crates/{it}/stdout") and os.path.isfile(f"{ROOT}/crates/{it}/src/main.rt")
-    ]
+    ]  # fmt: skip
 
 
-def parts_without_proof(counts: Counts, is_long: bool) -> tuple[dict[str, Part], dict[str, list[unittest.TestCase]]]:
-    """Returns the parts of ./test by their names, in the order in which they begin."""
-    parts: dict[str, Part] = {"lint": (lint, counts)}
+def parts_without_proof(choice: str, kit: str) -> list[Part]:
+    """Returns the parts of ./test in the order in which they begin: first what takes longest. `kit` is a folder for links to the kit."""
+    parts: list[Part] = []
     if shutil.which("rt"):
-        parts |= {it: (try_tests, counts, it) for it in reversed(repository.crates_with_tests())}
-        parts |= {it: (play_program, counts, it) for it in programs()}
-    else:
-        counts.skip("tests of crates, programs", "needs the command rt of the Rattle kit")
-    files: dict[str, list[unittest.TestCase]] = {}
-    for it in find_tests():
-        if is_long or not marked(it, "IS_LONG"):
-            files.setdefault(type(it).__module__.split(".")[0], []).append(it)
-    return parts, files
+        rt = unproved.make_kit(kit)
+        parts += [Part(it, lambda it=it: try_tests(rt, it)) for it in reversed(repository.crates_with_tests())]  # type: ignore[misc]
+        parts += [Part("program", build_program)]
+        parts += [Part(it, lambda it=it: play_program(rt, it)) for it in programs()]  # type: ignore[misc]
+    parts += [Part("lint", lint)] if os.path.isfile(f"{ROOT}/lint") else []
+    files = file_parts(choice, "program")
+    return parts + sorted(files, key=lambda it: len(it.after))
 
 
 def without_proof(is_long: bool, named: list[str]) -> int:
     """Runs all parts, or those that are named: lint, a crate, or a file of tests/ such as test_manual."""
+    print("sfq: tests without proof; the first builds take some minutes", flush=True)
     counts = Counts()
-    parts, files = parts_without_proof(counts, is_long)
-    unknown = [it for it in named if it not in parts and it not in files]
-    if unknown:
-        print(f"sfq: no part {unknown[0]}: the parts are {', '.join([*parts, *sorted(files)])}", file=sys.stderr)
-        return 2
-
-    def is_wanted(it: str) -> bool:
-        return not named or it in named
-
-    if is_wanted("lint"):
-        lint(counts)
-    tests = [test for it in files if is_wanted(it) for test in files[it]]
-    side_by_side([*(parts[it] for it in parts if it != "lint" and is_wanted(it)), (system_tests, counts, tests)])
+    with room() as kit:
+        parts = parts_without_proof("all" if is_long else "short", kit)
+        unknown = [it for it in named if it not in {part.name for part in parts}]
+        if unknown:
+            print(f"sfq: no part {unknown[0]}: the parts are {', '.join(it.name for it in parts)}", file=sys.stderr)
+            return 2
+        if not shutil.which("rt") and not named:
+            skipped = Report(skipped=[Skipped("tests of crates, programs", "needs the command rt of the Rattle kit")])
+            counts.take("crates", skipped, 0)
+        side_by_side(counts, [it for it in parts if not named or it.name in named])
     return counts.close()
 
 
-def gate(counts: Counts) -> bool:
+def prove_all(counts: Counts) -> bool:
     """Runs `rt ci`, whose lines go through, and counts what it counted. Returns whether it went well."""
     before, begun = repository.current("sum")[1], time.monotonic()
     last = ""
-    with cost.Cost() as spent:
+    with cost.Cost() as spent, Beat("rt ci") as beat:
         child = subprocess.Popen(["rt", "ci"], cwd=ROOT, stdout=subprocess.PIPE, text=True, errors="replace")
         try:
             for line in child.stdout or ():
                 print(line, end="", flush=True)
+                beat.note()
                 last = line.strip() or last
             status = child.wait()
         finally:
@@ -272,26 +153,27 @@ def gate(counts: Counts) -> bool:
                 child.terminate()
     found = re.fullmatch(r"(\d+) passed, (\d+) failed", last)
     passed, failed = (int(found[1]), int(found[2])) if found else (0, 0)
-    counts.passed += passed
     is_well = status == 0 and found is not None and failed == 0
-    if not is_well:
-        counts.failed += [f"rt ci ({last})"] * max(1, failed)
-    print(f"{'ok' if is_well else 'FAILED'}: rt ci ({proving.span(time.monotonic() - begun)}; {spent.line()})", flush=True)
+    failures = [] if is_well else [Failure(f"rt ci ({last})", "See the lines of rt ci above.", "rt ci")] * max(1, failed)
+    counts.take(f"rt ci; {spent.line()}", Report(passed, failures), time.monotonic() - begun)
     if is_well and repository.current("sum")[1] == before:
-        # What rt ci leaves are the proved programs.
-        if os.path.isfile(repository.PROGRAM):
-            repository.current("stamp", before)
-        if os.path.isfile(tiles.PROGRAM):
-            tiles.stamp()
+        stamp_programs(before)
     return is_well
 
 
-def make_library(counts: Counts) -> None:
+def stamp_programs(total: str) -> None:
+    """Notes that the programs which `rt ci` left are the proved ones of the present sources."""
+    if os.path.isfile(repository.PROGRAM):
+        repository.current("stamp", total)
+    if os.path.isfile(tiles.PROGRAM):
+        tiles.stamp()
+
+
+def make_library() -> Report:
     """Makes the C libraries, and where binaryen is there the package for JavaScript and the web page, of the libraries that `rt ci` left proved."""
-    begun, text = time.monotonic(), ""
     try:
-        with tempfile.TemporaryDirectory(prefix="sfq-calls-") as room:
-            compiled = {it.crate: calls.compile_calls(room, keeps=False, name=it.crate) for it in library.ALL}
+        with tempfile.TemporaryDirectory(prefix="sfq-calls-") as folder:
+            compiled = {it.crate: calls.compile_calls(folder, keeps=False, name=it.crate) for it in library.ALL}
             for it in library.ALL:
                 library.link(compiled[it.crate].archive, it)
             if shutil.which("wasm-opt"):
@@ -300,108 +182,106 @@ def make_library(counts: Counts) -> None:
 
                 for name in (name for it in javascript_package.MODULES for name in it.crates):
                     if name not in compiled:
-                        compiled[name] = calls.compile_calls(room, keeps=False, name=name)
+                        compiled[name] = calls.compile_calls(folder, keeps=False, name=name)
                 modules = javascript_package.modules_of(compiled)
                 javascript_package.write_package(modules)
                 web_page.write_page(modules)
     except calls.Failure as it:
-        text = str(it)
-    counts.take("making of the C libraries, the package for JavaScript and the web page", not text, time.monotonic() - begun, text=text)
+        return Report(failures=[Failure(LIBRARIES, str(it), "./build --library, --javascript and --web")])
+    return Report(1)
 
 
-def tests_of_library(counts: Counts, tests: Iterable[unittest.TestCase], is_left: bool) -> None:
-    """Runs what calls the C library and the page, made first where `rt ci` left what they are made of."""
-    if is_left and calls.CRATE in repository.read_crates():
-        make_library(counts)
-    system_tests(counts, tests)
-
-
-def is_after_proof(test: unittest.TestCase) -> bool:
-    """Whether the test needs what `rt ci` leaves."""
-    return marked(test, "ASKS_PROGRAM") or marked(test, "ASKS_LIBRARY")
-
-
-def tests_after_proof(
-    tests: Iterable[unittest.TestCase]
-) -> tuple[list[unittest.TestCase], list[unittest.TestCase], list[unittest.TestCase]]:
-    """Returns those that call the library, those that ask only the program, and long ones of the gate that do neither.
-
-    They run side by side, and two runs of one class would share its files, so each test is in one of the three.
-    """
-    found = [it for it in tests if is_after_proof(it) or marked(it, "IN_GATE")]
-    found = [it for it in found if marked(it, "IN_GATE") or not marked(it, "IS_LONG")]
-    calling = [it for it in found if marked(it, "ASKS_LIBRARY")]
-    asking = [it for it in found if marked(it, "ASKS_PROGRAM") and not marked(it, "ASKS_LIBRARY")]
-    return calling, asking, [it for it in found if not is_after_proof(it)]
+def take_door(counts: Counts) -> None:
+    """Runs README's two commands in a fresh clone."""
+    begun = time.monotonic()
+    counts.take("README's two commands in a fresh clone", front_door.walk(), time.monotonic() - begun)
 
 
 def with_proof() -> int:
-    """First what is quick, then `rt ci`, then what asks the program that it leaves.
+    """First README's two commands in a fresh clone, then `rt ci`, then the tests of what that proved.
 
-    `rt ci` proves and runs the crates' tests and the programs, so they aren't run without proof too. At its end what earlier
-    checks kept is there again, so the C library is made of what it proved only where nothing was kept.
+    What ./test ran in the clone isn't run here again, but where this folder has uncommitted changes. `rt ci` proves and runs the
+    crates' tests and the programs. At its end what earlier checks kept is there again, so the C library is made of what it proved
+    only where nothing was kept.
     """
-    counts, tests = Counts(), find_tests()
-    lint(counts)
-    system_tests(counts, [it for it in tests if not is_after_proof(it) and not marked(it, "IS_LONG")])
+    print("sfq: the gate: README's two commands in a fresh clone, the proofs, and the tests of what is proved", flush=True)
+    counts = Counts()
+    take_door(counts)
+    if not front_door.is_committed():
+        lints = [Part("lint", lint)] if os.path.isfile(f"{ROOT}/lint") else []
+        side_by_side(counts, lints + file_parts("before"))
     is_new = not glob.glob(f"{ROOT}/crates/*/out/rlib")
-    is_left = gate(counts) and is_new
-    calling, asking, others = tests_after_proof(tests)
-    side_by_side([(system_tests, counts, asking), (tests_of_library, counts, calling, is_left), (system_tests, counts, others)])
+    is_left = prove_all(counts) and is_new
+    makes = [Part(LIBRARIES, make_library)] if is_left and calls.CRATE in repository.read_crates() else []
+    side_by_side(counts, makes + file_parts("after", libraries=LIBRARIES))
+    return counts.close()
+
+
+def try_door() -> int:
+    """Runs README's two commands in a fresh clone, as the gate does."""
+    counts = Counts()
+    take_door(counts)
     return counts.close()
 
 
 def try_edits(crates: list[str]) -> int:
     """Tries the edits of crates/CRATE/edits in a copy of the repository."""
     counts = Counts()
-    with tempfile.TemporaryDirectory(prefix="sfq-edits-") as room:
-        shutil.copyfile(f"{ROOT}/HANDLES", f"{room}/HANDLES")
+    with tempfile.TemporaryDirectory(prefix="sfq-edits-") as folder, Beat("edits"):
+        shutil.copyfile(f"{ROOT}/HANDLES", f"{folder}/HANDLES")
         known = repository.read_crates()
         for it in crates or known:
             if it not in known:
                 repository.fail(f"no crate {it}")
             paths = sorted(glob.glob(f"{ROOT}/crates/{it}/edits/*.edit"))
             if paths:
-                copy_crates(known, it, room)
-                with open(f"{room}/crates.txt", "w", encoding="utf-8") as file:
-                    copied = sorted(os.listdir(f"{room}/crates"))
+                copy_crates(known, it, folder)
+                with open(f"{folder}/crates.txt", "w", encoding="utf-8") as file:
+                    copied = sorted(os.listdir(f"{folder}/crates"))
                     file.write("".join(f"{name}: {' '.join(known[name])}\n" for name in copied))
-                try_edits_of(counts, it, paths, room)
+                try_edits_of(counts, it, paths, folder)
             elif crates:
-                counts.skip(f"edits of {it}", "it has none")
+                counts.take(f"edits of {it}", Report(skipped=[Skipped(it, "it has no edits")]), 0)
     return counts.close()
 
 
-def copy_crates(known: dict[str, list[str]], crate: str, room: str) -> None:
+def copy_crates(known: dict[str, list[str]], crate: str, folder: str) -> None:
     """Copies the crate and those below it, with what earlier checks kept and without edits."""
-    if crate in known and not os.path.isdir(f"{room}/crates/{crate}"):
+    if crate in known and not os.path.isdir(f"{folder}/crates/{crate}"):
         leave_out = shutil.ignore_patterns("must-fail", "edits")
-        shutil.copytree(f"{ROOT}/crates/{crate}", f"{room}/crates/{crate}", ignore=leave_out)
+        shutil.copytree(f"{ROOT}/crates/{crate}", f"{folder}/crates/{crate}", ignore=leave_out)
         for it in known[crate]:
-            copy_crates(known, it, room)
+            copy_crates(known, it, folder)
 
 
-def try_edits_of(counts: Counts, crate: str, paths: list[str], room: str) -> None:
+def take_edit(counts: Counts, name: str, is_refused: bool, seconds: float, text: str = "") -> None:
+    crate = name.partition("/")[0]
+    failures = [] if is_refused else [Failure(f"edit {name}", text, f"./test --edits {crate}")]
+    counts.take(f"edit {name}", Report(int(is_refused), failures), seconds)
+
+
+def try_edits_of(counts: Counts, crate: str, paths: Iterable[str], folder: str) -> None:
     """Tries edits of different functions by one check, and by `rt must-fail` those that this doesn't settle."""
-    folder = f"{room}/crates/{crate}"
-    groups, left = edits.parted(crate, folder, [edits.Edit(it) for it in paths])
+    place = f"{folder}/crates/{crate}"
+    groups, left = edits.parted(crate, place, [edits.Edit(it) for it in paths])
     for group in groups:
-        refused, took = tried_together(crate, folder, group)
+        refused, took = tried_together(crate, place, group)
         for edit in refused:
-            counts.take(f"edit {crate}/{edit.name}", True, took / len(group))
+            take_edit(counts, f"{crate}/{edit.name}", True, took / len(group))
         left += [it for it in group if it not in refused]
     if not left:
         return
-    os.mkdir(f"{folder}/must-fail")
+    os.mkdir(f"{place}/must-fail")
     for edit in left:
-        shutil.copy(edit.path, f"{folder}/must-fail")
-    status, out, err, took = run(["rt", "must-fail", crate], room)
+        shutil.copy(edit.path, f"{place}/must-fail")
+    begun = time.monotonic()
+    status, out, err = run(["rt", "must-fail", crate], folder)
+    took = time.monotonic() - begun
     for edit in left:
         name = f"{crate}/{edit.name}"
         said = next((line for line in (out + err).splitlines() if f"must-fail {name}: " in line), "")
         print(said or out + err, flush=True)
-        is_refused = f"must-fail {name}: refused" in said
-        counts.take(f"edit {name}", is_refused, took / len(left), text=f"rt must-fail: status {status}")
+        take_edit(counts, name, f"must-fail {name}: refused" in said, took / len(left), f"rt must-fail: status {status}")
 
 
 def tried_together(crate: str, folder: str, group: list[edits.Edit]) -> tuple[list[edits.Edit], float]:
@@ -411,7 +291,10 @@ def tried_together(crate: str, folder: str, group: list[edits.Edit]) -> tuple[li
     if changed is None:
         return [], 0.0
     edits.write(folder, changed)
-    _, out, err, took = run(["rt", "check"], folder)
+    begun = time.monotonic()
+    _, out, err = run(["rt", "check"], folder)
     edits.write(folder, known)
     refused = edits.refused_in(out + err)
-    return [it for it in group if it.functions(crate, known[it.file]) & refused], took
+    return [it for it in group if it.functions(crate, known[it.file]) & refused], time.monotonic() - begun
+
+

@@ -1,314 +1,287 @@
-"""Runs one call of sfq by an unproved build with run-time checks, which `rt try` makes anew for each call.
+"""Builds sfq without proving it, with run-time checks, keeps the program in out/unproved, and runs a call by it.
 
-./sfq runs this where ./build hasn't made the program. What is the same for every input, such as help, is printed without a build.
-`rt try` runs the program in a folder of its own, so the schema and
-the tables are handed in. Standard output, standard error and the status are those of the program; where there is no whole
-answer, nothing is written but one line that says why, and the status is 1, which the program itself never gives.
+    python3 tools/unproved.py WORD..     what ./sfq runs where neither the proved program nor a kept one is of the present sources
+
+The kit's `rt try` builds a program, runs it once and removes it. So it is called from a folder of links to the kit in which the
+linker leaves a copy of what it linked. Help and other texts that need no program are printed without a build.
 """
+import contextlib
+import fcntl
 import os
 import re
+import shlex
 import shutil
 import signal
-import stat
 import subprocess
 import sys
 import tempfile
 import time
-from typing import Callable
+from typing import Callable, Iterator, NoReturn, Optional, Sequence
 
 import own_texts
 
 ROOT = os.path.dirname(os.path.dirname(os.path.realpath(__file__)))
-NOTICE = "sfq: answered by an unproved build with run-time checks, made anew for each call; ./build proves and keeps the program"
+FOLDER = f"{ROOT}/out/unproved"
+PROGRAM = f"{FOLDER}/sfq"
 NO_ANSWER = 1
-# After a call that took as many seconds, a line says how to end the waiting.
-LONG = 10.0
-# The commands that say more of a fault where the environment asks for it.
-EXPLAINED = ("run", "check", "relate", "why", "pairs")
-# The calls of `rt` that run now.
-RUNNING: set[subprocess.Popen[bytes]] = set()
-# The last lines of `rt try`'s standard error, after what the program wrote there.
-ENDED = re.compile(
-    rb"(?:^interpreter: .*\n)?(?:^checked: .*\n)?(?:^races: .*\n)?^run=ended status=(\d+) .*proved=no\n\Z", re.M
-)
+# Between two lines that say how long a build takes so far, in seconds.
+PACE = 10.0
+# The last line of `rt try` where the program ended well.
+ENDED = re.compile(r"^run=ended status=0 .*proved=no$", re.M)
+# The linker of the folder of links: it runs the kit's own, and leaves a copy of the program that it linked.
+LINKER = """#!/bin/sh
+{linker} "$@" || exit
+[ ! -f program ] || {copy} program {kept}
+"""
+# The builds that run now.
+RUNNING: set["subprocess.Popen[bytes]"] = set()
 
 
-def plain_words(words: list[str]) -> list[int]:
-    """Returns the positions of the words that aren't options, that of the command first."""
-    found: list[int] = []
-    only_words = False
-    for at, word in enumerate(words):
-        if word == "--" and at and not only_words:
-            only_words = True
-        elif only_words or word == "-" or not word.startswith("-"):
-            found.append(at)
-    return found
+class NotBuilt(Exception):
+    """Says why there is no program."""
 
 
-def places(words: list[str]) -> list[int]:
-    """Returns the positions of the words that name the schema and the directory, where the command has such words."""
-    return plain_words(words)[1:3] if words and words[0] in ("run", "check") else []
-
-
-def text_places(words: list[str]) -> list[int]:
-    """Returns the positions of the words that name a file by `@`, and of the path of `pairs`."""
-    found = plain_words(words)
-    if words and words[0] == "pairs":
-        return found[1:2]
-    found = {"run": found[3:4], "relate": found[1:3], "why": found[1:3]}.get(words[0] if words else "", [])
-    return [at for at in found if words[at].startswith("@")]
-
-
-def is_for_clap(words: list[str]) -> bool:
-    """Whether the words can only ask for help or for the version, or be mistaken, or ask by `--why`."""
-    before = words[: words.index("--")] if "--" in words else words
-    return not before or before[0] == "help" or any(it.startswith("-") and it != "-" for it in before)
-
-
-def asking(words: list[str]) -> list[str]:
-    """Returns the words with `--why` where the environment asks for it: `rt try` gives the program no environment."""
-    asks = os.environ.get("SFQ_WHY", "") not in ("", "0") and words[:1] and words[0] in EXPLAINED and "--why" not in words
-    return [words[0], "--why", *words[1:]] if asks else words
-
-
-class HandedIn:
-    """The files that the program gets, by their names in its folder, and the words that name them there.
-
-    Copies are made in `room`. Paths count from `base`.
-    """
-
-    def __init__(self, room: str, base: str) -> None:
-        self.room, self.base = room, base
-        self.files: dict[str, str] = {}
-        self.names: dict[tuple[str, str], str] = {}
-        self.is_read = False
-
-    def at(self, path: str) -> str:
-        return os.path.join(self.base, path) if path else ""
-
-    def name(self, path: str, kind: str) -> str:
-        """Returns the name that stands for the path in the program's folder."""
-        key = kind, os.path.realpath(self.at(path)) if path else ""
-        return self.names.setdefault(key, f"{kind}{len(self.names)}")
-
-    def take(self, name: str, path: str) -> None:
-        """Hands in the file under the name. What is no plain file, such as a pipe, is read first."""
-        path = self.at(path)
-        try:
-            mode = os.stat(path).st_mode
-            if stat.S_ISDIR(mode) or name in self.files or not os.access(path, os.R_OK):
-                return
-            if not stat.S_ISREG(mode) or os.path.abspath(path).startswith(("/dev/", "/proc/")):
-                copy = os.path.join(self.room, f"copy{len(self.files)}")
-                with open(path, "rb") as source, open(copy, "wb") as target:
-                    shutil.copyfileobj(source, target)
-                path = copy
-            self.files[name] = os.path.abspath(path)
-        except OSError:
-            # The program says what is missing.
-            pass
-
-    def text(self, path: str) -> str:
-        """Hands in the file of a text, or standard input for `-`, and returns its name."""
-        if path == "-":
-            path = self.standard_input()
-        name = self.name(path, "text")
-        if os.path.isdir(self.at(path)):
-            # It opens and can't be read: it has to be a directory in the program's folder too.
-            self.files[f"{name}/nothing"] = os.devnull
-        else:
-            self.take(name, path)
-        return name
-
-    def standard_input(self) -> str:
-        """Returns the path of a copy of standard input, which is empty when it is read again."""
-        path = os.path.join(self.room, f"input{self.is_read:d}")
-        with open(path, "wb") as copy:
-            if not self.is_read:
-                shutil.copyfileobj(sys.stdin.buffer, copy)
-        self.is_read = True
-        return path
-
-    def tables(self, name: str, folder: str, schema: bytes) -> None:
-        """Hands in each file of the folder that is named as a table that the schema's text can name."""
-        try:
-            found = sorted(os.listdir(self.at(folder) + "/"))
-        except OSError:
-            return
-        for it in found:
-            table, ending = os.path.splitext(it)
-            if ending != ".csv" or "=" in it or os.fsencode(table) not in schema:
-                continue
-            path = f"{folder}/{it}"
-            if os.path.isdir(self.at(path)):
-                # It opens and can't be read: it has to be a directory in the program's folder too.
-                self.files[f"{name}/{it}/nothing"] = os.devnull
-            else:
-                self.take(f"{name}/{it}", path)
-
-    def words(self, words: list[str]) -> list[str]:
-        """Returns the words with the schema, the directory and the files of texts named as they are handed in."""
-        words, at = list(words), places(words)
-        for it in text_places(words):
-            sign = "" if words[0] == "pairs" else "@"
-            words[it] = sign + self.text(words[it].removeprefix(sign))
-        schema = b""
-        if at:
-            name = self.name(words[at[0]], "schema")
-            self.take(name, words[at[0]])
-            if name in self.files:
-                with open(self.files[name], "rb") as text:
-                    schema = text.read()
-            words[at[0]] = name
-        if len(at) > 1:
-            name = self.name(words[at[1]], "tables")
-            self.tables(name, words[at[1]], schema)
-            words[at[1]] = name
-        return words
-
-    def flags(self) -> list[str]:
-        return [it for name, path in self.files.items() for it in ("--data", f"{name}={path}")]
-
-
-def with_own_name(words: list[str], status: int, out: bytes, err: bytes) -> tuple[bytes, bytes]:
-    """Puts the program's name into the texts of clap: `rt try` runs it as `program`."""
-    if is_for_clap(words):
-        out = re.sub(rb"(?m)^Usage: program\b", b"Usage: sfq", out, count=1)
-    if status == 2:
-        err = re.sub(rb"(?m)^(Usage: )program\b", rb"\1sfq", err, count=1)
-        err = re.sub(rb"\Aerror: 'program' requires", b"error: 'sfq' requires", err)
-    return out, err
-
-
-def run_rt(words: list[str], room: str, waiting: Callable[[float], None]) -> tuple[bytes, bytes]:
-    """Runs `rt` in the program's crate and returns what it wrote on its two streams, calling `waiting` meanwhile."""
-    streams = os.path.join(room, "stdout"), os.path.join(room, "stderr")
-    with open(streams[0], "wb") as out, open(streams[1], "wb") as err:
-        child = subprocess.Popen(
-            ["rt", *words],
-            cwd=f"{ROOT}/crates/sfq",
-            stdin=subprocess.DEVNULL,
-            stdout=out,
-            stderr=err,
-            start_new_session=True,
-        )
-        RUNNING.add(child)
-        try:
-            begun = time.monotonic()
-            while True:
-                try:
-                    child.wait(timeout=1)
-                    break
-                except subprocess.TimeoutExpired:
-                    waiting(time.monotonic() - begun)
-        finally:
-            RUNNING.discard(child)
-            if child.poll() is None:
-                child.terminate()
-                child.wait()
-    with open(streams[0], "rb") as out, open(streams[1], "rb") as err:
-        return out.read(), err.read()
-
-
-def show_waiting(seconds: float) -> None:
-    if sys.stderr.isatty():
-        print(f"\rsfq: making an unproved build, one to two minutes: {seconds:.0f} s\x1b[K", end="", file=sys.stderr, flush=True)
-
-
-def clear_waiting() -> None:
-    if sys.stderr.isatty():
-        print("\r\x1b[K", end="", file=sys.stderr, flush=True)
+def is_quiet() -> bool:
+    return os.environ.get("SFQ_QUIET", "") not in ("", "0")
 
 
 def say(text: str) -> None:
-    print(f"sfq: {text}", file=sys.stderr, flush=True)
+    """Prints a line on standard error, where it is open."""
+    with contextlib.suppress(OSError, AttributeError):
+        print(f"sfq: {text}", file=sys.stderr, flush=True)
 
 
-def refuse(said: bytes) -> int:
-    """Says why there is no answer, from what `rt try` wrote, and returns the status."""
-    last = said.rstrip(b"\n").rpartition(b"\n")[2]
-    if last.startswith(b"run=no-answer"):
-        say(
-            "no answer: an unproved build runs for at most a minute and writes at most 1 MiB; "
-            "./build makes the program without these limits"
-        )
+def report(text: str) -> None:
+    """Prints a line that SFQ_QUIET leaves out."""
+    if not is_quiet():
+        say(text)
+
+
+class Pace:
+    """Reports every ten seconds how long something takes so far."""
+
+    def __init__(self, what: str) -> None:
+        self.what, self.begun = what, time.monotonic()
+        self.next = PACE
+
+    def tick(self) -> None:
+        seconds = time.monotonic() - self.begun
+        if seconds >= self.next:
+            report(f"{self.what}, {seconds:.0f} s so far")
+            self.next = seconds - seconds % PACE + PACE
+
+
+def sum_of_sources() -> str:
+    return current("sum")[1]
+
+
+def current(*words: str) -> tuple[int, str]:
+    """Runs tools/current.sh, and returns its status and its line."""
+    ran = subprocess.run(["sh", "tools/current.sh", *words], cwd=ROOT, stdin=subprocess.DEVNULL, stdout=subprocess.PIPE, text=True)
+    return ran.returncode, ran.stdout.strip()
+
+
+def is_kept() -> bool:
+    """Whether a program is kept that was built from the present sources."""
+    return current("is-unproved")[0] == 0
+
+
+def make_kit(folder: str, kept: str = "") -> str:
+    """Makes a folder of links to the kit, and returns the path of `rt` in it. Where a path is given, the linker copies programs to it."""
+    command = os.path.realpath(shutil.which("rt") or "")
+    kit = os.path.dirname(os.path.dirname(command))
+    for path in ("", "bin", "toolchain", "toolchain/bin"):
+        os.makedirs(f"{folder}/{path}", exist_ok=True)
+        for it in os.listdir(f"{kit}/{path}") if os.path.isdir(f"{kit}/{path}") else ():
+            if not os.path.lexists(f"{folder}/{path}/{it}") and f"{path}/{it}" not in ("/bin", "/toolchain", "toolchain/bin"):
+                os.symlink(os.path.realpath(f"{kit}/{path}/{it}"), f"{folder}/{path}/{it}")
+    # `rt` finds the kit by where it is itself, so it and its module are copies.
+    for it in ("rt", "rtlib.py"):
+        if os.path.isfile(f"{kit}/bin/{it}"):
+            os.remove(f"{folder}/bin/{it}")
+            shutil.copy(f"{kit}/bin/{it}", f"{folder}/bin/{it}")
+    # Beside the build `rt try` has the prover look for reserved names. Without a prover that search ends at once.
+    with contextlib.suppress(FileNotFoundError):
+        os.remove(f"{folder}/bin/rattle")
+    if kept:
+        write_linker(f"{folder}/toolchain/bin/ld.lld", f"{kit}/toolchain/bin/ld.lld", kept)
+    return f"{folder}/bin/rt"
+
+
+def write_linker(path: str, linker: str, kept: str) -> None:
+    """Writes the script that takes the place of the kit's linker."""
+    with contextlib.suppress(FileNotFoundError):
+        os.remove(path)
+    parts = {"linker": linker, "copy": shutil.which("cp") or "/bin/cp", "kept": kept}
+    with open(path, "w", encoding="utf-8") as script:
+        script.write(LINKER.format(**{name: shlex.quote(it) for name, it in parts.items()}))
+    os.chmod(path, 0o755)
+
+
+def run_try(rt: str, room: str, waiting: Callable[[], None]) -> tuple[str, str]:
+    """Has `rt try` build the program and ask its version, and returns what it wrote to its two streams. Calls `waiting` meanwhile."""
+    paths = f"{room}/stdout", f"{room}/stderr"
+    with open(paths[0], "wb") as out, open(paths[1], "wb") as err:
+        child = subprocess.Popen(
+            [sys.executable, "-B", rt, "try", "--", "--version"],
+            cwd=f"{ROOT}/crates/sfq", env={**os.environ, "TMPDIR": room},
+            stdin=subprocess.DEVNULL, stdout=out, stderr=err, start_new_session=True,
+        )  # fmt: skip
+        RUNNING.add(child)
+        try:
+            while True:
+                try:
+                    child.wait(timeout=0.2)
+                    break
+                except subprocess.TimeoutExpired:
+                    waiting()
+        finally:
+            RUNNING.discard(child)
+            end(child)
+    texts = []
+    for path in paths:
+        with open(path, encoding="utf-8", errors="replace") as text:
+            texts.append(text.read())
+    return texts[0], texts[1]
+
+
+def end(child: "subprocess.Popen[bytes]") -> None:
+    """Ends a build that still runs. `rt` removes its own folders when it is asked to stop."""
+    if child.poll() is None:
+        child.terminate()
+        with contextlib.suppress(subprocess.TimeoutExpired):
+            child.wait(timeout=10)
+    with contextlib.suppress(ProcessLookupError):
+        os.killpg(child.pid, signal.SIGKILL)
+
+
+def build_in(room: str) -> str:
+    """Builds the program in a folder, and returns its path."""
+    os.mkdir(f"{room}/program")
+    kept = f"{room}/program/sfq"
+    rt = make_kit(f"{room}/kit", kept)
+    report("building the program without proof, once, which takes one to two minutes; ./build makes the proved one")
+    out, said = run_try(rt, room, Pace("building").tick)
+    if not ENDED.search(said):
+        raise NotBuilt(f"{out}{said}".rstrip() + "\nsfq: the program couldn't be built, as the lines above say")
+    if not os.path.isfile(kept):
+        raise NotBuilt("sfq: this kit's rt builds a program without leaving it; ./build makes the proved one")
+    ran = subprocess.run([kept, "--version"], stdin=subprocess.DEVNULL, capture_output=True, text=True)
+    if (ran.stdout, ran.returncode) != (out, 0):
+        raise NotBuilt(f"{ran.stderr.rstrip()}\nsfq: the program that was built doesn't run on this machine")
+    return kept
+
+
+@contextlib.contextmanager
+def held() -> Iterator[None]:
+    """Holds the folder of the kept program, so that one call builds and the others wait. Removes what an interrupted build left."""
+    os.makedirs(FOLDER, exist_ok=True)
+    folder = os.open(FOLDER, os.O_RDONLY)
+    try:
+        pace = Pace("another call is building the program")
+        while True:
+            try:
+                fcntl.flock(folder, fcntl.LOCK_EX | fcntl.LOCK_NB)
+                break
+            except BlockingIOError:
+                pace.tick()
+                time.sleep(0.1)
+        for it in os.listdir(FOLDER):
+            if it.startswith("new-"):
+                shutil.rmtree(f"{FOLDER}/{it}", ignore_errors=True)
+        yield
+    finally:
+        os.close(folder)
+
+
+def kept_program() -> str:
+    """Returns the path of the kept program, and builds it first where none is of the present sources. NotBuilt says why there is none."""
+    if is_kept():
+        return PROGRAM
+    with held():
+        if is_kept():
+            return PROGRAM
+        before = sum_of_sources()
+        with tempfile.TemporaryDirectory(prefix="new-", dir=FOLDER) as room:
+            made = build_in(room)
+            if sum_of_sources() != before:
+                raise NotBuilt("sfq: a source was edited during the build; repeat the call")
+            with contextlib.suppress(FileNotFoundError):
+                os.remove(f"{FOLDER}/stamp")
+            os.replace(made, PROGRAM)
+        current("stamp-unproved", before)
+    return PROGRAM
+
+
+def can_keep() -> bool:
+    """Whether a program can be kept in this checkout."""
+    try:
+        os.makedirs(FOLDER, exist_ok=True)
+    except OSError:
+        return False
+    return os.access(FOLDER, os.W_OK | os.X_OK)
+
+
+def run_once(words: Sequence[str]) -> int:
+    """Builds the program for one call, where it can't be kept, and returns the status."""
+    report("this checkout can't be written, so each call builds the program anew")
+    with tempfile.TemporaryDirectory(prefix="sfq-unproved-") as room:
+        return subprocess.run(words_of_run(build_in(room), words)).returncode
+
+
+def words_of_run(program: str, words: Sequence[str]) -> list[str]:
+    """Returns the words by which a shell runs the program, after the line that says that it isn't proved."""
+    return ["/bin/sh", "-c", '. "$0"; run_unproved "$@"', f"{ROOT}/tools/unproved.sh", program, *words]
+
+
+def run(words: Sequence[str]) -> int:
+    """Runs the call by the kept program, which takes the place of this process."""
+    if not can_keep():
+        return run_once(words)
+    ran = words_of_run(kept_program(), words)
+    sys.stdout.flush()
+    os.execv(ran[0], ran)
+
+
+def answer(words: Sequence[str]) -> int:
+    """Runs a call, or prints its text, and returns its status where this process isn't replaced."""
+    known = own_texts.text_of(words)
+    if known:
+        return print_text(known, is_version=list(words) in (["--version"], ["-V"]))
+    if not shutil.which("rt"):
+        say("building the program needs the Rattle kit, and its command rt isn't on the path (README.md, What is trusted)")
         return NO_ANSWER
-    sys.stderr.write(said.decode(errors="replace"))
-    if last.startswith(b"run=fault"):
-        say(
-            "no answer: a run-time check stopped the unproved build, as the lines above say: a mistake in sfq or in the "
-            "toolchain; ./build makes the proved program"
-        )
-    else:
-        say(
-            "no answer: the unproved build couldn't be made or run, as the lines above say; "
-            "./build makes the proved program"
-        )
-    return NO_ANSWER
+    try:
+        return run(words)
+    except NotBuilt as it:
+        with contextlib.suppress(OSError, AttributeError):
+            print(it, file=sys.stderr, flush=True)
+        return NO_ANSWER
 
 
-def pass_on(out: bytes, err: bytes, status: int) -> int:
-    """Writes what the program wrote, and returns its status, or that of a program whose output can't be written."""
-    sys.stderr.buffer.write(err)
-    sys.stderr.flush()
+def print_text(known: own_texts.Text, is_version: bool) -> int:
+    """Prints a text that needs no program, and returns its status, or that of a program whose output can't be written."""
+    if is_version:
+        say("not the proved program, which ./build makes")
+    with contextlib.suppress(OSError, AttributeError):
+        print(known.err, end="", file=sys.stderr, flush=True)
+    out = known.out.encode()
     try:
         while out:
             out = out[os.write(1, out) :]
     except OSError:
-        if status == 0:
-            say("write failed")
-            return 6
-    return status
+        say("write failed")
+        return known.status or 6
+    return known.status
 
 
-def minutes_of_build() -> int:
-    """Returns how long ./build takes here from what is proved already, in minutes, by the seconds that are noted of each crate."""
-    import proving
-    import repository
-
-    run = proving.Proving(ROOT, repository.kit_line(), tops=["sfq"])
-    run.make_plan()
-    return max(1, round(run.clock.left(run.ended(), 0) / 60))
-
-
-def say_waiting(seconds: float) -> None:
-    """Says how long an answer took, and what ends the waiting."""
-    if seconds >= LONG:
-        say(f"this took {seconds:.0f} s, as each call will; ./build takes about {minutes_of_build()} min, once, and then a call takes milliseconds")
-
-
-def answer(words: list[str]) -> int:
-    """Runs the call, and returns the status."""
-    known = own_texts.text_of(words)
-    if known:
-        return pass_on(known.out.encode(), known.err.encode(), known.status)
-    if not shutil.which("rt"):
-        say("the command rt of the Rattle kit is needed to build the program")
-        return NO_ANSWER
-    if any(re.search("[\udc80-\udcff]", it) for it in words):
-        # No word that isn't UTF-8 can be handed on; this is what the program says of one.
-        sys.stderr.write("error: invalid UTF-8 was detected in one or more arguments\n")
-        return 2
-    begun = time.monotonic()
-    with tempfile.TemporaryDirectory(prefix="sfq-") as room:
-        handed = HandedIn(room, os.getcwd())
-        named = handed.words(asking(words))
-        out, said = run_rt(["try", *handed.flags(), "--", *named], room, show_waiting)
-    clear_waiting()
-    ended = ENDED.search(said)
-    if not ended:
-        return refuse(said)
-    status = int(ended[1])
-    out, err = with_own_name(words, status, out, said[: ended.start()])
-    print(NOTICE, file=sys.stderr, flush=True)
-    status = pass_on(out, err, status)
-    say_waiting(time.monotonic() - begun)
-    return status
+def stop(number: int, _: Optional[object]) -> NoReturn:
+    sys.exit(128 + number)
 
 
 def main() -> int:
     for it in (signal.SIGINT, signal.SIGTERM, signal.SIGHUP):
-        signal.signal(it, lambda number, _: sys.exit(128 + number))
+        signal.signal(it, stop)
     return answer(sys.argv[1:])
 
 

@@ -74,11 +74,14 @@ Checker = Union[ByLibrary, ByProgram]
 
 
 def need_proved(path: str) -> None:
-    """LibraryError where a program is the script of a checkout that would make a build for each call."""
-    folder = os.path.dirname(os.path.realpath(path))
-    if os.path.isfile(f"{folder}/tools/current.sh"):
-        if subprocess.run(["sh", "tools/current.sh", "is"], cwd=folder, stdin=subprocess.DEVNULL).returncode:
-            raise LibraryError(f"sfq: {path} has no proved program, and would make an unproved build for each call: run {folder}/build first")
+    """LibraryError where a program isn't proved: the script of a checkout where ./build has made none, or what that script keeps."""
+    folder, _, rest = os.path.realpath(path).rpartition("/")
+    kept = f"{folder}/{rest}".endswith("/out/unproved/sfq")
+    checkout = folder.removesuffix("/out/unproved") if kept else folder
+    if os.path.isfile(f"{checkout}/tools/current.sh"):
+        ran = subprocess.run(["sh", "tools/current.sh", "is"], cwd=checkout, stdin=subprocess.DEVNULL)
+        if kept or ran.returncode:
+            raise LibraryError(f"sfq: {path} isn't the proved program: run {checkout}/build first")
 
 
 def by_program(path: str) -> ByProgram:

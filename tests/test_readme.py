@@ -1,0 +1,117 @@
+"""README's blocks of code, run in order in a copy of what is here; and how long the first answers take."""
+import os
+import re
+import resource
+import shutil
+import subprocess
+import sys
+import tempfile
+import time
+import unittest
+
+from support import ROOT, needs_build, read
+import front_door
+import library
+import printed
+import repository
+import unproved
+
+README = read(f"{ROOT}/README.md")
+# What the neighbours of two parcels are, by the map of the land register.
+NEIGHBOURS = "[[('Quay House',), ('Boatyard',)], [('Churchyard',), ('Glebe',)]]\n"
+
+
+def copied(room, outputs):
+    """Makes a copy of the repository without what was built here, but for these folders, and returns its path."""
+    root = f"{room}/sfq"
+    shutil.copytree(ROOT, root, symlinks=True, ignore=shutil.ignore_patterns("out", ".git", "__pycache__"))
+    for it in outputs:
+        if os.path.isdir(f"{ROOT}/{it}"):
+            shutil.copytree(f"{ROOT}/{it}", f"{root}/{it}", ignore=shutil.ignore_patterns("rlib", "incremental", "new-*"))
+    return root
+
+
+class Blocks(unittest.TestCase):
+    ASKS_PROGRAM, ASKS_LIBRARY = True, True
+
+    def setUp(self):
+        room = tempfile.TemporaryDirectory(prefix="sfq-readme-")
+        self.addCleanup(room.cleanup)
+        if not repository.is_built():
+            unproved.kept_program()
+        self.clone = copied(room.name, ("crates/sfq/out", "out/unproved", "bindings/c/out"))
+
+    def run_in(self, words, **more):
+        known = {**os.environ, "PYTHONDONTWRITEBYTECODE": "1", **more}
+        return subprocess.run(words, cwd=self.clone, env=known, stdin=subprocess.DEVNULL, capture_output=True, text=True)
+
+    def test_each_block_is_known_here(self):
+        """A new block wants a test, here or in tools/front_door.py, which runs the two commands."""
+        self.assertEqual([it.kind for it in printed.fences(README)], ["sh", "text", "sh", "python"])
+
+    def test_the_first_command(self):
+        first = front_door.commands(README)[0]
+        for _ in range(2):
+            ran = self.run_in(["sh", "-c", first.text])
+            self.assertEqual((ran.stdout, ran.returncode), (first.prints, 0), ran.stderr)
+
+    def test_the_program_in_python(self):
+        """The text above the block names the commands that it needs: the library is the one that was made here."""
+        block = next(it for it in printed.fences(README) if it.kind == "python")
+        self.assertIn("run `./build --library` and `export PYTHONPATH=bindings/python` first:", block.before)
+        if not library.are_made():
+            self.skipTest("needs ./build --library")
+        ran = self.run_in([sys.executable, "-c", block.text], PYTHONPATH="bindings/python")
+        self.assertEqual((ran.stdout, ran.stderr), (NEIGHBOURS, ""))
+
+
+class Commands(unittest.TestCase):
+    def test_each_command_of_the_table_is_one_that_it_takes(self):
+        for row in re.findall(r"^\| `(\./\w+[^`]*)` \|(.*)\|.*\|$", README, re.M):
+            program, _, option = row[0].partition(" ")
+            known = subprocess.run([f"{ROOT}/{program}", "--help"], capture_output=True, text=True).stdout
+            for it in [option, *re.findall(r"`(--[a-z]+)(?: [A-Z]+)?`", row[1])]:
+                self.assertIn(f"{program} {it}".rstrip(), known)
+
+
+def processor_seconds():
+    """Returns what the commands that have ended took of the processors."""
+    used = resource.getrusage(resource.RUSAGE_CHILDREN)
+    return used.ru_utime + used.ru_stime
+
+
+def least(words):
+    """Returns the least seconds of fifteen runs: by the clock, or of the processors where that is less, as other work slows a run down."""
+    found = []
+    for _ in range(15):
+        before, begun = processor_seconds(), time.monotonic()
+        subprocess.run(words, cwd=ROOT, stdin=subprocess.DEVNULL, capture_output=True, check=True)
+        found.append(min(time.monotonic() - begun, processor_seconds() - before))
+    return min(found)
+
+
+RELATES = ["relate", "POINT(1 1)", "POINT(1 1)"]
+
+
+class Seconds(unittest.TestCase):
+    """What ./sfq adds to the program that it runs."""
+
+    ASKS_PROGRAM = True
+
+    @needs_build
+    def test_of_the_proved_program(self):
+        self.assertLess(least([f"{ROOT}/sfq", *RELATES]) - least([repository.PROGRAM, *RELATES]), 0.1)
+
+    def test_of_the_kept_program(self):
+        if repository.is_built():
+            self.skipTest("the proved program is built, which ./sfq runs")
+        self.assertLess(least([f"{ROOT}/sfq", *RELATES]) - least([unproved.kept_program(), *RELATES]), 0.1)
+
+    def test_of_texts_that_need_no_program(self):
+        python = "/usr/bin/python3" if os.access("/usr/bin/python3", os.X_OK) else sys.executable
+        for words in (["--version"], ["--help"], ["fault", "V3"]):
+            self.assertLess(least([python, "-B", f"{ROOT}/tools/unproved.py", *words]), 0.2)
+
+
+if __name__ == "__main__":
+    unittest.main()
