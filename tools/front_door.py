@@ -71,7 +71,7 @@ def bare_environment(home: str) -> dict[str, str]:
 def walked(command: str, clone: str, home: str) -> Walked:
     """Runs a command in the clone. Its lines go through, each behind a mark, so that none of them looks like one of the gate."""
     lines = []
-    with tempfile.TemporaryFile("w+", errors="replace") as said, Beat(command) as beat:
+    with tempfile.TemporaryFile("w+", errors="replace") as said, Beat(f"{command.split()[0]} in the clone") as beat:
         with subprocess.Popen(
             ["sh", "-c", command], cwd=clone, env=bare_environment(home), stdin=subprocess.DEVNULL, stdout=subprocess.PIPE,
             stderr=said, text=True, errors="replace",
