@@ -21,6 +21,9 @@ from repository import read
 HELP_CALLS = [
     [], ["--help"], ["--version"], ["run", "--help"], ["check", "-h"], ["help", "relate"], ["why", "--help"], ["help", "pairs"],
     ["rum"], ["relate", "POINT(1 1)"], ["relate", "--help"], ["fault", "-h"], ["-V"], ["fault", "v3"], ["fault", "L10"], ["fault", "V9"],
+    *([it] for it in ("relat", "chek", "peirs", "helpp", "h", "flt", "xyz", "-", "", "a b", "Run", "r'un", "ruun")), ["rum", "--help"],
+    ["run"], ["run", "--why"], ["run", "a"], ["run", "a", "--why", "b"], ["run", ""], ["check"], ["check", "--why", "a"], ["relate"], ["relate", "--why", "-"],
+    ["why"], ["why", "--why"], ["pairs"], ["pairs", "--why"],
 ]
 
 # A stand-in for `rt`. It notes each call, and does what the file `behaviour` in its folder says, a piece of Python.

@@ -60,7 +60,7 @@ class ProvedAndUnproved(unittest.TestCase):
     def test_write_the_same(self):
         with tempfile.TemporaryDirectory(prefix="sfq-documents-") as room:
             calls = [it.words for it in printed.everything(room)]
-            calls += [*support.HELP_CALLS, ["run"], ["relate", "a", "b", "c"], ["relate", "--", "-1", "b"], ["check", "nothing.sql", "nowhere"]]
+            calls += [*support.HELP_CALLS, ["relate", "a", "b", "c"], ["relate", "--", "-1", "b"], ["check", "nothing.sql", "nowhere"]]
             proved, unproved = answers.by_program(calls), answers.by_unproved(calls)
         for words, one, other in zip(calls, proved, unproved):
             with self.subTest(call=words):

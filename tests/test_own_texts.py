@@ -1,4 +1,4 @@
-"""Help, the version and the pages of faults, which ./sfq prints at once: they are the program's own texts."""
+"""Help, the version, the pages of faults and what is said of mistaken words, which ./sfq prints at once: they are the program's own texts."""
 import os
 import subprocess
 import sys
@@ -11,6 +11,7 @@ from support import ROOT, asked, write
 import fault_pages
 import own_texts
 import repository
+import similarity
 
 
 class Recorded(unittest.TestCase):
@@ -30,21 +31,48 @@ class Recorded(unittest.TestCase):
             self.assertRegex(found.err, r"\Asfq: unknown code: there are S1 to S6, .*\n\Z")
 
     def test_what_else_is_asked_is_left_to_the_program(self):
-        for it in (["run"], ["fault"], ["fault", "V3", "V4"], ["fault", "--", "V3"], ["help", "help"], ["relate", "--help", "x"], ["rum"], ["-x"]):
+        for it in (["fault", "V3", "V4"], ["fault", "--", "V3"], ["help", "help"], ["help", "rum"], ["relate", "--help", "x"], ["-x"], ["--", "rum"]):
             self.assertIsNone(own_texts.text_of(it), it)
+        whole = ["run", "a", "b", "c"], ["check", "a", "b"], ["relate", "a", "b"], ["why", "a"], ["why", "a", "b"], ["pairs", "a"]
+        other = ["run", "-x"], ["run", "--"], ["run", "--why", "--why"], ["fault", "--why"], ["why", "-1"], ["check", "a", "b", "c"], ["run", "--why=a"]
+        for it in (*whole, *other, ["r\udc80"], ["fault", "\udc80"]):
+            self.assertIsNone(own_texts.text_of(it), it)
+
+    def test_an_unknown_command(self):
+        """The tips are those of the program; the words are of misspellings."""
+        tips = {"rum": "a similar subcommand exists: 'run'", "h": "some similar subcommands exist: 'check', 'help'", "xyz": "", "-": "", "": ""}
+        for word, tip in tips.items():
+            lines = [f"error: unrecognized subcommand '{word}'", "", *([f"  tip: {tip}", ""] if tip else []), "Usage: sfq <COMMAND>"]
+            self.assertEqual(own_texts.text_of([word, "--help"]), own_texts.Text("", "\n".join([*lines, "", "For more information, try '--help'.", ""]), 2))
+
+    def test_missing_words(self):
+        for words, missing, usage in (
+            (["run", "a"], ["<DIR>", "<QUERY>"], "run <SCHEMA> <DIR> <QUERY>"),
+            (["check", "a", "--why"], ["<DIR>"], "check --why <SCHEMA> <DIR>"),
+            (["relate", "-"], ["<WKT>"], "relate <WKT> <WKT>"),
+            (["why", "--why"], ["<WKT>"], "why --why <WKT> [WKT]"),
+        ):
+            lines = ["error: the following required arguments were not provided:", *(f"  {it}" for it in missing), "", f"Usage: sfq {usage}"]
+            self.assertEqual(own_texts.text_of(words), own_texts.Text("", "\n".join([*lines, "", "For more information, try '--help'.", ""]), 2))
+
+    def test_the_similarity_of_words(self):
+        """The values are those of the literature, and of the tests of strsim."""
+        for one, other, wanted in (("", "", 1), ("", "a", 0), ("a", "", 0), ("dixon", "dicksonx", 0.767), ("martha", "marhta", 0.944), ("jones", "johnson", 0.790)):
+            self.assertAlmostEqual(similarity.jaro(one, other), wanted, 3)
 
     def test_help_of_other_words_is_left_to_the_program(self):
         with tempfile.TemporaryDirectory() as room:
             write(f"{room}/sfq.txt", "old\n")
             write(f"{room}/sum.txt", f"{'0' * 64}\n")
             with mock.patch.object(own_texts, "FOLDER", room):
-                self.assertIsNone(own_texts.text_of(["--help"]))
+                for it in (["--help"], ["rum"], ["run"]):
+                    self.assertIsNone(own_texts.text_of(it), it)
 
 
 class AtOnce(unittest.TestCase):
     def test_no_build_is_made(self):
         """Where there is no command rt, no build can be made."""
-        for words in (["--help"], [], ["--version"], ["help", "run"], ["pairs", "-h"], ["fault", "Q2"], ["fault", "Q99"]):
+        for words in (["--help"], [], ["--version"], ["help", "run"], ["pairs", "-h"], ["fault", "Q2"], ["fault", "Q99"], ["rum"], ["run", "--why"]):
             ran = subprocess.run([sys.executable, "-B", f"{ROOT}/tools/unproved.py", *words], capture_output=True, text=True, env={"PATH": "/nowhere"})
             notice = "sfq: not the proved program, which ./build makes\n" if words == ["--version"] else ""
             wanted = own_texts.text_of(words)
@@ -62,7 +90,7 @@ class OfTheProgram(unittest.TestCase):
             if known:
                 self.assertEqual((given.out.decode(), given.err.decode(), given.status), known, words)
                 count += 1
-        self.assertGreaterEqual(count, 13)
+        self.assertGreaterEqual(count, 40)
         self.assertEqual(own_texts.version(), f"sfq {repository.version()}\n")
 
 

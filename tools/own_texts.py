@@ -1,10 +1,12 @@
 #!/usr/bin/env python3
-"""The texts that sfq prints whatever it is given: help, the version, and the page of each fault, from the files of this repository.
+"""The texts that sfq prints whatever files there are: help, the version, the page of each fault, and what it says of an unknown
+command and of missing words, from the files of this repository.
 
     python3 tools/own_texts.py     writes packaging/help anew, which has the texts of help, by the program
 
 ./sfq prints them where ./build hasn't made the program, so that nobody waits for a build to read them. The pages of faults are those in
-the program's source. The texts of help were printed by the program; where its words were changed since then, none is taken from here.
+the program's source. The texts of help were printed by the program, and the usage in them says which words a command needs; where the
+program's words were changed since then, none is taken from here.
 """
 import hashlib
 import os
@@ -12,9 +14,13 @@ import re
 import sys
 from typing import NamedTuple, Optional, Sequence
 
+from similarity import jaro
+
 ROOT = os.path.dirname(os.path.dirname(os.path.realpath(__file__)))
 FOLDER = f"{ROOT}/packaging/help"
 COMMANDS = ("run", "check", "relate", "why", "pairs", "fault")
+# A command is proposed for an unknown one that is more similar to it than this.
+SIMILAR = 0.7
 # The file of the pages of each letter of a code.
 PAGES = {"W": "text_pages", "V": "validity_pages", "S": "schema_pages", "L": "table_pages", "Q": "query_pages"}
 
@@ -65,8 +71,41 @@ def unknown_code() -> Optional[str]:
     return f"sfq: {found[1]}\n" if found else None
 
 
+def usage(name: str) -> Optional[str]:
+    """Returns the line of usage of sfq or of a command, or None where the sources have other words now."""
+    found = re.search(r"^Usage: .*$", help_of(name) or "", re.M)
+    return found[0] if found else None
+
+
+def mistake(said: str, usage_line: str) -> Text:
+    """Returns what is written of a mistake in the words."""
+    return Text("", f"error: {said}\n\n{usage_line}\n\nFor more information, try '--help'.\n", 2)
+
+
+def unknown_command(word: str) -> Optional[Text]:
+    """Returns what is written of an unknown command, with the commands that are similar to it, the most similar one last."""
+    similar = sorted((it for it in (*COMMANDS, "help") if jaro(word, it) > SIMILAR), key=lambda it: jaro(word, it))
+    tip = "a similar subcommand exists" if len(similar) == 1 else "some similar subcommands exist"
+    names = ", ".join(f"'{it}'" for it in similar)
+    line = usage("sfq")
+    return mistake(f"unrecognized subcommand '{word}'" + (f"\n\n  tip: {tip}: {names}" if similar else ""), line) if line else None
+
+
+def missing_words(name: str, rest: Sequence[str]) -> Optional[Text]:
+    """Returns what is written where words of a command are missing; None where none is, or where the words have another mistake."""
+    line = usage(name)
+    flags = [it for it in rest if it.startswith("-") and it != "-"]
+    if not line or flags not in ([], ["--why"]) or flags and "[OPTIONS]" not in line:
+        return None
+    missing = re.findall(r" (<\w+>)", line)[len(rest) - len(flags) :]
+    said = "the following required arguments were not provided:" + "".join(f"\n  {it}" for it in missing)
+    return mistake(said, line.replace(" [OPTIONS]", "".join(f" {it}" for it in flags))) if missing else None
+
+
 def text_of(words: Sequence[str]) -> Optional[Text]:
     """Returns what a call writes that asks for such a text, or None where it asks for anything else or its text isn't known."""
+    if any(re.search("[\ud800-\udfff]", it) for it in words):
+        return None
     try:
         return found_text(words)
     except OSError:
@@ -74,7 +113,7 @@ def text_of(words: Sequence[str]) -> Optional[Text]:
 
 
 def found_text(words: Sequence[str]) -> Optional[Text]:
-    """The same, with the error where a source isn't there."""
+    """Returns what `text_of` does, or raises OSError where a source isn't there."""
     asked = list(words)
     flags = ["--help"], ["-h"]
     if asked in (["--version"], ["-V"]):
@@ -90,6 +129,10 @@ def found_text(words: Sequence[str]) -> Optional[Text]:
         line = None if found else unknown_code()
         if line:
             return Text("", line, 2)
+    elif asked[0] in COMMANDS:
+        return missing_words(asked[0], asked[1:])
+    elif asked[0] != "help" and (asked[0] == "-" or not asked[0].startswith("-")):
+        return unknown_command(asked[0])
     else:
         found = None
     return Text(found, "", 0) if found else None
