@@ -110,7 +110,7 @@ def parts_without_proof(choice: str, kit: str) -> list[Part]:
     """Returns the parts of ./test in the order in which they begin: first what takes longest. `kit` is a folder for links to the kit."""
     parts: list[Part] = []
     if shutil.which("rt"):
-        rt = unproved.make_kit(kit)
+        rt = unproved.make_kit(f"{kit}/kit")
         parts += [Part(it, lambda it=it: try_tests(rt, it)) for it in reversed(repository.crates_with_tests())]  # type: ignore[misc]
         parts += [Part("program", build_program)]
         parts += [Part(it, lambda it=it: play_program(rt, it)) for it in programs()]  # type: ignore[misc]

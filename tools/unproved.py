@@ -86,23 +86,29 @@ def is_kept() -> bool:
     return current("is-unproved")[0] == 0
 
 
+def link_all(source: str, folder: str, but: Sequence[str] = ()) -> None:
+    """Makes a folder with a link to each entry of another one, but for those that are named."""
+    os.makedirs(folder)
+    for it in os.listdir(source) if os.path.isdir(source) else ():
+        if it not in but:
+            os.symlink(f"{source}/{it}", f"{folder}/{it}")
+
+
 def make_kit(folder: str, kept: str = "") -> str:
-    """Makes a folder of links to the kit, and returns the path of `rt` in it. Where a path is given, the linker copies programs to it."""
-    command = os.path.realpath(shutil.which("rt") or "")
-    kit = os.path.dirname(os.path.dirname(command))
-    for path in ("", "bin", "toolchain", "toolchain/bin"):
-        os.makedirs(f"{folder}/{path}", exist_ok=True)
-        for it in os.listdir(f"{kit}/{path}") if os.path.isdir(f"{kit}/{path}") else ():
-            if not os.path.lexists(f"{folder}/{path}/{it}") and f"{path}/{it}" not in ("/bin", "/toolchain", "toolchain/bin"):
-                os.symlink(os.path.realpath(f"{kit}/{path}/{it}"), f"{folder}/{path}/{it}")
-    # `rt` finds the kit by where it is itself, so it and its module are copies.
-    for it in ("rt", "rtlib.py"):
+    """Makes a folder of links to the kit, and returns the path of `rt` in it. Where a path is given, the linker copies programs to it.
+
+    `rt` finds the kit by where it is itself, so it and its module are copies. Beside a build `rt try` has the prover look for
+    reserved names; without a prover that ends at once.
+    """
+    kit = os.path.dirname(os.path.dirname(os.path.realpath(shutil.which("rt") or "")))
+    own = ("rt", "rtlib.py")
+    link_all(kit, folder, ("bin", "toolchain"))
+    link_all(f"{kit}/bin", f"{folder}/bin", (*own, "rattle"))
+    link_all(f"{kit}/toolchain", f"{folder}/toolchain", ("bin",))
+    link_all(f"{kit}/toolchain/bin", f"{folder}/toolchain/bin", ("ld.lld",) if kept else ())
+    for it in own:
         if os.path.isfile(f"{kit}/bin/{it}"):
-            os.remove(f"{folder}/bin/{it}")
             shutil.copy(f"{kit}/bin/{it}", f"{folder}/bin/{it}")
-    # Beside the build `rt try` has the prover look for reserved names. Without a prover that search ends at once.
-    with contextlib.suppress(FileNotFoundError):
-        os.remove(f"{folder}/bin/rattle")
     if kept:
         write_linker(f"{folder}/toolchain/bin/ld.lld", f"{kit}/toolchain/bin/ld.lld", kept)
     return f"{folder}/bin/rt"
@@ -110,8 +116,6 @@ def make_kit(folder: str, kept: str = "") -> str:
 
 def write_linker(path: str, linker: str, kept: str) -> None:
     """Writes the script that takes the place of the kit's linker."""
-    with contextlib.suppress(FileNotFoundError):
-        os.remove(path)
     parts = {"linker": linker, "copy": shutil.which("cp") or "/bin/cp", "kept": kept}
     with open(path, "w", encoding="utf-8") as script:
         script.write(LINKER.format(**{name: shlex.quote(it) for name, it in parts.items()}))
