@@ -20,6 +20,11 @@ def has_sanitizers():
         return made.returncode == 0 and subprocess.run([f"{room}/it"], capture_output=True).returncode == 0
 
 
+def trapping():
+    """Returns the flags by which undefined behaviour ends a program that another one loads, none where the compiler hasn't them."""
+    return "-fsanitize=undefined -fno-sanitize=alignment,vptr -fsanitize-undefined-trap-on-error" if has_sanitizers() else ""
+
+
 def watched():
     """Returns the flags by which a program is watched, none where the compiler has no sanitizers."""
     return SANITIZED if has_sanitizers() else ["-g", "-O1"]

@@ -8,7 +8,6 @@ from support import ROOT, needs
 import bindings
 import c_programs
 import engine_rows
-import library
 
 
 @needs("sqlite3", "sqlite3")
@@ -51,16 +50,9 @@ class WithExtension(engine_rows.WithLibrary):
             ran = subprocess.run(["sqlite3", "-batch", ":memory:"], input=given, capture_output=True, text=True, cwd=ROOT)
             self.assertEqual((ran.stdout, ran.stderr), (output, ""), source)
 
-    @staticmethod
-    def compile_watched(to, name):
-        """Compiles a program of tests/sqlite, with the extension in it, where it can be under sanitizers."""
-        sources = [f"{ROOT}/bindings/sqlite/sfq0.c", f"{ROOT}/tests/sqlite/{name}.c", *(it.archive for it in library.ALL)]
-        flags = ["-std=c99", *c_programs.STRICT, *c_programs.watched(), "-DSQLITE_CORE", f"-I{library.FOLDER}"]
-        subprocess.run(["cc", *flags, *sources, "-lsqlite3", "-o", to], check=True)
-
     def program(self, name):
         """Compiles a program of tests/sqlite, and returns its path."""
         to = f"{self.room.name}/{name}"
-        words = ["cc", "-std=gnu99", "-Wall", "-Wextra", "-Werror", "-g", "-pthread", f"{ROOT}/tests/sqlite/{name}.c"]
+        words = ["cc", "-std=gnu99", *c_programs.STRICT, "-g", "-pthread", f"{ROOT}/tests/sqlite/{name}.c"]
         subprocess.run([*words, "-lsqlite3", "-o", to], check=True)
         return to

@@ -14,6 +14,7 @@ import unittest
 from support import ROOT, read
 
 import bindings
+import c_programs
 import engine_rows
 import postgresql_server
 import repository
@@ -40,7 +41,8 @@ class Postgresql(engine_rows.WithLibrary):
             raise unittest.SkipTest(f"needs the package {lacking}")
         cls.server = postgresql_server.Server()
         try:
-            bindings.make_postgresql("install", f"DESTDIR={cls.server.room}")
+            # Undefined behaviour of the extension ends its process.
+            bindings.make_postgresql("install", f"DESTDIR={cls.server.room}", f"COPT={c_programs.trapping()}")
             cls.server.start()
             cls.server.run("CREATE EXTENSION sfq;")
         except BaseException:

@@ -503,30 +503,6 @@ class Hostile(WithFolders):
         self.assertEqual(self.rows("DROP TABLE t;\nSELECT id FROM u;", database=self.database), "5\n")
 
 
-class Joins(WithFolders):
-    """Random joins and transactions of virtual tables and of plain ones, by a program in which sanitizers watch the extension."""
-
-    SECONDS, SEED = 30, 1
-
-    def fuzz(self, seed, seconds):
-        program = f"{self.room.name}/fuzz_joins"
-        self.compile_watched(program, "fuzz_joins")
-        folder = self.folder(f"joins{seed}", {"schema.sql": ""})
-        ran = subprocess.run([program, folder, str(seed), str(seconds)], capture_output=True, text=True)
-        self.assertEqual((ran.returncode, ran.stderr), (0, ""), ran.stdout)
-        self.assertRegex(ran.stdout, rf"^seed {seed}: \d+ statements, [1-9]\d+ rows$")
-
-    def test_random_joins_give_what_plain_tables_give(self):
-        self.fuzz(self.SEED, self.SECONDS)
-
-
-class ManyJoins(Joins):
-    """Other joins in each run."""
-
-    IS_LONG = True
-    SECONDS, SEED = 600, int.from_bytes(os.urandom(3), "big")
-
-
 class Memory(WithFolders):
     """Running out of memory, threads, and what is left."""
 

@@ -117,7 +117,9 @@ static void write_tables(const char *folder)
                 add_geometry();
             }
             fprintf(file, "%d,", row * 5 % ROWS);
-            fprintf(file, chance(4) > 0 ? "%d" : "", (int)chance(ROWS));
+            if (chance(4) > 0) {
+                fprintf(file, "%d", (int)chance(ROWS));
+            }
             fprintf(file, ",\"%s\"\n", text);
         }
         fclose(file);
