@@ -239,6 +239,19 @@ class OuterJoins(WithFolders):
             (f"WITH a AS (SELECT t.id FROM t LEFT JOIN u ON {within}) SELECT id, count(*) FROM a GROUP BY id ORDER BY 1", "1,2 2,1 3,1"),
         )
 
+    def test_temporary_views_and_triggers(self):
+        """Others can't use a table. The statement itself has no word of an outer join."""
+        within = f"ST_CoveredBy(t.at, {self.SQUARE})"
+        join = f"SELECT t.id AS one, u.id AS other FROM t LEFT JOIN u ON {within} AND u.of = t.id"
+        folder = self.folder("views", self.FILES)
+        out = self.rows(f"{made('tu', folder)}CREATE TEMP VIEW w AS {join};\nSELECT * FROM w ORDER BY 1;\n"
+                        f"SELECT t.id FROM t WHERE {within};\nSELECT count(*) FROM t JOIN w ON ST_Within(t.at, t.at) AND t.id = w.one;")
+        self.assertEqual(out.split(), ["1,7", "2,", "3,", "1", "2"])
+        out = self.rows(f"{made('tu', folder)}CREATE TEMP TABLE n (x);\nCREATE TEMP TABLE log (one, other);\n"
+                        f"CREATE TEMP TRIGGER g AFTER INSERT ON n BEGIN INSERT INTO log {join}; END;\nINSERT INTO n VALUES (1);\n"
+                        "SELECT * FROM log ORDER BY 1;")
+        self.assertEqual(out.split(), ["1,7", "2,", "3,"])
+
     def test_right_and_full_joins(self):
         version = self.rows("SELECT sqlite_version();").strip()
         if tuple(map(int, version.split("."))) < (3, 39):

@@ -30,6 +30,20 @@ static bool has_outer_word(const char *sql)
     return false;
 }
 
+/* Whether a view or a trigger that may use the tables has such a word: a temporary one, which no file has. True where it isn't known. */
+static bool has_outer_view(sqlite3 *sqlite)
+{
+    sqlite3_stmt *statement = NULL;
+    bool found = sqlite3_prepare_v2(sqlite, "SELECT sql FROM sqlite_temp_master WHERE type IN ('view', 'trigger')", -1, &statement, NULL) != SQLITE_OK;
+    int status = SQLITE_DONE;
+    while (!found && (status = sqlite3_step(statement)) == SQLITE_ROW) {
+        const char *sql = (const char *)sqlite3_column_text(statement, 0);
+        found = sql == NULL || has_outer_word(sql);
+    }
+    sqlite3_finalize(statement);
+    return found || status != SQLITE_DONE;
+}
+
 /*
  * Whether each step of a statement that asks a table by this plan is one of the right table of LEFT JOIN, as EXPLAIN QUERY PLAN says it
  * from 3.39 on. False where it can't be asked, or no step does.
@@ -52,20 +66,21 @@ static bool are_of_right_tables(sqlite3 *sqlite, const char *sql, const char *st
 
 /*
  * Whether a relation with this plan may leave out rows, whichever of the connection's statements asks. That one runs, so the texts of all
- * that run are looked at. A view or a trigger can't ask (sqlite3_vtab_config), so their texts needn't be. A statement without a text may
- * be any.
+ * that run are looked at, and those of temporary views and triggers; no others may ask (sqlite3_vtab_config). A statement without a text
+ * may be any.
  */
 static bool may_search(sqlite3 *sqlite, int plan, const char *name)
 {
     char *step = NULL;
     sqlite3_stmt *at = NULL;
-    bool may = true;
+    bool may = true, in_view;
     if (sqlite3_libversion_number() >= OFFERS_NO_ON) {
         return true;
     }
+    in_view = has_outer_view(sqlite);
     while (may && (at = sqlite3_next_stmt(sqlite, at)) != NULL) {
         const char *sql = sqlite3_sql(at);
-        if (sqlite3_stmt_busy(at) && (sql == NULL || has_outer_word(sql))) {
+        if (sqlite3_stmt_busy(at) && (sql == NULL || in_view || has_outer_word(sql))) {
             step = step != NULL ? step : sqlite3_mprintf("VIRTUAL TABLE INDEX %d:%s", plan, name);
             may = sql != NULL && step != NULL && are_of_right_tables(sqlite, sql, step);
         }

@@ -5,8 +5,8 @@
  * first argument is a column, and xBestIndex takes them.
  *
  * A table that can't be loaded isn't made. One that was made and can't be loaded any more is there, so that it can be dropped: a query
- * of it is an error, which says why. A table reads files, so no view or trigger may use one: of a database that somebody else wrote, a
- * table is read only where its own name is in a statement.
+ * of it is an error, which says why. A table reads files, so no view or trigger may use one but a temporary one: of a database that
+ * somebody else wrote, a table is read only where its own name is in a statement.
  *
  * Nothing here is proved. It gives SQLite more rows rather than fewer: no condition is left out, and SQLite tests each again. That a
  * relation but ST_Disjoint holds only where envelopes meet is proved of those that force meeting; of ST_Equals, where both may be
