@@ -344,13 +344,34 @@ static void turn_tables(sqlite3 *connection, const char *folder)
     must(connection, text);
 }
 
+/* Has the statement that was made in temporary views, in place of which another one asks them. */
+static void make_views(sqlite3 *connection)
+{
+    static char of_view[sizeof text + 64];
+    const char *kind;
+    char *at;
+    for (kind = "vp"; *kind != '\0'; kind++) {
+        snprintf(of_view, sizeof of_view, "CREATE TEMP VIEW w%c AS %s", *kind, text);
+        for (at = of_view; *at != '\0'; at++) {
+            *at = *at == '@' ? *kind : *at;
+        }
+        must(connection, of_view);
+    }
+    length = 0;
+    add("SELECT * FROM w@");
+}
+
 /* Asks one statement of both kinds of tables. Returns how many rows it has, or -1 where they differ. */
 static long turn(sqlite3 *connection, const char *folder)
 {
     sqlite3_stmt *beside = chance(10) == 0 ? half_done(connection) : NULL;
+    bool in_views = beside == NULL && chance(10) == 0;
     struct rows of_virtual, of_plain;
     long count;
     make_statement();
+    if (in_views) {
+        make_views(connection);
+    }
     of_virtual = ask(connection, text, 'v');
     of_plain = ask(connection, text, 'p');
     count = are_equal(&of_virtual, &of_plain) ? (long)of_plain.count : -1;
@@ -360,6 +381,9 @@ static long turn(sqlite3 *connection, const char *folder)
     }
     free_lines(&of_virtual);
     free_lines(&of_plain);
+    if (in_views) {
+        must(connection, "DROP VIEW wv; DROP VIEW wp");
+    }
     sqlite3_finalize(beside);
     if (count >= 0 && beside == NULL && chance(20) == 0) {
         turn_tables(connection, folder);
