@@ -134,7 +134,7 @@ static void bind(sfq_database *database, struct room *room, size_t statement, si
     switch (chance(4)) {
     case 0:
         status = sfq_bind_integer(database, statement, constant, (int64_t)chance(10) - 3);
-        need(status == (type == SFQ_INTEGER ? SFQ_OK : SFQ_UNKNOWN), "binding a number", "", 0);
+        need(status == SFQ_UNKNOWN || (status == SFQ_OK && type == SFQ_INTEGER), "binding a number", "", 0);
         break;
     case 1:
         length = DRAW(drawn, texts);
