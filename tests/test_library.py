@@ -366,7 +366,7 @@ class Border(unittest.TestCase):
     @needs("gcc", "cc")
     def test_null_texts_and_arrays_are_empty(self):
         with tempfile.TemporaryDirectory(prefix="sfq-border-") as room:
-            flags = ["-std=c99", "-Wall", "-Wextra", "-Werror", "-ffunction-sections", "-Wl,--gc-sections", f"-I{ROOT}/bindings/c"]
+            flags = ["-std=c99", *c_programs.STRICT, *c_programs.watched(), "-ffunction-sections", "-Wl,--gc-sections", f"-I{ROOT}/bindings/c"]
             subprocess.run(["cc", *flags, f"{ROOT}/tests/library/nulls.c", "-o", f"{room}/nulls"], check=True)
             ran = subprocess.run([f"{room}/nulls"], capture_output=True, text=True)
         # Of nulls nothing is handed on, and of texts that are there all their bytes.
