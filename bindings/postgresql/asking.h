@@ -3,7 +3,7 @@
  * memory of the call's FmgrInfo. A process runs one call at a time, so a geometry serves one at a time, as the library demands.
  *
  * Of the calls of the crate sfq_c, over which the library is made, it is proved that the matrix is that of the sets of points of
- * both texts, and the fault the first one. Not proved are the library's own sfq.c, and what is here, in memory.h and in keeping.h: a
+ * both texts, and the fault the first one. Not proved are the library's own sfq.c, and what is here, in server_memory.h and in keeping.h: a
  * text is there, whole and with its length, until the function returns; what is kept belongs to the same value; and no call of the
  * library calls back into PostgreSQL but for memory, where nothing raises an error, so none leaves a call half way.
  */

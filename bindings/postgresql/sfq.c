@@ -15,7 +15,7 @@
 #endif
 
 #include "asking.h"
-#include "memory.h"
+#include "server_memory.h"
 
 PG_MODULE_MAGIC;
 
