@@ -94,8 +94,8 @@ static void refused_memory(void)
 /* Defines the setting. Only a superuser may change it. */
 static void define_memory(void)
 {
-    DefineCustomIntVariable("sfq.memory", "How much memory the functions of sfq may hold in a session.", NULL, &most_megabytes, 256, 1, 1048576,
-                            PGC_SUSET, GUC_UNIT_MB, NULL, NULL, NULL);
+    DefineCustomIntVariable("sfq.memory", "How much memory the functions of sfq may hold in a session.", NULL, &most_megabytes, 256, 1,
+                            1048576, PGC_SUSET, GUC_UNIT_MB, NULL, NULL, NULL);
     MarkGUCPrefixReserved("sfq");
 }
 

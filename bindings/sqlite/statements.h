@@ -33,8 +33,9 @@ static bool has_outer_word(const char *sql)
 /* Whether a view or a trigger that may use the tables has such a word: a temporary one, which no file has. True where it isn't known. */
 static bool has_outer_view(sqlite3 *sqlite)
 {
+    static const char sources[] = "SELECT sql FROM sqlite_temp_master WHERE type IN ('view', 'trigger')";
     sqlite3_stmt *statement = NULL;
-    bool found = sqlite3_prepare_v2(sqlite, "SELECT sql FROM sqlite_temp_master WHERE type IN ('view', 'trigger')", -1, &statement, NULL) != SQLITE_OK;
+    bool found = sqlite3_prepare_v2(sqlite, sources, -1, &statement, NULL) != SQLITE_OK;
     int status = SQLITE_DONE;
     while (!found && (status = sqlite3_step(statement)) == SQLITE_ROW) {
         const char *sql = (const char *)sqlite3_column_text(statement, 0);
