@@ -6,6 +6,7 @@ import unittest
 from support import ROOT, needs
 
 import bindings
+import c_programs
 import engine_rows
 
 
@@ -52,6 +53,6 @@ class WithExtension(engine_rows.WithLibrary):
     def program(self, name):
         """Compiles a program of tests/sqlite, and returns its path."""
         to = f"{self.room.name}/{name}"
-        words = ["cc", "-std=gnu99", "-Wall", "-Wextra", "-Werror", "-g", "-pthread", f"{ROOT}/tests/sqlite/{name}.c"]
+        words = ["cc", "-std=gnu99", *c_programs.STRICT, "-g", "-pthread", f"{ROOT}/tests/sqlite/{name}.c"]
         subprocess.run([*words, "-lsqlite3", "-o", to], check=True)
         return to

@@ -145,6 +145,35 @@ class Trials:
             self.assertEqual([["" if it is None else str(it) for it in row] for row in rows], [line.split(",") for line in lines[1:]])
 
 
+class Handles(unittest.TestCase):
+    """Statements that were freed, and numbers that don't fit, over a module that notes the calls."""
+
+    NO_CONSTANT = "TypeError: sfq: no constant {} takes this value: INTEGER, INTEGER"
+    NO_STEP = "RangeError: sfq: a step looks at a whole number of candidates, not {}"
+
+    @needs("nodejs", "node")
+    def test_a_freed_statement_is_no_other_one(self):
+        with tempfile.TemporaryDirectory(prefix="sfq-handles-") as room:
+            files = javascript_package.files_of_package({it.file: b"" for it in javascript_package.MODULES})
+            write_all(room, {path: content.decode("utf-8") for path, content in files.items()})
+            ran = subprocess.run(["node", f"{HERE}/handles.mjs", room], capture_output=True, text=True)
+        self.assertEqual(ran.stderr, "")
+        found, freed = json.loads(ran.stdout), "Error: sfq: the statement is freed"
+        for name, said, calls in (
+            ("steps", freed, []), ("binds", freed, []), ("resets", freed, []), ("plans", freed, []), ("freedTwice", "done", []),
+            ("other", "end", ["step 0 4294967295"]), ("bound", "done", ["bind 0 1 7"]), ("nothing", "done", ["null 0 0"]),
+            ("wrapped", self.NO_CONSTANT.format(2**32), []), ("past", self.NO_CONSTANT.format(2), []),
+            ("below", self.NO_CONSTANT.format(-1), []), ("fraction", self.NO_CONSTANT.format(0.5), []),
+            ("text", self.NO_CONSTANT.format(0), []), ("length", self.NO_CONSTANT.format("length"), []),
+            ("most", "end", ["step 0 4294967295"]), ("all", "end", ["step 0 4294967295"]),
+            ("negative", self.NO_STEP.format(-1), []), ("half", self.NO_STEP.format(0.5), []), ("none", self.NO_STEP.format("NaN"), []),
+            ("word", self.NO_STEP.format(1), []), ("freed", "done", ["finalize 0"]), ("freedAgain", "done", []),
+            ("closed", "Error: sfq: the database is freed", []), ("ofClosed", "done", []), ("closedAgain", "done", []),
+        ):
+            self.assertEqual(found.pop(name), [said, calls], name)
+        self.assertEqual(found, {})
+
+
 class SharedTrials(Trials):
     """The trials of the gate."""
 

@@ -11,6 +11,7 @@ from concurrent.futures import ThreadPoolExecutor
 
 from support import ROOT, needs, needs_build, read
 
+import c_programs
 import closure
 import engine_rows
 import library
@@ -271,7 +272,7 @@ class WithLibrary(engine_rows.WithLibrary):
     def program(self, name, *words, of=("calls", "kept", "whys", "indexes", "binaries", "databases", "rows")):
         """Compiles the program, and returns its path."""
         to = f"{self.room.name}/{name}"
-        flags = ["-std=c99", "-Wall", "-Wextra", "-Werror", "-g", f"-I{ROOT}/bindings/c", "-pthread"]
+        flags = ["-std=c99", *c_programs.STRICT, "-g", f"-I{ROOT}/bindings/c", "-pthread"]
         sources = [f"{ROOT}/tests/library/{it}.c" for it in of]
         subprocess.run(["cc", *flags, *sources, "-o", to, *words], check=True)
         return to
@@ -284,7 +285,7 @@ class WithLibrary(engine_rows.WithLibrary):
 
     def fuzz(self, seed, count, name="fuzz"):
         """Hands in bytes and numbers by chance, to the library and to one in a program that sanitizers watch."""
-        for words in (SHARED, ["-fsanitize=address,undefined", *STATIC]):
+        for words in (SHARED, [*c_programs.watched(), *STATIC]):
             ran = subprocess.run([self.program(name, *words, of=[name]), str(seed), str(count)], capture_output=True)
             self.assertEqual((ran.returncode, ran.stdout, ran.stderr), (0, b"", b""), f"seed {seed}")
 
@@ -365,7 +366,7 @@ class Border(unittest.TestCase):
     @needs("gcc", "cc")
     def test_null_texts_and_arrays_are_empty(self):
         with tempfile.TemporaryDirectory(prefix="sfq-border-") as room:
-            flags = ["-std=c99", "-Wall", "-Wextra", "-Werror", "-ffunction-sections", "-Wl,--gc-sections", f"-I{ROOT}/bindings/c"]
+            flags = ["-std=c99", *c_programs.STRICT, *c_programs.watched(), "-ffunction-sections", "-Wl,--gc-sections", f"-I{ROOT}/bindings/c"]
             subprocess.run(["cc", *flags, f"{ROOT}/tests/library/nulls.c", "-o", f"{room}/nulls"], check=True)
             ran = subprocess.run([f"{room}/nulls"], capture_output=True, text=True)
         # Of nulls nothing is handed on, and of texts that are there all their bytes.
@@ -393,6 +394,14 @@ class PlayedCalls:
             self.assertEqual(ran.returncode, 0, ran.stderr)
             for (call, wanted), line in zip(calls, ran.stdout.splitlines(), strict=True):
                 self.assertEqual(line, wanted, call)
+
+    def test_sanitizers_find_nothing(self):
+        if not c_programs.has_sanitizers():
+            self.skipTest("needs a compiler with sanitizers")
+        calls = self.calls() + self.more_calls()
+        ran = self.calling([self.program("watched", *c_programs.SANITIZED, *STATIC)], [it for it, _ in calls])
+        self.assertEqual((ran.returncode, ran.stderr), (0, ""))
+        self.assertEqual(ran.stdout.splitlines(), [wanted for _, wanted in calls])
 
     def test_each_allocation_refused_in_turn(self):
         program = self.program("refusing", "-DREFUSES", *SHARED)

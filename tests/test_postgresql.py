@@ -1,5 +1,5 @@
 """PostgreSQL's extensions, by a server of the test's own: the tests in PGXS's form, the rows of the engine's own scripts and of the
-land register, several sessions, and memory."""
+land register, ordinary roles, several sessions, and calls that take long or much memory."""
 import csv
 import io
 import os
@@ -8,16 +8,26 @@ import shutil
 import struct
 import subprocess
 import threading
+import time
 import unittest
 
 from support import ROOT, read
 
 import bindings
+import c_programs
 import engine_rows
 import postgresql_server
 import repository
 
 NAMES = ("first", "second")
+
+
+def combs(teeth):
+    """Returns an expression of two areas with so many teeth, each of which crosses all of the other."""
+    tips = [(at, at % 2 * 2 * teeth) for at in range(2 * teeth + 1)]
+    lying = [*tips, (2 * teeth, -5), (0, -5), (0, 0)]
+    shown = [",".join(f"{x} {y}" for x, y in it) for it in (lying, [(y, x) for x, y in lying])]
+    return ", ".join(f"'POLYGON(({it}))'" for it in shown)
 
 
 class Postgresql(engine_rows.WithLibrary):
@@ -31,7 +41,8 @@ class Postgresql(engine_rows.WithLibrary):
             raise unittest.SkipTest(f"needs the package {lacking}")
         cls.server = postgresql_server.Server()
         try:
-            bindings.make_postgresql("install", f"DESTDIR={cls.server.room}")
+            # Undefined behaviour of the extension ends its process.
+            bindings.make_postgresql("install", f"DESTDIR={cls.server.room}", f"COPT={c_programs.trapping()}")
             cls.server.start()
             cls.server.run("CREATE EXTENSION sfq;")
         except BaseException:
@@ -188,6 +199,52 @@ class Postgresql(engine_rows.WithLibrary):
         self.assertEqual((err, status), ("", 0))
         before, after = map(int, re.findall(r"VmRSS:\s+(\d+) kB", out))
         self.assertLess(after - before, 2_000)
+
+    def as_plain_role(self, text):
+        """Runs SQL as a role that may do nothing but what everybody may."""
+        made = "DO $$ BEGIN CREATE ROLE plain; EXCEPTION WHEN duplicate_object THEN NULL; END $$;\n"
+        return self.server.run(f"{made}SET ROLE plain;\n{text}")
+
+    def test_an_ordinary_role_may_call_them(self):
+        """In a new database, and in one of the first version that is updated."""
+        call = "SELECT sfq.ST_Touches('POINT(0 0)', 'LINESTRING(0 0,1 1)'), sfq.ST_Why('POINT(3 4)');"
+        anew = "DROP EXTENSION sfq; DROP SCHEMA IF EXISTS sfq;"
+        for before in (
+            f"{anew} CREATE EXTENSION sfq;",
+            f"{anew} CREATE EXTENSION sfq VERSION '0.1.0'; REVOKE USAGE ON SCHEMA sfq FROM PUBLIC; ALTER EXTENSION sfq UPDATE;",
+        ):
+            self.assertEqual(self.server.run(before)[1:], ("", 0))
+            self.assertEqual(self.as_plain_role(call), ("t|valid\n", "", 0), before)
+
+    def test_a_cancel_ends_a_call(self):
+        """Of a call that takes many seconds; the session goes on."""
+        for text in (f"sfq.ST_Why({combs(400)})", f"sfq.ST_Relate({combs(1_500)})"):
+            begin = time.monotonic()
+            out, err, status = self.server.run(
+                f"SET sfq.memory = '4GB'; SET statement_timeout = 500;\n\\set ON_ERROR_STOP 0\nSELECT {text};\nSELECT sfq.ST_Dimension('POINT(1 1)');"
+            )
+            took = time.monotonic() - begin
+            self.assertEqual((out.splitlines()[-1], status), ("0", 0), err)
+            if "canceling statement due to statement timeout" in err:
+                self.assertLess(took, 0.5 + 1.5, text)
+            else:
+                self.assertLess(took, 0.6, f"{text}: {err}")
+
+    def test_memory_of_a_call_is_bounded(self):
+        """The server's process holds no more than the setting, which an ordinary role can't change, and the session goes on."""
+        measure = "\\setenv PID :pid\n\\! grep VmHWM /proc/$PID/status\n"
+        out, err, status = self.server.run(
+            f"SELECT pg_backend_pid() AS pid \\gset\n\\set VERBOSITY sqlstate\n\\set ON_ERROR_STOP 0\nSET sfq.memory = '64MB';\n{measure}"
+            f"SELECT length(sfq.ST_Why({combs(450)}));\n{measure}SELECT sfq.ST_Why('POINT(1 1)');"
+        )
+        self.assertEqual((out.splitlines()[-1], err.strip(), status), ("valid", "ERROR:  54000", 0))
+        before, after = map(int, re.findall(r"VmHWM:\s+(\d+) kB", out))
+        self.assertLess(after - before, (64 + 32) * 1024)
+        call = "SELECT sfq.ST_Why('POINT(1 1)');"
+        self.assertIn("permission denied to set parameter", self.as_plain_role(f"{call} SET sfq.memory = '4GB';")[1])
+        # Before the extension is loaded, the setting may be named; it isn't taken over.
+        out, err, status = self.as_plain_role(f"SET sfq.memory = '4GB'; {call} SHOW sfq.memory;")
+        self.assertEqual((out, status), ("valid\n256MB\n", 0), err)
 
     def check_update(self, name):
         """Compares what an extension has that was updated with what a new one has, and asks what the earlier version lacks."""

@@ -1,11 +1,13 @@
 """SQLite's virtual tables over folders: the rows of the engine's own scripts, of the land register and of random tables and queries,
-as the program and as plain tables give them; which forms are searched; options, faults and files that change; memory, threads."""
+as the program and as plain tables give them; which forms are searched; options, faults, files that change and hostile ones; memory,
+threads."""
 import csv
 import io
 import os
 import random
 import re
 import shutil
+import socket
 import subprocess
 import unittest
 
@@ -203,6 +205,65 @@ class ManyRandomQueries(RandomQueries):
     COUNT, SEED = 2_000, 6
 
 
+class OuterJoins(WithFolders):
+    """Each row of the left table of an outer join is there, whatever ON says of it. Expected rows are by hand."""
+
+    SCHEMA = "CREATE TABLE t (id INTEGER PRIMARY KEY, at POINT); CREATE TABLE u (id INTEGER PRIMARY KEY, of INTEGER, at POINT)"
+    FILES = {"schema.sql": SCHEMA, "t.csv": "id,at\n1,POINT(1 1)\n2,POINT(8 8)\n3,\n", "u.csv": "id,of,at\n7,1,POINT(1 1)\n8,2,POINT(8 8)\n"}
+    SQUARE = "'POLYGON((0 0,4 0,4 4,0 4,0 0))'"
+
+    def check(self, *pairs):
+        folder = self.folder("outer", self.FILES)
+        for query, wanted in pairs:
+            self.assertEqual(self.rows(f"{made('tu', folder)}{query};").split(), wanted.split(), query)
+
+    def test_a_relation_of_the_left_table_in_on(self):
+        within = f"ST_CoveredBy(t.at, {self.SQUARE})"
+        self.check(
+            (f"SELECT t.id, u.id FROM t LEFT JOIN u ON {within} ORDER BY 1, 2", "1,7 1,8 2, 3,"),
+            (f"SELECT t.id, u.id FROM t LEFT JOIN u ON {within} AND u.of = t.id ORDER BY 1, 2", "1,7 2, 3,"),
+            (f"SELECT t.id, u.id FROM t LEFT JOIN u ON {within} OR t.id = 2 AND u.id = 8 ORDER BY 1, 2", "1,7 1,8 2,8 3,"),
+            (f"SELECT t.id FROM t LEFT JOIN u ON {within} AND u.id = t.id ORDER BY 1", "1 2 3"),
+            ("SELECT t.id, u.id FROM t LEFT JOIN u ON ST_Equals(u.at, t.at) ORDER BY 1, 2", "1,7 2,8 3,"),
+            (f"SELECT t.id, u.id FROM t JOIN u ON {within} ORDER BY 1, 2", "1,7 1,8"),
+        )
+
+    def test_nested_joins_and_subselects(self):
+        within = f"ST_CoveredBy(t.at, {self.SQUARE})"
+        self.check(
+            (f"SELECT t.id, u.id, s.id FROM t LEFT JOIN (u JOIN t s ON ST_Equals(u.at, s.at)) ON {within} ORDER BY 1, 2",
+             "1,7,1 1,8,2 2,, 3,,"),
+            (f"SELECT t.id, u.id, s.id FROM t JOIN u ON u.of = t.id LEFT JOIN t s ON ST_Within(u.at, {self.SQUARE}) ORDER BY 1, 2, 3",
+             "1,7,1 1,7,2 1,7,3 2,8,"),
+            (f"SELECT id FROM t s WHERE EXISTS (SELECT 1 FROM t LEFT JOIN u ON {within} WHERE t.id = s.id) ORDER BY 1", "1 2 3"),
+            (f"WITH a AS (SELECT t.id FROM t LEFT JOIN u ON {within}) SELECT id, count(*) FROM a GROUP BY id ORDER BY 1", "1,2 2,1 3,1"),
+        )
+
+    def test_temporary_views_and_triggers(self):
+        """Others can't use a table. The statement itself has no word of an outer join."""
+        within = f"ST_CoveredBy(t.at, {self.SQUARE})"
+        join = f"SELECT t.id AS one, u.id AS other FROM t LEFT JOIN u ON {within} AND u.of = t.id"
+        folder = self.folder("views", self.FILES)
+        out = self.rows(f"{made('tu', folder)}CREATE TEMP VIEW w AS {join};\nSELECT * FROM w ORDER BY 1;\n"
+                        f"SELECT t.id FROM t WHERE {within};\nSELECT count(*) FROM t JOIN w ON ST_Within(t.at, t.at) AND t.id = w.one;")
+        self.assertEqual(out.split(), ["1,7", "2,", "3,", "1", "2"])
+        out = self.rows(f"{made('tu', folder)}CREATE TEMP TABLE n (x);\nCREATE TEMP TABLE log (one, other);\n"
+                        f"CREATE TEMP TRIGGER g AFTER INSERT ON n BEGIN INSERT INTO log {join}; END;\nINSERT INTO n VALUES (1);\n"
+                        "SELECT * FROM log ORDER BY 1;")
+        self.assertEqual(out.split(), ["1,7", "2,", "3,"])
+
+    def test_right_and_full_joins(self):
+        version = self.rows("SELECT sqlite_version();").strip()
+        if tuple(map(int, version.split("."))) < (3, 39):
+            self.skipTest("needs SQLite 3.39")
+        within = f"ST_CoveredBy(t.at, {self.SQUARE})"
+        self.check(
+            (f"SELECT t.id, u.id FROM u RIGHT JOIN t ON {within} AND u.of = t.id ORDER BY t.id", "1,7 2, 3,"),
+            (f"SELECT t.id, u.id FROM t RIGHT JOIN u ON {within} AND u.of = t.id ORDER BY u.id", "1,7 ,8"),
+            (f"SELECT t.id, u.id FROM t FULL JOIN u ON {within} AND u.of = t.id ORDER BY t.id IS NULL, t.id", "1,7 2, 3, ,8"),
+        )
+
+
 class Plans(WithFolders):
     """Which forms are searched, as SQLite says."""
 
@@ -386,6 +447,73 @@ class Files(WithFolders):
         other = self.folder("other", {"schema.sql": self.schema, "t.csv": "id,at\n7,POINT(2 1)\n"})
         text = "".join(f"{made('t', it)}SELECT ST_Relate(at, 'POINT(1 2)') FROM t;\nDROP TABLE t;\n" for it in (self.data, other) * 4)
         self.assertEqual(self.rows(text), "0FFFFFFF2\nFF0FFF0F2\n" * 4)
+
+
+class Hostile(WithFolders):
+    """A database file that somebody else wrote may name any path, and what it makes of it."""
+
+    SCHEMA = "CREATE TABLE t (id INTEGER PRIMARY KEY, at POINT)"
+
+    def setUp(self):
+        self.data = self.folder("hostile", {"schema.sql": self.SCHEMA, "t.csv": "id,at\n7,POINT(1 2)\n"})
+        self.database = f"{self.data}/database"
+
+    def test_only_regular_files_are_read(self):
+        """A pipe that nobody writes to and a device without end are refused at once, as the schema and as the table."""
+        pipe, socket_path = f"{self.data}/pipe", f"{self.data}/socket"
+        os.mkfifo(pipe)
+        with socket.socket(socket.AF_UNIX) as made_socket:
+            made_socket.bind(socket_path)
+        for path in (pipe, "/dev/zero"):
+            wanted = f"{path} can't be read: it isn't a regular file, and no other is read"
+            for options in (f"schema='{path}', csv='{self.data}/t.csv'", f"schema='{self.data}/schema.sql', csv='{path}'"):
+                self.assertEqual(self.fault(f"CREATE VIRTUAL TABLE t USING sfq({options}, table='t');"), wanted)
+        found = self.fault(f"CREATE VIRTUAL TABLE t USING sfq(schema='{socket_path}', csv='x', table='t');")
+        self.assertIn("can't be read: ", found)
+
+    def test_a_table_that_is_too_long(self):
+        """A file of a gibibyte is refused before it is read; of a schema no more is read than it may have."""
+        with open(f"{self.data}/long", "wb") as file:
+            file.truncate((1 << 30) + 1)
+        found = self.fault(f"CREATE VIRTUAL TABLE t USING sfq(schema='{self.data}/schema.sql', csv='{self.data}/long', table='t');")
+        self.assertEqual(found, f"{self.data}/long can't be read: it has more than 1073741824 bytes")
+        found = self.fault(f"CREATE VIRTUAL TABLE t USING sfq(schema='{self.data}/long', csv='x', table='t');")
+        self.assertEqual(found.partition(":")[0], f"{self.data}/long S6")
+
+    def test_no_view_and_no_trigger_uses_a_table(self):
+        table = made("t", self.data)
+        out, err, status = self.asked(f"{table}CREATE VIEW w AS SELECT id FROM t;\nSELECT * FROM w;")
+        self.assertNotEqual((out, status), ("7\n", 0))
+        self.assertIn("unsafe use of virtual table \"t\"", err)
+        out, err, status = self.asked(f"{table}CREATE TABLE p (x);\nCREATE TRIGGER g AFTER INSERT ON p BEGIN UPDATE p SET x = (SELECT id FROM t); "
+                                      "END;\nINSERT INTO p VALUES (1);\nSELECT * FROM p;")
+        self.assertIn("unsafe use of virtual table \"t\"", err)
+        self.assertEqual(self.rows(f"{table}WITH w AS (SELECT id FROM t) SELECT id, (SELECT count(*) FROM t) FROM w;"), "7,1\n")
+
+    def test_a_table_whose_files_are_gone_is_dropped(self):
+        """Without its rows, without its schema, and with options that are none; until then a query says why."""
+        spoiled = {
+            "t.csv": "hostile/t.csv can't be read: No such file or directory",
+            "schema.sql": "hostile/schema.sql can't be read: No such file or directory",
+        }
+        for name, wanted in spoiled.items():
+            database = f"{self.data}/{name}.db"
+            self.rows(made("t", self.data), database=database)
+            os.rename(f"{self.data}/{name}", f"{self.data}/gone")
+            for query in ("SELECT * FROM t", "SELECT count(*) FROM t", "SELECT rowid FROM t WHERE ST_Within('POINT(1 1)', 'POINT(1 1)')"):
+                self.assertEqual(self.fault(f"{query};", database=database), f"{self.room.name}/{wanted}", query)
+            dropped = "SELECT count(*) FROM sqlite_schema;\nDROP TABLE t;\nSELECT count(*) FROM sqlite_schema;"
+            self.assertEqual(self.rows(dropped, database=database), "1\n0\n")
+            os.rename(f"{self.data}/gone", f"{self.data}/{name}")
+
+    def test_a_table_with_a_fault_beside_one_without(self):
+        """The columns that the schema has are there, and another table is as it was."""
+        other = self.folder("well", {"schema.sql": self.SCHEMA, "t.csv": "id,at\n5,POINT(1 1)\n"})
+        self.rows(made("t", self.data) + made("t", other).replace("TABLE \"t\"", "TABLE u"), database=self.database)
+        write(f"{self.data}/t.csv", "id\nx\n")
+        self.assertEqual(self.rows("SELECT * FROM u;\nSELECT name FROM pragma_table_info('t');", database=self.database), '5,"POINT(1 1)"\nid\nat\n')
+        self.assertIn("t L1: the table lacks a column", self.fault("SELECT t.at FROM t JOIN u USING (id);", database=self.database))
+        self.assertEqual(self.rows("DROP TABLE t;\nSELECT id FROM u;", database=self.database), "5\n")
 
 
 class Memory(WithFolders):

@@ -346,6 +346,7 @@ static uint32_t take_apart(struct binary *it, const void *value, size_t length)
     uint32_t type, count, i;
     it->begin = it->at = value;
     it->end = it->begin + length;
+    it->is_little = false;
     it->status = SFQ_OK;
     it->system = 0;
     memset(&it->shift, 0, sizeof it->shift);

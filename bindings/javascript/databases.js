@@ -16,7 +16,8 @@ function needText(text) {
   return text;
 }
 
-// A database where it is kept, and its open statements: what a Database and its statements share.
+// A database where it is kept, and its open statements: what a Database and its statements share. An open statement is an object of its
+// own, `{ number }`: the number itself is another statement's once the module has ended this one.
 class Kept {
   constructor(it) {
     [this.engine, this.slot, this.statements] = [it, it.take(8), new Set()];
@@ -43,7 +44,7 @@ class Kept {
 
   end(statement) {
     if (!this.statements.delete(statement)) return;
-    this.engine.need(this.engine.calls.finalize(this.slot, statement));
+    this.engine.need(this.engine.calls.finalize(this.slot, statement.number));
   }
 
   free() {
@@ -56,7 +57,7 @@ class Kept {
 }
 
 const freeKept = (kept) => kept.free();
-const endStatement = (kept, number) => kept.end(number);
+const endStatement = (kept, statement) => kept.end(statement);
 
 export class Database {
   #kept;
@@ -124,7 +125,7 @@ export class Database {
     if (status === NOT_LOADED) throw new NotLoadedError(this.tables[it.number(8)].name);
     if (status === UNKNOWN) throw new TypeError("sfq: the query's bytes aren't UTF-8");
     it.needUnlessRefused(status, () => it.tableFault());
-    const statement = it.number(48);
+    const statement = { number: it.number(48) };
     kept.statements.add(statement);
     return new Statement(MADE, this, kept, statement);
   }
@@ -153,13 +154,14 @@ function numberOf(text) {
 
 export class Statement {
   #kept;
-  #number;
+  #open;
 
-  constructor(made, database, kept, number) {
+  constructor(made, database, kept, open) {
     if (made !== MADE) throw new TypeError("sfq: a statement is made by Database.prepare");
     // The database is there as long as the statement.
-    [this.database, this.#kept, this.#number] = [database, kept, number];
-    freeLater(this, endStatement, kept, number);
+    [this.database, this.#kept, this.#open] = [database, kept, open];
+    freeLater(this, endStatement, kept, open);
+    const { number } = open;
     const typeOf = (call, place) => COLUMN_TYPES[kept.size(call, number, place)];
     const listed = (call, make) => Object.freeze(Array.from({ length: kept.size(call, number) }, (_, place) => make(place)));
     this.columns = listed("columns", (place) => Object.freeze({
@@ -171,8 +173,8 @@ export class Statement {
   // Throws where it is freed, or its database is. Returns its number.
   #need() {
     this.#kept.need();
-    if (!this.#kept.statements.has(this.#number)) throw new Error("sfq: the statement is freed");
-    return this.#number;
+    if (!this.#kept.statements.has(this.#open)) throw new Error("sfq: the statement is freed");
+    return this.#open.number;
   }
 
   bind(constant, value) {
@@ -183,7 +185,7 @@ export class Statement {
 
   #bound(number, constant, value) {
     const { engine: it, slot } = this.#kept;
-    if (!Number.isInteger(constant) || constant < 0) return UNKNOWN;
+    if (!Number.isInteger(constant) || constant < 0 || constant >= this.constants.length) return UNKNOWN;
     if (value === null) return it.calls.bind_null(slot, number, constant);
     if (typeof value === "bigint" || typeof value === "number") {
       if (typeof value === "number" && !Number.isSafeInteger(value)) throw new TypeError(`sfq: ${value} isn't a whole number, or isn't exact`);
@@ -199,7 +201,9 @@ export class Statement {
   }
 
   step(most = ALL) {
-    const { engine: it } = this.#kept, number = this.#need(), status = it.calls.step(this.#kept.slot, number, Math.min(most, ALL));
+    const { engine: it } = this.#kept, number = this.#need();
+    if (!(most === Infinity || Number.isInteger(most)) || most < 0) throw new RangeError(`sfq: a step looks at a whole number of candidates, not ${most}`);
+    const status = it.calls.step(this.#kept.slot, number, Math.min(most, ALL));
     if (status === NONE) return "end";
     if (status === BUSY) return "busy";
     it.need(status);
@@ -254,6 +258,6 @@ export class Statement {
 
   free() {
     isFreed(this);
-    if (this.#kept.slot) this.#kept.end(this.#number);
+    if (this.#kept.slot) this.#kept.end(this.#open);
   }
 }

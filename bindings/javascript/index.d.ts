@@ -284,7 +284,10 @@ export class Statement {
   rows(): IterableIterator<Value[]>;
   [Symbol.iterator](): IterableIterator<Value[]>;
 
-  /** Finds the next row. It is `busy` where it has looked at so many candidates without one, and the same rows are to come. */
+  /**
+   * Finds the next row. It is `busy` where it has looked at so many candidates without one, and the same rows are to come. RangeError
+   * where that is no whole number from 0.
+   */
   step(most?: number): "row" | "busy" | "end";
 
   /** Begins anew, before the first row. */

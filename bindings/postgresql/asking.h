@@ -3,9 +3,9 @@
  * memory of the call's FmgrInfo. A process runs one call at a time, so a geometry serves one at a time, as the library demands.
  *
  * Of the calls of the crate sfq_c, over which the library is made, it is proved that the matrix is that of the sets of points of
- * both texts, and the fault the first one. Not proved are the library's own sfq.c, and what is here and in keeping.h: a text is
- * there, whole and with its length, until the function returns; what is kept belongs to the same value; and no call of the library
- * calls back into PostgreSQL, so no error of PostgreSQL's leaves one half way.
+ * both texts, and the fault the first one. Not proved are the library's own sfq.c, and what is here, in server_memory.h and in keeping.h: a
+ * text is there, whole and with its length, until the function returns; what is kept belongs to the same value; and no call of the
+ * library calls back into PostgreSQL but for memory, where nothing raises an error, so none leaves a call half way.
  */
 #include "utils/memutils.h"
 
@@ -172,7 +172,8 @@ static int write_lines(FunctionCallInfo fcinfo, char *room, size_t size, size_t 
 /* What shows each cell of the matrix of two arguments, or whether one is valid, and where not: lines in the memory of the call. */
 static int ask_why(FunctionCallInfo fcinfo, char **lines, size_t *length, sfq_fault *fault)
 {
-    size_t size = 512;
+    /* Room for most, since a call with too little takes as long. */
+    size_t size = 8192;
     int status;
     *lines = palloc(size);
     status = write_lines(fcinfo, *lines, size, length, fault);

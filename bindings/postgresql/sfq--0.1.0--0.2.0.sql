@@ -1,6 +1,9 @@
 -- What the extension sfq has from 0.2.0 on.
 \echo Use "ALTER EXTENSION sfq UPDATE" to load this file. \quit
 
+-- A database of the first version has a schema that no role but a superuser may use.
+GRANT USAGE ON SCHEMA @extschema@ TO PUBLIC;
+
 -- Of two geometries what shows each cell of their matrix, in nine lines; of one whether it is valid, and where not.
 CREATE FUNCTION @extschema@.ST_Why(a text, b text) RETURNS text
     LANGUAGE C IMMUTABLE STRICT PARALLEL SAFE COST 2000 AS 'MODULE_PATHNAME', 'sql_sfq_why';

@@ -5,6 +5,9 @@
 -- areas of 100 positions 40,000.
 \echo Use "CREATE EXTENSION sfq" to load this file. \quit
 
+-- Every role may call the functions, which read nothing but their arguments.
+GRANT USAGE ON SCHEMA @extschema@ TO PUBLIC;
+
 CREATE FUNCTION @extschema@.ST_Relate(a text, b text) RETURNS text
     LANGUAGE C IMMUTABLE STRICT PARALLEL SAFE COST 1000 AS 'MODULE_PATHNAME', 'sql_sfq_relate';
 CREATE FUNCTION @extschema@.ST_Relate(a text, b text, pattern text) RETURNS boolean

@@ -10,17 +10,27 @@
 
 #include "fmgr.h"
 #include "utils/builtins.h"
+#if PG_VERSION_NUM >= 160000
+#include "varatt.h"
+#endif
 
 #include "asking.h"
+#include "server_memory.h"
 
 PG_MODULE_MAGIC;
+
+void _PG_init(void);
+void _PG_init(void)
+{
+    define_memory();
+}
 
 /* Raises the error of a status that isn't SFQ_OK. */
 static void need_ok(int status, const sfq_fault *fault)
 {
     char place[FAULT_PLACE];
     if (status == SFQ_OUT_OF_MEMORY) {
-        ereport(ERROR, (errcode(ERRCODE_OUT_OF_MEMORY), errmsg("sfq: out of memory")));
+        refused_memory();
     }
     if (status == NO_PATTERN) {
         ereport(ERROR, (errcode(ERRCODE_INVALID_PARAMETER_VALUE),

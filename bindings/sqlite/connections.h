@@ -28,6 +28,7 @@ struct listed {
 
 /* What functions and the module of a connection share. It is freed when none of them is left. */
 struct connection {
+    sqlite3 *sqlite;
     int users;
     struct listed *tables;
     size_t count;
@@ -35,7 +36,7 @@ struct connection {
 };
 
 /* Makes what a connection with this number of functions has, for one user. Null where memory is refused. */
-static struct connection *new_connection(size_t count)
+static struct connection *new_connection(sqlite3 *sqlite, size_t count)
 {
     size_t at, size = sizeof(struct connection) + count * sizeof(struct function);
     struct connection *connection = sqlite3_malloc64(size);
@@ -43,6 +44,7 @@ static struct connection *new_connection(size_t count)
         return NULL;
     }
     memset(connection, 0, size);
+    connection->sqlite = sqlite;
     connection->users = 1;
     connection->count = count;
     for (at = 0; at < count; at++) {

@@ -1,6 +1,9 @@
 /*
  * Loads a virtual table from its files, and says why it can't be loaded: in the words of `sfq check`, with what they mean. Nothing here
  * is proved. A file is read to its end before it is looked at, so that none that another program changes meanwhile ends the process.
+ *
+ * The paths may be of somebody who wrote the schema of a database file. So only a regular file is read, and no more of it than a bound:
+ * no device without end, no pipe that nobody writes to.
  */
 #ifndef SFQ_FILES_H
 #define SFQ_FILES_H
@@ -8,6 +11,7 @@
 #include <errno.h>
 #include <fcntl.h>
 #include <stdio.h>
+#include <sys/stat.h>
 #include <unistd.h>
 
 #include "options.h"
@@ -15,6 +19,11 @@
 
 /* So many bytes of a schema are read at the least, if it has them: the library refuses one of more than 65,536. */
 #define SCHEMA_BYTES 65537
+/* The bytes of a table's file at most. A table of so many takes 64 times the memory. */
+#define TABLE_BYTES ((size_t)1 << 30)
+
+/* Why a file isn't read, beside the numbers of errors, which are above 0. */
+enum { NOT_REGULAR = -1, TOO_LONG = -2 };
 
 /* The bytes of a file. */
 struct bytes {
@@ -36,13 +45,30 @@ static int unreadable(const char *path, int reason, char **error)
     if (reason == ENOMEM) {
         return SQLITE_NOMEM;
     }
-    if (strerror_r(reason, words, sizeof words) != 0) {
+    if (reason == NOT_REGULAR) {
+        snprintf(words, sizeof words, "it isn't a regular file, and no other is read");
+    } else if (reason == TOO_LONG) {
+        snprintf(words, sizeof words, "it has more than %zu bytes", TABLE_BYTES);
+    } else if (strerror_r(reason, words, sizeof words) != 0) {
         snprintf(words, sizeof words, "error %d", reason);
     }
     return failed(error, sqlite3_mprintf("sfq: %s can't be read: %s", path, words));
 }
 
-/* Reads a file to its end, or so many bytes at the least. Returns 0, or the number of the error. */
+/* Returns 0 where a file is a regular one, and isn't too long if all of it is wanted; else why it isn't read. */
+static int why_not_read(int file, size_t least)
+{
+    struct stat it;
+    if (fstat(file, &it) != 0) {
+        return errno;
+    }
+    if (!S_ISREG(it.st_mode)) {
+        return S_ISDIR(it.st_mode) ? EISDIR : NOT_REGULAR;
+    }
+    return least > TABLE_BYTES && (uintmax_t)it.st_size > TABLE_BYTES ? TOO_LONG : 0;
+}
+
+/* Reads a file to its end, or so many bytes at the least. Returns 0, or why it isn't read. */
 static int read_bytes(int file, size_t least, struct bytes *bytes)
 {
     size_t room = 0;
@@ -65,9 +91,12 @@ static int read_path(const char *path, size_t least, struct bytes *bytes, char *
 {
     int file, reason;
     do {
-        file = open(path, O_RDONLY | O_CLOEXEC);
+        /* So that the opening of a pipe waits for nobody. */
+        file = open(path, O_RDONLY | O_CLOEXEC | O_NONBLOCK | O_NOCTTY);
     } while (file < 0 && errno == EINTR);
-    reason = file < 0 ? errno : read_bytes(file, least, bytes);
+    reason = file < 0 ? errno : why_not_read(file, least);
+    reason = reason != 0 ? reason : read_bytes(file, least, bytes);
+    reason = reason == 0 && bytes->count > TABLE_BYTES ? TOO_LONG : reason;
     if (file >= 0) {
         close(file);
     }
@@ -120,7 +149,7 @@ static int load_table(struct rows *rows, sfq_database *database, size_t table, c
 {
     struct bytes csv = { NULL, 0 };
     sfq_tables_fault fault;
-    int loaded, status = read_path(path, SIZE_MAX, &csv, error);
+    int loaded, status = read_path(path, TABLE_BYTES + 1, &csv, error);
     if (status == SQLITE_OK) {
         loaded = sfq_load(database, table, csv.at, csv.count, &fault);
         free(csv.at);
@@ -161,6 +190,7 @@ static int find_and_load(struct rows *rows, sfq_database *database, const struct
     if (status == SFQ_UNKNOWN) {
         return failed(error, sqlite3_mprintf("sfq: %s has no table '%s'", schema_path, values[TABLE]));
     }
+    status = status == SFQ_OK ? name_columns(rows, database, table) : status;
     if (status != SFQ_OK) {
         return without_fault(status, error);
     }
@@ -174,7 +204,7 @@ static int find_and_load(struct rows *rows, sfq_database *database, const struct
     return status;
 }
 
-/* Loads the rows that the options name. They are to be freed in any case. */
+/* Loads the rows that the options name, after their columns, which are there if the schema has them. Both are to be freed in any case. */
 static int load_rows(struct rows *rows, const struct options *options, char **error)
 {
     char *const *values = options->values;

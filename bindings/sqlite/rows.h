@@ -233,15 +233,17 @@ static int name_column(struct asked *asked, struct column *column)
     return sfq_table_column(asked->database, asked->table, asked->column, column->name, length, &length, &column->type);
 }
 
-static int name_columns(struct rows *rows, struct asked *asked)
+/* Takes the names and types of a table's columns from an open database. */
+static int name_columns(struct rows *rows, sfq_database *database, size_t table)
 {
-    int status = sfq_table_columns(asked->database, asked->table, &rows->column_count);
+    struct asked asked = { database, 0, table, 0 };
+    int status = sfq_table_columns(database, table, &rows->column_count);
     if (status == SFQ_OK) {
         rows->columns = calloc(rows->column_count, sizeof *rows->columns);
         status = rows->columns == NULL ? SFQ_OUT_OF_MEMORY : SFQ_OK;
     }
-    for (asked->column = 0; asked->column < rows->column_count && status == SFQ_OK; asked->column++) {
-        status = name_column(asked, &rows->columns[asked->column]);
+    for (; asked.column < rows->column_count && status == SFQ_OK; asked.column++) {
+        status = name_column(&asked, &rows->columns[asked.column]);
     }
     return status;
 }
@@ -269,15 +271,12 @@ static int open_statement(struct asked *asked)
     return status;
 }
 
-/* Takes all rows from a database in which the table is loaded. The rows are to be freed in any case. */
+/* Takes all rows from a database in which the table is loaded, and whose columns are named. They are to be freed in any case. */
 static int take_rows(struct rows *rows, sfq_database *database, size_t table)
 {
     struct asked asked = { database, 0, table, 0 };
     size_t column;
-    int status = name_columns(rows, &asked);
-    if (status == SFQ_OK) {
-        status = open_statement(&asked);
-    }
+    int status = open_statement(&asked);
     if (status != SFQ_OK) {
         return status;
     }

@@ -3,8 +3,9 @@
  * CSV files, which have an index.
  *
  * The proof ends at the calls of the crates sfq_c and sfq_tables. Not proved are bindings/c over them, what is here, and SQLite, which
- * finds the rows: asking.h asks the library, functions.h makes SQLite's values of it, rows.h, options.h and files.h load tables, and
- * tables.h hands out their rows. Each connection has a state of its own (connections.h), so connections may be in any threads.
+ * finds the rows: asking.h asks the library, functions.h makes SQLite's values of it, rows.h, options.h and files.h load tables,
+ * statements.h says when the index may be asked, and tables.h hands out their rows. Each connection has a state of its own
+ * (connections.h), so connections may be in any threads.
  */
 #define _POSIX_C_SOURCE 200809L
 
@@ -14,7 +15,13 @@ SQLITE_EXTENSION_INIT1
 #include "functions.h"
 #include "tables.h"
 
-/* Adds one function to a connection. SQLite says when it has no more use for it. */
+/* The first SQLite that lets a module say that no view or trigger may use its tables. */
+#define LEAST_VERSION 3031000
+
+/*
+ * Adds one function to a connection. SQLite says when it has no more use for it. A function reads nothing but its arguments, so a view, a
+ * trigger, an index or a check that somebody else wrote may call it.
+ */
 static int add(sqlite3 *connection, struct connection *data, size_t at)
 {
     data->functions[at].of = FUNCTIONS[at].of;
@@ -31,8 +38,10 @@ __attribute__((visibility("default"))) int sqlite3_sfq_init(sqlite3 *connection,
     size_t at;
     int status = SQLITE_OK;
     SQLITE_EXTENSION_INIT2(routines);
-    (void)error;
-    data = new_connection(FUNCTION_COUNT);
+    if (sqlite3_libversion_number() < LEAST_VERSION) {
+        return failed(error, sqlite3_mprintf("sfq: SQLite %s is too old: 3.31.0 or later is needed", sqlite3_libversion()));
+    }
+    data = new_connection(connection, FUNCTION_COUNT);
     if (data == NULL) {
         return SQLITE_NOMEM;
     }

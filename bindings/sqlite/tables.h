@@ -4,6 +4,10 @@
  * whose geometry may have a relation to another one, by the proved index of envelopes: xFindFunction offers it the relations whose
  * first argument is a column, and xBestIndex takes them.
  *
+ * A table that can't be loaded isn't made. One that was made and can't be loaded any more is there, so that it can be dropped: a query
+ * of it is an error, which says why. A table reads files, so no view or trigger may use one but a temporary one: of a database that
+ * somebody else wrote, a table is read only where its own name is in a statement.
+ *
  * Nothing here is proved. It gives SQLite more rows rather than fewer: no condition is left out, and SQLite tests each again. That a
  * relation but ST_Disjoint holds only where envelopes meet is proved of those that force meeting; of ST_Equals, where both may be
  * empty, the index finds the empty ones.
@@ -13,6 +17,7 @@
 
 #include "files.h"
 #include "functions.h"
+#include "statements.h"
 
 /* How rows are found. */
 enum { SCAN, KEY, KEY_FROM, KEY_TO, KEY_BETWEEN, TREE };
@@ -22,15 +27,20 @@ enum { SCAN, KEY, KEY_FROM, KEY_TO, KEY_BETWEEN, TREE };
 #define RELATION_SHIFT 4
 #define COLUMN_SHIFT 8
 
+/* A table, with its rows; or why it can't be loaded. */
 struct table {
     sqlite3_vtab base;
     struct connection *connection;
     struct listed listed;
+    char *fault;
 };
 
 /* Where a statement is in the rows: `at` of `count`, which are those from `first` on, or the found ones. */
 struct cursor {
     sqlite3_vtab_cursor base;
+    /* The plan of an index for which the statements were looked at, and whether it may be asked; 0 before. */
+    int plan;
+    bool may_search;
     size_t at, count, first;
     bool is_backwards, has_found;
     size_t *found;
@@ -51,13 +61,16 @@ static size_t row_of(const struct cursor *cursor)
 
 /* ---- tables ---- */
 
-/* Says the columns of a table to SQLite. */
+/* Says the columns of a table to SQLite: one without a type where no schema has them. */
 static int declare(sqlite3 *connection, const struct rows *rows)
 {
     sqlite3_str *text = sqlite3_str_new(connection);
     size_t at;
     char *sql;
     int status;
+    if (rows->column_count == 0) {
+        sqlite3_str_appendall(text, "CREATE TABLE t(unreadable");
+    }
     for (at = 0; at < rows->column_count; at++) {
         const char *type = rows->columns[at].type == SFQ_INTEGER ? "INTEGER" : "TEXT";
         sqlite3_str_appendf(text, "%s\"%w\" %s%s", at == 0 ? "CREATE TABLE t(" : ", ", rows->columns[at].name, type,
@@ -75,29 +88,43 @@ static int free_table(sqlite3_vtab *base)
     struct table *table = (struct table *)base;
     unlist_rows(table->connection, &table->listed);
     free_rows(&table->listed.rows);
+    sqlite3_free(table->fault);
     sqlite3_free(table);
     return SQLITE_OK;
 }
 
-/* Loads a table. The words from the fourth on are the options. */
-static int connect_table(sqlite3 *connection, void *data, int count, const char *const *words, sqlite3_vtab **base, char **error)
+/* Loads the rows of a table by its options. */
+static int load_by_options(struct table *table, int count, const char *const *words, char **error)
 {
     struct options options = { { NULL } };
+    int status = read_options(&options, count, words, error);
+    if (status == SQLITE_OK) {
+        status = load_rows(&table->listed.rows, &options, error);
+    }
+    free_options(&options);
+    return status;
+}
+
+/* Loads a table. The words from the fourth on are the options. A new one has to be loaded; another may have a fault. */
+static int make_table(sqlite3 *connection, void *data, int count, const char *const *words, sqlite3_vtab **base, char **error, bool is_new)
+{
     struct table *table = sqlite3_malloc(sizeof *table);
-    int status;
-    if (table == NULL) {
-        return SQLITE_NOMEM;
+    int status = sqlite3_vtab_config(connection, SQLITE_VTAB_DIRECTONLY);
+    if (table == NULL || status != SQLITE_OK) {
+        sqlite3_free(table);
+        return status != SQLITE_OK ? status : SQLITE_NOMEM;
     }
     memset(table, 0, sizeof *table);
     table->connection = data;
-    status = read_options(&options, count - 3, words + 3, error);
-    if (status == SQLITE_OK) {
-        status = load_rows(&table->listed.rows, &options, error);
+    status = load_by_options(table, count - 3, words + 3, error);
+    if (status == SQLITE_ERROR && !is_new) {
+        table->fault = *error;
+        *error = NULL;
+        status = SQLITE_OK;
     }
     if (status == SQLITE_OK) {
         status = declare(connection, &table->listed.rows);
     }
-    free_options(&options);
     if (status != SQLITE_OK) {
         free_table(&table->base);
         return status;
@@ -107,10 +134,16 @@ static int connect_table(sqlite3 *connection, void *data, int count, const char 
     return SQLITE_OK;
 }
 
-/* The same, for a table that is made: one of its own, so that no table is there without being made. */
+/* What SQLite calls for a table that is new: one of its own, so that no table is there without being made. */
 static int create_table(sqlite3 *connection, void *data, int count, const char *const *words, sqlite3_vtab **base, char **error)
 {
-    return connect_table(connection, data, count, words, base, error);
+    return make_table(connection, data, count, words, base, error, true);
+}
+
+/* What SQLite calls for a table that a database has. DROP TABLE calls it too. */
+static int connect_table(sqlite3 *connection, void *data, int count, const char *const *words, sqlite3_vtab **base, char **error)
+{
+    return make_table(connection, data, count, words, base, error, false);
 }
 
 /* A table that is renamed stays as it is: its files are named by its options. */
@@ -193,6 +226,10 @@ static int best_index(sqlite3_vtab *base, sqlite3_index_info *info)
     struct usable usable = { -1, -1, -1, -1 };
     double count = (double)rows->count + 1;
     int at, status = SQLITE_OK;
+    if (((struct table *)base)->fault != NULL) {
+        base->zErrMsg = sqlite3_mprintf("%s", ((struct table *)base)->fault);
+        return base->zErrMsg == NULL ? SQLITE_NOMEM : SQLITE_ERROR;
+    }
     for (at = 0; at < info->nConstraint; at++) {
         note_usable(rows, &info->aConstraint[at], at, &usable);
     }
@@ -314,6 +351,16 @@ static int search_tree(struct cursor *cursor, const struct rows *rows, size_t co
     return status == SFQ_OK ? SQLITE_OK : SQLITE_NOMEM;
 }
 
+/* Whether a cursor may ask the index by this plan. Statements are looked at when it is another one than before: OR has several. */
+static bool searches(struct cursor *cursor, sqlite3 *sqlite, int plan, const char *name)
+{
+    if (cursor->plan != plan) {
+        cursor->plan = plan;
+        cursor->may_search = may_search(sqlite, plan, name);
+    }
+    return cursor->may_search;
+}
+
 /* Begins the rows of a plan. */
 static int filter(sqlite3_vtab_cursor *base, int plan, const char *name, int count, sqlite3_value **values)
 {
@@ -321,10 +368,9 @@ static int filter(sqlite3_vtab_cursor *base, int plan, const char *name, int cou
     struct connection *connection = ((struct table *)base->pVtab)->connection;
     const struct rows *rows = rows_of(base);
     int how = plan & 7;
-    (void)name;
     (void)count;
     cursor->is_backwards = (plan & BACKWARDS) != 0;
-    if (how == TREE) {
+    if (how == TREE && searches(cursor, connection->sqlite, plan, name)) {
         struct function *function = &connection->functions[relation_numbered(plan >> RELATION_SHIFT & 15)];
         return search_tree(cursor, rows, (size_t)(plan >> COLUMN_SHIFT), values[0], function);
     }

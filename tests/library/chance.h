@@ -1,6 +1,6 @@
 /*
- * What fuzz.c and fuzz_binaries.c share: chance, and values that end where memory ends that may be read, so that a byte too far ends
- * the program. What is read has to be what its canonical text spells.
+ * What fuzz.c, fuzz_binaries.c and fuzz_tables.c share: chance, and values that end where memory ends that may be read, so that a byte
+ * too far ends the program. What is read has to be what its canonical text spells.
  */
 #ifndef CHANCE_H
 #define CHANCE_H
@@ -11,6 +11,7 @@
 #include <stdlib.h>
 #include <string.h>
 #include <sys/mman.h>
+#include <time.h>
 
 #define PAGE 4096
 
@@ -22,6 +23,25 @@ static unsigned chance(unsigned below)
     state ^= state >> 7;
     state ^= state << 17;
     return (unsigned)(state >> 20) % below;
+}
+
+/* Begins the chances of a seed. */
+static void begin(const char *seed)
+{
+    state = strtoull(seed, NULL, 10) * 0x9e3779b97f4a7c15u + 1;
+}
+
+/* Whether there is a turn after so many: `1000` is how many there are, `30s` for how many seconds they go on. */
+static bool goes_on(const char *word, long done)
+{
+    static time_t end;
+    char *rest;
+    long number = strtol(word, &rest, 10);
+    if (*rest != 's')
+        return done < number;
+    if (done == 0)
+        end = time(NULL) + number;
+    return done % 16 != 0 || time(NULL) < end;
 }
 
 /* Room for one value at a time, before a page that may not be read. */
@@ -55,7 +75,7 @@ static void need(bool is_so, const char *what, const char *bytes, size_t length)
 }
 
 /* What was read has to be what its canonical text spells, and equal to itself. */
-static void compare(sfq_geometry *read)
+static inline void compare(sfq_geometry *read)
 {
     char text[4000], again[4000], matrix[10];
     size_t length = 0, other = 0;

@@ -2,6 +2,7 @@
  * Hands bytes and numbers by chance to the calls of the C library, for tests/test_library.py:
  *
  *     fuzz SEED COUNT
+ *     fuzz SEED SECONDSs
  *
  * makes COUNT texts, patterns and arrays each, and an eighth as many indexes. A status has to be one of its call's, and the place of a
  * fault within the text. Prints what isn't so, and ends with status 1 then.
@@ -204,10 +205,10 @@ int main(int number, char **words)
     long turns;
     if (number != 3)
         return 2;
-    state = strtoull(words[1], NULL, 10) * 0x9e3779b97f4a7c15u + 1;
+    begin(words[1]);
     if (sfq_read(texts[5], strlen(texts[5]), &kept, NULL) != SFQ_OK)
         return 2;
-    for (turns = atol(words[2]); turns > 0 && !wrong; turns--) {
+    for (turns = 0; goes_on(words[2], turns) && !wrong; turns++) {
         try_text(&first);
         try_pattern(&first, &kept);
         try_array(&first, &second, &third);

@@ -2,6 +2,7 @@
  * Hands well-known binary and joins by chance to the calls of the C library, for tests/test_binaries.py:
  *
  *     fuzz_binaries SEED COUNT
+ *     fuzz_binaries SEED SECONDSs
  *
  * makes COUNT values, in both orders of bytes, with flags and nested heads, each as it is and with bytes changed, added, left out or
  * cut off, and an eighth as many joins. A value that isn't changed has to be what sfq_read_positions makes of the same numbers, and a
@@ -339,8 +340,8 @@ int main(int number, char **words)
     long turns;
     if (number != 3)
         return 2;
-    state = strtoull(words[1], NULL, 10) * 0x9e3779b97f4a7c15u + 1;
-    for (turns = atol(words[2]); turns > 0 && !wrong; turns--) {
+    begin(words[1]);
+    for (turns = 0; goes_on(words[2], turns) && !wrong; turns++) {
         draw(&it);
         write_value(&it, chance(3) == 0);
         try_value(&room, &it);
