@@ -15,16 +15,21 @@ import re
 from typing import Any, Iterable, NamedTuple, Optional, Sequence, Union
 
 from . import _bounds, _library, _positions, _sources, _texts
-from ._connections import GEOMETRY, NUMBER, STRING, Connection, Cursor
+from ._connections import Connection, Cursor
 from ._errors import (
     DatabaseError, DataError, Error, IntegrityError, InterfaceError, InternalError, NotSupportedError, OperationalError,
     ProgrammingError, Warning,
 )
 from ._faults import Fault, FaultError, GridError, LibraryError
+from ._types import (
+    BINARY, DATETIME, GEOMETRY, NUMBER, ROWID, STRING, Binary, Date, DateFromTicks, Time, TimeFromTicks, Timestamp, TimestampFromTicks,
+)
 
 __all__ = [
     "Cell", "Fault", "FaultError", "Geometry", "GridError", "Index", "LibraryError", "from_shapely", "relate", "relate_many",
-    "connect", "Connection", "Cursor", "GEOMETRY", "NUMBER", "STRING", "apilevel", "paramstyle", "threadsafety",
+    "connect", "Connection", "Cursor", "apilevel", "paramstyle", "threadsafety",
+    "BINARY", "DATETIME", "GEOMETRY", "NUMBER", "ROWID", "STRING",
+    "Binary", "Date", "DateFromTicks", "Time", "TimeFromTicks", "Timestamp", "TimestampFromTicks",
     "DatabaseError", "DataError", "Error", "IntegrityError", "InterfaceError", "InternalError", "NotSupportedError", "OperationalError",
     "ProgrammingError", "Warning",
 ]
@@ -81,6 +86,8 @@ class Geometry:
         made._set("_text", None)
         made._need_valid()
         made._set("_spelled", made._kept.canonical())
+        # It is read from its text where a fork has it lost.
+        made._kept.text = made._spelled.encode()
         return made
 
     def _set(self, name: str, value: Any) -> None:

@@ -17,7 +17,7 @@ import tempfile
 import time
 from typing import IO, Iterator, Optional, Union
 
-from . import Geometry, _checking, _databases, _errors, _sources, _statements
+from . import Geometry, _checking, _databases, _errors, _parameters, _sources, _statements
 from ._endings import DATA, FILES, MEMORY, MISSING
 from ._faults import MEANINGS, LibraryError
 from ._progress import Progress
@@ -184,7 +184,7 @@ class ByLibrary:
             large = self.large(query)
             if large:
                 progress.show(f"loading {', '.join(large)}", is_last=True)
-            statement = _databases.Statement(self.database, encoded(query), str)
+            statement = _databases.Statement(self.database, _parameters.need_utf_8(encoded(query)), str)
         except _errors.Error as error:
             raise refused(error, query) from None
         except MemoryError:
@@ -227,7 +227,8 @@ Asker = Union[ByLibrary, ByProgram]
 def refused(error: _errors.Error, text: str) -> Refused:
     """Returns the refusal of an error of the library: the line of `sfq run`, the place in the text, and what to do."""
     if error.code is None:
-        head = f"sfq: {error.table} unreadable\n" if error.table else ""
+        unreadable = error.table or ("query" if isinstance(error, _errors.ProgrammingError) else "")
+        head = f"sfq: {unreadable} unreadable\n" if unreadable else ""
         return Refused(f"{head}sfq: {error.reason}\n", FILES)
     status = {"S": SCHEMA, "L": FILES if error.code == "L11" else DATA, "Q": QUERY}[error.code[0]]
     shown = "" if error.code[0] == "L" or error.at is None else placed(encoded(text), error.at)

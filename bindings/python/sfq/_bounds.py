@@ -9,7 +9,7 @@ import ctypes
 from typing import Any, Optional
 
 from ._faults import GridError
-from ._positions import GREATEST, LEAST, numpy_of
+from ._positions import GREATEST, LEAST, numpy_of, of_rows
 from ._texts import whole
 
 # The bounds of an empty geometry, as the library has them.
@@ -45,9 +45,6 @@ def of_array(numpy: Any, envelopes: Any) -> Any:
     if envelopes.ndim != 2 or envelopes.shape[1] != 4 or envelopes.dtype.kind not in "iuf":
         raise GridError(f"sfq: envelopes are an array of rows of four numbers, not of {envelopes.shape} of {envelopes.dtype}")
     rows = envelopes
-    if rows.dtype.kind == "f":
+    if rows.dtype.kind == "f" and not numpy.ma.is_masked(rows):
         rows = numpy.where(numpy.isnan(rows).all(axis=1)[:, None], [0.0, 0.0, -1.0, -1.0], rows)
-        for it in rows[~(numpy.isfinite(rows) & (numpy.trunc(rows) == rows))][:1]:
-            whole(float(it))
-    values = numpy.ascontiguousarray(numpy.clip(rows, LEAST, GREATEST)[:, [0, 2, 1, 3]], dtype=numpy.int32)
-    return (ctypes.c_int32 * values.size).from_buffer(values) if values.size else (ctypes.c_int32 * 0)()
+    return of_rows(numpy, rows[:, [0, 2, 1, 3]])

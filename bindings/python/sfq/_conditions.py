@@ -5,7 +5,7 @@ It is found by the language's own tokens. None of it is proved.
 from __future__ import annotations
 
 import re
-from typing import Any, Iterator, NamedTuple
+from typing import Any, Iterator, NamedTuple, Optional
 
 from . import _asking, _statements, _units, exports
 from ._asking import encoded
@@ -56,21 +56,24 @@ class Conditions:
                     yield Named(at - 2 * is_behind_point, at, name, self.layers[it])
 
     def calls(self) -> Iterator[Call]:
-        """Returns the calls of predicates."""
+        """Returns the calls of predicates, in one pass. A column is of the innermost call that it is in: sfq takes none within another."""
+        found: list[Call] = []
+        # The call that each open parenthesis is in, if any; how many bytes are before this token and the last one.
+        opened: list[Optional[Call]] = []
+        size = end = before = 0
         for at, word in enumerate(self.words):
-            if word.upper() in PREDICATES and self.words[at + 1 : at + 2] == ["("]:
-                named = self.columns(at + 1, self.closed(at + 1))
-                layers = [it.layer for it in named if it.layer.columns[it.name]["type"] in exports.GEOMETRIC]
-                yield Call(PREDICATES[word.upper()], len(encoded(self.query[: self.tokens[at].start()])), layers)
-
-    def closed(self, at: int) -> int:
-        """Returns the place of the parenthesis that closes the one at a place, or the end."""
-        depth = 0
-        for place in range(at, len(self.words)):
-            depth += (self.words[place] == "(") - (self.words[place] == ")")
-            if not depth:
-                return place
-        return len(self.words)
+            begin = self.tokens[at].start()
+            size, end = size + len(encoded(self.query[end:begin])), begin
+            if word == "(":
+                name = PREDICATES.get(self.words[at - 1].upper()) if at else None
+                opened.append(Call(name, before, []) if name else opened[-1] if opened else None)
+                found += [it for it in opened[-1:] if it and name]
+            elif word == ")" and opened:
+                opened.pop()
+            elif opened and opened[-1]:
+                opened[-1].layers.extend(it.layer for it in self.columns(at, at + 1) if it.layer.columns[it.name]["type"] in exports.GEOMETRIC)
+            before = size
+        return iter(found)
 
     def refused(self, name: str, call: Call, reason: str) -> _asking.Refused:
         """Returns why a command of this name asks no call."""

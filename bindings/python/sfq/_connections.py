@@ -8,8 +8,6 @@ from typing import Any, Callable, Iterable, Iterator, Optional, Sequence, Union
 from . import _errors, _parameters, _sources
 from ._databases import Database, RefusedGeometry, Statement
 
-# The types of columns: what `description` has.
-STRING, NUMBER, GEOMETRY = "TEXT", "INTEGER", "GEOMETRY"
 # How many statements that nobody uses are kept, so that the same query isn't read and planned again.
 MOST_KEPT = 16
 # How many rows are read before other threads can ask the database.
@@ -85,8 +83,8 @@ class Connection:
         self.need_open()
 
     def rollback(self) -> None:
-        """NotSupportedError: there is nothing to roll back."""
-        raise _errors.NotSupportedError("there are no transactions: queries change nothing")
+        """Does nothing: queries change nothing."""
+        self.need_open()
 
     def close(self) -> None:
         """Gives back the memory. What is asked from then on raises ProgrammingError. Closing it again does nothing."""
@@ -105,7 +103,7 @@ class Connection:
     def begin(self, text: str, values: Sequence[Any]) -> Statement:
         """Returns a statement that is before its first row."""
         query = _parameters.query(text)
-        constants = [_parameters.of_value(value, at) for at, value in enumerate(values, 1)]
+        constants = [_parameters.of_value(value, at) for at, value in enumerate(_parameters.in_order(values), 1)]
         if len(constants) != len(query.parts) - 1:
             raise _errors.ProgrammingError(f"{len(constants)} values were handed in for a query with {len(query.parts) - 1} times ?")
         bound = {mark for _, mark in query.constants(constants)}
@@ -180,12 +178,16 @@ class Cursor:
     """The rows of a query, one by one: it can be iterated over. `Connection.cursor` makes it.
 
     `description` has the name and the type of each column, STRING, NUMBER or GEOMETRY; `rowcount` is -1, since rows are found as
-    they are fetched; `arraysize` is how many rows `fetchmany` returns if it isn't said. An integer comes as int, a text as str, a
-    geometry as Geometry, NULL as None. Ctrl-C ends the query.
+    they are fetched; `arraysize` is how many rows `fetchmany` returns if it isn't said; `rownumber` is how many rows were fetched,
+    None before a query; `lastrowid` is None. An integer comes as int, a text as str, a geometry as Geometry, NULL as None. Ctrl-C ends
+    the query.
     """
+
+    lastrowid = None
 
     def __init__(self, connection: Connection) -> None:
         self.connection, self.arraysize, self.rowcount = connection, 1, -1
+        self.rownumber: Optional[int] = None
         self.description: Optional[Description] = None
         self._more: Iterator[Sequence[Any]]
         self._query, self._more, self._is_executed, self._is_closed = "", iter(()), False, False
@@ -198,8 +200,9 @@ class Cursor:
     def execute(self, query: str, parameters: Sequence[Any] = ()) -> Cursor:
         """Prepares a query with a value for each `?`, and returns the cursor. Tables that it names are loaded if they aren't yet.
 
-        A value is an int, a str, a Geometry or None, which is NULL. ProgrammingError where the query is refused, DataError where a
-        value or a table is, OperationalError where a table's file can't be read, InterfaceError for a value of another type.
+        A value is an int, a str, a date or a time, a Geometry or None, which is NULL. ProgrammingError where the query is refused,
+        DataError where a value or a table is, OperationalError where a table's file can't be read, InterfaceError for a value of
+        another type, and for values by names.
         """
         return self.executemany(query, [parameters])
 
@@ -207,11 +210,13 @@ class Cursor:
         """Prepares a query once for all these parameters, and returns the cursor: it has the rows of one after those of the other."""
         self._need_open()
         self._leave()
-        self.description, self._is_executed = None, False
-        self._query, self._more = query, iter(parameters)
+        self.description, self.rownumber, self._is_executed = None, None, False
+        if not isinstance(query, str):
+            raise _errors.InterfaceError(f"a query is a str, not a {type(query).__name__}")
+        self._query, self._more = query, iter(_parameters.in_order(parameters))
         if self._next():
             self.description = tuple((name, kind, None, None, None, None, None) for name, kind in self._need_statement().columns)
-        self._is_executed = True
+        self.rownumber, self._is_executed = 0, True
         return self
 
     def _next(self) -> bool:
@@ -251,8 +256,9 @@ class Cursor:
                     break
         except BaseException:
             # Rows may be lost: there are no others then.
-            self._statement, self._is_executed = None, False
+            self._statement, self._is_executed, self.rownumber = None, False, None
             raise
+        self.rownumber = (self.rownumber or 0) + len(found)
         return found
 
     def _need_executed(self) -> None:

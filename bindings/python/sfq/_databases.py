@@ -18,6 +18,7 @@ from typing import Any, Callable, Iterable, Optional, Union
 
 from ._errors import Error, InternalError, OperationalError, ProgrammingError, of_fault
 from ._faults import Fault
+from ._forks import Held
 from ._library import CFault, NONE, OK, OUT_OF_MEMORY, REFUSED, TOO_SMALL, load
 
 BUSY, NOT_LOADED, UNREADABLE = 8, 9, 11
@@ -117,11 +118,25 @@ class Room:
         return None
 
 
+class Lock(Held):
+    """What a thread holds while it asks a database. OperationalError where it is lost by a fork."""
+
+    __slots__ = ()
+
+    @staticmethod
+    def lock_made() -> Any:
+        """Returns a lock that a thread which has it may take again."""
+        return threading.RLock()
+
+    def renew(self) -> None:
+        raise OperationalError("another thread was asking this connection when the process was forked: connect again")
+
+
 class Database:
     """A database that the library keeps, until it is closed. ProgrammingError where the schema is refused."""
 
     def __init__(self, schema: bytes) -> None:
-        self.kept, self.lock, self.room = CDatabase(), threading.RLock(), Room()
+        self.kept, self.lock, self.room = CDatabase(), Lock(), Room()
         # The statements that are open, and those of them that nobody needs any more, each with the generation that it is of: a new
         # one begins when a table is loaded, for which all statements are ended.
         self.opened: set[int] = set()
@@ -165,6 +180,8 @@ class Database:
 
     def close(self) -> None:
         """Ends the statements and frees the database. Closing it again does nothing."""
+        if self.lock.is_lost:
+            return
         with self.lock:
             if self.kept.kept is not None:
                 self._end(list(self.opened))

@@ -91,7 +91,7 @@ class ProgrammingError(DatabaseError):
 
 
 class NotSupportedError(DatabaseError):
-    """What sfq doesn't have: to roll back."""
+    """PEP 249's error of what a database lacks: what sfq lacks has no call."""
 
 
 def meaning(code: str, fault: Optional[Fault]) -> str:

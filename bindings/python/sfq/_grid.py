@@ -25,7 +25,9 @@ class NotANumber(ValueError):
 
 
 def decimal(text: str) -> Decimal:
-    """Returns the value of a decimal number. ValueError for another text."""
+    """Returns the value of a decimal number. ValueError for another text, TypeError for what is none."""
+    if not isinstance(text, str):
+        raise TypeError(f"a decimal number is a text, not a {type(text).__name__}")
     try:
         found = Decimal(text)
     except InvalidOperation:
@@ -120,8 +122,9 @@ class Grid:
 
     @classmethod
     def of_file(cls, found: Any) -> Grid:
-        """Returns the grid that a grid.json describes."""
-        return cls(found["step"], found["origin"])
+        """Returns the grid that a grid.json describes. KeyError, TypeError or ValueError where it describes none."""
+        x, y = found["origin"]
+        return cls(found["step"], (x, y))
 
     def in_parts(self) -> tuple[int, int, int, int]:
         """Returns the step, both coordinates of the origin, and how many parts of the source's unit these count."""

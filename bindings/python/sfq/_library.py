@@ -3,18 +3,19 @@
 The proof ends at the calls of the crate sfq_c: the matrix is that of the sets of points of the two texts, the fault is the first
 one. sfq.h says what the library's calls return, which sfq.c makes of them, without a proof. Not proved either is what is here: a text is handed over as its bytes and their number, which ctypes keeps until the call returns, and
 each thing that a call writes is a variable of the call's own. A geometry or an index that the library keeps serves one call at a
-time, by a lock of its own, and is freed when Python has no use for it any more.
+time, by a lock of its own, which knows the process (`_forks.py`), and is freed when Python has no use for it any more.
 """
 from __future__ import annotations
 
 import contextlib
 import ctypes
 import functools
+import operator
 import os
-import threading
 from typing import Any, Callable, Iterable, Iterator, Optional, Sequence
 
 from ._faults import Fault, FaultError, LibraryError, PositionFault
+from ._forks import Held
 
 OK, REFUSED, OUT_OF_MEMORY, UNKNOWN, TOO_SMALL, NONE = 0, 1, 3, 4, 5, 6
 # How much one call takes of values, of geometries of a join and of pairs, so that Ctrl-C need not wait for all.
@@ -27,6 +28,8 @@ RELATIONS = (
     "covers", "covered_by", "contains_properly",
 )
 NAME = "libsfq.so.0"
+# The greatest number of a size_t: ctypes would cut a greater one.
+MOST_SIZE = ctypes.c_size_t(-1).value
 
 
 class CFault(ctypes.Structure):
@@ -152,36 +155,51 @@ def declare_indexes(found: ctypes.CDLL) -> ctypes.CDLL:
     return found
 
 
-class Kept:
-    """What the library keeps of a geometry: nothing until it is needed, and nothing of a text that is refused."""
+class Kept(Held):
+    """What the library keeps of a geometry: nothing until it is needed, and nothing of a text that is refused.
 
-    __slots__ = ("text", "geometry", "lock", "_found")
+    What is lost by a fork is read again.
+    """
+
+    __slots__ = ("text", "geometry", "_found")
     FAULT = Fault
 
     def __init__(self, text: str) -> None:
+        super().__init__()
         # A text with half a surrogate pair isn't UTF-8, and is refused as any other text.
-        self.text, self.geometry, self.lock = text.encode("utf-8", "surrogatepass"), CGeometry(), threading.Lock()
+        self.text, self.geometry = text.encode("utf-8", "surrogatepass"), CGeometry()
         self._found: Optional[tuple[Optional[Fault]]] = None
 
     def __del__(self) -> None:
-        if self.geometry.kept is not None:
+        if self.geometry.kept is not None and not self.is_lost:
             library().sfq_free(ctypes.byref(self.geometry))
 
     @property
     def fault(self) -> Optional[Fault]:
         """The text's first fault, or None; it is read once."""
-        with self.lock:
-            if self._found is None:
-                fault = CFault()
-                self._found = (fault.read(self.FAULT) if is_refused(self._read(ctypes.byref(fault))) else None,)
-            return self._found[0]
+        found = self._found
+        if found is None:
+            with self:
+                found = self._find()
+        return found[0]
+
+    def _find(self) -> tuple[Optional[Fault]]:
+        if self._found is None:
+            fault = CFault()
+            self._found = (fault.read(self.FAULT) if is_refused(self._read(ctypes.byref(fault))) else None,)
+        return self._found
+
+    def renew(self) -> None:
+        """Reads the text again: the geometry that was lost isn't used any more."""
+        self.geometry, self._found = CGeometry(), None
+        self._find()
 
     def _read(self, fault: Any) -> int:
         return int(library().sfq_read(self.text, len(self.text), ctypes.byref(self.geometry), fault))
 
     def canonical(self) -> str:
         """Returns the canonical text of a valid geometry."""
-        with self.lock:
+        with self:
             return handed_out(lambda *room: library().sfq_text(ctypes.byref(self.geometry), *room))
 
     def reason(self) -> str:
@@ -198,6 +216,19 @@ def handed_out(call: Callable[..., int]) -> str:
     return room.raw.decode("ascii") if room else ""
 
 
+def other_parts() -> ValueError:
+    """Returns the error of parts that don't fit the positions."""
+    return ValueError("sfq: the parts don't have these positions, or the type has no such parts")
+
+
+def sizes_of(parts: Sequence[int]) -> tuple[Any, int]:
+    """Returns how many positions or rings each part has, as the library takes them, and how many there are. ValueError for no such number."""
+    sizes = [operator.index(it) for it in parts]
+    if not all(0 <= it <= MOST_SIZE for it in sizes):
+        raise other_parts()
+    return (ctypes.c_size_t * len(sizes))(*sizes), len(sizes)
+
+
 class KeptNumbers(Kept):
     """What the library keeps of a geometry from numbers: a type, coordinates, and how many positions or rings each part has.
 
@@ -209,16 +240,15 @@ class KeptNumbers(Kept):
 
     def __init__(self, name: str, coordinates: tuple[Any, int], lines: Sequence[int], polygons: Sequence[int]) -> None:
         super().__init__("")
-        self.numbers: Any = (TYPES.index(name) + 1, coordinates, lines, polygons)
+        self.numbers: Any = (TYPES.index(name) + 1, coordinates, sizes_of(lines), sizes_of(polygons))
 
     def _read(self, fault: Any) -> int:
-        number, (coordinates, count), lines, polygons = self.numbers
-        parts: list[Any] = []
-        for sizes in (lines, polygons):
-            parts += [(ctypes.c_size_t * len(sizes))(*sizes), len(sizes)]
-        status = int(library().sfq_read_positions(number, coordinates, count, *parts, ctypes.byref(self.geometry), fault))
+        if self.numbers is None:
+            return super()._read(fault)
+        number, coordinates, lines, polygons = self.numbers
+        status = int(library().sfq_read_positions(number, *coordinates, *lines, *polygons, ctypes.byref(self.geometry), fault))
         if status == UNKNOWN:
-            raise ValueError("sfq: the parts don't have these positions, or the type has no such parts")
+            raise other_parts()
         self.numbers = None
         return status
 
@@ -246,7 +276,7 @@ def held(all_kept: Iterable[Kept]) -> Iterator[None]:
     """Has these geometries serve no other call meanwhile. All are taken in one order, so that no two calls wait for each other."""
     with contextlib.ExitStack() as locks:
         for kept in sorted({id(it): it for it in all_kept}.values(), key=id):
-            locks.enter_context(kept.lock)
+            locks.enter_context(kept)
         yield
 
 
@@ -357,16 +387,18 @@ def why(first: Kept, second: Kept) -> str:
         return handed_out(lambda *room: library().sfq_why(ctypes.byref(first.geometry), ctypes.byref(second.geometry), *room))
 
 
-class KeptIndex:
+class KeptIndex(Held):
     """What the library keeps of an index of envelopes, until it is closed.
 
-    The bounds are a buffer of 32-bit numbers, four for each envelope. The room for what a search finds grows with it.
+    The bounds are a buffer of 32-bit numbers, four for each envelope. The room for what a search finds grows with it. ValueError where
+    it is lost by a fork.
     """
 
-    __slots__ = ("index", "lock", "room")
+    __slots__ = ("index", "room")
 
     def __init__(self, bounds: Any, count: int) -> None:
-        self.index, self.lock, self.room = CIndex(), threading.Lock(), (ctypes.c_size_t * 64)()
+        super().__init__()
+        self.index, self.room = CIndex(), (ctypes.c_size_t * 64)()
         position = ctypes.c_size_t()
         status = library().sfq_index_build(bounds, count, ctypes.byref(self.index), ctypes.byref(position))
         if status == UNKNOWN:
@@ -380,14 +412,19 @@ class KeptIndex:
 
     def close(self) -> None:
         """Frees the index. Closing it again does nothing."""
-        with self.lock:
+        if self.is_lost:
+            return
+        with self:
             if self.index.kept is not None:
                 library().sfq_index_free(ctypes.byref(self.index))
+
+    def renew(self) -> None:
+        raise ValueError("sfq: another thread was searching this index when the process was forked: make it anew")
 
     def search(self, window: Any) -> list[int]:
         """Returns the positions, ascending, of the envelopes that meet a window. ValueError where it is no window, or all is closed."""
         found = ctypes.c_size_t()
-        with self.lock:
+        with self:
             if self.index.kept is None:
                 raise ValueError("sfq: the index is closed")
             status = self._ask(window, found)

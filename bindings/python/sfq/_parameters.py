@@ -8,10 +8,12 @@ from __future__ import annotations
 import functools
 import operator
 import re
-from typing import Any, NamedTuple, Optional, Sequence
+from collections.abc import Mapping, Set
+from typing import Any, Iterable, NamedTuple, Optional, Sequence
 
-from ._errors import InterfaceError
-from ._sources import is_shape, spelled
+from ._errors import DataError, InterfaceError, ProgrammingError, of_fault
+from ._faults import GridError
+from ._sources import is_none, is_shape, spelled
 
 # Tokens as the engine takes them, but for symbols of two signs. A string that isn't closed goes to the end of the text.
 TOKENS = re.compile(r"--[^\n]*|'(?:[^']|'')*(?:'|\Z)|[A-Za-z_][A-Za-z0-9_]*|[0-9]+|[ \t\r\n]+|.", re.S)
@@ -32,23 +34,50 @@ class Constant(NamedTuple):
 
 
 def of_value(value: Any, number: int) -> Constant:
-    """Returns the constant of a value for the `?` of this number, from 1. InterfaceError where sfq has no such type."""
+    """Returns the constant of a value for the `?` of this number, from 1: of a date or a time its text by ISO 8601, as tables have it.
+
+    InterfaceError where sfq has no such type, DataError for a text that isn't UTF-8, or a geometry that isn't on the grid.
+    """
     if type(value) is int:
-        return Constant("INTEGER", str(value), value)
+        return of_number(value)
     if value is None:
         return Constant("NULL", "NULL", None)
-    if isinstance(value, str):
-        return Constant("TEXT", quoted(value), value.encode("utf-8", "surrogatepass"))
+    if isinstance(value, str) or (hasattr(value, "isoformat") and not is_none(value)):
+        text = value if isinstance(value, str) else str(value.isoformat())
+        try:
+            return Constant("TEXT", quoted(text), text.encode())
+        except UnicodeEncodeError as error:
+            raise DataError(f"the value for ? {number} isn't UTF-8: half of a character is at {error.start}") from None
     if is_shape(value):
-        text = spelled(value)
+        try:
+            text = spelled(value)
+        except GridError as error:
+            raise DataError(f"the value for ? {number}: {str(error).removeprefix('sfq: ')}") from error
         return Constant("GEOMETRY", f"ST_GeomFromText({quoted(text)})", text.encode("utf-8", "surrogatepass"))
     try:
-        whole = operator.index(value)
+        return of_number(None if is_masked(value) else operator.index(value))  # type: ignore[arg-type]
     except TypeError:
         raise InterfaceError(
             f"the value for ? {number} is a {type(value).__name__}: sfq has whole numbers, texts, geometries and None"
         ) from None
-    return Constant("INTEGER", str(whole), whole)
+
+
+def in_order(values: Any) -> Iterable[Any]:
+    """Returns what was handed in for each `?`, one after another. InterfaceError for values by names, for a text and what has no order."""
+    is_table = getattr(values, "ndim", 1) > 1 and hasattr(values, "columns")
+    if is_table or isinstance(values, (Mapping, Set, str, bytes, bytearray, memoryview)) or not isinstance(values, Iterable):
+        raise InterfaceError(f"values come in a list or a tuple, one for each ?, not in a {type(values).__name__}")
+    return values
+
+
+def of_number(value: int) -> Constant:
+    """Returns the constant of a whole number. The text of one of more than 64 bits is such a number too: Q12, whatever its length."""
+    return Constant("INTEGER", str(min(max(value, LEAST - 1), GREATEST + 1)), value)
+
+
+def is_masked(value: Any) -> bool:
+    """Whether a value is of an array of numpy that masks it."""
+    return type(value).__name__ in ("MaskedArray", "MaskedConstant") and bool(value.mask.any())
 
 
 def stand_in(constant: Constant) -> Constant:
@@ -66,7 +95,7 @@ class Query:
     """A query as the user wrote it: the parts between its question marks, and where its constants are."""
 
     def __init__(self, text: str) -> None:
-        self.parts = [""]
+        pieces: list[list[str]] = [[]]
         # Of each string, number and NULL that may be a constant, and of each `?`: its type, or None, and what comes before it.
         self.found: list[tuple[Optional[str], tuple[str, str]]] = []
         # What `constants` returns, by the types of the values.
@@ -74,20 +103,21 @@ class Query:
         before, opened = ("", ""), [""]
         for token in TOKENS.findall(text):
             if token == "?":
-                self.parts.append("")
+                pieces.append([])
             else:
-                self.parts[-1] += token
+                pieces[-1].append(token)
             if BLANK.match(token):
                 continue
             word = token.upper()
             if token == "?" or token[0] in "'0123456789" or word == "NULL":
                 self.found.append((None if token == "?" else type_of(word), before))
             if token == "(":
-                opened.append(before[1])
+                opened.append(before[1] if before[1].startswith("ST_") else "")
             elif token == ")" and opened:
                 # With the name of what it closes.
                 word += opened.pop()
             before = (before[1], word)
+        self.parts = ["".join(it) for it in pieces]
 
     def texts(self, constants: Sequence[Constant]) -> list[str]:
         """Returns what is written for each `?`: a blank before and behind, and of a geometry in ST_GeomFromText the text alone."""
@@ -162,5 +192,16 @@ VALUES = (")ST_ASTEXT", ")ST_DIMENSION")
 
 @functools.lru_cache(maxsize=256)
 def query(text: str) -> Query:
-    """Returns a query taken apart, once for each text."""
+    """Returns a query taken apart, once for each text. ProgrammingError for one that is longer than a query may be, or isn't UTF-8."""
+    if len(need_utf_8(text.encode("utf-8", "surrogatepass"))) > MOST_BYTES:
+        raise of_fault("Q11", 0, None, None)
     return Query(text)
+
+
+def need_utf_8(query: bytes) -> bytes:
+    """Returns the bytes of a query. ProgrammingError where they aren't UTF-8."""
+    try:
+        query.decode()
+    except UnicodeDecodeError as error:
+        raise ProgrammingError(f"the query isn't UTF-8: byte {error.start} is none of a character") from None
+    return query

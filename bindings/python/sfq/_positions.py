@@ -9,7 +9,7 @@ import sys
 from typing import Any, Callable
 
 from ._faults import GridError
-from ._texts import whole
+from ._texts import not_whole, whole
 
 LEAST, GREATEST = -(2**31), 2**31 - 1
 
@@ -37,11 +37,21 @@ def of_array(numpy: Any, positions: Any) -> Any:
     """Returns a buffer with the coordinates of an array of n rows of two numbers."""
     if positions.ndim != 2 or positions.shape[1] != 2 or positions.dtype.kind not in "iuf":
         raise GridError(f"sfq: positions are an array of rows of two numbers, not of {positions.shape} of {positions.dtype}")
-    if positions.dtype.kind == "f":
-        fractions = positions[~(numpy.isfinite(positions) & (numpy.trunc(positions) == positions))]
-        for it in fractions[:1]:
-            whole(float(it))
-    values = numpy.ascontiguousarray(numpy.clip(positions, LEAST, GREATEST), dtype=numpy.int32)
+    return of_rows(numpy, positions)
+
+
+def of_rows(numpy: Any, rows: Any) -> Any:
+    """Returns a buffer with the numbers of an array, row by row. GridError for one that isn't whole, or that is masked."""
+    if numpy.ma.is_masked(rows):
+        raise GridError("sfq: a number of the array is masked: leave out its row")
+    rows = numpy.asarray(rows)
+    if rows.dtype.kind == "f":
+        for it in rows[~(numpy.isfinite(rows) & (numpy.trunc(rows) == rows))][:1]:
+            raise not_whole(it)
+    elif rows.dtype.kind == "u":
+        rows = numpy.minimum(rows, rows.dtype.type(min(GREATEST, numpy.iinfo(rows.dtype).max)))
+    wide = rows if rows.dtype.kind == "f" else rows.astype(numpy.int64)
+    values = numpy.ascontiguousarray(numpy.clip(wide, LEAST, GREATEST), dtype=numpy.int32)
     return (ctypes.c_int32 * values.size).from_buffer(values) if values.size else (ctypes.c_int32 * 0)()
 
 

@@ -1,6 +1,7 @@
 """The tables that are handed to `connect`, as the text of CSV that the library loads, or as a file: none of it is proved."""
 from __future__ import annotations
 
+import math
 import numbers
 import os
 from typing import Any, Callable, Iterable, Mapping, Optional, Sequence, Union
@@ -8,7 +9,7 @@ from typing import Any, Callable, Iterable, Mapping, Optional, Sequence, Union
 from ._errors import DataError, InterfaceError, OperationalError, ProgrammingError
 from ._faults import GridError
 from ._tables import quoted, real
-from ._texts import of_interface
+from ._texts import of_interface, shown
 
 Path = Union[str, "os.PathLike[str]"]
 # What a table may be: a file, the text or the bytes of its CSV, or columns by their names, of which an array or a DataFrame is made.
@@ -101,7 +102,10 @@ def as_list(values: Iterable[Any]) -> list[Any]:
     """Returns the values of a column as objects of Python."""
     for name in ("tolist", "to_list"):
         if hasattr(values, name):
-            return list(getattr(values, name)())
+            found = list(getattr(values, name)())
+            # Of times that Python's own don't hold numpy gives numbers.
+            is_time = getattr(getattr(values, "dtype", None), "kind", "") in ("M", "m")
+            return [values[at] if type(it) is int else it for at, it in enumerate(found)] if is_time else found  # type: ignore[index]
     return list(values)
 
 
@@ -137,18 +141,42 @@ class Writer:
 
 
 def is_none(value: Any) -> bool:
-    """Whether a value is one of those that mean that there is none: None, NaN, and those of pandas."""
-    return value is None or type(value).__name__ in ("NAType", "NaTType") or isinstance(value, float) and value != value
+    """Whether a value is one of those that mean that there is none: None, NaN, those of pandas, and what an array of numpy masks."""
+    return value is None or type(value).__name__ in ("NAType", "NaTType", "MaskedConstant") or isinstance(value, float) and value != value
+
+
+def digits(value: Any) -> str:
+    """Returns the digits of a whole number. InterfaceError for one that has more than Python writes."""
+    try:
+        return str(int(value))
+    except ValueError:
+        raise InterfaceError("a number has more digits than Python writes") from None
+
+
+def double(value: float) -> str:
+    """Returns the text of a double: of a whole one its digits."""
+    return str(int(value)) if value.is_integer() else real(value)
 
 
 def number(value: Any) -> str:
-    """Returns the text of a number: of a whole one its digits."""
-    as_float = float(value)
-    return str(int(value)) if as_float.is_integer() else real(as_float)
+    """Returns the text of a number: of a whole one its digits, nothing of NaN. InterfaceError for a fraction that is no double."""
+    if value != value:
+        return ""
+    try:
+        whole, parts = value.as_integer_ratio() if hasattr(value, "as_integer_ratio") else float(value).as_integer_ratio()
+        if parts == 1:
+            return digits(whole)
+        is_same = (float(value).as_integer_ratio()) == (whole, parts)
+    except OverflowError:
+        # It is infinite, or past all doubles.
+        is_same = value in (math.inf, -math.inf)
+    if not is_same:
+        raise InterfaceError(f"the number {shown(value)} is no double, so it would be rounded: write it as a text")
+    return real(float(value))
 
 
 # Types that are looked up first.
-WRITERS: dict[type, Callable[[Any], str]] = {int: str, bool: lambda it: str(int(it)), float: number}
+WRITERS: dict[type, Callable[[Any], str]] = {int: digits, bool: digits, float: double}
 
 
 def is_shape(value: Any) -> bool:
@@ -171,8 +199,10 @@ def written(value: Any) -> str:
         return spelled(value)
     if hasattr(value, "isoformat"):
         return str(value.isoformat())
-    if isinstance(value, numbers.Integral) or hasattr(value, "__index__"):
-        return str(int(value))
-    if isinstance(value, numbers.Real):
+    if type(value).__name__ == "datetime64":
+        return "" if value != value else str(value)
+    if type(value).__name__ != "timedelta64" and (isinstance(value, numbers.Integral) or hasattr(value, "__index__")):
+        return digits(value)
+    if isinstance(value, numbers.Real) and not isinstance(value, numbers.Integral):
         return number(value)
     raise InterfaceError(f"a {type(value).__name__} is no value of a table")

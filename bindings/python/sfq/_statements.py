@@ -4,6 +4,7 @@ A text may be anything: what can't be read is passed on, and sfq says what is wr
 """
 from __future__ import annotations
 
+import bisect
 import re
 from typing import Iterator, NamedTuple, Optional
 
@@ -101,26 +102,32 @@ class Table(NamedTuple):
 
 
 def tables(schema: str) -> list[Table]:
-    """Returns the tables of a schema."""
-    found = []
-    for it in re.finditer(r"\bCREATE\s+TABLE\b", without_comments(schema), re.I):
-        words = [token for token in tokens(schema[it.start() :])][2:]
-        ended = next((at for at, token in enumerate(words) if token[0] == ")"), len(words))
-        if ended == len(words) or not WORD.match(words[0][0]):
+    """Returns the tables of a schema, read in one pass: none of one that is longer than sfq takes, and no more than it takes."""
+    found: list[Table] = []
+    words = list(tokens(schema)) if len(schema) <= _parameters.MOST_BYTES else []
+    names, at = [it[0].upper() for it in words], 0
+    ends = [it for it, name in enumerate(names) if name == ")"]
+    while at + 2 < len(words) and len(found) < _tables.MOST_TABLES:
+        place = bisect.bisect(ends, at + 2)
+        if names[at : at + 2] != ["CREATE", "TABLE"] or not WORD.match(words[at + 2][0]) or place == len(ends):
+            at += 1
             continue
-        columns, begins = [], True
-        for token, after in zip(words[2:ended], words[3:]):
-            if begins and WORD.match(token[0]):
-                kind = after[0].upper()
-                columns.append((token[0], "INTEGER" if kind in ("INT", "BIGINT") else kind))
-            begins = token[0] == ","
-        found.append(Table(words[0][0], columns, schema[it.start() : it.start() + words[ended].end()] + ";\n"))
+        columns = columns_of(words[at + 4 : ends[place] + 1])
+        found.append(Table(words[at + 2][0], columns, schema[words[at].start() : words[ends[place]].end()] + ";\n"))
+        at = ends[place] + 1
     return found
 
 
-def without_comments(text: str) -> str:
-    """Returns a text of the same length with blanks in place of comments."""
-    return re.sub(r"--[^\n]*", lambda it: " " * len(it[0]), text)
+def columns_of(words: list["re.Match[str]"]) -> list[tuple[str, str]]:
+    """Returns the names and the types of the columns that a table's parenthesis has, which ends with the last of these tokens."""
+    columns: list[tuple[str, str]] = []
+    begins = True
+    for token, after in zip(words, words[1:]):
+        if begins and WORD.match(token[0]) and len(columns) < _tables.MOST_COLUMNS:
+            kind = after[0].upper()
+            columns.append((token[0], "INTEGER" if kind in ("INT", "BIGINT") else kind))
+        begins = token[0] == ","
+    return columns
 
 
 def references(query: str, known: list[Table]) -> dict[str, Table]:

@@ -14,6 +14,8 @@ MOST_BYTES, MOST_OF_RECORD = 1_048_576, 34_603_008
 # Longer names are cut, so that the longest schema is within the limit of sfq.
 LONGEST_NAME = 60
 QUOTED = re.compile(r'[",\r\n]')
+# A whole number that may have 64 bits: its sign, and its digits without zeros in front. Python makes no number of thousands of digits.
+WHOLE = re.compile(r"([+-]?)(?=[0-9])0*([0-9]{0,19})")
 
 
 class Column(NamedTuple):
@@ -50,6 +52,13 @@ class Names:
             found, number = f"{plain}_{number}", number + 1
         self.taken.add(found.lower())
         return found
+
+
+def integer(text: str) -> Optional[int]:
+    """Returns the value of a whole number of 64 bits, with a sign or none; None of another text."""
+    found = WHOLE.fullmatch(text)
+    value = int(found[1] + (found[2] or "0")) if found else 2**63
+    return value if -(2**63) <= value < 2**63 else None
 
 
 def quoted(text: str) -> str:

@@ -4,7 +4,6 @@ A text that is taken apart here was accepted by the library first, so it is well
 """
 from __future__ import annotations
 
-import math
 import re
 from typing import Any
 
@@ -15,29 +14,40 @@ TYPES = {
     "Point": 0, "MultiPoint": 1, "LineString": 1, "MultiLineString": 2, "Polygon": 2, "MultiPolygon": 3,
 }
 OF_WORD = {it.upper(): it for it in TYPES}
+# Words, signs and what is between them. A whole number that a coordinate can be: its sign, and its digits without zeros in front.
+WORDS = re.compile(r"[A-Za-z]+|[(),]|[^ \t\r\n(),A-Za-z]+")
+WHOLE = re.compile(r"([+-]?)(?=\.?[0-9])0*([0-9]{0,8})(?:\.0*)?")
 # Positions, or such parts, as GeoJSON nests them.
 Parts = tuple[Any, ...]
 
 
 def number(word: str) -> int:
-    """Returns the value of a number that is whole: a sign or none, digits, and zeros after a point."""
-    digits = word.lstrip("+-").partition(".")[0] or "0"
-    return -int(digits) if word[0] == "-" else int(digits)
+    """Returns the value of a number that is whole: a sign or none, digits, and zeros after a point. ValueError for another word."""
+    found = WHOLE.fullmatch(word)
+    if not found:
+        raise ValueError(f"{word[:60]!r} isn't a whole number that a coordinate can be")
+    return int(found[1] + (found[2] or "0"))
 
 
-def nested(words: list[str], at: int) -> tuple[Parts, int]:
-    """Returns what the parenthesis at this place opens, as tuples, and the place after it."""
+def nested(words: list[str], at: int, depth: int, is_multi_point: bool = False) -> tuple[Parts, int]:
+    """Returns what the parenthesis at this place opens, as tuples with positions so deep, and the place after it. ValueError for none.
+
+    Each point of a MULTIPOINT may be in parentheses of its own.
+    """
     found: list[Any] = []
-    at += 1
-    while words[at] != ")":
-        if words[at] == "(":
-            part, at = nested(words, at)
-            found.append(part)
-        elif words[at] == ",":
-            at += 1
+    sign = "," if words[at] == "(" else ""
+    while sign == ",":
+        part: Any
+        if depth > 1:
+            part, at = nested(words, at + 1, depth - 1)
+        elif is_multi_point and words[at + 1] == "(":
+            (part,), at = nested(words, at + 1, 1)
         else:
-            found.append((number(words[at]), number(words[at + 1])))
-            at += 2
+            part, at = (number(words[at + 1]), number(words[at + 2])), at + 3
+        found.append(part)
+        sign = words[at]
+    if sign != ")":
+        raise ValueError("a parenthesis is missing")
     return tuple(found), at + 1
 
 
@@ -47,18 +57,21 @@ def without_repeats(positions: Parts) -> Parts:
 
 
 def coordinates(text: str) -> tuple[str, Parts]:
-    """Returns the type and the coordinates of a valid geometry, as GeoJSON nests them (RFC 7946, 3.1); none of an empty one."""
-    words = re.findall(r"[A-Za-z]+|[(),]|[-+.\d]+", text)
-    name = OF_WORD[words[0].upper()]
-    if words[1].upper() == "EMPTY":
-        return name, ()
-    parts = nested(words, 1)[0]
-    if name == "Point":
-        return name, parts[0]
-    if name == "MultiPoint":
-        # A point of a MULTIPOINT may be in parentheses of its own.
-        return name, tuple(it[0] if isinstance(it[0], tuple) else it for it in parts)
-    return name, dropped(parts, TYPES[name])
+    """Returns the type and the coordinates of a valid geometry, as GeoJSON nests them (RFC 7946, 3.1); none of an empty one.
+
+    ValueError for a text that is nested otherwise, or has a number that isn't whole.
+    """
+    words = WORDS.findall(text)
+    try:
+        name = OF_WORD[words[0].upper()]
+        parts, end = ((), 2) if words[1].upper() == "EMPTY" else nested(words, 1, max(TYPES[name], 1), name == "MultiPoint")
+    except (KeyError, IndexError):
+        raise ValueError("it begins no geometry, or ends too soon") from None
+    if end != len(words):
+        raise ValueError("more comes behind it")
+    if name == "Point" and parts:
+        (parts,) = parts
+    return name, dropped(parts, TYPES[name]) if parts and name not in ("Point", "MultiPoint") else parts
 
 
 def dropped(parts: Parts, depth: int) -> Parts:
@@ -83,17 +96,39 @@ def listed(parts: Any, depth: int) -> str:
 def position(values: Any) -> str:
     if len(values) != 2:
         raise GridError("sfq: a position has a Z, and geometries here are flat: drop it, by shapely.force_2d say")
-    return f"{whole(values[0])} {whole(values[1])}"
+    x, y = whole(values[0]), whole(values[1])
+    try:
+        return f"{x} {y}"
+    except ValueError:
+        raise GridError("sfq: a coordinate has more digits than Python writes") from None
 
 
 def whole(value: Any) -> int:
     """Returns a coordinate that is a whole number. GridError for another: it is never rounded."""
-    if not math.isfinite(value) or int(value) != value:
-        raise GridError(
-            f"sfq: the coordinate {value!r} isn't whole: scale the geometry to a grid of whole numbers first, say to centimetres "
-            "by shapely.affinity.scale(shape, 100, 100, origin=(0, 0)), and round it"
-        )
-    return int(value)
+    try:
+        # An array's element that is masked has no value: numpy says so by an exception of its own.
+        found = None if type(value).__name__ == "MaskedConstant" else int(value)
+    except (OverflowError, ValueError):
+        found = None
+    if found is None or found != value:
+        raise not_whole(value)
+    return found
+
+
+def not_whole(value: Any) -> GridError:
+    """Returns the error of a coordinate that isn't a whole number."""
+    return GridError(
+        f"sfq: the coordinate {shown(value)} isn't whole: scale the geometry to a grid of whole numbers first, say to centimetres "
+        "by shapely.affinity.scale(shape, 100, 100, origin=(0, 0)), and round it"
+    )
+
+
+def shown(value: Any) -> str:
+    """Returns a value as Python shows it, or its type where Python writes no number of so many digits."""
+    try:
+        return repr(value)
+    except ValueError:
+        return f"of type {type(value).__name__}"
 
 
 def of_interface(shape: Any) -> str:

@@ -17,7 +17,7 @@ import tempfile
 from html import escape
 from typing import IO, Any, Callable, Iterator, NamedTuple, Optional, Sequence, TextIO
 
-from . import __version__, _endings, _grid, _reading, _texts
+from . import __version__, _endings, _grid, _reading, _tables, _texts
 from ._endings import DATA, DONE, MISSING, USAGE, Stopped
 
 NAME = "sfq-export"
@@ -50,14 +50,26 @@ def known(folder: str) -> Known:
             types: dict[str, str] = {}
             systems: dict[str, Any] = {}
             for layer in found["layers"]:
+                need_layer(layer)
                 for it in layer["columns"]:
                     name, kind = it["name"].lower(), kind_of(it)
                     types[name] = kind if types.get(name, kind) == kind else "GEOMETRY" if kind in GEOMETRIC else "TEXT"
                     if kind in GEOMETRIC:
                         systems.setdefault(name, []).append(layer["coordinate_system"])
             return Known(_grid.Grid.of_file(found), types, systems, found["layers"])
-        except (KeyError, TypeError, ValueError) as error:
+        except (KeyError, TypeError, ValueError, RecursionError) as error:
             raise Stopped(f"{path} isn't one that sfq-import made: {error!r}", DATA) from None
+
+
+def need_layer(layer: Any) -> None:
+    """KeyError, TypeError or ValueError where grid.json says of a layer what no import writes."""
+    system = layer["coordinate_system"]
+    texts = [it[name] for it in layer["columns"] for name in ("name", "type")] + ([system["wkt"], system["authority"] or ""] if system else [])
+    for it in layer["columns"]:
+        if it.get("step"):
+            _grid.Scale(it["step"])
+    if not all(isinstance(it, str) for it in texts) or not all(it["type"] for it in layer["columns"]):
+        raise TypeError("a name, a type or a coordinate system isn't a text")
 
 
 def column_of(header: str) -> str:
@@ -137,12 +149,13 @@ def value(text: str, kind: str) -> str:
     """
     if not text:
         return "null"
-    if kind == "INTEGER" and re.fullmatch(r"[+-]?\d+", text):
-        return str(int(text))
-    if kind == "REAL" and re.fullmatch(r"-?(0|[1-9]\d*)(\.\d+)?([eE][+-]?\d+)?", text):
+    if kind == "REAL" and re.fullmatch(r"-?(0|[1-9][0-9]*)(\.[0-9]+)?([eE][+-]?[0-9]+)?", text):
         return text
-    if kind[0] in ".0123456789" and re.fullmatch(r"[+-]?\d+", text):
-        return _grid.Scale(kind).axis.text(int(text))
+    whole = _tables.integer(text) if kind not in ("REAL", "TEXT") else None
+    if whole is not None and kind == "INTEGER":
+        return str(whole)
+    if whole is not None and kind[0] in ".0123456789":
+        return _grid.Scale(kind).axis.text(whole)
     return json.dumps(text, ensure_ascii=False)
 
 

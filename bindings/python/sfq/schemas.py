@@ -21,7 +21,6 @@ from ._progress import Progress
 
 NAME = "sfq-schema"
 NAME_OF = re.compile(r"[A-Za-z_][A-Za-z0-9_]*")
-WHOLE = re.compile(r" *[+-]?[0-9]+ *")
 PADDED = re.compile(r" *[+-]?0[0-9]")
 REAL = re.compile(r" *[+-]?([0-9]+\.[0-9]*|\.[0-9]+|[0-9]+)([eE][+-]?[0-9]+)? *")
 DATE = re.compile(r"\d{4}-\d\d-\d\d([T ].*)?")
@@ -72,9 +71,9 @@ class Column:
 
     def add_whole(self, field: str) -> None:
         """Takes in a field of a column whose fields were whole numbers so far."""
-        value = int(field) if WHOLE.fullmatch(field) else None
+        value = _tables.integer(field.strip(" "))
         self.padded += bool(PADDED.match(field))
-        if value is None or not -(2**63) <= value < 2**63:
+        if value is None:
             self.is_whole, self.numbers = False, None
         elif self.numbers is not None:
             if value in self.numbers:

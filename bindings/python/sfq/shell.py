@@ -143,6 +143,8 @@ class Shell:
             found = shlex.split(rest)
         except ValueError as error:
             raise Stopped(f"{name}: {error}", USAGE) from None
+        if "\0" in rest:
+            raise Stopped(f"{name}: no file, table or geometry has a NUL in its name or text", USAGE)
         if len(found) > most:
             raise Stopped(f"{name} {takes(name)}: {len(found)} words are too many; write one with blanks in quotes", USAGE)
         return found
