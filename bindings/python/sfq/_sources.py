@@ -28,7 +28,13 @@ def read_schema(schema: Union[Path, bytes]) -> tuple[bytes, Optional[str]]:
         with open(path, "rb") as file:
             return file.read(), os.path.dirname(path) or os.curdir
     except OSError as error:
-        raise OperationalError(f"the schema can't be read: {path}: {error.strerror}") from error
+        raise OperationalError(f"the schema can't be read: {missing_folder(path) or f'{path}: {error.strerror}'}") from error
+
+
+def missing_folder(path: str) -> Optional[str]:
+    """Returns what is said of the folder that should have a file, where it isn't there; else None."""
+    folder = os.path.dirname(path)
+    return f"{folder} isn't there: it should be a folder" if folder and not os.path.lexists(folder) else None
 
 
 class Given:
@@ -38,11 +44,15 @@ class Given:
         self.names, self.columns, self.sources = names, columns, by_name(folder if tables is None else tables, names)
 
     def __call__(self, number: int) -> Union[bytes, str]:
-        """Returns the CSV of a table, or the path of its file. OperationalError where the table wasn't handed in."""
+        """Returns the CSV of a table, or the path of its file. OperationalError where the table wasn't handed in, or the file's folder isn't there."""
         name = self.names[number]
         if name not in self.sources:
             raise OperationalError("this table wasn't handed in", table=name)
-        return csv_of(name, self.sources[name], self.columns[number])
+        given = csv_of(name, self.sources[name], self.columns[number])
+        reason = missing_folder(given) if isinstance(given, str) else None
+        if reason:
+            raise OperationalError(reason, table=name)
+        return given
 
 
 def by_name(tables: Tables, names: Sequence[str]) -> dict[str, Source]:
