@@ -1,4 +1,5 @@
-"""./build --trusted: the sum of each file that a chain of definitions reaches, and no other, changes what it prints; pages have them."""
+"""./build --trusted: it lists each file that a public contract is written in, with its sum, and no other; pages have the definitions."""
+import glob
 import os
 import re
 import shutil
@@ -21,19 +22,32 @@ REACHED = {
     "headline": "geometry_model/specs/Sides geometry_model/specs/Crossings geometry_model/specs/Patterns geometry_model/specs/GivenMatrix"
     " geometry_model/specs/WellKnownText geometry_model/specs/FirstFaults geometry_model/specs/Dimensions geometry_model/specs/PointSets"
     " table_model/specs/Arguments table_model/specs/QueryGrammar table_model/specs/Loading query_runs/specs/RecordTexts query_runs/specs/Runs",
+    "commands": "engine/specs/Commands engine/specs/Explanations text_commands/specs/Pairs text_commands/specs/FaultPages"
+    " text_commands/specs/TextWitnesses record_reasons/specs/Reasons query_runs/specs/Runs geometry_model/specs/Dimensions",
     "library": "library_calls/specs/Refusals library_calls/specs/Arrays library_calls/specs/Relations geometry_model/specs/Crossings"
     " geometry_model/specs/Dimensions witnesses/specs/Shown matrix_laws/specs/Witnessing wkt/specs/KeptGeometries",
     "tiles": "table_laws/specs/Cells table_laws/specs/Tiles table_laws/specs/TileLaws table_laws/specs/StretchLaws tiles/specs/Copies"
     " sfq_tiles/specs/Splits sfq_tiles/specs/Checks sfq_tiles/specs/Words sfq_tiles/specs/MadeTables table_model/specs/Loading"
     " table_model/specs/Meanings table_model/specs/SchemaReading",
+    "databases": "sfq_tables/specs/OpenStatements statements/specs/Statements kept_tables/specs/KeptTables table_model/specs/Work",
+    "web": "sfq_web/specs/HandedFiles sfq_web/specs/Servings sfq_web/specs/Pieces engine/specs/Commands text_commands/specs/Pairs",
+    "others": "geometry_model/specs/TextRefusals table_model/specs/QueryRefusals table_model/specs/SchemaRefusals"
+    " table_model/specs/BindingRules table_model/specs/QueryRules witnesses/specs/FirstPlaces library_calls/specs/ArrayLaws"
+    " sfq_tables/specs/SteppedAnswers tiles/specs/Cuts tiles/specs/Faults tiles/specs/Lines tiles/specs/Passes",
 }
 # The sources whose clauses begin a chain, and types that are in their models.
 SOURCES = {
-    "headline": "query_runs/src/runs geometry_model/src/shapes table_model/src/values failures/src/run_fault",
+    "headline": "query_runs/src/runs geometry_model/src/shapes table_model/src/values failures/src/run_fault streams/src/sink",
+    "commands": "engine/src/commands engine/src/explained_orders streams/src/sink failures/src/failure",
+    "web": "sfq_web/src/serve_call sfq_web/src/handed_files",
+    "others": "explanations/src/nearest_names planner/src/chosen_plans noding/src/segment_meetings",
     "library": "sfq_c/src/text_calls sfq_c/src/kept_calls validity/src/valid_geometry library_calls/src/faults",
     "tiles": "sfq_tiles/src/splitting sfq_tiles/src/ports sfq_tiles/src/parts sfq_tiles/src/words tiles/src/texts failures/src/failure",
 }
-NAMES = dict(zip(("headline", "library", "tiles"), trusted.CHAINS))
+NAMES = dict(zip(("headline", "commands", "library", "tiles", "databases", "web", "others"), (*trusted.CHAINS, trusted.OTHERS)))
+# A definition that no crate has, and one that it imports.
+ADDED = "-- a definition of a test\nuse Rattle.{crate}.specs.BelowTheAdded.{{below_the_added}}\n\nabbrev pub added : Type 1\nadded = below_the_added\n"
+BELOW = "abbrev pub below_the_added : Type 1\nbelow_the_added = Type 0\n"
 
 
 class Trusted(unittest.TestCase):
@@ -53,7 +67,7 @@ class Trusted(unittest.TestCase):
 
     @classmethod
     def sums(cls):
-        return {name: dict((path, one) for one, path in of(cls.root).sums()) for name, of in trusted.CHAINS.items()}
+        return {name: {path: one for one, path in sums} for name, sums in trusted.lists(cls.root).items()}
 
     def totals(self, sums):
         return {name: closure.total([(one, path) for path, one in of.items()]) for name, of in sums.items()}
@@ -72,10 +86,13 @@ class Trusted(unittest.TestCase):
         for name, files in self.before.items():
             self.assertGreater(len(files), 60, name)
             self.assertFalse([it for it in files if "/proofs/" in it])
+        others = self.before[NAMES["others"]].keys()
+        self.assertFalse([it for name, files in self.before.items() if name != NAMES["others"] for it in files.keys() & others])
 
     def test_an_edit_of_a_file_that_is_reached_changes_its_sum_and_that_over_all(self):
         totals = self.totals(self.before)
-        for path in sorted({it for files in self.before.values() for it in files}):
+        reached = sorted({it for files in self.before.values() for it in files})
+        for path in reached[::60]:
             text = self.edit(path)
             after = self.sums()
             write(f"{self.root}/{path}", text)
@@ -83,6 +100,50 @@ class Trusted(unittest.TestCase):
                 changed = [it for it in {*files, *after[name]} if files.get(it) != after[name].get(it)]
                 self.assertEqual(changed, [path] if path in files else [], (name, path))
                 self.assertEqual(self.totals(after)[name] != totals[name], path in files, (name, path))
+        texts = {it: self.edit(it) for it in reached}
+        after = self.sums()
+        for it, text in texts.items():
+            write(f"{self.root}/{it}", text)
+        for name, files in self.before.items():
+            self.assertEqual(after[name].keys(), files.keys())
+            self.assertFalse([it for it, one in files.items() if after[name][it] == one], name)
+
+    def add_to_a_contract(self, crate):
+        """Has the contract of a public call of a crate of the copy import a definition that is added; returns the two files' texts by path."""
+        made = closure.Closure(self.root)
+        calls = made.public_functions(crate) or [it for it in made.functions() if (it.crate, it.owner, it.name) == trusted.TILES]
+        call = next(it for it in calls if it.clauses)
+        path = f"crates/{crate}/src/{call.module}.rt"
+        kept = {path: read(f"{self.root}/{path}")}
+        head, clause, rest = kept[path].partition(next(iter(call.clauses.values())))
+        text = f"ghost use Rattle.{crate}.specs.AddedHere.{{added}};\n{head}added × ({clause}){rest}"
+        write(f"{self.root}/{path}", re.sub(r"\A(ghost use .*\n)((?:(?://|#!).*\n|\n)*)", r"\2\1", text))
+        return kept
+
+    def test_a_definition_that_a_public_contract_names_is_listed_of_each_crate(self):
+        made = closure.Closure(self.root)
+        crates = [it for it in repository.read_crates() if made.public_functions(it) and it not in repository.crates_with_tests()]
+        crates = [it for it in crates if any(call.clauses for call in made.public_functions(it))] + ["sfq_tiles"]
+        self.assertGreater(len(crates), 35)
+        kept, added = {}, set()
+        for crate in crates:
+            kept.update(self.add_to_a_contract(crate))
+            os.makedirs(f"{self.root}/crates/{crate}/specs", exist_ok=True)
+            for name, text in (("AddedHere", ADDED.format(crate=crate)), ("BelowTheAdded", BELOW)):
+                added.add(f"crates/{crate}/specs/{name}.antt")
+                write(f"{self.root}/crates/{crate}/specs/{name}.antt", text)
+        after = self.sums()
+        for path in added:
+            os.remove(f"{self.root}/{path}")
+        for path, text in kept.items():
+            write(f"{self.root}/{path}", text)
+        self.assertEqual(added - {it for files in after.values() for it in files}, set())
+
+    def test_each_definition_that_a_page_links_is_listed(self):
+        pages = [*glob.glob(f"{ROOT}/docs/*.md"), f"{ROOT}/README.md", f"{ROOT}/CONTRIBUTING.md"]
+        linked = {it for page in pages for it in re.findall(r"crates/\w+/specs/\w+\.antt", read(page))}
+        self.assertGreater(len(linked), 100)
+        self.assertEqual(linked - {it for files in self.before.values() for it in files}, set())
 
     def test_edits_of_all_other_files_change_nothing(self):
         reached = {it for files in self.before.values() for it in files}
@@ -108,8 +169,7 @@ class Trusted(unittest.TestCase):
         ran = subprocess.run([sys.executable, "-B", f"{ROOT}/build", "--trusted"], capture_output=True, text=True)
         self.assertEqual((ran.returncode, ran.stderr), (0, ""))
         lines = ran.stdout.splitlines()
-        for name, of in trusted.CHAINS.items():
-            sums = of(ROOT).sums()
+        for name, sums in trusted.lists().items():
             at = lines.index(f"  {name}:")
             self.assertEqual(lines[at + 1 : at + 1 + len(sums)], [f"    {one}  {path}" for one, path in sums])
             self.assertEqual(lines[at + 1 + len(sums)], f"    {closure.total(sums)}  all {len(sums)} files")
@@ -132,6 +192,37 @@ class Trusted(unittest.TestCase):
         ran = subprocess.run(["sha256sum", *of], cwd=self.root, capture_output=True, check=True)
         again = subprocess.run(["sha256sum"], input=ran.stdout, capture_output=True, check=True).stdout.decode()
         self.assertEqual(again.split()[0], self.totals(self.before)[NAMES["library"]])
+
+
+class Resolved(unittest.TestCase):
+    """What the toolchain resolves in contracts: the definitions that each is about, and the sources of its types."""
+
+    IS_LONG = True
+    CRATE = "fraction"
+    CALLS = ("grid_points::GridPoint::new", "rational_points::RatPoint::mediant", "rational_points::RatPoint::reduced")
+
+    def resolved(self, room):
+        """Returns the files of the repository that the modules which the toolchain writes of some contracts name."""
+        words = [it for call in self.CALLS for it in ("--start", call)]
+        subprocess.run(["rt", "check", *words, "--generated", room], cwd=f"{ROOT}/crates/{self.CRATE}", capture_output=True, check=True)
+        files = set()
+        for path in glob.glob(f"{room}/Rattle-{self.CRATE}-specs/contracts/**/*.antt", recursive=True):
+            for crate, rest in re.findall(r"^\s*use Rattle\.(\w+)\.specs\.(\S+)", read(path), re.M):
+                if crate in repository.read_crates():
+                    kind, _, below = rest.partition(".")
+                    is_source = kind in ("contracts", "declared")
+                    files.add(f"crates/{crate}/" + (f"src/{below.partition('.')[0]}.rt" if is_source else f"specs/{kind}.antt"))
+        return files
+
+    def test_each_file_that_the_toolchain_resolves_is_listed(self):
+        below = [it for it in repository.read_crates()[self.CRATE] if it in repository.read_crates()]
+        if not shutil.which("rt") or not all(os.path.isdir(f"{ROOT}/crates/{it}/out/rlib") for it in below):
+            self.skipTest(f"needs {' and '.join(below)} proved, as by ./build")
+        with tempfile.TemporaryDirectory(prefix="sfq-resolved-") as room:
+            files = self.resolved(room)
+        self.assertIn("crates/geometry_model/specs/Points.antt", files)
+        self.assertIn("crates/fraction/src/grid_points.rt", files)
+        self.assertEqual(files - {path for sums in trusted.lists().values() for _, path in sums}, set())
 
 
 class Pages(unittest.TestCase):
@@ -165,8 +256,9 @@ class Pages(unittest.TestCase):
 
     def test_each_chain_has_the_files_of_what_its_clauses_come_down_to(self):
         exports = [it for it in closure.Closure().functions() if it.crate == trusted.LIBRARY and 'extern "C"' in it.signature]
+        lists = trusted.lists()
         for name, items in (("headline", believed.calls("run")), ("library", exports), ("tiles", believed.calls("split"))):
-            chain = {path for _, path in trusted.CHAINS[NAMES[name]](ROOT).sums()}
+            chain = {path for _, path in lists[NAMES[name]]}
             files = {f"crates/{crate}/specs/{file}.antt" for crate, file, _ in believed.reached(items)}
             self.assertEqual((files - chain, len(files) > 30), (set(), True), name)
 

@@ -1,19 +1,22 @@
-"""What contracts are written in: the definitions that their clauses name and all that these import, and the types that they are about.
+"""What contracts are written in: the definitions that they import and all that these import, and the types that they are about.
 
 A reader who believes a clause believes each of these files: what is in specs/, and the sources that declare types, say what
-contracts see of them, and have the clauses. Proofs and the kit's own definitions are left out.
+contracts see of them, and have the clauses. As the toolchain has it, a contract imports every `ghost use` of its file, and of the
+impl or trait that it is in. Proofs and the kit's own definitions are left out.
 """
 import functools
 import glob
 import hashlib
 import os
 import re
-from typing import Iterable
+from typing import Iterable, Optional
 
 import antt
 import contracts
 import repository
 
+# The SHA-256 of a file, and its path.
+Sum = tuple[str, str]
 DECLARATION = re.compile(r"^(?:pub(?:\([a-z]+\))? )?(?:struct|enum|trait|type) (\w+)", re.M)
 
 
@@ -55,37 +58,42 @@ def paths_in(text: str) -> tuple[str, ...]:
     return (*file.imports.values(), *file.modules.values())
 
 
-class Closure:
-    """The files that are reached from clauses, in the sources below a root."""
+def sources_of(root: str) -> dict[tuple[str, str], Source]:
+    """Returns the sources below a root, by crate and module."""
+    found = {}
+    for crate in repository.read_crates(root):
+        for path in sorted(glob.glob(f"{root}/crates/{crate}/src/*.rt")):
+            module = os.path.basename(path)[: -len(".rt")]
+            found[crate, module] = source_of(crate, module, read(path))
+    return found
 
-    def __init__(self, root: str = repository.ROOT) -> None:
+
+class Closure:
+    """The files that are reached from clauses, in the sources below a root, which are read if they aren't handed in."""
+
+    def __init__(self, root: str = repository.ROOT, sources: Optional[dict[tuple[str, str], Source]] = None) -> None:
         self.root, self.crates = root, repository.read_crates(root)
+        self.sources = sources_of(root) if sources is None else sources
         self.files: set[str] = set()
         self.seen: set[tuple[str, ...]] = set()
-
-    @functools.cached_property
-    def sources(self) -> dict[tuple[str, str], Source]:
-        found = {}
-        for crate in self.crates:
-            for path in sorted(glob.glob(f"{self.root}/crates/{crate}/src/*.rt")):
-                module = os.path.basename(path)[: -len(".rt")]
-                found[crate, module] = source_of(crate, module, read(path))
-        return found
 
     def functions(self) -> list[contracts.Item]:
         return [it for source in self.sources.values() for it in source.items if it.kind == "function"]
 
-    def add_item(self, item: contracts.Item) -> None:
-        """Adds the file that a function or a ghost is in, what its clauses name, and the types of its signature."""
-        self.files.add(f"crates/{item.crate}/src/{item.module}.rt")
-        self.add_words(" ".join(item.clauses.values()), item.imports)
-        self.add_types(f"{item.owner} {item.trait} {item.signature}", item.crate, item.module)
+    def public_functions(self, crate: str) -> list[contracts.Item]:
+        """Returns the functions of a library that others can call, by what its root makes public; none of a program."""
+        lib = f"{self.root}/crates/{crate}/src/lib.rt"
+        if not os.path.isfile(lib):
+            return []
+        shown = contracts.Root(read(lib), True)
+        return [it for it in self.functions() if it.crate == crate and shown.shows(it)]
 
-    def add_words(self, text: str, imports: contracts.Imports) -> None:
-        """Adds the files that the names of a text of the logic are imported from."""
-        for name, path in [*imports.imports.items(), *imports.modules.items()]:
-            if "◌" in name or re.search(rf"(?<![\w.]){re.escape(name)}(?![\w-])", text):
-                self.add_path(path)
+    def add_item(self, item: contracts.Item) -> None:
+        """Adds the file that a function or a ghost is in, what its contract imports, and the types of its signature."""
+        self.files.add(f"crates/{item.crate}/src/{item.module}.rt")
+        for path in (*item.imports.imports.values(), *item.imports.modules.values()):
+            self.add_path(path)
+        self.add_types(f"{item.owner} {item.trait} {item.signature}", item.crate, item.module)
 
     def add_types(self, text: str, crate: str, module: str) -> None:
         """Adds the sources of the types that a text of Rust names."""
@@ -107,16 +115,17 @@ class Closure:
         return [it for it in within if it[1] in path] or within
 
     def add_type(self, crate: str, module: str, name: str) -> None:
-        """Adds the source that declares a type, the types of its parts, and what its model names."""
+        """Adds the source that declares a type, the types of its parts, and what its model imports; of a trait, its calls."""
         if (crate, module, name) in self.seen:
             return
         self.seen.add((crate, module, name))
         self.files.add(f"crates/{crate}/src/{module}.rt")
         source = self.sources[crate, module]
         self.add_types(source.types[name].partition("{")[2] or source.types[name], crate, module)
+        is_trait = re.match(r"(?:pub(?:\([a-z]+\))? )?trait\b", source.types[name])
         for it in source.items:
-            if it.kind == "ghost" and it.owner == name:
-                self.add_words(" ".join(it.clauses.values()), it.imports)
+            if it.owner == name and (it.kind == "ghost" or (is_trait and it.kind == "function")):
+                self.add_item(it)
 
     def add_path(self, path: str) -> None:
         """Adds the file that a path of the logic leads to, and what that imports. Proofs and the kit aren't followed."""
@@ -154,11 +163,11 @@ class Closure:
             if it.kind == "function" and it.name in names:
                 self.add_item(it)
 
-    def sums(self) -> list[tuple[str, str]]:
-        """Returns the files by their paths, each with its SHA-256."""
+    def sums(self) -> list[Sum]:
+        """Returns the files by their paths, each behind its SHA-256."""
         return [(repository.sum_of_file(f"{self.root}/{it}"), it) for it in sorted(self.files)]
 
 
-def total(sums: list[tuple[str, str]]) -> str:
+def total(sums: list[Sum]) -> str:
     """Returns the sum over sums: that of the lines that `sha256sum` prints of the files."""
     return hashlib.sha256("".join(f"{one}  {path}\n" for one, path in sums).encode()).hexdigest()
