@@ -108,7 +108,7 @@ class Quick(unittest.TestCase):
                 while not any(os.path.isfile(f"{at}/output") for at, _, _ in os.walk(self.room)):
                     time.sleep(0.05)
                 running.send_signal(number)
-                said = running.communicate(timeout=20)[1]
+                said = running.communicate(timeout=90)[1]
             self.assertEqual((running.returncode, os.listdir(self.room)), (128 + number, []))
             self.assertEqual(said.splitlines()[-1], b"broken off")
             self.assertNotIn(b"Traceback", said)

@@ -300,6 +300,7 @@ class OneUserOfTheDoor(unittest.TestCase):
         count = lambda line: len(front_door.skips(line))
         self.assertEqual(count("[3 of 9, 1 min 2 s] skipped: test_x, 3 tests: needs the package qgis"), 3)
         self.assertEqual(count("[3 of 9, 2 s] skipped: test_x, 1 test: needs ./build --library"), 0)
+        self.assertEqual(count("[3 of 9, 2 s] skipped: test_x, 1 test: needs rt test in crates/fault_tests, or rt ci"), 0)
         self.assertEqual(count("needs the package qgis: 3 tests skipped"), 0)
 
 
