@@ -1,4 +1,5 @@
 """The parts of ./test: what each runs, and what the gate adds to them."""
+import functools
 import glob
 import json
 import os
@@ -94,7 +95,7 @@ def file_parts(choice: str, program: Optional[str] = None, libraries: Optional[s
     for name, text in files_of_tests().items():
         after = [program] if program and "ASKS_PROGRAM" in text else []
         after += [libraries] if libraries and "ASKS_LIBRARY" in text else []
-        found.append(Part(name, lambda name=name: run_file(name, choice), tuple(after)))  # type: ignore[misc]
+        found.append(Part(name, functools.partial(run_file, name, choice), tuple(after)))
     return found
 
 
@@ -111,9 +112,9 @@ def parts_without_proof(choice: str, kit: str) -> list[Part]:
     parts: list[Part] = []
     if shutil.which("rt"):
         rt = unproved.make_kit(f"{kit}/kit")
-        parts += [Part(it, lambda it=it: try_tests(rt, it)) for it in reversed(repository.crates_with_tests())]  # type: ignore[misc]
+        parts += [Part(it, functools.partial(try_tests, rt, it)) for it in reversed(repository.crates_with_tests())]
         parts += [Part("program", build_program)]
-        parts += [Part(it, lambda it=it: play_program(rt, it)) for it in programs()]  # type: ignore[misc]
+        parts += [Part(it, functools.partial(play_program, rt, it)) for it in programs()]
     parts += [Part("lint", lint)] if os.path.isfile(f"{ROOT}/lint") else []
     files = file_parts(choice, "program")
     return parts + sorted(files, key=lambda it: len(it.after))

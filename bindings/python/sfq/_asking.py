@@ -292,7 +292,8 @@ def explained(words: list[str]) -> Optional[str]:
             _checking.need_proved(program)
     except LibraryError:
         return None
-    ran = subprocess.run([program, *words], stdin=subprocess.DEVNULL, capture_output=True)
+    known = {**os.environ, "SFQ_QUIET": "1"}
+    ran = subprocess.run([program, *words], env=known, stdin=subprocess.DEVNULL, capture_output=True)
     return (ran.stdout + ran.stderr).decode("utf-8", "replace")
 
 
