@@ -161,7 +161,7 @@ class Databases(test_library.PlayedCalls, test_library.WithLibrary):
             self.assertIn(" 0 differ", ran.stdout)
 
     def test_files(self):
-        """A file that is mapped, an empty one, one that isn't there, a folder, and a pipe that gives its bytes piece by piece."""
+        """A file with rows, an empty one, one that isn't there, a folder, and a pipe that gives its bytes piece by piece."""
         rows = HEADER.replace("|", "\n") + "".join(f"POINT({at} 2),Oslo,{at}\n" for at in range(20_000))
         with tempfile.TemporaryDirectory(prefix="sfq-files-") as room:
             with open(f"{room}/city.csv", "w", encoding="ascii") as file:

@@ -11,8 +11,8 @@
 #ifndef __wasm__
 #include <errno.h>
 #include <fcntl.h>
+#include <stdint.h>
 #include <stdlib.h>
-#include <sys/mman.h>
 #include <sys/stat.h>
 #include <unistd.h>
 #endif
@@ -279,28 +279,18 @@ int sfq_bind_null(sfq_database *database, size_t statement, size_t constant)
 
 #ifndef __wasm__
 
-/* Loads a table from a regular file, which is mapped meanwhile. */
-static int load_mapped(sfq_database *database, size_t table, int file, size_t length, sfq_tables_fault *fault)
-{
-    int status;
-    void *bytes = mmap(NULL, length, PROT_READ, MAP_PRIVATE, file, 0);
-    if (bytes == MAP_FAILED) {
-        return errno == ENOMEM ? SFQ_OUT_OF_MEMORY : SFQ_UNREADABLE;
-    }
-    status = sfq_load(database, table, bytes, length, fault);
-    munmap(bytes, length);
-    return status;
-}
-
-/* Reads to the end of what can't be mapped. The caller frees the bytes. */
-static int read_whole(int file, char **bytes, size_t *length)
+/*
+ * Reads to the end of a file, with room for `first` bytes at first, which isn't 0. The caller frees the bytes. They are copied, and not
+ * mapped: another program may change the file at any time.
+ */
+static int read_whole(int file, size_t first, char **bytes, size_t *length)
 {
     size_t room = 0;
     for (;;) {
         ssize_t got;
         if (*length == room) {
             char *more;
-            room = room > 0 ? 2 * room : 65536;
+            room = room > 0 ? 2 * room : first;
             more = room > *length ? realloc(*bytes, room) : NULL;
             if (more == NULL) {
                 return SFQ_OUT_OF_MEMORY;
@@ -324,15 +314,16 @@ static int load_open(sfq_database *database, size_t table, int file, sfq_tables_
 {
     struct stat about;
     char *bytes = NULL;
-    size_t length = 0;
+    size_t length = 0, first = 65536;
     int status;
     if (fstat(file, &about) != 0) {
         return SFQ_UNREADABLE;
     }
-    if (S_ISREG(about.st_mode) && about.st_size > 0) {
-        return load_mapped(database, table, file, (size_t)about.st_size, fault);
+    if (S_ISREG(about.st_mode) && about.st_size > 0 && (uintmax_t)about.st_size < SIZE_MAX) {
+        /* One byte more than it has, so that its end is seen without more room. */
+        first = (size_t)about.st_size + 1;
     }
-    status = read_whole(file, &bytes, &length);
+    status = read_whole(file, first, &bytes, &length);
     if (status == SFQ_OK) {
         status = sfq_load(database, table, bytes, length, fault);
     }

@@ -31,9 +31,8 @@
  * constants. While a table is loaded in place of another, both are in memory. Calls were tested on stacks of 128 KB. No call may be
  * made from a signal handler, or in the forked child of a process that has threads.
  *
- * Files. sfq_load_file maps a regular file for itself while it loads it, so the file isn't copied; anything else, such as a pipe, it
- * reads to the end first. A file that another program makes shorter meanwhile ends the process with SIGBUS: where that may happen,
- * read it yourself and use sfq_load.
+ * Files. sfq_load_file reads a file, a pipe or the like to its end before it loads it, and holds its bytes meanwhile. So a file that
+ * another program changes is loaded as it was read, and what changes later changes no answer.
  *
  * Versions. The number in the library's name, libsfq_tables.so.0, changes when a call, a struct or a number below changes or goes. A
  * later version with the same number may add calls, and statuses for calls that are new.

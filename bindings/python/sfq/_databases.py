@@ -213,6 +213,8 @@ class Database:
             if isinstance(source, bytes):
                 status = self.calls.sfq_load(self.it, table, source, len(source), ctypes.byref(fault))
             else:
+                if "\0" in source:
+                    raise OperationalError(f"{source!r} has a NUL, which no path has", table=self.tables[table])
                 status = self.calls.sfq_load_file(self.it, table, os.fsencode(source), ctypes.byref(fault))
                 if status == UNREADABLE:
                     raise OperationalError(f"{source}: {os.strerror(ctypes.get_errno())}", table=self.tables[table])

@@ -14,12 +14,15 @@ import operator
 import os
 from typing import Any, Callable, Iterable, Iterator, Optional, Sequence
 
+from . import _apart
 from ._faults import Fault, FaultError, LibraryError, PositionFault
 from ._forks import Held
 
 OK, REFUSED, OUT_OF_MEMORY, UNKNOWN, TOO_SMALL, NONE = 0, 1, 3, 4, 5, 6
 # How much one call takes of values, of geometries of a join and of pairs, so that Ctrl-C need not wait for all.
 AT_ONCE, JOINED_AT_ONCE = 20_000, 1_000
+# From how many pairs of positions on it is shown in a process of its own why a matrix is what it is, and how much memory that may take.
+MANY_PAIRS, WHY_BYTES = 10_000, 1 << 30
 # The types, by the numbers of sfq_type.
 TYPES = ("Point", "LineString", "Polygon", "MultiPoint", "MultiLineString", "MultiPolygon")
 # The relations, by the numbers of sfq_relation.
@@ -197,6 +200,10 @@ class Kept(Held):
     def _read(self, fault: Any) -> int:
         return int(library().sfq_read(self.text, len(self.text), ctypes.byref(self.geometry), fault))
 
+    def most_positions(self) -> int:
+        """Returns a number of positions that it hasn't more of."""
+        return self.text.count(b",") + 1
+
     def canonical(self) -> str:
         """Returns the canonical text of a valid geometry."""
         with self:
@@ -207,13 +214,13 @@ class Kept(Held):
         return handed_out(lambda *room: library().sfq_reason(self.text, len(self.text), *room, None)).rstrip("\n")
 
 
-def handed_out(call: Callable[..., int]) -> str:
-    """Returns the text that a call of the library writes into a room, whose size it is asked for first."""
-    length = ctypes.c_size_t()
-    room: Optional[ctypes.Array[ctypes.c_char]] = None
+def handed_out(call: Callable[..., int], size: int = 0) -> str:
+    """Returns the text that a call of the library writes into a room of some size, or else of the size that the call says."""
+    length = ctypes.c_size_t(size)
+    room: Optional[ctypes.Array[ctypes.c_char]] = ctypes.create_string_buffer(size) if size else None
     while is_refused(call(room, length.value, ctypes.byref(length))):
         room = ctypes.create_string_buffer(length.value)
-    return room.raw.decode("ascii") if room else ""
+    return room.raw[:length.value].decode("ascii") if room else ""
 
 
 def other_parts() -> ValueError:
@@ -381,10 +388,18 @@ def holds(relation: int, first: Kept, second: Kept) -> bool:
 
 
 def why(first: Kept, second: Kept) -> str:
-    """Returns the nine lines that show the cells of the matrix."""
+    """Returns the nine lines that show the cells of the matrix. Those of large geometries are made in a process of their own."""
     need_valid(first, second)
     with held((first, second)):
-        return handed_out(lambda *room: library().sfq_why(ctypes.byref(first.geometry), ctypes.byref(second.geometry), *room))
+        one, two = first.geometry, second.geometry
+        if first.most_positions() * second.most_positions() < MANY_PAIRS:
+            return lines_of_why(one, two)
+        return _apart.text_of(lambda: lines_of_why(one, two), WHY_BYTES)
+
+
+def lines_of_why(one: CGeometry, two: CGeometry) -> str:
+    """Returns the nine lines. Nearly always there is room for them at once: to ask for their size takes as long as to make them."""
+    return handed_out(lambda *room: library().sfq_why(ctypes.byref(one), ctypes.byref(two), *room), 4_096)
 
 
 class KeptIndex(Held):
@@ -530,5 +545,4 @@ def relate_addresses(firsts: Any, seconds: Any, count: int) -> list[str]:
 
 def why_addresses(first: int, second: int) -> str:
     """Returns the nine lines that show the cells of the matrix, by the addresses of both geometries."""
-    one, two = (CGeometry.from_address(it) for it in (first, second))
-    return handed_out(lambda *room: library().sfq_why(ctypes.byref(one), ctypes.byref(two), *room))
+    return lines_of_why(CGeometry.from_address(first), CGeometry.from_address(second))

@@ -29,6 +29,8 @@ def read_schema(schema: Union[Path, bytes]) -> tuple[bytes, Optional[str]]:
             return file.read(), os.path.dirname(path) or os.curdir
     except OSError as error:
         raise OperationalError(f"the schema can't be read: {missing_folder(path) or f'{path}: {error.strerror}'}") from error
+    except ValueError:
+        raise OperationalError(f"the schema can't be read: {path!r} has a NUL, which no path has") from None
 
 
 def missing_folder(path: str) -> Optional[str]:
