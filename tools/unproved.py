@@ -7,6 +7,7 @@ answer, nothing is written but one line that says why, and the status is 1, whic
 """
 import os
 import re
+import runpy
 import shutil
 import signal
 import stat
@@ -309,7 +310,10 @@ def answer(words: list[str]) -> int:
 def main() -> int:
     for it in (signal.SIGINT, signal.SIGTERM, signal.SIGHUP):
         signal.signal(it, lambda number, _: sys.exit(128 + number))
-    return answer(sys.argv[1:])
+    # Read alone: the whole package would take longer than a text of help.
+    streams = runpy.run_path(f"{ROOT}/bindings/python/sfq/_streams.py")
+    with streams["prepared"]():
+        return answer(sys.argv[1:])
 
 
 if __name__ == "__main__":
