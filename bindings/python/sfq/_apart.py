@@ -1,4 +1,4 @@
-"""Runs a command, or a call of C, in a process of its own, so that Ctrl-C ends it at once."""
+"""Runs a command, or a call of C, in a process of its own, so that a signal ends it at once."""
 from __future__ import annotations
 
 import contextlib
@@ -13,7 +13,7 @@ import traceback
 import warnings
 from typing import Callable, Optional
 
-from ._endings import INTERRUPTED
+from ._endings import BY_SIGNAL, Signalled
 
 # How long a process may take to end by itself, in seconds.
 GRACE = 0.08
@@ -24,9 +24,9 @@ WAIT = 200
 
 
 def run(work: Callable[[], int]) -> int:
-    """Runs the work, and returns its status: of work that a signal ended 128 and its number. What Ctrl-C leaves of it is ended.
+    """Runs the work, and returns its status: of work that a signal ended 128 and its number. What Ctrl-C, SIGTERM or SIGHUP leaves of it is ended.
 
-    KeyboardInterrupt where the work didn't end by itself at Ctrl-C, and so hasn't said it.
+    KeyboardInterrupt or Signalled where the work didn't end by itself at the signal, and so hasn't said it.
     """
     for it in (sys.stdout, sys.stderr):
         it.flush()
@@ -36,10 +36,11 @@ def run(work: Callable[[], int]) -> int:
         if not number:
             of_child(work)
         return status_of(os.waitpid(number, 0)[1])
-    except KeyboardInterrupt:
+    except (KeyboardInterrupt, Signalled) as error:
+        sent = error.number if isinstance(error, Signalled) else signal.SIGINT
         signal.signal(signal.SIGINT, signal.SIG_IGN)
-        if number and ended(number) == INTERRUPTED:
-            return INTERRUPTED
+        if number and ended(number, sent) == BY_SIGNAL + sent:
+            return BY_SIGNAL + sent
         if sys.stderr.isatty():
             # Behind the line that says how far it is.
             print(file=sys.stderr)
@@ -66,14 +67,14 @@ def of_child(work: Callable[[], int]) -> None:
 def status_of(found: int) -> int:
     """Returns the status of a process that ended."""
     status = os.waitstatus_to_exitcode(found)
-    return status if status >= 0 else 128 - status
+    return status if status >= 0 else BY_SIGNAL - status
 
 
-def ended(number: int) -> Optional[int]:
-    """Ends the process and its group, and returns its status, or None where it had to be killed."""
+def ended(number: int, sent: int) -> Optional[int]:
+    """Ends the process and its group by a signal, and returns its status, or None where it had to be killed."""
     due = time.monotonic() + GRACE
     try:
-        os.killpg(number, signal.SIGINT)
+        os.killpg(number, sent)
         while time.monotonic() < due:
             found, status = os.waitpid(number, os.WNOHANG)
             if found:

@@ -15,10 +15,10 @@ import shutil
 import subprocess
 import tempfile
 import time
-from typing import IO, Iterator, Optional, Union
+from typing import IO, Iterator, Optional, Sequence, Union
 
 from . import Geometry, _checking, _databases, _errors, _parameters, _sources, _statements
-from ._endings import DATA, FILES, MEMORY, MISSING
+from ._endings import DATA, FILES, MEMORY, MISSING, spelled
 from ._faults import MEANINGS, LibraryError
 from ._progress import Progress
 
@@ -56,8 +56,8 @@ def encoded(text: str) -> bytes:
 
 
 def words_of_run(places: list[str], file: IO[bytes]) -> list[str]:
-    """Returns the words by which the program runs the query of a file, and explains its fault."""
-    return ["run", "--why", "--", *places, f"@{file.name}"]
+    """Returns the words by which the program runs the query of a file, which it gets open, and explains its fault."""
+    return ["run", "--why", "--", *places, f"@/dev/fd/{file.fileno()}"]
 
 
 class Answer:
@@ -76,8 +76,8 @@ class Answer:
 
 
 def query_file(query: str) -> IO[bytes]:
-    """Returns a file with the text of a query, which `--why` reads once more: standard input can't be."""
-    file = tempfile.NamedTemporaryFile(prefix="sfq-", suffix=".sql")
+    """Returns a file with the text of a query, which `--why` reads once more: standard input can't be. It has no name that could be left."""
+    file = tempfile.TemporaryFile()
     file.write(encoded(query))
     file.flush()
     return file
@@ -89,7 +89,8 @@ class Run:
     def __init__(self, program: str, places: list[str], query: str) -> None:
         self.query, self.said = query_file(query), tempfile.TemporaryFile()
         words = [program, *words_of_run(places, self.query)]
-        self.process = subprocess.Popen(words, stdin=subprocess.DEVNULL, stdout=subprocess.PIPE, stderr=self.said)
+        self.process = subprocess.Popen(
+            words, stdin=subprocess.DEVNULL, stdout=subprocess.PIPE, stderr=self.said, pass_fds=[self.query.fileno()])
 
     def wait(self, progress: Progress) -> None:
         """Waits for the first output, and says how long."""
@@ -217,7 +218,7 @@ class ByLibrary:
     def why(self, query: str, fault: Refused) -> str:
         """Returns what the last fault means: what the program says of the same query and files, where it is beside this command."""
         with query_file(query) as file:
-            said = explained(words_of_run(self.places, file))
+            said = explained(words_of_run(self.places, file), [file.fileno()])
         return (said if said and fault.code in said else fault.text) + (page(fault.code) if fault.code else "")
 
 
@@ -242,18 +243,12 @@ def placed(text: bytes, at: int) -> str:
     """
     at = min(at, len(text.rstrip()))
     begin, end = text.rfind(b"\n", 0, at) + 1, text.find(b"\n", at)
-    before, behind = (spelled(it) for it in (text[begin:at], text[at : end if end >= 0 else len(text)]))
+    before, behind = (spelled(it.rstrip(b"\r")) for it in (text[begin:at], text[at : end if end >= 0 else len(text)]))
     left = before if len(before) <= BEFORE else ".." + before[2 - BEFORE :]
     right = behind if len(behind) <= BEHIND else behind[: BEHIND - 2] + ".."
     number = str(text.count(b"\n", 0, at) + 1).rjust(3)
     shown = f"{number} | {left}{right}".rstrip(" ") if left or right else f"{number} | "
     return f"{shown}\n{' ' * len(number)} | {' ' * len(left)}^\n"
-
-
-def spelled(part: bytes) -> str:
-    """Returns a part of a line, with escapes in place of what a terminal obeys and of what isn't UTF-8."""
-    text = part.rstrip(b"\r").decode("utf-8", "backslashreplace")
-    return "".join(it if it.isprintable() else it.encode("unicode_escape").decode() for it in text)
 
 
 def asker(name: str, program: str, places: list[str], schema: str) -> Asker:
@@ -279,8 +274,8 @@ def asker(name: str, program: str, places: list[str], schema: str) -> Asker:
 # ---- what a fault means, and where geometries meet ----
 
 
-def explained(words: list[str]) -> Optional[str]:
-    """Returns what the program beside this command says to these words.
+def explained(words: list[str], files: Sequence[int] = ()) -> Optional[str]:
+    """Returns what the program beside this command says to these words; it gets these open files.
 
     None where it isn't there, or would have to be made first; the page of a fault it has at once.
     """
@@ -293,7 +288,7 @@ def explained(words: list[str]) -> Optional[str]:
     except LibraryError:
         return None
     known = {**os.environ, "SFQ_QUIET": "1"}
-    ran = subprocess.run([program, *words], env=known, stdin=subprocess.DEVNULL, capture_output=True)
+    ran = subprocess.run([program, *words], env=known, stdin=subprocess.DEVNULL, capture_output=True, pass_fds=files)
     return (ran.stdout + ran.stderr).decode("utf-8", "replace")
 
 

@@ -15,6 +15,9 @@ import tempfile
 import time
 from typing import Any, Optional
 
+from . import _places
+from ._endings import held
+
 # How long an entry is kept that isn't used, and what a run that was broken off left, in seconds.
 KEPT, LEFT = 30 * 86_400, 86_400
 # The file of an entry with the sums of the others, and the beginning of the name of what is no entry yet.
@@ -26,9 +29,8 @@ BLOCK = 1 << 20
 
 
 def root() -> str:
-    """Returns the folder of the entries (XDG Base Directory Specification)."""
-    found = os.environ.get("XDG_CACHE_HOME", "")
-    return os.path.join(found if os.path.isabs(found) else os.path.expanduser("~/.cache"), "sfq", "tables")
+    """Returns the folder of the entries. OSError where the user has no folder."""
+    return os.path.join(_places.of_user("XDG_CACHE_HOME", ".cache"), "sfq", "tables")
 
 
 def sum_of_file(path: str) -> str:
@@ -83,7 +85,7 @@ def is_whole(folder: str) -> bool:
         with open(os.path.join(folder, SUMS), encoding="utf-8") as file:
             sums = json.load(file)
         return bool(sums) and all(sum_of_file(os.path.join(folder, it)) == found for it, found in sums.items())
-    except (OSError, ValueError, AttributeError):
+    except (OSError, ValueError, AttributeError, TypeError, RecursionError):
         return False
 
 
@@ -123,7 +125,7 @@ class Cache:
 
     def remove(self, name: str) -> None:
         """Removes an entry, or what was left of one: nobody sees a part of it. One that somebody else removes, or can't be, is passed over."""
-        with contextlib.suppress(OSError):
+        with held(), contextlib.suppress(OSError):
             room = self.room()
             with contextlib.suppress(OSError):
                 os.rename(os.path.join(self.folder, name), os.path.join(room, "gone"))

@@ -51,22 +51,23 @@ class ByProgram:
             raise LibraryError(": ".join([f"sfq: {self.program} {words[0]} ended with status {ran.returncode}", *ran.stderr.strip().splitlines()[-1:]]))
         return ran
 
+    def given(self, text: str, *words: str) -> subprocess.CompletedProcess[str]:
+        """Runs the program over a text on its standard input, from a file without a name that could be left."""
+        with tempfile.TemporaryFile("w+", encoding="utf-8") as file:
+            file.write(text)
+            file.seek(0)
+            return self.run(*words, given=file)
+
     def reasons(self, texts: list[str]) -> list[Optional[str]]:
         """Returns the reason of each text that is refused, None for the others: one run for all, and one for each that is refused."""
-        with tempfile.NamedTemporaryFile("w", suffix=".csv", encoding="utf-8") as file:
-            file.write("".join(f'"{it}",POINT EMPTY\n' for it in texts))
-            file.flush()
-            lines = self.run("pairs", file.name).stdout.splitlines()
+        lines = self.given("".join(f'"{it}",POINT EMPTY\n' for it in texts), "pairs", "-").stdout.splitlines()
         if len(lines) != len(texts):
             raise LibraryError(f"sfq: {self.program} pairs printed {len(lines)} lines for {len(texts)} pairs")
         return [self.reason(text) if line.startswith("first ") else None for text, line in zip(texts, lines)]
 
     def reason(self, text: str) -> str:
         """Returns why a text is refused."""
-        with tempfile.NamedTemporaryFile("w", suffix=".wkt", encoding="utf-8") as file:
-            file.write(text)
-            file.flush()
-            ran = self.run("why", f"@{file.name}")
+        ran = self.given(text, "why", "@-")
         return (ran.stdout or ran.stderr.rpartition("sfq: first ")[2]).strip()
 
 

@@ -13,13 +13,13 @@ import fcntl
 import json
 import os
 import shutil
-import signal
+import stat
 import sys
 import tempfile
 from typing import Any, Iterator
 
-from . import _grid, _statements, _systems, _tables
-from ._endings import DATA, FILES, USAGE, Stopped
+from . import _grid, _outputs, _statements, _systems, _tables
+from ._endings import DATA, FILES, USAGE, Stopped, held
 
 LEFT_OUT = ["layer", "record", "fid", "reason", "done", "table"]
 # What renameat2 of Linux takes for paths from the folder of the process on, and for two that change places.
@@ -37,7 +37,7 @@ class Folder:
     def __init__(self, path: str) -> None:
         """Stopped where there is a folder that no import made, or one that another import adds to."""
         self.name, self.path = path, os.path.realpath(path)
-        self.room, self.lock = "", -1
+        self.room, self.lock, self.mode = "", -1, 0o700
         # What grid.json says of the folder that is there, else nothing.
         self.found: dict[str, Any] = {}
         self.schema = ""
@@ -75,7 +75,7 @@ class Folder:
     def systems(self, osr: Any) -> list[Any]:
         """Returns the reference systems of the tables that are there, as GDAL has them."""
         try:
-            return [_systems.made(osr, it["coordinate_system"]["wkt"]) for it in self.layers if it["coordinate_system"]]
+            return [_systems.of_text(osr, it["coordinate_system"]["wkt"]) for it in self.layers if it["coordinate_system"]]
         except (KeyError, TypeError, ValueError) as error:
             raise Stopped(f"{self.name}/grid.json isn't one that sfq-import made: {error}", DATA) from None
 
@@ -86,15 +86,17 @@ class Folder:
 
     def begin(self, replaced: set[str]) -> None:
         """Makes the room, with what stays of the folder that is there: all but the tables of these names, which are in lower case."""
-        above, name = os.path.split(self.path)
+        above = os.path.dirname(self.path)
         os.makedirs(above, exist_ok=True)
-        self.room = tempfile.mkdtemp(prefix=f".{name}-", dir=above)
+        with held():
+            self.room = tempfile.mkdtemp(prefix=_outputs.NEW, dir=above)
         if not self.found:
-            mask = os.umask(0)
-            os.umask(mask)
-            os.chmod(self.room, 0o777 & ~mask)
+            self.mode = 0o777 & ~_outputs.mask()
             return
+        self.mode = stat.S_IMODE(os.stat(self.path).st_mode)
         shutil.copytree(self.path, self.room, symlinks=True, copy_function=linked, dirs_exist_ok=True)
+        # Until it takes its place nobody else writes into it.
+        os.chmod(self.room, 0o700)
         for it in os.listdir(self.room):
             if it.endswith(".csv") and it[:-4].lower() in replaced:
                 os.remove(f"{self.room}/{it}")
@@ -125,8 +127,10 @@ class Folder:
         return path
 
     def put(self) -> None:
-        """Has the room take the place of the folder, in one step, which Ctrl-C comes before or is too late for."""
-        with uninterrupted():
+        """Has the room take the place of the folder, in one step, which a signal comes before or is too late for."""
+        self.sync()
+        os.chmod(self.room, self.mode)
+        with held(is_last=True):
             if self.found:
                 exchange(self.room, self.path)
                 shutil.rmtree(self.room, ignore_errors=True)
@@ -139,12 +143,22 @@ class Folder:
                     raise Stopped(f"{self.name} was made by another meanwhile", FILES) from None
             self.room = ""
 
+    def sync(self) -> None:
+        """Waits until the files that are new are on the disk: those that stay are links to files that were there before."""
+        for at, _, names in os.walk(self.room):
+            for it in names:
+                path = os.path.join(at, it)
+                if not os.path.islink(path) and os.stat(path).st_nlink == 1:
+                    _outputs.sync(path)
+            _outputs.sync(at)
+
     def close(self) -> None:
         """Removes the room, where it hasn't taken its place, and lets other imports have the folder."""
-        if self.room:
-            shutil.rmtree(self.room, ignore_errors=True)
-        if self.lock >= 0:
-            os.close(self.lock)
+        with held():
+            if self.room:
+                shutil.rmtree(self.room, ignore_errors=True)
+            if self.lock >= 0:
+                os.close(self.lock)
 
 
 def linked(source: str, target: str) -> None:
@@ -171,19 +185,6 @@ def exchange(one: str, other: str) -> None:
         os.rename(aside, other)
         raise
     os.rename(aside, one)
-
-
-@contextlib.contextmanager
-def uninterrupted() -> Iterator[None]:
-    """Lets Ctrl-C come before a step that is done at once; one that comes within it is too late."""
-    before = signal.pthread_sigmask(signal.SIG_BLOCK, [])
-    try:
-        signal.pthread_sigmask(signal.SIG_BLOCK, {signal.SIGINT})
-        yield
-        if signal.SIGINT in signal.sigpending():
-            signal.sigwait({signal.SIGINT})
-    finally:
-        signal.pthread_sigmask(signal.SIG_SETMASK, before)
 
 
 def without(schema: str, table: _statements.Table) -> str:

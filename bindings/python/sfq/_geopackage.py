@@ -1,41 +1,27 @@
 """Writes an answer as a GeoPackage, by GDAL. None of it is proved."""
 from __future__ import annotations
 
-import contextlib
-import os
 from typing import Any, Callable
 
-from . import _reading, _texts, _units
+from . import _outputs, _reading, _systems, _texts, _units
+from ._endings import DATA, Stopped
 
 LAYER = "answer"
 # When GDAL writes that the contents changed: the same answer has the same bytes.
 DATE = "1970-01-01T00:00:00.000Z"
 
 
-def left(path: str) -> list[str]:
-    """Returns the files that are there while one is written, which GDAL wants to end so."""
-    return [f"{path}.new.gpkg", f"{path}.new.gpkg-journal"]
-
-
-def write(returned: _units.Returned, path: str) -> None:
-    """Writes an answer into a file, which is there as a whole at the end or not at all. Missing without GDAL, OSError where it can't write."""
-    found, files = _reading.modules(), left(path)
+def write(returned: _units.Returned, output: _outputs.Output) -> None:
+    """Writes an answer into a file. Missing without GDAL, OSError where it can't write."""
+    found = _reading.modules()
     try:
-        for it in files:
-            with contextlib.suppress(FileNotFoundError):
-                os.remove(it)
-        Writer(found, returned, files[0]).run()
-        os.replace(files[0], path)
+        Writer(found, returned, output.new).run()
     except RuntimeError as error:
         # When GDAL closes the file it fails once more. The modules give exceptions up in the other order.
         for module in reversed(found):
             module.DontUseExceptions()
         found.gdal.PushErrorHandler("CPLQuietErrorHandler")
-        raise OSError(f"{path}: GDAL can't write it{f': {error}' if str(error) else ''}") from None
-    finally:
-        for it in files:
-            with contextlib.suppress(FileNotFoundError):
-                os.remove(it)
+        raise OSError(f"{output.path}: GDAL can't write it{f': {error}' if str(error) else ''}") from None
 
 
 class Writer:
@@ -70,12 +56,11 @@ class Writer:
         return source.CreateLayer(LAYER, system, kind, options)
 
     def system(self, said: Any) -> Any:
-        """Returns the coordinate system of grid.json, with x before y whatever it says."""
-        osr = self.found.osr
-        made = osr.SpatialReference()
-        made.SetFromUserInput(said["wkt"])
-        made.SetAxisMappingStrategy(osr.OAMS_TRADITIONAL_GIS_ORDER)
-        return made
+        """Returns the coordinate system of grid.json, with x before y whatever it says. Stopped where it has none."""
+        try:
+            return _systems.of_text(self.found.osr, said["wkt"])
+        except (KeyError, TypeError, ValueError) as error:
+            raise Stopped(f"grid.json isn't one that sfq-import made: {error}", DATA) from None
 
     def rows(self, source: Any, layer: Any) -> int:
         """Writes the columns and the rows, and returns how many rows there are."""

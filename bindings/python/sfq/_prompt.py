@@ -5,7 +5,7 @@ import glob
 import os
 from typing import Any, Optional
 
-from . import _showing, _statements, _tables
+from . import _places, _showing, _statements, _tables
 
 try:
     import readline as _readline
@@ -25,10 +25,12 @@ FUNCTIONS = (
 WORDS = sorted([*(it.upper() for it in _tables.RESERVED), "EXPLAIN", "ANALYZE", "COUNT(*)"])
 
 
-def history_file() -> str:
-    """Returns the path of the file of what was typed (XDG Base Directory Specification)."""
-    state = os.environ.get("XDG_STATE_HOME", "")
-    return os.path.join(state if os.path.isabs(state) else os.path.expanduser("~/.local/state"), "sfq", "shell-history")
+def history_file() -> Optional[str]:
+    """Returns the path of the file of what was typed, None where the user has no folder."""
+    try:
+        return os.path.join(_places.of_user("XDG_STATE_HOME", ".local/state"), "sfq", "shell-history")
+    except OSError:
+        return None
 
 
 class Completer:

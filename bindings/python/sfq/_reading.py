@@ -6,12 +6,13 @@ reference system.
 from __future__ import annotations
 
 import contextlib
+import os
 import re
 import sys
 from collections import Counter
 from typing import Any, Callable, Iterable, Iterator, NamedTuple, Optional, Sequence
 
-from . import _columns, _grid, _proposing, _systems, _tables, _wkb
+from . import _columns, _grid, _offline, _proposing, _systems, _tables, _wkb
 from ._columns import Refused
 
 # Words of a source that are nobody's business but its own.
@@ -82,7 +83,8 @@ class Source:
         self.name = without_secrets(path)
         gdal = found.gdal
         try:
-            self.file = gdal.OpenEx(path, gdal.OF_VECTOR | gdal.OF_READONLY)
+            with _offline.offline(os.path.exists(path)):
+                self.file = gdal.OpenEx(path, gdal.OF_VECTOR | gdal.OF_READONLY)
         except RuntimeError as error:
             raise OSError(without_secrets(f"{path}: {str(error).removeprefix(f'{path}: ')}")) from None
         self.is_of_texts = self.file.GetDriver().ShortName == "CSV"

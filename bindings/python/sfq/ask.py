@@ -9,7 +9,6 @@ from __future__ import annotations
 
 import argparse
 import collections
-import contextlib
 import csv
 import dataclasses
 import functools
@@ -21,10 +20,11 @@ import sys
 import tempfile
 from typing import Any, Iterator, NamedTuple, Optional, TextIO
 
-from . import __version__, _apart, _asking, _cache, _conditions, _constants, _endings, _geopackage, _reading, _showing, _tables, _units, exports, imports
+from . import __version__, _apart, _asking, _cache, _conditions, _constants, _endings, _geopackage, _reading, _showing, _streams, _tables, _units, exports, imports
 from ._asking import Refused
 from ._endings import DATA, DONE, FILES, MISSING, USAGE, Stopped
 from ._faults import LibraryError
+from ._outputs import Output
 
 NAME = "sfq-ask"
 MODES = ("csv", "table", "json", "geojson", "gpkg", "svg")
@@ -84,24 +84,15 @@ def write(returned: _units.Returned, mode: str, file: TextIO) -> None:
     file.flush()
 
 
-def give(returned: _units.Returned, mode: str, path: str) -> None:
+def give(returned: _units.Returned, mode: str, output: Output) -> None:
     """Writes an answer to standard output, or into a file that is there as a whole at the end or not at all."""
     if returned.answer.is_plan and mode in PICTURES:
         raise Stopped(f"--out {mode}: a plan has no geometries", USAGE)
     if mode == "gpkg":
-        _geopackage.write(returned, path)
-        return
-    output = exports.Output(path)
-    try:
+        _geopackage.write(returned, output)
+    else:
         write(returned, mode, output.file or sys.stdout)
-        output.keep()
-    except OSError as error:
-        if not path and error.filename is None:
-            raise _endings.unwritten() from None
-        error.filename = error.filename or path
-        raise
-    finally:
-        output.drop()
+    output.keep()
 
 
 # ---- the query ----
@@ -118,7 +109,7 @@ def need_few(folder: _units.Folder, conditions: _conditions.Conditions, query: s
                 f"{first}sfq-scale run {words} --scheduler tcp://HOST:PORT; sfq-export --like {shlex.quote(place)} brings its answer back", DATA)
 
 
-def ask(options: argparse.Namespace, folder: _units.Folder, is_kept: bool) -> None:
+def ask(options: argparse.Namespace, folder: _units.Folder, is_kept: bool, output: Output) -> None:
     """Asks the query, and writes its answer. Refused where there is none."""
     conditions, written = _conditions.Conditions(options.query, folder), _constants.Written(options.query, folder.grid)
     conditions.need_lawful(NAME)
@@ -130,7 +121,7 @@ def ask(options: argparse.Namespace, folder: _units.Folder, is_kept: bool) -> No
     except Refused as error:
         raise written.refused(error, NAME) from None
     try:
-        give(folder.returned(answer, options.query), options.out, options.output)
+        give(folder.returned(answer, options.query), options.out, output)
     finally:
         answer.close()
     # Of a note of the program the line alone: the query that it shows isn't the one that the user wrote.
@@ -292,11 +283,13 @@ def read_query(word: str) -> str:
     """Returns the text of a query: that of a file or of standard input behind @."""
     if not word.startswith("@"):
         return word
-    with open(sys.stdin.fileno() if word == "@-" else word[1:], encoding="utf-8", errors="surrogateescape", newline="\n") as file:
+    if word == "@-":
+        return _streams.standard_input().read()
+    with open(word[1:], encoding="utf-8", errors="surrogateescape", newline="\n") as file:
         return file.read()
 
 
-def run(options: argparse.Namespace, place: Place) -> int:
+def run(options: argparse.Namespace, place: Place, output: Output) -> int:
     """Makes the tables and asks the query, and returns the status."""
     csv.field_size_limit(sys.maxsize)
     for it in (sys.stdout, sys.stderr):
@@ -304,7 +297,7 @@ def run(options: argparse.Namespace, place: Place) -> int:
             it.reconfigure(encoding="utf-8", errors="surrogateescape", newline="\n")
     try:
         folder, is_kept = tables(options, place)
-        ask(options, folder, is_kept)
+        ask(options, folder, is_kept, output)
     except Refused as error:
         sys.stdout.flush()
         sys.stderr.write(error.text)
@@ -317,22 +310,22 @@ def run(options: argparse.Namespace, place: Place) -> int:
 def begun(options: argparse.Namespace) -> int:
     """Runs the command in a process of its own, and removes what that leaves."""
     options.query = read_query(options.query)
-    place = Place(None, "") if is_imported(options.sources[0]) else place_of(options)
-    left = [path for path in (f"{options.output}.new", *_geopackage.left(options.output)) if options.output and not os.path.lexists(path)]
+    output, place = Output(options.output, options.out == "gpkg"), Place(None, "")
     try:
-        return _apart.run(lambda: _endings.ended(NAME, lambda: run(options, place), (OSError, RuntimeError)))
+        if not is_imported(options.sources[0]):
+            with _endings.held():
+                place = place_of(options)
+        return _apart.run(lambda: _endings.ended(NAME, lambda: run(options, place, output), (OSError, RuntimeError)))
     finally:
-        if place.room:
-            shutil.rmtree(place.room, ignore_errors=True)
-        for it in left:
-            with contextlib.suppress(OSError):
-                os.remove(it)
+        with _endings.held():
+            if place.room:
+                shutil.rmtree(place.room, ignore_errors=True)
+            output.drop()
 
 
 def main(words: Optional[list[str]] = None) -> int:
     """Runs the command, and returns its status."""
-    options = parsed(sys.argv[1:] if words is None else words)
-    return _endings.ended(NAME, lambda: begun(options))
+    return _endings.ended(NAME, lambda: begun(parsed(sys.argv[1:] if words is None else words)))
 
 
 if __name__ == "__main__":

@@ -8,6 +8,7 @@ digits as these have. None of it is proved.
 from __future__ import annotations
 
 import argparse
+import contextlib
 import csv
 import json
 import os
@@ -17,8 +18,9 @@ import tempfile
 from html import escape
 from typing import IO, Any, Callable, Iterator, NamedTuple, Optional, Sequence, TextIO
 
-from . import __version__, _endings, _grid, _reading, _tables, _texts
+from . import __version__, _endings, _grid, _outputs, _reading, _streams, _systems, _tables, _texts
 from ._endings import DATA, DONE, MISSING, USAGE, Stopped
+from ._outputs import Output
 
 NAME = "sfq-export"
 GEOMETRIC = {"GEOMETRY", *(it.upper() for it in _texts.TYPES)}
@@ -168,12 +170,11 @@ def as_it_is(grid: _grid.Grid) -> Callable[[Any], str]:
 def as_degrees(grid: _grid.Grid, system: Any) -> Callable[[Any], str]:
     """Returns what writes a position as longitude and latitude of WGS 84, to nine digits after the point."""
     osr = _reading.modules().osr
-    source, target = osr.SpatialReference(), osr.SpatialReference()
-    source.SetFromUserInput(system["wkt"])
-    target.ImportFromEPSG(4326)
-    for it in (source, target):
-        it.SetAxisMappingStrategy(osr.OAMS_TRADITIONAL_GIS_ORDER)
-    moves = osr.CoordinateTransformation(source, target).TransformPoint
+    try:
+        source = _systems.of_text(osr, system["wkt"])
+        moves = _systems.transformation(osr, source, _systems.named(osr, "EPSG:4326")).TransformPoint
+    except (KeyError, TypeError, ValueError) as error:
+        raise Stopped(f"grid.json isn't one that sfq-import made: {error}", DATA) from None
 
     def position(it: Any) -> str:
         found = moves(float(grid.x.text(it[0])), float(grid.y.text(it[1])))
@@ -274,30 +275,6 @@ def drawn(name: str, parts: Any, place: Callable[[Any], tuple[float, float]]) ->
 # ---- the command ----
 
 
-class Output:
-    """A file that is there as a whole once it is kept, or not at all. A link, a device or a pipe stays, and is written as it is."""
-
-    def __init__(self, path: str) -> None:
-        self.path, self.is_new = path, not os.path.lexists(path) or (os.path.isfile(path) and not os.path.islink(path))
-        try:
-            self.file = open(f"{path}.new" if self.is_new else path, "w", encoding="utf-8") if path else None
-        except OSError as error:
-            error.filename = path
-            raise
-
-    def keep(self) -> None:
-        if self.file:
-            self.file.close()
-            if self.is_new:
-                os.replace(self.file.name, self.path)
-
-    def drop(self) -> None:
-        if self.file:
-            self.file.close()
-            if self.is_new and os.path.exists(self.file.name):
-                os.remove(self.file.name)
-
-
 def system_of(column: str, found: Known) -> Any:
     """Returns the coordinate system of a geometry column, None where its tables have several or none."""
     systems = found.systems.get(column) or [it for each in found.systems.values() for it in each]
@@ -348,24 +325,47 @@ def parser() -> argparse.ArgumentParser:
 def run(options: argparse.Namespace) -> None:
     """Does an export: its files are there as a whole at the end, or not at all."""
     csv.field_size_limit(sys.maxsize)
-    geo, svg = Output(options.to), Output(options.svg)
-    try:
+    with contextlib.ExitStack() as stack:
+        outputs: list[Output] = []
+        for path in (options.to, options.svg):
+            outputs.append(Output(path))
+            stack.callback(outputs[-1].drop)
         if options.rows == "-":
-            export(csv.reader(open(sys.stdin.fileno(), newline="", encoding="utf-8", closefd=False)), options, geo, svg)
+            file: TextIO = _streams.standard_input(newline="", errors="strict")
         else:
-            with open(options.rows, newline="", encoding="utf-8") as file:
-                export(csv.reader(file), options, geo, svg)
-        geo.keep()
-        svg.keep()
-    finally:
-        geo.drop()
-        svg.drop()
+            file = stack.enter_context(open(options.rows, newline="", encoding="utf-8"))
+        export(csv.reader(file), options, *outputs)
+        _outputs.keep(outputs)
 
 
-def run_words(options: argparse.Namespace) -> int:
+def parsed(words: Optional[list[str]]) -> argparse.Namespace:
+    """Returns the options. Words that can't be meant end the command."""
+    found = parser()
+    options = found.parse_args(words)
+    if not options.to and not options.svg:
+        found.error("one of --to and --svg is needed")
+    if options.to and not options.to.lower().endswith((".geojson", ".json")):
+        found.error(f"--to writes GeoJSON alone: name it {options.to}.geojson, and let ogr2ogr make other formats of it")
+    if _outputs.are_one([options.to, options.svg]):
+        found.error(f"--to and --svg name one file, {options.svg}")
+    for it in (options.to, options.svg):
+        if it and is_given(it, options):
+            found.error(f"{it} is a file of the answer or of its tables")
+    return options
+
+
+def is_given(path: str, options: argparse.Namespace) -> bool:
+    """Whether a path is that of a file that is read, or of a table of the folder."""
+    place = os.path.realpath(path)
+    folder, name = os.path.split(place)
+    is_of_tables = name in ("grid.json", "schema.sql") or name.endswith(".csv")
+    return place == os.path.realpath(options.rows) or folder == os.path.realpath(options.like) and is_of_tables
+
+
+def run_words(words: Optional[list[str]]) -> int:
     """Does an export, and returns its status. Stopped also where GDAL isn't there, or the answer isn't UTF-8."""
     try:
-        run(options)
+        run(parsed(words))
     except _reading.Missing as error:
         raise Stopped(str(error), MISSING) from None
     except UnicodeDecodeError as error:
@@ -375,12 +375,7 @@ def run_words(options: argparse.Namespace) -> int:
 
 def main(words: Optional[list[str]] = None) -> int:
     """Runs the command, and returns its status."""
-    options = parser().parse_args(words)
-    if not options.to and not options.svg:
-        parser().error("one of --to and --svg is needed")
-    if options.to and not options.to.lower().endswith((".geojson", ".json")):
-        parser().error(f"--to writes GeoJSON alone: name it {options.to}.geojson, and let ogr2ogr make other formats of it")
-    return _endings.ended(NAME, lambda: run_words(options), (OSError, RuntimeError, csv.Error))
+    return _endings.ended(NAME, lambda: run_words(words), (OSError, RuntimeError, csv.Error))
 
 
 if __name__ == "__main__":

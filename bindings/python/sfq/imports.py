@@ -82,7 +82,15 @@ class Import:
         for row in (_folders.LEFT_OUT, *folder.kept_of_left_out()):
             self.left_out.write(",".join(map(_tables.quoted, row)).encode() + b"\n")
 
-    def close(self) -> None:
+    def __enter__(self) -> Import:
+        return self
+
+    def __exit__(self, *_: object) -> None:
+        # What is left can't be written where the disk is full.
+        with contextlib.suppress(OSError):
+            self.left_out.close()
+
+    def finish_all(self) -> None:
         """Writes what speaks of all tables."""
         self.left_out.close()
         _folders.written(self.folder, f"{NAME} {__version__}", self.means.grid.spelled, self.layers, self.schemas)
@@ -209,8 +217,11 @@ def move(layers: Sequence[_reading.Layer], osr: Any, options: Options) -> None:
             raise Stopped(f"{it.source.name}: {it.name} says no reference system, so it can't be moved to {options.to}: --from names it", USAGE)
         if _systems.are_same(it.reference, target):
             it.take_reference(target)
-        else:
+            continue
+        try:
             it.move(target)
+        except ValueError as error:
+            raise Stopped(f"{it.source.name}: {it.name}: {error}", DATA) from None
 
 
 def need_one_system(layers: Sequence[_reading.Layer], folder: _folders.Folder, osr: Any, say: Say) -> Any:
@@ -282,11 +293,11 @@ def imported(sources: Sequence[str], folder: _folders.Folder, options: Options, 
         names, replaced = names_of(layers, folder, options)
         grid = grid_of(shaped, folder, system, options, say)
         folder.begin(replaced)
-        work = Import(Means(
-            found, checker, grid, options.invalid, options.is_flat, options.is_parted, options.steps, name), folder, options.key, say)
-        for it, table in zip(layers, names):
-            work.take(it, table)
-        work.close()
+        means_of_all = Means(found, checker, grid, options.invalid, options.is_flat, options.is_parted, options.steps, name)
+        with Import(means_of_all, folder, options.key, say) as work:
+            for it, table in zip(layers, names):
+                work.take(it, table)
+            work.finish_all()
         folder.put()
         return Imported(grid, work.layers)
 
@@ -430,8 +441,7 @@ def run(given: argparse.Namespace, options: Options) -> int:
 
 def main(words: Optional[list[str]] = None) -> int:
     """Runs the command, and returns its status."""
-    given, options = parsed(sys.argv[1:] if words is None else words)
-    return _endings.ended(NAME, lambda: run(given, options), (OSError, RuntimeError))
+    return _endings.ended(NAME, lambda: run(*parsed(sys.argv[1:] if words is None else words)), (OSError, RuntimeError))
 
 
 if __name__ == "__main__":

@@ -262,14 +262,12 @@ def run(folder: str) -> int:
     csv.field_size_limit(sys.maxsize)
     text, status = proposed(folder)
     sys.stdout.write(text)
-    sys.stdout.flush()
     return status
 
 
 def main(words: Optional[list[str]] = None) -> int:
     """Runs the command, and returns its status."""
-    options = parser().parse_args(words)
-    return _endings.ended(NAME, lambda: run(options.folder))
+    return _endings.ended(NAME, lambda: run(parser().parse_args(words).folder))
 
 
 if __name__ == "__main__":

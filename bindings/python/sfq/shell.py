@@ -16,9 +16,9 @@ import re
 import shlex
 import sys
 import time
-from typing import Iterable, NamedTuple, Optional, TextIO
+from typing import Iterable, NamedTuple, Optional
 
-from . import __version__, _asking, _endings, _prompt, _showing, _statements
+from . import __version__, _asking, _endings, _outputs, _prompt, _showing, _statements, _streams
 from ._asking import Refused
 from ._endings import DONE, MISSING, USAGE, Stopped
 from ._faults import LibraryError
@@ -68,7 +68,7 @@ class Shell:
     def __init__(self, asker: _asking.Asker, schema: str, folder: str, mode: str) -> None:
         self.asker, self.schema, self.folder, self.mode = asker, schema, folder, mode
         self.tables, self.is_timed, self.depth = asker.tables, False, 0
-        self.out: TextIO = sys.stdout
+        self.out, self.output = sys.stdout, _outputs.Output("")
         self.last, self.fault = "", Refused("", DONE)
 
     # ---- what is asked ----
@@ -223,15 +223,25 @@ class Shell:
 
     def do_output(self, rest: str) -> None:
         found = self.words(".output", rest, 1)
-        file = open(found[0], "w", encoding="utf-8", errors="surrogateescape", newline="\n") if found else sys.stdout
-        self.close()
-        self.out = file
+        output = _outputs.Output(found[0] if found else "")
+        try:
+            self.keep()
+        except OSError:
+            output.drop()
+            raise
+        self.out, self.output = output.file or sys.stdout, output
+
+    def keep(self) -> None:
+        """Has the file of answers, if there is one, take its place. Answers go to standard output then."""
+        output, self.out, self.output = self.output, sys.stdout, _outputs.Output("")
+        try:
+            output.keep()
+        finally:
+            output.drop()
 
     def close(self) -> None:
-        """Closes the file of answers, if there is one."""
-        file, self.out = self.out, sys.stdout
-        if file is not sys.stdout:
-            file.close()
+        """Removes the file of answers, if there is one that hasn't taken its place."""
+        self.output.drop()
 
     def do_read(self, rest: str) -> None:
         found = self.words(".read", rest, 1)
@@ -333,14 +343,14 @@ def run(options: argparse.Namespace) -> int:
                 shell.loaded(table)
         for text in options.command:
             shell.run(io.StringIO(text, newline="\n"), "")
-        if options.command:
-            return DONE
-        if sys.stdin.isatty() and sys.stdout.isatty():
-            converse(shell, None if options.no_history else _prompt.history_file())
-        else:
-            shell.run(open(sys.stdin.fileno(), encoding="utf-8", errors="surrogateescape", newline="\n", closefd=False), "standard input")
+        if not options.command:
+            if sys.stdin.isatty() and sys.stdout.isatty():
+                converse(shell, None if options.no_history else _prompt.history_file())
+            else:
+                shell.run(_streams.standard_input(), "standard input")
+        shell.keep()
     except Left:
-        pass
+        shell.keep()
     finally:
         shell.close()
     return DONE
@@ -349,25 +359,18 @@ def run(options: argparse.Namespace) -> int:
 def run_words(options: argparse.Namespace) -> int:
     """Runs a session, and returns its status: that of the fault that ends it, if one does."""
     try:
-        status = run(options)
-        sys.stdout.flush()
-        return status
+        return run(options)
     except Refused as error:
         sys.stdout.flush()
         sys.stderr.write(error.text)
         return error.status
     except LibraryError as error:
         raise Stopped(str(error).removeprefix("sfq: "), MISSING) from None
-    except OSError as error:
-        if error.filename is not None:
-            raise
-        raise _endings.unwritten() from None
 
 
 def main(words: Optional[list[str]] = None) -> int:
     """Runs the command, and returns its status."""
-    options = parser().parse_args(words)
-    return _endings.ended(NAME, lambda: run_words(options))
+    return _endings.ended(NAME, lambda: run_words(parser().parse_args(words)))
 
 
 if __name__ == "__main__":

@@ -8,13 +8,15 @@ None of it is proved; the answers of sfq are.
 from __future__ import annotations
 
 import argparse
+import contextlib
 import functools
 import math
 import sys
 from typing import Iterable, Optional
 
-from sfq import __version__, _endings, exports
+from sfq import __version__, _endings
 from sfq._endings import DATA, DONE, USAGE, Stopped
+from sfq._outputs import Output, are_one
 
 from . import families, reports, sources, writing
 from .asking import LACKING, Engine, Sfq
@@ -71,7 +73,7 @@ def parser() -> argparse.ArgumentParser:
     add("--ask", choices=ASKS, default=ASKS[0], help="what is asked (matrix; of an engine without matrices the predicates)")
     add("--format", choices=tuple(reports.FORMATS), default="text", help="how the report is written (text)")
     add("--output", metavar="FILE", default="", help="write the report into a file, which is there as a whole at the end")
-    add("--all", metavar="FILE", help="write each pair that differs into a CSV file")
+    add("--all", metavar="FILE", default="", help="write each pair that differs into a CSV file")
     add("--tests", metavar="FILE", default="", help="write the cases as tests, in the XML of JTS's tests")
     add("--cases", type=whole(0), default=20, metavar="N", help="report at most so many cases of an engine (20)")
     add("--tries", type=whole(0), default=3000, metavar="N", help="make each case smaller by at most so many pairs; 0 leaves it as it is (3000)")
@@ -140,17 +142,18 @@ def run(options: argparse.Namespace) -> int:
     engines, is_whole = engines_of(options)
     if not engines:
         return LACKING
-    report, tests = exports.Output(options.output), exports.Output(options.tests)
-    try:
-        finding = Finding(sfq, engines, options.cases, Every(options.all) if options.all else None)
+    with contextlib.ExitStack() as stack:
+        outputs: list[Output] = []
+        for path in (options.output, options.tests, options.all):
+            outputs.append(Output(path))
+            stack.callback(outputs[-1].drop)
+        report, tests, every = outputs
+        finding = Finding(sfq, engines, options.cases, Every(every) if every.file else None)
         with finding.interrupts:
             cases = found_of(finding, pairs, count, options.tries)
             if finding.pairs or not finding.ended_by:
                 handed_on(finding, tests, source, cases)
                 deliver(finding, report, reports.FORMATS[options.format](finding, source, cases))
-    finally:
-        report.drop()
-        tests.drop()
     for error in (finding.ended_by, finding.failed):
         if error:
             text, status = _endings.outcome(error)
@@ -168,15 +171,15 @@ def found_of(finding: Finding, pairs: Iterable[Pair], count: Optional[int], trie
         cases = made_smaller(finding, tries)
         if finding.interrupts.waits:
             finding.end(KeyboardInterrupt())
-        return cases
     finally:
         for it in finding.counts:
             finding.unless_failed(it.engine.stop)
-        if finding.every:
-            finding.unless_failed(finding.every.close)
+    if finding.every:
+        finding.unless_failed(finding.every.close)
+    return cases
 
 
-def handed_on(finding: Finding, tests: exports.Output, source: str, cases: list[Small]) -> None:
+def handed_on(finding: Finding, tests: Output, source: str, cases: list[Small]) -> None:
     """Writes the cases that have a matrix as tests of other engines, each once."""
     pairs = {it.case.pair: Pair(it.case.number - 1, it.case.family, *it.case.pair) for it in cases}
 
@@ -189,7 +192,7 @@ def handed_on(finding: Finding, tests: exports.Output, source: str, cases: list[
     finding.unless_failed(write, tests.path)
 
 
-def deliver(finding: Finding, output: exports.Output, text: str) -> None:
+def deliver(finding: Finding, output: Output, text: str) -> None:
     """Writes the report into its file, which is there as a whole then; on standard output where there is none, or it can't be written."""
 
     def write() -> bool:
@@ -199,9 +202,8 @@ def deliver(finding: Finding, output: exports.Output, text: str) -> None:
         return bool(output.file)
 
     if not finding.unless_failed(write, output.path):
-        standard = writing.StandardOutput()
-        standard.write(text)
-        standard.flush()
+        sys.stdout.write(text)
+        sys.stdout.flush()
 
 
 def write_pairs(options: argparse.Namespace) -> int:
@@ -218,11 +220,21 @@ def write_pairs(options: argparse.Namespace) -> int:
     return DONE
 
 
+def run_words(words: Optional[list[str]]) -> int:
+    """Does what the words say, and returns the status."""
+    found = parser()
+    options = found.parse_args(words)
+    if options.command == "write":
+        return write_pairs(options)
+    twice = are_one([options.output, options.tests, options.all])
+    if twice:
+        found.error(f"two of --output, --tests and --all name one file, {twice}")
+    return run(options)
+
+
 def main(words: Optional[list[str]] = None) -> int:
     """Runs the command, and returns its status."""
-    options = parser().parse_args(words)
-    does = {"run": run, "write": write_pairs}[options.command]
-    return _endings.ended(NAME, lambda: does(options))
+    return _endings.ended(NAME, lambda: run_words(words))
 
 
 if __name__ == "__main__":

@@ -10,6 +10,7 @@ from collections import Counter
 from typing import Any, Callable, Iterable, Iterator, NamedTuple, Optional, TypeVar
 
 from sfq._endings import FILES, Stopped, outcome
+from sfq._outputs import Output
 from sfq._progress import Progress
 
 from . import comparing
@@ -76,10 +77,11 @@ class Counts:
 
 
 class Every:
-    """A CSV file of each pair that differs. Stopped where it can't be written."""
+    """A CSV file of each pair that differs, which takes its place when it is closed. Stopped where it can't be written."""
 
-    def __init__(self, path: str) -> None:
-        self.path, self.file = path, open(path, "w", encoding="utf-8", newline="")
+    def __init__(self, output: Output) -> None:
+        assert output.file
+        self.output, self.file = output, output.file
         self.writer = csv.writer(self.file, lineterminator="\n")
         self.add(HEADER)
 
@@ -90,13 +92,13 @@ class Every:
         self.done(self.file.flush)
 
     def close(self) -> None:
-        self.done(self.file.close)
+        self.done(self.output.keep)
 
     def done(self, does: Callable[[], object]) -> None:
         try:
             does()
         except OSError as error:
-            raise Stopped(f"{self.path}: {error.strerror}", FILES) from None
+            raise Stopped(f"{self.output.path}: {error.strerror}", FILES) from None
 
 
 class Interrupts:

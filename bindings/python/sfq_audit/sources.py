@@ -14,6 +14,7 @@ from typing import Iterable, Iterator
 
 from sfq import _texts
 from sfq._endings import DATA, FILES, MISSING, Stopped, say
+from sfq._streams import standard_input
 
 from .asking import LACKING, environment
 from .families import Pair
@@ -40,7 +41,7 @@ def numbered(rows: Iterable[list[str]]) -> Iterator[Pair]:
 def of_file(path: str) -> Iterator[Pair]:
     """Returns the pairs of a CSV file without a header, as `sfq pairs` reads them; - is standard input. OSError where it can't be opened."""
     csv.field_size_limit(sys.maxsize)
-    file = open(0 if path == "-" else path, encoding="utf-8", newline="", closefd=path != "-")
+    file = standard_input(newline="", errors="strict") if path == "-" else open(path, encoding="utf-8", newline="")
     return numbered(csv.reader(file))
 
 

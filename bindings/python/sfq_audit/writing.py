@@ -10,13 +10,12 @@ from __future__ import annotations
 
 import itertools
 import json
-import os
 import sys
 from typing import Callable, Iterable, Iterator, NamedTuple, Optional, Protocol, Sequence, Union
 from xml.sax.saxutils import escape
 
 from sfq import _texts, exports
-from sfq._endings import FILES, Stopped
+from sfq._outputs import Output
 from sfq._progress import Progress
 
 from . import families
@@ -179,29 +178,12 @@ def write(cases: Iterable[Case], form: Form, progress: Progress) -> None:
     progress.clear()
 
 
-class StandardOutput:
-    """Standard output. Stopped where it can't be written; it takes nothing more then."""
-
-    def write(self, text: str, /) -> None:
-        self.done(lambda: sys.stdout.write(text))
-
-    def flush(self) -> None:
-        self.done(sys.stdout.flush)
-
-    def done(self, does: Callable[[], object]) -> None:
-        try:
-            does()
-        except OSError:
-            os.dup2(os.open(os.devnull, os.O_WRONLY), sys.stdout.fileno())
-            raise Stopped("write failed", FILES) from None
-
-
 def run(form: str, which: str, title: str, cases: Iterable[Case], path: str = "") -> None:
     """Writes cases into a file, which is there as a whole at the end or not at all, or on standard output where no path is given."""
-    output, standard, progress = exports.Output(path), StandardOutput(), Progress("sfq-audit")
+    output, progress = Output(path), Progress("sfq-audit")
     try:
-        write(cases, FORMS[form](output.file or standard, title, which), progress)
-        standard.flush()
+        write(cases, FORMS[form](output.file or sys.stdout, title, which), progress)
+        sys.stdout.flush()
         output.keep()
     finally:
         progress.clear()

@@ -5,17 +5,20 @@ import os
 import re
 import resource
 import shutil
-import signal
 import sys
 import tempfile
 from typing import Any, NoReturn, Optional, Union
 
+from sfq import _endings
+from sfq._endings import held, say
 from sfq._progress import Progress
+from sfq._streams import Unwritten, standard_input
 
 from . import VERSION, cluster, merging, plans, programs, query, words
 from .faults import CLUSTER, FILES, QUERY, Ended, ended
 from .schema import Table
 
+NAME = "sfq-scale"
 STATUSES = """exit status: that of sfq (2 the command line, 3 the schema, 4 a table, 5 the query, 6 a file, 7 memory), or 8: the cluster
 can't be reached, has no worker left, has another program, or failed at a part too often"""
 # The faults of a query's text, which sfq finds before it reads tables.
@@ -66,7 +69,7 @@ class Run:
             return str(self.given.query)
         path = f"{self.room}/input.sql"
         with open(path, "wb") as file:
-            shutil.copyfileobj(sys.stdin.buffer, file)
+            shutil.copyfileobj(standard_input().buffer, file)
         return f"@{path}"
 
     def query_text(self) -> str:
@@ -123,7 +126,7 @@ class Run:
         try:
             taking.write(sys.stdout.buffer)
             sys.stdout.flush()
-        except OSError as error:
+        except Unwritten as error:
             raise Ended(FILES, b"sfq: write failed\n") from error
         if self.given.explain:
             self.explain(way)
@@ -187,9 +190,10 @@ def answer(given: argparse.Namespace) -> int:
     """Runs a query in a folder of its own, and returns the status."""
     try:
         base = given.room or tempfile.gettempdir()
-        room = tempfile.mkdtemp(prefix="sfq-scale-", dir=base)
+        with held():
+            room = tempfile.mkdtemp(prefix="sfq-scale-", dir=base)
     except OSError as error:
-        print(f"sfq-scale: no folder can be made in {base}: {error.strerror}", file=sys.stderr)
+        say(NAME, f"no folder can be made in {base}: {error.strerror}")
         return FILES
     running = None
     try:
@@ -203,26 +207,15 @@ def answer(given: argparse.Namespace) -> int:
         sys.stderr.buffer.write(error.text)
         sys.stderr.flush()
         return error.status
-    except OSError as error:
-        sys.stderr.write(f"sfq-scale: {error}\n")
-        return FILES
     finally:
-        shutil.rmtree(room, ignore_errors=True)
+        with held():
+            shutil.rmtree(room, ignore_errors=True)
 
 
 def main(given: Optional[list[str]] = None) -> NoReturn:
-    for it in (signal.SIGTERM, signal.SIGHUP):
-        signal.signal(it, lambda number, _: sys.exit(128 + number))
     try:
-        status = answer(read_words(given))
-    except KeyboardInterrupt:
-        status = 130
+        status = _endings.ended(NAME, lambda: answer(read_words(given)))
     except SystemExit as it:
         status = int(it.code or 0)
     # No thread of Dask's is waited for.
-    try:
-        sys.stdout.flush()
-    except OSError:
-        status = status or FILES
-    sys.stderr.flush()
     os._exit(status)
