@@ -421,7 +421,8 @@ class Ends(WithRoom):
             with self.subTest(asked=asked):
                 child = subprocess.Popen([*words, "--engine", slow, "--family", "closed", *asked], cwd=self.room.path, stdout=subprocess.PIPE,
                                          stderr=subprocess.PIPE, text=True)
-                while not os.path.isfile(f"{self.room.path}/all.csv") or read(f"{self.room.path}/all.csv").count("\n") < 2:
+                # It has another name until the end.
+                while not any(read(f"{self.room.path}/{it}").count("\n") > 1 for it in os.listdir(self.room.path) if it.startswith(".sfq-")):
                     time.sleep(0.05)
                 child.send_signal(signal.SIGINT)
                 out, err = child.communicate(timeout=60)

@@ -89,6 +89,8 @@ class Streams(surroundings.Room):
         for name, shown in (("a\nb", "a\\nb"), (b"\xff\x1b[1m", "\\xff\\x1b[1m")):
             words = [*python_command(sys.executable, "sfq-schema"), name]
             self.assertEqual(self.run_words(words), (6, "", f"sfq-schema: {shown}: No such file or directory\n"))
+            words = [*python_command(sys.executable, "sfq-scale"), "run", "a", "b", "c", "--scheduler", "d", "--sfq", name]
+            self.assertEqual(self.run_words(words), (2, "", f"sfq-scale: there is no program {shown}\n"))
 
 
 class Homes(unittest.TestCase):

@@ -1,4 +1,5 @@
 """How a run ends before its answer."""
+from sfq._endings import spelled
 
 # The statuses that sfq has too, and the cluster's own.
 MISUSE, TABLE, QUERY, FILES, MEMORY, CLUSTER = 2, 4, 5, 6, 7, 8
@@ -14,4 +15,4 @@ class Ended(Exception):
 
 def ended(status: int, text: str) -> Ended:
     """The end with a line of sfq-scale's own."""
-    return Ended(status, f"sfq-scale: {text}\n".encode())
+    return Ended(status, f"sfq-scale: {spelled(text.encode('utf-8', 'surrogateescape'))}\n".encode())
