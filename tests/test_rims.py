@@ -92,13 +92,13 @@ class Binary(unittest.TestCase):
 
 @needs("gcc", "cc")
 class Rims(engine_rows.WithLibrary):
-    """Random texts, binaries, tables and queries, and joins in SQLite."""
+    """Random texts and binaries, and joins in SQLite."""
 
     def test_half_a_minute_of_each(self):
         ran = subprocess.run([sys.executable, "-B", f"{ROOT}/tests/fuzz/rims.py", "--seed", "1", "--seconds", "30"], capture_output=True, text=True)
         self.assertEqual(ran.returncode, 0, ran.stdout + ran.stderr)
         self.assertEqual(ran.stdout.splitlines()[0], "seed 1")
-        self.assertGreaterEqual(ran.stdout.count(": well"), 3)
+        self.assertGreaterEqual(ran.stdout.count(": well"), 2)
 
 
 if __name__ == "__main__":

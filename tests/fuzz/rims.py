@@ -22,9 +22,9 @@ import library
 # What is handed in, and the program that does it.
 PROGRAMS = {
     "texts": "well-known text, patterns, arrays of positions, indexes", "binaries": "well-known binary, joins",
-    "tables": "schemas, tables of CSV, queries with constants", "sqlite": "joins and transactions in SQLite",
+    "sqlite": "joins and transactions in SQLite",
 }
-SOURCES = {"texts": "library/fuzz.c", "binaries": "library/fuzz_binaries.c", "tables": "library/fuzz_tables.c", "sqlite": "sqlite/fuzz_joins.c"}
+SOURCES = {"texts": "library/fuzz.c", "binaries": "library/fuzz_binaries.c", "sqlite": "sqlite/fuzz_joins.c"}
 
 
 def names():
