@@ -63,7 +63,7 @@ class Streams(surroundings.Room):
         for name in (*COMMANDS, "./sfq", "./build", "./test"):
             words = python_command(sys.executable, name) if name in COMMANDS else [f"{surroundings.ROOT}/{name}"]
             # Not the Python of a launcher that fails itself.
-            environment = self.environment(PATH=f"{os.path.dirname(sys.executable)}:{os.environ['PATH']}")
+            environment = self.environment(PATH=f"{os.path.dirname(sys.executable)}:{os.environ['PATH']}", SFQ_QUIET="1")
             with self.subTest(name=name), open("/dev/full", "wb") as full, mock.patch.object(self, "environment", lambda: environment):
                 whole = self.run_words([*words, "--help"])
                 self.assertEqual((whole[0], whole[2]), (0, ""))
