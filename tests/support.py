@@ -21,6 +21,8 @@ from repository import read
 HELP_CALLS = [
     [], ["--help"], ["--version"], ["run", "--help"], ["check", "-h"], ["help", "relate"], ["why", "--help"], ["help", "pairs"],
     ["rum"], ["relate", "POINT(1 1)"], ["relate", "--help"], ["fault", "-h"], ["-V"], ["fault", "v3"], ["fault", "L10"], ["fault", "V9"],
+    ["fault"], ["fault", "V3 0"], ["fault", "first", "W4"], ["fault", "sfq: parcel row 3: V3 0"], ["fault", *"sfq: t L6 record 2 v3 0".split()], ["fault", "V3", "V4", ""],
+    ["fault", "sfq: out of memory"], ["fault", "V3\t0", "V3:"],
     *([it] for it in ("relat", "chek", "peirs", "helpp", "h", "flt", "xyz", "-", "", "a b", "Run", "r'un", "ruun")), ["rum", "--help"],
     ["run"], ["run", "--why"], ["run", "a"], ["run", "a", "--why", "b"], ["run", ""], ["check"], ["check", "--why", "a"], ["relate"], ["relate", "--why", "-"],
     ["why"], ["why", "--why"], ["pairs"], ["pairs", "--why"],

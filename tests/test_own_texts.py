@@ -1,4 +1,4 @@
-"""Help, the version, the pages of faults and what is said of mistaken words, which ./sfq prints at once: they are the program's own texts."""
+"""Help, the version, the pages of faults, their list and what is said of mistaken words, which ./sfq prints at once: they are the program's own texts."""
 import os
 import subprocess
 import sys
@@ -24,14 +24,26 @@ class Recorded(unittest.TestCase):
             for it in (code, code.lower()):
                 self.assertEqual(own_texts.text_of(["fault", it]), own_texts.Text(text, "", 0))
 
+    def test_the_list_has_a_line_for_each_code(self):
+        found = own_texts.text_of(["fault"])
+        self.assertEqual((found.err, found.status), ("", 0))
+        self.assertEqual([it.split(": ")[0] for it in found.out.splitlines()], list(fault_pages.pages()))
+
+    def test_the_last_code_of_pasted_words(self):
+        for wanted, *words in (
+            ("V3", "V3 0"), ("V3", "V3", "0"), ("W4", "first W4"), ("W4", "first", "w4"), ("V3", "V3 "), ("V3", "sfq: parcel row 3: V3 0"),
+            ("V3", *"sfq: parcel row 3: V3 0".split()), ("V3", "t L6 record 2 V3 0"), ("V4", "V3", "V4"), ("L8", "sfq: V1 L8 record 2"), ("V3", "V3 0", "", "x"),
+        ):
+            self.assertEqual(own_texts.text_of(["fault", *words]), own_texts.Text(fault_pages.pages()[wanted], "", 0), words)
+
     def test_codes_that_are_none(self):
-        for it in ("", "V", "V9", "V03", "3", "X1", "L12", "V3 ", "é"):
+        for it in ("", "V", "V9", "V03", "3", "X1", "L12", "V3:", "V3\t0", " ", "sfq: out of memory", "é"):
             found = own_texts.text_of(["fault", it])
             self.assertEqual((found.out, found.status), ("", 2), it)
             self.assertRegex(found.err, r"\Asfq: unknown code: there are S1 to S6, .*\n\Z")
 
     def test_what_else_is_asked_is_left_to_the_program(self):
-        for it in (["fault", "V3", "V4"], ["fault", "--", "V3"], ["help", "help"], ["help", "rum"], ["relate", "--help", "x"], ["-x"], ["--", "rum"]):
+        for it in (["fault", "V3", "-x"], ["fault", "--", "V3"], ["help", "help"], ["help", "rum"], ["relate", "--help", "x"], ["-x"], ["--", "rum"]):
             self.assertIsNone(own_texts.text_of(it), it)
         whole = ["run", "a", "b", "c"], ["check", "a", "b"], ["relate", "a", "b"], ["why", "a"], ["why", "a", "b"], ["pairs", "a"]
         other = ["run", "-x"], ["run", "--"], ["run", "--why", "--why"], ["fault", "--why"], ["why", "-1"], ["check", "a", "b", "c"], ["run", "--why=a"]
@@ -72,7 +84,7 @@ class Recorded(unittest.TestCase):
 class AtOnce(unittest.TestCase):
     def test_no_build_is_made(self):
         """Where there is no command rt, no build can be made."""
-        for words in (["--help"], [], ["--version"], ["help", "run"], ["pairs", "-h"], ["fault", "Q2"], ["fault", "Q99"], ["rum"], ["run", "--why"]):
+        for words in (["--help"], [], ["--version"], ["help", "run"], ["pairs", "-h"], ["fault"], ["fault", "first", "V3 0"], ["fault", "Q99"], ["rum"], ["run", "--why"]):
             ran = subprocess.run([sys.executable, "-B", f"{ROOT}/tools/unproved.py", *words], capture_output=True, text=True, env={"PATH": "/nowhere"})
             notice = "sfq: not the proved program, which ./build makes\n" if words == ["--version"] else ""
             wanted = own_texts.text_of(words)

@@ -1,11 +1,12 @@
 #!/usr/bin/env python3
-"""Writes the pages of `sfq fault` from the tables of docs/FAULTS.md.
+"""Writes the pages of `sfq fault` and its list of codes from the tables of docs/FAULTS.md.
 
     python3 tools/fault_pages.py           writes them into crates/text_commands/src
     python3 tools/fault_pages.py --check   says whether they are those of the document
 
-A page has the document's sentences without Markdown, and each first example as a command that runs. The examples of the
-tables are run by the tests of the documents, and the commands of the pages by tests/test_fault_pages.py.
+A page has the document's sentences without Markdown, and each first example as a command that runs. The list has a line for
+each code: how the first row of the code begins to say what it means. The examples of the tables are run by the tests of the
+documents, and the commands of the pages by tests/test_fault_pages.py.
 """
 import os
 import re
@@ -150,6 +151,17 @@ def page_text(code: str, rows: list[Row]) -> str:
     return "\n\n".join(parts) + "\n"
 
 
+def first_clause(means: str) -> str:
+    """Returns what a meaning says up to its first stop, without a place that is an example's."""
+    return re.sub(r" at byte \d+$", "", re.split(r"[;:.](?: |$)", means)[0])
+
+
+def code_list(texts: dict[str, str]) -> str:
+    """Returns the list of codes, of the pages."""
+    means = {code: re.search(r"^  means: (.*(?:\n    .*)*)", text, re.M) for code, text in texts.items()}
+    return "".join(f"{code}: {first_clause(' '.join(found[1].split()))}\n" for code, found in means.items() if found)
+
+
 def pages(document: Optional[str] = None) -> dict[str, str]:
     """Returns the page of each code, in the order of the codes: W, V, S, L, Q."""
     if document is None:
@@ -164,6 +176,11 @@ def pages(document: Optional[str] = None) -> dict[str, str]:
     return {code: page_text(code, [it for it in rows if it.code == code]) for code in codes}
 
 
+def literal(text: str) -> str:
+    """Returns a text as a literal of the source has it."""
+    return text.replace("\\", "\\\\").replace('"', '\\"')
+
+
 def source_of(letter: str, texts: dict[str, str]) -> str:
     """Returns the file of the pages of one letter."""
     parts = [
@@ -172,19 +189,29 @@ def source_of(letter: str, texts: dict[str, str]) -> str:
         "ghost use Rattle.text_commands.specs.declared.fault_codes.FaultCode.TheVariants as c;\n",
     ]
     for code, text in texts.items():
-        literal = text.replace("\\", "\\\\").replace('"', '\\"')
         parts.append(
             f"/// The page of {code}.\npub(crate) fn {code.lower()}() -> &'static str\n"
-            f"    ensures {{ IsPageOf c.{code} result.now }}\n{{\n    \"\\\n{literal}\"\n}}\n"
+            f"    ensures {{ IsPageOf c.{code} result.now }}\n{{\n    \"\\\n{literal(text)}\"\n}}\n"
         )
     return "\n".join(parts)
 
 
+def source_of_list(text: str) -> str:
+    """Returns the file of the list of codes."""
+    return (
+        "//! The list of codes. `tools/fault_pages.py` writes it from the tables of docs/FAULTS.md.\n\n"
+        "ghost use Rattle.text_commands.specs.FaultPages.{ListsCodes};\n\n"
+        "/// A line for each code: how its page begins to say what it means.\npub(crate) fn code_list() -> &'static str\n"
+        f"    ensures {{ ListsCodes result.now }}\n{{\n    \"\\\n{literal(text)}\"\n}}\n"
+    )
+
+
 def sources() -> dict[str, str]:
-    """Returns the text of each file of pages."""
-    found = {}
+    """Returns the text of each file of pages, and of the file of the list."""
+    texts = pages()
+    found = {f"{SOURCE}/code_lists.rt": source_of_list(code_list(texts))}
     for letter, name in FILES.items():
-        found[f"{SOURCE}/{name}.rt"] = source_of(letter, {code: text for code, text in pages().items() if code[0] == letter})
+        found[f"{SOURCE}/{name}.rt"] = source_of(letter, {code: text for code, text in texts.items() if code[0] == letter})
     return found
 
 

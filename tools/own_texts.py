@@ -1,10 +1,10 @@
 #!/usr/bin/env python3
-"""The texts that sfq prints whatever files there are: help, the version, the page of each fault, and what it says of an unknown
-command and of missing words, from the files of this repository.
+"""The texts that sfq prints whatever files there are: help, the version, the page of each fault and the list of their codes, and what
+it says of an unknown command and of missing words, from the files of this repository.
 
     python3 tools/own_texts.py     writes packaging/help anew, which has the texts of help, by the program
 
-./sfq prints them where ./build hasn't made the program, so that nobody waits for a build to read them. The pages of faults are those in
+./sfq prints them where ./build hasn't made the program, so that nobody waits for a build to read them. The pages of faults and their list are those in
 the program's source. The texts of help were printed by the program, and the usage in them says which words a command needs; where the
 program's words were changed since then, none is taken from here.
 """
@@ -56,13 +56,29 @@ def version() -> Optional[str]:
     return f"sfq {found[1]}\n" if found else None
 
 
+def literal_of(function: str, name: str) -> Optional[str]:
+    """Returns the text that a function of a file of the program's source returns; None where there is no such function."""
+    text = read(f"{ROOT}/crates/text_commands/src/{name}.rt")
+    found = re.search(rf'^pub\(crate\) fn {function}\(\) -> .*?^    "\\\n(.*?)^"$', text, re.M | re.S)
+    return re.sub(r'\\(["\\])', r"\1", found[1]) if found else None
+
+
 def page(code: str) -> Optional[str]:
     """Returns the page of a code, in any case, as the program's source has it; None where there is none."""
     name = PAGES.get(code[:1].upper())
-    if not name or not re.fullmatch(r"[a-zA-Z][0-9]+", code):
-        return None
-    found = re.search(rf'^pub\(crate\) fn {code.lower()}\(\) -> .*?^    "\\\n(.*?)^"$', read(f"{ROOT}/crates/text_commands/src/{name}.rt"), re.M | re.S)
-    return re.sub(r'\\(["\\])', r"\1", found[1]) if found else None
+    return literal_of(code.lower(), name) if name and re.fullmatch(r"[a-zA-Z][0-9]+", code) else None
+
+
+def fault_text(words: Sequence[str]) -> Optional[Text]:
+    """Returns what is written of the last code that words have, or the list of codes where there is no word."""
+    if not words:
+        found = literal_of("code_list", "code_lists")
+    else:
+        found = next(filter(None, (page(part) for word in reversed(words) for part in reversed(word.split(" ")))), None)
+        line = None if found else unknown_code()
+        if line:
+            return Text("", line, 2)
+    return Text(found, "", 0) if found else None
 
 
 def unknown_code() -> Optional[str]:
@@ -124,11 +140,8 @@ def found_text(words: Sequence[str]) -> Optional[Text]:
             return Text("", found, 2)
     elif len(asked) == 2 and (asked[0] in COMMANDS and asked[1:] in flags or asked[0] == "help" and asked[1] in COMMANDS):
         found = help_of(asked[1] if asked[0] == "help" else asked[0])
-    elif len(asked) == 2 and asked[0] == "fault" and not asked[1].startswith("-"):
-        found = page(asked[1])
-        line = None if found else unknown_code()
-        if line:
-            return Text("", line, 2)
+    elif asked[0] == "fault" and not any(it.startswith("-") for it in asked[1:]):
+        return fault_text(asked[1:])
     elif asked[0] in COMMANDS:
         return missing_words(asked[0], asked[1:])
     elif asked[0] != "help" and (asked[0] == "-" or not asked[0].startswith("-")):

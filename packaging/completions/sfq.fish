@@ -15,7 +15,7 @@ complete -c sfq -n __fish_use_subcommand -a check -d 'Load every table, and prin
 complete -c sfq -n __fish_use_subcommand -a relate -d 'Write the DE-9IM matrix of two geometries'
 complete -c sfq -n __fish_use_subcommand -a why -d 'Show where two geometries meet, or why one is not valid'
 complete -c sfq -n __fish_use_subcommand -a pairs -d 'Write the DE-9IM matrix of each pair of geometries in a file'
-complete -c sfq -n __fish_use_subcommand -a fault -d 'Explain a fault'
+complete -c sfq -n __fish_use_subcommand -a fault -d 'Explain a fault, or list all codes'
 complete -c sfq -n __fish_use_subcommand -a help -d 'Print help'
 complete -c sfq -n '__fish_seen_subcommand_from run check relate why pairs' -l why -d 'Show where a fault is, and say what to do'
 complete -c sfq -n '__fish_seen_subcommand_from run check pairs' -F

@@ -179,7 +179,7 @@ relate-checked rows passed = go (is_given (codes "first") rows) (is_given (codes
     go true false e = cc
     go false b e = cc
 
--- of which `why`, `pairs` and `fault` have one
+-- of which `why` and `pairs` have one
 one-checked : (id : Text) (rows : List Row) → check_kinds false false (not (is_given id rows) || false) ≡ [] → is_given id rows ≡ true
 one-checked id rows passed = go (is_given id rows) passed
   where
@@ -221,9 +221,7 @@ pairs-words words passed =
     (one-checked (codes "file") (rows_after pairs_shape.rules [] words) (level-parts pairs_shape [] nothing_held words false [] passed).2)
 
 fault-words : (words : List Text) → level_fault fault_shape [] nothing_held words false [] ≡ [] → HasFaultWords (rows_after fault_shape.rules [] words)
-fault-words words passed =
-    word-there fault_shape.rules words (codes "code") refl
-    (one-checked (codes "code") (rows_after fault_shape.rules [] words) (level-parts fault_shape [] nothing_held words false [] passed).2)
+fault-words words passed = tt
 
 -- the subcommand, where the word is `run`, `check`, `relate`, `why`, `pairs`, `fault` or `help`
 abbrev found : Bool → Bool → Bool → Bool → Bool → Bool → Bool → Option Shape

@@ -1,6 +1,6 @@
 -- The commands of `sfq` and their words, as `clap` knows them.
 use Rattle.std.specs.Prelude.{Some, true, codes}
-use Rattle.clap.specs.declared.builder.action.ArgAction.TheVariants.{SetTrue}
+use Rattle.clap.specs.declared.builder.action.ArgAction.TheVariants.{Append, SetTrue}
 use Rattle.clap.specs.Words.{App, Rule, Text, new_app, new_rule, with_rule, with_subcommand}
 use Rattle.clap.specs.Simple.{on_top}
 
@@ -11,6 +11,10 @@ required_word id = record (new_rule id) { required = true; value_names = 1 }
 -- a word that may be there, shown in help by one name
 abbrev pub optional_word : Text → Rule
 optional_word id = record (new_rule id) { value_names = 1 }
+
+-- as many words as are there, shown in help by one name
+abbrev pub more_words : Text → Rule
+more_words id = record (new_rule id) { action = Some Append; value_names = 1 }
 
 -- a flag that is there or not, by its long name
 abbrev pub flag : Text → Rule
@@ -40,9 +44,9 @@ why = with_rule (with_rule (with_rule (new_app (codes "why")) (required_word (co
 abbrev pub pairs : App
 pairs = with_rule (with_rule (new_app (codes "pairs")) (required_word (codes "file"))) (flag (codes "why"))
 
--- `fault CODE`
+-- `fault [CODE]..`
 abbrev pub fault : App
-fault = with_rule (new_app (codes "fault")) (required_word (codes "code"))
+fault = with_rule (new_app (codes "fault")) (more_words (codes "code"))
 
 -- `sfq` without its subcommands, of which one has to be there; it has a version, and shows its help without any word
 abbrev pub bare_sfq : App

@@ -2,7 +2,7 @@
 
 ghost use Rattle.std.specs.Prelude.{◌≡◌, false, codes, IfOk, IsOkAnd};
 ghost use Rattle.clap.specs.Words.{app_of, rule_of, with_rule, AddsSubcommand};
-ghost use Rattle.command_line.specs.CommandWords.{flag, optional_word, required_word, bare_sfq, check, fault, pairs, relate, run, sfq, why};
+ghost use Rattle.command_line.specs.CommandWords.{flag, more_words, optional_word, required_word, bare_sfq, check, fault, pairs, relate, run, sfq, why};
 
 use clap::{Arg, ArgAction, Command};
 use std::alloc::{AllocError, Global};
@@ -272,29 +272,31 @@ fn pairs_command<'a>(alloc: Global) -> Result<Command<'a>, AllocError>
 
 /// What the help of `fault` shows below its word.
 const FAULTS: &str = "\
-Example:
+Examples:
+  sfq fault
   sfq fault V3
+  sfq fault sfq: first V3 0
 
 Statuses: 0 done, 2 an unknown code, 6 the output, 7 out of memory.";
 
-/// The word that is the code of a fault.
+/// The words that have the code of a fault.
 fn code_word<'a>(alloc: Global) -> Arg<'a>
-    ensures rule { rule_of result ≡ required_word (codes "code") }
+    ensures rule { rule_of result ≡ more_words (codes "code") }
     ensures local { result.global ≡ false }
 {
-    word(
-        alloc,
-        "code",
-        "CODE",
-        "The code in the line of a fault, such as V3",
-    )
+    Arg::new(alloc, "code")
+        .value_name("CODE")
+        .action(ArgAction::Append)
+        .help(
+            "The code in the line of a fault, such as V3, or the line itself; without it all codes are listed",
+        )
 }
 
-/// `fault CODE`
+/// `fault [CODE]..`
 fn fault_command<'a>(alloc: Global) -> Result<Command<'a>, AllocError>
     ensures { IfOk result (λ c. app_of c ≡ fault) }
 {
-    let about = "Explains a fault, with an example and what to do";
+    let about = "Explains a fault, with an example and what to do, or lists all codes";
     let fault = Command::new(alloc, "fault").about(about);
     fault.after_help(FAULTS).arg(code_word(alloc))
 }

@@ -51,10 +51,10 @@ pub enum Order {
         /// Whether to say more of a fault.
         why: bool,
     },
-    /// Explain a fault.
+    /// Explain a fault, or list the codes of all.
     Fault {
-        /// The code of the fault, such as `V3`.
-        code: String,
+        /// Words with the code of the fault, such as those of its line; none for the list.
+        words: Vec<String>,
     },
 }
 
@@ -109,7 +109,7 @@ impl Order {
                 why: true,
             },
             Order::Pairs { file, .. } => Order::Pairs { file, why: true },
-            Order::Fault { code } => Order::Fault { code },
+            Order::Fault { words } => Order::Fault { words },
         }
     }
 }

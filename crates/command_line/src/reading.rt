@@ -1,11 +1,11 @@
 //! How the words of `sfq` are read by its commands.
 
-ghost use Rattle.std.specs.Prelude.{◌≡◌, [], true, codes, IfOk, IfErr, IfSome, IfNone, OnOk, option_map};
+ghost use Rattle.std.specs.Prelude.{◌≡◌, [], true, codes, IfOk, IfErr, IfSome, IfNone, OnOk, map, option_map};
 ghost use Rattle.std.specs.String.{string_bytes};
 ghost use Rattle.clap.specs.Walk.{texts};
 ghost use Rattle.clap.specs.Words.{rows_of, found_of, first_value, subcommand_rows_of, takes, fault_of, kind_of, HasKind};
 ghost use Rattle.command_line.specs.CommandWords.{sfq};
-ghost use Rattle.command_line.specs.Orders.{Orders, OrdersBy, HasWords, HasTextsOf, HasRunWords, HasCheckWords, HasRelateWords, HasWhyWords, HasPairsWords, HasFaultWords, is_set, name_of};
+ghost use Rattle.command_line.specs.Orders.{Orders, OrdersBy, HasWords, HasTextsOf, HasRunWords, HasCheckWords, HasRelateWords, HasWhyWords, HasPairsWords, HasFaultWords, given_words, is_set, name_of};
 
 use crate::known_commands::Order;
 use crate::misuse::Misuse;
@@ -153,16 +153,35 @@ fn read_pairs(alloc: Global, pairs: &ArgMatches<'_>) -> Result<Option<Order>, Al
     Ok(Some(Order::Pairs { file, why }))
 }
 
-/// The order that the word of `fault` gives, if it is there.
+/// The order that the words of `fault` give.
 fn read_fault(alloc: Global, fault: &ArgMatches<'_>) -> Result<Option<Order>, AllocError>
     ensures name { IfOk result (λ r. IfSome r (λ o. name_of o ≡ codes "fault")) }
     ensures some { IfOk result (λ r. IfSome r (HasTextsOf (rows_of (found_of fault.now)))) }
     ensures none { IfOk result (λ r. IfNone r (¬ HasFaultWords (rows_of (found_of fault.now)))) }
 {
-    let Some(code) = text_of(alloc, fault, "code")? else {
-        return Ok(None);
-    };
-    Ok(Some(Order::Fault { code }))
+    let words = texts_of(alloc, fault, "code")?;
+    Ok(Some(Order::Fault { words }))
+}
+
+/// The words of this name, as texts of their own.
+fn texts_of(alloc: Global, matches: &ArgMatches<'_>, id: &str) -> Result<Vec<String>, AllocError>
+    ensures { IfOk result (λ texts. map string_bytes texts.items ≡ given_words id.now (rows_of (found_of matches.now))) }
+{
+    match matches.get_strs(id) {
+        Some(words) => own_texts(alloc, words),
+        None => Ok(Vec::new(alloc)),
+    }
+}
+
+/// Words as texts of their own.
+fn own_texts(alloc: Global, words: &[&str]) -> Result<Vec<String>, AllocError>
+    ensures { IfOk result (λ texts. map string_bytes texts.items ≡ map (λ word. word.now) words.now) }
+{
+    let mut texts = Vec::new(alloc);
+    for word in words {
+        texts.push(String::from_str(alloc, word)?)?;
+    }
+    Ok(texts)
 }
 
 /// The word of this name, as a text of its own.

@@ -331,5 +331,5 @@ module _ {F R E S : Type 0} (opens : Opening F R) (remaining : R → Option (Lis
       Serves etaken efailures (ExplainsValidity opens remaining taken failures old new opener (string_bytes first)) status before after
   ServesOrder opener (orders.Pairs file why) status before after =
       Serves etaken efailures (RelatesFile opens remaining taken failures old new opener (string_bytes file)) status before after
-  ServesOrder opener (orders.Fault code) status before after =
-      Serves etaken efailures (ExplainsFault taken failures old new (string_bytes code)) status before after
+  ServesOrder opener (orders.Fault words) status before after =
+      Serves etaken efailures (ExplainsFault taken failures old new (map string_bytes words.items)) status before after

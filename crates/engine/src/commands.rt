@@ -109,7 +109,7 @@ pub fn serve_observed<
             None => serve_verdict(alloc, first.as_str(), opener, out, err),
         },
         Order::Pairs { file, .. } => serve_pairs(alloc, file.as_str(), opener, out, err),
-        Order::Fault { code } => serve_fault(code.as_str(), out, err),
+        Order::Fault { words } => serve_fault(alloc, words.as_slice(), out, err),
     }
 }
 

@@ -1,6 +1,7 @@
 //! Runs over pairs of geometries, pages of faults, and texts that words give.
 
 use failures::Failure;
+use std::alloc::{AllocError, Global};
 use std::test::Fail;
 use streams::MemorySink;
 use table_model::faults::{LoadFault, QueryFault};
@@ -34,10 +35,32 @@ fn refusals_are_lines(rt: HostRuntime) -> Result<(), Fail> {
     Ok(())
 }
 
+/// Words as texts of their own.
+fn words_of(alloc: Global, words: &[&str]) -> Result<Vec<String>, AllocError> {
+    let mut texts = Vec::new(alloc);
+    for word in words {
+        texts.push(String::from_str(alloc, word)?)?;
+    }
+    Ok(texts)
+}
+
+/// Whether words have a page that begins like this.
+fn has_page(alloc: Global, words: &[&str], begin: &str) -> Result<bool, AllocError> {
+    let words = words_of(alloc, words)?;
+    let page = page_of(alloc, words.as_slice())?;
+    Ok(matches!(page, Some(page) if page.starts_with(begin)))
+}
+
 #[test]
 fn each_code_has_its_page(rt: HostRuntime) -> Result<(), Fail> {
-    assert!(rt; matches!(page_of("q12"), Some(page) if page.starts_with("Q12: ")));
-    assert!(rt; page_of("Q13").is_none() && page_of("").is_none());
+    assert!(rt; has_page(rt.alloc(), &["q12"], "Q12: ")?);
+    assert!(rt; has_page(rt.alloc(), &["V3 0"], "V3: ")?);
+    assert!(rt; has_page(rt.alloc(), &["first", "W4"], "W4: ")?);
+    assert!(rt; has_page(rt.alloc(), &["sfq: parcel row 3: V3 0"], "V3: ")?);
+    assert!(rt; has_page(rt.alloc(), &["t L6 record 2 V3 0"], "V3: ")?);
+    assert!(rt; has_page(rt.alloc(), &["V3", "V4", ""], "V4: ")?);
+    let words = words_of(rt.alloc(), &["Q13", "", "V3:"])?;
+    assert!(rt; page_of(rt.alloc(), words.as_slice())?.is_none());
     Ok(())
 }
 

@@ -66,7 +66,7 @@ fn push_status(alloc: Global, status: u8, text: &mut Vec<u8>) -> Result<(), Allo
 }
 
 /// The order of a command: `check`, `relate` with ` | ` between its two texts, `why` with one text or two, `pairs` with a path,
-/// `fault` with a code, or else a query to run.
+/// `fault` with one word, or else a query to run.
 fn order_of(alloc: Global, command: &str) -> Result<Order, AllocError> {
     if let Some(texts) = command.strip_prefix("why ") {
         return explained_texts(alloc, texts);
@@ -77,10 +77,10 @@ fn order_of(alloc: Global, command: &str) -> Result<Order, AllocError> {
             why: false,
         });
     }
-    if let Some(code) = command.strip_prefix("fault ") {
-        return Ok(Order::Fault {
-            code: String::from_str(alloc, code)?,
-        });
+    if let Some(words) = command.strip_prefix("fault ") {
+        let mut all = Vec::new(alloc);
+        all.push(String::from_str(alloc, words)?)?;
+        return Ok(Order::Fault { words: all });
     }
     if command == "check" {
         return Ok(Order::Check {

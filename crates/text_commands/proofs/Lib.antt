@@ -8,3 +8,5 @@ pub mod WordLemmas
 mod CodeLemmas
 mod ExplanationLemmas
 mod PairNoteLemmas
+mod TurnLemmas
+mod FaultEndLemmas

@@ -1,6 +1,9 @@
--- The codes of faults, and what a page of one is.
-use Rattle.std.specs.Prelude.{◌≡◌, ◌++◌, ℕ, List, codes, map}
+-- The codes of faults, which of them a text has, what a page of one is, and what a list of them all is.
+use Rattle.std.specs.Prelude.{◌≡◌, ◌++◌, ◌==◌, ◌<◌, ℕ, List, [], codes, get_or, length, map}
 use Rattle.std.specs.Char.{to_ascii_lowercase}
+use Rattle.std.specs.List.{before_first, slice_split}
+use Rattle.std.specs.Str.Lines.{lines}
+use Rattle.text_commands.specs.declared.fault_codes.TheConstants.{CODES}
 use Rattle.text_commands.specs.declared.fault_codes.FaultCode.{FaultCode}
 use Rattle.text_commands.specs.declared.fault_codes.FaultCode.TheVariants as c
 
@@ -51,6 +54,44 @@ code_text c.Q12 = codes "Q12"
 -- a word is this code, in any ASCII case
 abbrev pub IsCode : List ℕ → FaultCode → Type 0
 IsCode word code = map to_ascii_lowercase (code_text code) ≡ map to_ascii_lowercase word
+
+-- what blanks part in a text
+abbrev pub parts_of : List ℕ → List (List ℕ)
+parts_of text = slice_split (λ b. b == 32) text
+
+-- a word is no code
+abbrev pub IsNoCode : List ℕ → Type 0
+IsNoCode word = (known : FaultCode) → IsCode word known → ⊥
+
+-- no word of a list is a code
+abbrev pub AreNoCodes : List (List ℕ) → Type 0
+AreNoCodes words = (place : ℕ) → place < length words → IsNoCode (get_or words place [])
+
+-- a code is the last one that a word of a list is
+abbrev pub IsLastAmong : List (List ℕ) → FaultCode → Type 0
+IsLastAmong words code = (place : ℕ) × (place < length words) × IsCode (get_or words place []) code
+    × ((later : ℕ) → place < later → later < length words → IsNoCode (get_or words later []))
+
+-- no part of a text is a code
+abbrev pub HasNoCode : List ℕ → Type 0
+HasNoCode text = AreNoCodes (parts_of text)
+
+-- a code is the last one that a part of a text is
+abbrev pub IsLastIn : List ℕ → FaultCode → Type 0
+IsLastIn text = IsLastAmong (parts_of text)
+
+-- no word has a code
+abbrev pub HaveNoCode : List (List ℕ) → Type 0
+HaveNoCode words = (place : ℕ) → place < length words → HasNoCode (get_or words place [])
+
+-- a code is the last one that words have
+abbrev pub IsLastOf : List (List ℕ) → FaultCode → Type 0
+IsLastOf words code = (place : ℕ) × (place < length words) × IsLastIn (get_or words place []) code
+    × ((later : ℕ) → place < later → later < length words → HasNoCode (get_or words later []))
+
+-- a text is a list of all codes: what its lines have before their first colon are the codes, in order
+abbrev pub ListsCodes : List ℕ → Type 0
+ListsCodes text = map (before_first (λ b. b == 58)) (lines text) ≡ map code_text CODES
 
 -- a text is a page of this code: it begins with the code, a colon and a blank
 abbrev pub IsPageOf : FaultCode → List ℕ → Type 0

@@ -1,9 +1,9 @@
 -- What each command means that needs no schema, and the ends that it may have.
-use Rattle.std.specs.Prelude.{◌≡◌, ◌++◌, ℕ, List, codes, Option, Some, None, Result, Ok, Err}
+use Rattle.std.specs.Prelude.{◌≡◌, ◌≢◌, ◌++◌, ⊤, ℕ, List, [], ◌∷◌, codes, Option, Some, None, Result, Ok, Err}
 use Rattle.std.specs.Io.KnownBytes.{Appends, Keeps}
 use Rattle.failures.specs.declared.failure.Failure.{Failure}
 use Rattle.failures.specs.declared.failure.Failure.TheVariants as f
-use Rattle.text_commands.specs.FaultPages.{IsCode, IsPageOf}
+use Rattle.text_commands.specs.FaultPages.{HaveNoCode, IsLastOf, IsPageOf, ListsCodes}
 use Rattle.text_commands.specs.Files.{Opening}
 use Rattle.text_commands.specs.declared.fault_codes.FaultCode.{FaultCode}
 use Rattle.text_commands.specs.declared.files.File.TheVariants as role
@@ -72,23 +72,35 @@ pub record PairsEnds (known : Option (List ℕ)) (end : End) (old new : Option (
 
 -- ---- fault
 
--- the page of a code was written, or a beginning of it; or no fault has the code and nothing was written
-abbrev pub ShowsPage : List ℕ → End → Option (List ℕ) → Option (List ℕ) → Type 0
-ShowsPage code (Ok done) old new = (found : FaultCode) × (page : List ℕ) × IsCode code found × IsPageOf found page × Appends old new page
-ShowsPage code (Err f.WriteFailed) old new = (found : FaultCode) × (page : List ℕ) × IsCode code found × IsPageOf found page × AppendsFront old new page
-ShowsPage code (Err f.UnknownCode) old new = ((known : FaultCode) → IsCode code known → ⊥) × Keeps old new
-ShowsPage code (Err failure) old new = ⊥
+-- a text explains the fault whose code words have, or lists all codes where there is no word
+abbrev pub Explains : List (List ℕ) → List ℕ → Type 0
+Explains [] text = ListsCodes text
+Explains (word ∷ more) text = (found : FaultCode) × IsLastOf (word ∷ more) found × IsPageOf found text
+
+-- why no text explains a fault: the words have no code, or memory ran out
+abbrev pub IsUnexplained : List (List ℕ) → Failure → Type 0
+IsUnexplained words f.UnknownCode = (words ≢ []) × HaveNoCode words
+IsUnexplained words f.OutOfMemory = ⊤
+IsUnexplained words _ = ⊥
+
+-- the text that explains a fault was written, or a beginning of it; or the words have no code, or memory ran out, and nothing was written
+abbrev pub ShowsPage : List (List ℕ) → End → Option (List ℕ) → Option (List ℕ) → Type 0
+ShowsPage words (Ok done) old new = (text : List ℕ) × Explains words text × Appends old new text
+ShowsPage words (Err f.WriteFailed) old new = (text : List ℕ) × Explains words text × AppendsFront old new text
+ShowsPage words (Err f.UnknownCode) old new = (words ≢ []) × HaveNoCode words × Keeps old new
+ShowsPage words (Err f.OutOfMemory) old new = Keeps old new
+ShowsPage words (Err failure) old new = ⊥
 
 -- explaining a fault may end like this
-pub record FaultEnds (code : List ℕ) (end : End) (old new : Option (List ℕ)) (before after : ℕ) : Type 0 where
-  pub page : ShowsPage code end old new
+pub record FaultEnds (words : List (List ℕ)) (end : End) (old new : Option (List ℕ)) (before after : ℕ) : Type 0 where
+  pub page : ShowsPage words end old new
   pub failures : after ≡ failed_writes before end
 
 -- the sink of the answer, before and after a command
 module _ {S : Type 0} (taken : S → Option (List ℕ)) (failures : S → ℕ) (old new : S) where
   -- explaining a fault ends so
-  abbrev pub ExplainsFault : List ℕ → End → Type 0
-  ExplainsFault code end = FaultEnds code end (taken old) (taken new) (failures old) (failures new)
+  abbrev pub ExplainsFault : List (List ℕ) → End → Type 0
+  ExplainsFault words end = FaultEnds words end (taken old) (taken new) (failures old) (failures new)
 
 module _ {R S : Type 0} (remaining : R → Option (List ℕ)) (taken : S → Option (List ℕ)) (failures : S → ℕ) (old new : S) where
   -- relating the pairs of a reader ends so; no reader is there where the file can't be opened, and then nothing is written

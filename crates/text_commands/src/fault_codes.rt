@@ -1,8 +1,11 @@
 //! The codes of faults, and the code that a word spells.
 
-ghost use Rattle.std.specs.Prelude.{◌≡◌, IfNone, IfSome};
-ghost use Rattle.text_commands.specs.FaultPages.{IsCode, code_text};
+ghost use Rattle.std.specs.Prelude.{◌≡◌, ◌<◌, [], IfNone, IfOk, IfSome, get_or, length, map};
+ghost use Rattle.std.specs.String.{string_bytes};
+ghost use Rattle.text_commands.specs.FaultPages.{HasNoCode, HaveNoCode, IsCode, IsLastIn, IsLastOf, code_text, parts_of};
 ghost use Rattle.text_commands.specs.declared.fault_codes.FaultCode.{FaultCode};
+
+use std::alloc::{AllocError, Global};
 
 /// The code of a fault, as the program prints it: W of a geometry's text, V of its validity, S of the schema, L of loading a
 /// table, Q of the query.
@@ -147,8 +150,44 @@ impl FaultCode {
     }
 }
 
+/// The last code that words have; none if they have none. It fails only if memory runs out.
+pub fn code_of(alloc: Global, words: &[String]) -> Result<Option<FaultCode>, AllocError>
+    ensures code { IfOk result (λ found. IfSome found (IsLastOf (map string_bytes words.now))) }
+    ensures none { IfOk result (λ found. IfNone found (HaveNoCode (map string_bytes words.now))) }
+{
+    for turn in 0..words.len() {
+        let word = words[words.len() - 1 - turn].as_str();
+        if let Some(code) = code_in(alloc, word)? {
+            return Ok(Some(code));
+        }
+    }
+    Ok(None)
+}
+
+/// The last code that is a part of a text, with blanks between parts; none if none is. It fails only if memory runs out.
+fn code_in(alloc: Global, text: &str) -> Result<Option<FaultCode>, AllocError>
+    ensures code { IfOk result (λ found. IfSome found (IsLastIn text.now)) }
+    ensures none { IfOk result (λ found. IfNone found (HasNoCode text.now)) }
+{
+    let parts = parts_in(alloc, text)?;
+    for turn in 0..parts.len() {
+        let part = parts[parts.len() - 1 - turn];
+        if let Some(code) = fault_code(part) {
+            return Ok(Some(code));
+        }
+    }
+    Ok(None)
+}
+
+/// The parts of a text, with blanks between them.
+fn parts_in<'a>(alloc: Global, text: &'a str) -> Result<Vec<&'a str>, AllocError>
+    ensures { IfOk result (λ parts. map (λ part. part.now) parts.items ≡ parts_of text.now) }
+{
+    text.split(' ').collect(alloc)
+}
+
 /// The code that a word spells, in any ASCII case; none if it spells no code.
-pub fn fault_code(word: &str) -> Option<FaultCode>
+fn fault_code(word: &str) -> Option<FaultCode>
     ensures code { IfSome result (IsCode word.now) }
     ensures none { IfNone result ((code : FaultCode) → ¬ (IsCode word.now code)) }
 {

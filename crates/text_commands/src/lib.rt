@@ -4,6 +4,7 @@
 #![tactic(auto)]
 
 mod cell_witnesses;
+mod code_lists;
 mod explained;
 mod fault_codes;
 mod fault_explanations;

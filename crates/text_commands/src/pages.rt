@@ -1,26 +1,28 @@
 //! The page of each fault.
 
-ghost use Rattle.std.specs.Prelude.{IfNone, IfSome};
-ghost use Rattle.text_commands.specs.FaultPages.{IsCode, IsPageOf};
+ghost use Rattle.std.specs.Prelude.{IfNone, IfOk, IfSome, map};
+ghost use Rattle.std.specs.String.{string_bytes};
+ghost use Rattle.text_commands.specs.FaultPages.{HaveNoCode, IsLastOf, IsPageOf};
 ghost use Rattle.text_commands.specs.declared.fault_codes.FaultCode.{FaultCode};
 
-use crate::fault_codes::{FaultCode, fault_code};
+use crate::fault_codes::{FaultCode, code_of};
 use crate::query_pages::{q1, q2, q3, q4, q5, q6, q7, q8, q9, q10, q11, q12};
 use crate::schema_pages::{s1, s2, s3, s4, s5, s6};
 use crate::table_pages::{l1, l2, l3, l4, l5, l6, l7, l8, l9, l10, l11};
 use crate::text_pages::{w1, w2, w3, w4};
 use crate::validity_pages::{v1, v2, v3, v4, v5, v6, v7, v8};
+use std::alloc::{AllocError, Global};
 
-/// The page of a fault: what its lines mean, an example of each, and what to do. The word is its code, in any ASCII case.
-/// None if there is no such code.
-pub fn page_of(code: &str) -> Option<&'static str>
-    ensures page { IfSome result
-        (λ page. (found : FaultCode) × IsCode code.now found × IsPageOf found page.now) }
-    ensures none { IfNone result ((known : FaultCode) → ¬ (IsCode code.now known)) }
+/// The page of a fault: what its lines mean, an example of each, and what to do. The words have its code, in any ASCII case; of
+/// several codes the last one counts. None if they have no code. It fails only if memory runs out.
+pub fn page_of(alloc: Global, words: &[String]) -> Result<Option<&'static str>, AllocError>
+    ensures page { IfOk result (λ shown. IfSome shown
+        (λ page. (found : FaultCode) × IsLastOf (map string_bytes words.now) found × IsPageOf found page.now)) }
+    ensures none { IfOk result (λ shown. IfNone shown (HaveNoCode (map string_bytes words.now))) }
 {
-    match fault_code(code) {
-        Some(found) => Some(page(found)),
-        None => None,
+    match code_of(alloc, words)? {
+        Some(found) => Ok(Some(page(found))),
+        None => Ok(None),
     }
 }
 

@@ -1,11 +1,13 @@
 //! What each of these commands does.
 
-ghost use Rattle.std.specs.Prelude.{◌≡◌, Ok};
+ghost use Rattle.std.specs.Prelude.{◌≡◌, Ok, IfErr, IfOk, map};
+ghost use Rattle.std.specs.String.{string_bytes};
 ghost use Rattle.text_commands.specs.Files.{OpensFile};
 ghost use Rattle.text_commands.specs.Ends.{Serves};
-ghost use Rattle.text_commands.specs.TextCommands.{ExplainsFault, RelateEnds, RelatesFile, RelatesReader, RelatesWords};
+ghost use Rattle.text_commands.specs.TextCommands.{Explains, ExplainsFault, IsUnexplained, RelateEnds, RelatesFile, RelatesReader, RelatesWords};
 ghost use Rattle.text_commands.specs.TextCommands as spec;
 
+use crate::code_lists::code_list;
 use crate::files::File;
 use crate::given_texts::geometry_texts;
 use crate::{Pairs, page_of, relate_pairs, relate_texts};
@@ -114,18 +116,41 @@ fn end_of(pairs: Pairs) -> Result<(), Failure<'static>>
     }
 }
 
-/// Writes the page of the fault with a code. It returns the status: 0, or that of the failure, whose line it writes to `err`.
+/// Writes the page of the fault whose code words have, or a list of all codes where there is no word. It returns the status: 0, or
+/// that of the failure, whose line it writes to `err`.
 #[inline(never)]
-pub fn serve_fault<S: Sink, E: Sink>(code: &str, out: &mut S, err: &mut E) -> u8
+pub fn serve_fault<S: Sink, E: Sink>(
+    alloc: Global,
+    words: &[String],
+    out: &mut S,
+    err: &mut E,
+) -> u8
     ensures serves { Serves E.taken E.failures
-        (ExplainsFault S.taken S.failures out.old out.new code.now)
+        (ExplainsFault S.taken S.failures out.old out.new (map string_bytes words.now))
         result err.old err.new }
 {
-    let Some(page) = page_of(code) else {
-        return failed(&Failure::UnknownCode, err);
+    let text = match fault_text(alloc, words) {
+        Ok(text) => text,
+        Err(failure) => return failed(&failure, err),
     };
-    match put_all(out, page.as_bytes()) {
+    match put_all(out, text.as_bytes()) {
         Ok(()) => 0,
         Err(_) => failed(&Failure::WriteFailed, err),
+    }
+}
+
+/// The page of the fault whose code words have, or the list of all codes where there is no word. The failure is that they have no
+/// code, or that memory ran out.
+fn fault_text(alloc: Global, words: &[String]) -> Result<&'static str, Failure<'static>>
+    ensures text { IfOk result (λ text. Explains (map string_bytes words.now) text.now) }
+    ensures failure { IfErr result (IsUnexplained (map string_bytes words.now)) }
+{
+    if words.is_empty() {
+        return Ok(code_list());
+    }
+    match page_of(alloc, words) {
+        Ok(Some(page)) => Ok(page),
+        Ok(None) => Err(Failure::UnknownCode),
+        Err(_) => Err(Failure::OutOfMemory),
     }
 }
