@@ -22,11 +22,13 @@ PROBE = """
 import os, resource, signal, sys, time
 signal.signal(signal.SIGINT, signal.SIG_DFL)
 resource.setrlimit(resource.RLIMIT_CPU, (int(sys.argv[1]), int(sys.argv[1]) + 1))
+signal.pthread_sigmask(signal.SIG_BLOCK, [signal.SIGTERM])
 begun = time.perf_counter()
-child = os.posix_spawnp(sys.argv[4], sys.argv[4:], os.environ, file_actions=[
+child = os.posix_spawnp(sys.argv[4], sys.argv[4:], os.environ, setsigmask=[], file_actions=[
     (os.POSIX_SPAWN_OPEN, 0, sys.argv[2], os.O_RDONLY, 0),
     (os.POSIX_SPAWN_OPEN, 1, sys.argv[3], os.O_WRONLY | os.O_CREAT | os.O_TRUNC, 0o600)])
 signal.signal(signal.SIGTERM, lambda *_: (os.kill(child, signal.SIGKILL), os.waitpid(child, 0), os._exit(1)))
+signal.pthread_sigmask(signal.SIG_UNBLOCK, [signal.SIGTERM])
 _, status, usage = os.wait4(child, 0)
 wall = time.perf_counter() - begun
 print(wall, usage.ru_utime + usage.ru_stime, usage.ru_maxrss, os.waitstatus_to_exitcode(status))
