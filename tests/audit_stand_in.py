@@ -8,7 +8,7 @@ import exact_places
 
 
 def read(path):
-    with open(path, encoding="utf-8") as file:
+    with open(0 if path == "-" else path, encoding="utf-8") as file:
         return file.read()
 
 

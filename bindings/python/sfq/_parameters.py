@@ -9,7 +9,7 @@ import functools
 import operator
 import re
 from collections.abc import Mapping, Set
-from typing import Any, Iterable, NamedTuple, Optional, Sequence
+from typing import Any, Iterable, NamedTuple, Optional, Sequence, SupportsIndex, cast
 
 from ._errors import DataError, InterfaceError, ProgrammingError, of_fault
 from ._faults import GridError
@@ -55,7 +55,9 @@ def of_value(value: Any, number: int) -> Constant:
             raise DataError(f"the value for ? {number}: {str(error).removeprefix('sfq: ')}") from error
         return Constant("GEOMETRY", f"ST_GeomFromText({quoted(text)})", text.encode("utf-8", "surrogatepass"))
     try:
-        return of_number(None if is_masked(value) else operator.index(value))  # type: ignore[arg-type]
+        if is_masked(value):
+            raise TypeError
+        return of_number(operator.index(cast(SupportsIndex, value)))
     except TypeError:
         raise InterfaceError(
             f"the value for ? {number} is a {type(value).__name__}: sfq has whole numbers, texts, geometries and None"

@@ -4,7 +4,7 @@ from __future__ import annotations
 import math
 import numbers
 import os
-from typing import Any, Callable, Iterable, Mapping, Optional, Sequence, Union
+from typing import Any, Callable, Mapping, Optional, Sequence, Union
 
 from ._errors import DataError, InterfaceError, OperationalError, ProgrammingError
 from ._faults import GridError
@@ -110,14 +110,14 @@ def columns_of(name: str, source: Source, columns: Sequence[tuple[str, str]]) ->
     )
 
 
-def as_list(values: Iterable[Any]) -> list[Any]:
+def as_list(values: Any) -> list[Any]:
     """Returns the values of a column as objects of Python."""
     for name in ("tolist", "to_list"):
         if hasattr(values, name):
             found = list(getattr(values, name)())
             # Of times that Python's own don't hold numpy gives numbers.
             is_time = getattr(getattr(values, "dtype", None), "kind", "") in ("M", "m")
-            return [values[at] if type(it) is int else it for at, it in enumerate(found)] if is_time else found  # type: ignore[index]
+            return [values[at] if type(it) is int else it for at, it in enumerate(found)] if is_time else found
     return list(values)
 
 
