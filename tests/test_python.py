@@ -484,7 +484,10 @@ class Installation(unittest.TestCase):
         self.assertEqual(others, [first] * len(others))
 
     def test_where_the_library_is_looked_for(self):
-        """In the lib of the prefix, whether the package is in site-packages or in share/sfq, and then where the system has it."""
+        """In the lib of the prefix, whether the package is in site-packages or in share/sfq; in a checkout; then where the system has it."""
+        text = "from sfq import _library; print(*_library.places())"
+        known = {**environment(PYTHONPATH=f"{ROOT}/bindings/python"), "SFQ_LIBRARY": ""}
+        self.assertIn(f"{ROOT}/bindings/c/out/libsfq.so.0", subprocess.run([sys.executable, "-c", text], env=known, capture_output=True, text=True).stdout.split())
         for at in ("lib/python3.11/site-packages/sfq", "share/sfq/sfq"):
             with tempfile.TemporaryDirectory(prefix="sfq-python-") as room:
                 shutil.copytree(f"{self.PROJECT}/sfq", f"{room}/{at}")

@@ -48,14 +48,15 @@ class CFault(ctypes.Structure):
 
 def places(name: str = NAME) -> tuple[str, ...]:
     """Returns where a library is looked for: in the folder of SFQ_LIBRARY alone if it is set, else in this package, in its prefix, in
-    the system."""
+    its checkout, in the system."""
     named = os.environ.get("SFQ_LIBRARY")
     if named:
         return (named if name == NAME else os.path.join(os.path.dirname(named), name),)
-    # A wheel has it in the package. The package is in lib/python3.N/site-packages of a prefix, or in share/sfq.
+    # A wheel has it in the package. The package is in lib/python3.N/site-packages of a prefix, in share/sfq, or in bindings/python of a
+    # checkout, where ./build --library leaves the library in bindings/c/out.
     here = os.path.dirname(os.path.abspath(__file__))
     above = os.path.normpath(os.path.join(here, *[os.pardir] * 3))
-    return (os.path.join(here, name), os.path.join(above, name), os.path.join(above, "lib", name), name)
+    return (os.path.join(here, name), os.path.join(above, name), os.path.join(above, "lib", name), os.path.join(above, "bindings", "c", "out", name), name)
 
 
 def load(name: str, declares: Callable[[ctypes.CDLL], ctypes.CDLL]) -> ctypes.CDLL:
