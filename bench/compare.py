@@ -18,6 +18,7 @@ import shutil
 import sys
 import tempfile
 
+from peers import SEPARATOR
 from timing import PROGRAM, README, Table, best, exponent, figure, instructions, read_options
 
 SIZES = (1_000, 10_000, 100_000)
@@ -51,7 +52,7 @@ def sqlite_command():
         ".import --skip 1 t.csv t",
         "UPDATE t SET pop = NULL WHERE pop = '';",
         ".headers on",
-        ".separator , \\n",
+        SEPARATOR,
         QUERY + " ORDER BY id;",
     ]
     return ["sqlite3", ":memory:", *script]

@@ -20,7 +20,7 @@ import random
 import tempfile
 from typing import Callable, NamedTuple, Optional
 
-from peers import Comparison, add_options, build_extension, build_geos, is_ready, spatialite_command, table_of_rows
+from peers import SEPARATOR, Comparison, add_options, build_extension, build_geos, is_ready, spatialite_command, table_of_rows
 from timing import PROGRAM, README, read_options
 
 SPAN = 1_000_000
@@ -117,7 +117,7 @@ def write_table(folder, table, texts):
 def extension_command(extension, tables, query):
     """sqlite3 with a virtual table of each table, which it loads, and the rows of a query."""
     made = [f"CREATE VIRTUAL TABLE {table} USING sfq(folder='.', table='{table}');" for table in tables]
-    return ["sqlite3", ":memory:", f".load {extension.with_suffix('')}", *made, ".headers on", ".separator , \\n", query]
+    return ["sqlite3", ":memory:", f".load {extension.with_suffix('')}", *made, ".headers on", SEPARATOR, query]
 
 
 def commands(geos, predicate, second, extension=None):

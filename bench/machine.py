@@ -9,6 +9,14 @@ import subprocess
 
 ROOT = pathlib.Path(__file__).resolve().parent.parent
 
+# The variable that names the commit to a measure in a folder of peers, which has no git.
+COMMIT = "SFQ_COMMIT"
+# What is called a peer, by Debian's packages.
+PEERS = {
+    "libgeos-dev": "GEOS", "sqlite3": "sqlite3", "libsqlite3-mod-spatialite": "SpatiaLite", "libjts-java": "JTS",
+    "python3-geopandas": "GeoPandas",
+}  # fmt: skip
+
 
 def day():
     """The day of today, such as 2026-11-23."""
@@ -26,6 +34,8 @@ def git(*words):
 
 def commit():
     """The commit of this repository, and whether its crates or its C were changed since."""
+    if COMMIT in os.environ:
+        return os.environ[COMMIT]
     found = git("rev-parse", "--short=8", "HEAD") or "unknown"
     return f"{found} with changes" if git("status", "--porcelain", "--", "crates", "bindings/c") else found
 
@@ -40,6 +50,16 @@ def system():
     """The system and its kernel."""
     name = said_in("/etc/os-release", r'^PRETTY_NAME="?([^"\n]+)')
     return ", ".join(filter(None, [name, f"{platform.system()} {platform.release()} {platform.machine()}"]))
+
+
+def peers():
+    """The peers that are installed by Debian's packages, each with its version."""
+    try:
+        ran = subprocess.run(["dpkg-query", "-W", "-f", "${Package} ${Version}\n", *PEERS], capture_output=True, text=True)
+    except OSError:
+        return "unknown"
+    found = re.findall(r"^(\S+) (?:\d+:)?([^-+~\s]+)", ran.stdout, re.M)
+    return ", ".join(f"{PEERS[name]} {version}" for name, version in found) or "unknown"
 
 
 def said_in(path, pattern):

@@ -14,6 +14,8 @@ FOLDER = pathlib.Path(__file__).resolve().parent
 TABLES, SHAPES = FOLDER / "geos_tables.c", FOLDER / "geos_peer.c"
 LIBRARY = ROOT / "bindings" / "c" / "out" / "libsfq.a"
 
+# Sets sqlite3's separators. From 3.50 on it reads `\n` as a line feed in quotes alone.
+SEPARATOR = '.separator "," "\\n"'
 # A row is measured for as many seconds at the least, so that short runs are measured often.
 SECONDS = 8
 
@@ -76,7 +78,7 @@ def spatialite_command(tables, *statements):
         script.append(f"CREATE TABLE {table} (id INTEGER PRIMARY KEY, geom TEXT);")
         script.append(f".import --skip 1 {table}.csv {table}")
     *made, answer = statements
-    return ["sqlite3", ":memory:", *script, *made, ".headers on", ".separator , \\n", answer]
+    return ["sqlite3", ":memory:", *script, *made, ".headers on", SEPARATOR, answer]
 
 
 def add_options(parser):

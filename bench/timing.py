@@ -4,6 +4,7 @@ import math
 import os
 import pathlib
 import re
+import runpy
 import shutil
 import subprocess
 import sys
@@ -198,11 +199,32 @@ def write_whole(path, text):
         beside.unlink(missing_ok=True)
 
 
+def enter_folder(folder):
+    """Runs this program in a folder of peers in place of here; there it names them."""
+    runpy.run_path(str(ROOT / "tools" / "paths.py"))
+    import peer_folder
+
+    if peer_folder.INSIDE in os.environ:
+        print(f"Peers: {machine.peers()}\n", flush=True)
+        return
+    lacking = peer_folder.lacking_to_run(folder)
+    if lacking:
+        sys.exit(lacking)
+    known = {**peer_folder.environment(folder), machine.COMMIT: machine.commit()}
+    words = peer_folder.words_in(folder, ["python3", "-B", os.path.abspath(sys.argv[0]), *sys.argv[1:]])
+    os.execvpe(words[0], words, known)
+
+
 def read_options(parser, parts=()):
     """The options of a program whose tables are in bench/README.md, `--write` among them. That is refused beside each of the options
     in `parts`, which leave a part of the tables out."""
     parser.add_argument("--write", action="store_true", help="write the tables into bench/README.md")
+    parser.add_argument("--peers", metavar="DIR", help="run in a folder that tools/peer_folder.py made, beside its peers")
     options = parser.parse_args()
+    if options.peers and options.write:
+        parser.error("--write is for this machine's peers: leave '--peers' out")
+    if options.peers:
+        enter_folder(options.peers)
     for it in parts:
         if options.write and (getattr(options, it) or None) != (parser.get_default(it) or None):
             parser.error(f"--write needs whole tables: leave '{it}' out")

@@ -15,6 +15,7 @@ import tempfile
 import time
 import unittest
 import xml.etree.ElementTree as tree
+from typing import NamedTuple
 
 from support import ROOT, needs_build, python_command, python_with, read, write
 
@@ -543,10 +544,32 @@ assert sum(1 for _ in Shapely("").answers("matrix", pairs)) == len(pairs)
         self.assertLess(memory[1], 1.1 * memory[0])
 
 
+class Elsewhere(NamedTuple):
+    """A row of docs/WRONG-ELSEWHERE.md: two texts, the matrices that newer and older engines and sfq print, each with the predicate that
+    it names, and how many pairs there are of the kind. An engine that is right prints the matrix of sfq."""
+
+    number: str
+    a: str
+    b: str
+    newer: tuple
+    older: tuple
+    found: str
+    ours: tuple
+
+    @property
+    def texts(self):
+        return self.a, self.b
+
+
 def elsewhere():
-    """Returns the rows of docs/WRONG-ELSEWHERE.md: two texts, what others print, how many there are of the kind, and what sfq prints."""
-    row = r"^\| \d+ \| `(.*?)` \| `(.*?)` \| `([F012]{9})`(?:: (\w+))? \| ([\d,]*) ?\| `([F012]{9})`(?:: (\w+))? \|$"
-    return re.findall(row, read(f"{ROOT}/docs/WRONG-ELSEWHERE.md"), re.M)
+    """Returns the rows of docs/WRONG-ELSEWHERE.md, of both tables."""
+    cell = r"(?:`([F012]{9})`(?:: (\w+))?|right)"
+    row = rf"^\| (\d+) \| `(.*?)` \| `(.*?)` \| {cell} \| (?:([\d,]+)|{cell}) \| {cell} \|$"
+    rows = []
+    for number, a, b, matrix, word, found, before, before_word, ours, says in re.findall(row, read(f"{ROOT}/docs/WRONG-ELSEWHERE.md"), re.M):
+        exact, printed = (ours, says), (matrix, word)
+        rows.append(Elsewhere(number, a, b, exact if found else printed, printed if found else (before, before_word) if before else exact, found, exact))
+    return rows
 
 
 class PageByProgram(unittest.TestCase):
@@ -555,8 +578,8 @@ class PageByProgram(unittest.TestCase):
     @needs_build
     def test_the_pairs_of_the_other_page_in_both_directions(self):
         sfq, rows = asking.Sfq(repository.PROGRAM), elsewhere()
-        self.assertEqual(sfq.lines([(it[0], it[1]) for it in rows]), [it[5] for it in rows])
-        self.assertEqual(sfq.lines([(it[1], it[0]) for it in rows]), [outcomes.transposed(it[5]) for it in rows])
+        self.assertEqual(sfq.lines([it.texts for it in rows]), [it.ours[0] for it in rows])
+        self.assertEqual(sfq.lines([(it.b, it.a) for it in rows]), [outcomes.transposed(it.ours[0]) for it in rows])
 
 
 class Page(unittest.TestCase):
@@ -576,25 +599,28 @@ class Page(unittest.TestCase):
 
     def test_the_other_page_has_these_pairs(self):
         page = read(f"{ROOT}/docs/AUDIT.md")
-        found = {f"{count} | `{a}` | `{b}` | `{ours}` | `{theirs}`" for a, b, theirs, _, count, ours, _ in elsewhere() if count}
-        self.assertEqual(len(found), len(self.pairs))
-        for it in found:
-            self.assertEqual(page.count(it), 1, it)
+        rows = elsewhere()
+        self.assertLessEqual({it[1:] for it in self.pairs}, {(*it.texts, it.ours[0], it.older[0]) for it in rows})
+        for it in rows:
+            text = f"{it.found} | `{it.a}` | `{it.b}` | `{it.ours[0]}` | `{it.older[0]}`"
+            self.assertTrue(not it.found or page.count(text) == 1, text)
 
     def test_the_matrices_of_the_other_page(self):
-        for a, b, theirs, they_say, _, ours, says in elsewhere():
-            self.assertEqual(model_of((a, b)), ours)
-            for word, it in ((they_say, theirs), (says, ours)):
-                self.assertTrue(not word or predicates.holds(word, it, (predicates.dimension(a), predicates.dimension(b))), (a, b))
+        rows = elsewhere()
+        self.assertEqual([it.number for it in rows], [str(it + 1) for it in range(13)])
+        for it in rows:
+            self.assertEqual(model_of(it.texts), it.ours[0])
+            for matrix, word in (it.newer, it.older, it.ours):
+                self.assertTrue(not word or predicates.holds(word, matrix, tuple(map(predicates.dimension, it.texts))), it)
 
     def test_geos_gives_the_others(self):
         python = python_with("shapely")
         if not python:
             self.skipTest("needs the package python3-shapely")
-        words = [text for it in [*(it[1:3] for it in self.pairs), *(it[:2] for it in elsewhere())] for text in it]
+        words = [text for it in [*(it[1:3] for it in self.pairs), *(it.texts for it in elsewhere())] for text in it]
         version, _, found = subprocess.run([python, "-c", self.GEOS, *words], capture_output=True, text=True, check=True).stdout.partition(") ")
         if version == "(3, 11":
-            self.assertEqual(found.split(), [*(it[4] for it in self.pairs), *(it[2] for it in elsewhere())])
+            self.assertEqual(found.split(), [*(it[4] for it in self.pairs), *(it.older[0] for it in elsewhere())])
 
 
 class Smaller(unittest.TestCase):

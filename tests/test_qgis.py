@@ -152,8 +152,8 @@ FORMS = {
 
 
 def elsewhere():
-    """Returns the pairs that other engines get wrong, with what they and sfq print."""
-    row = r"^\| (\d+) \| `([^`]*)` \| `([^`]*)` \| `(\w+)`.*`(\w+)`"
+    """Returns the pairs that older engines get wrong, with what they and sfq print."""
+    row = r"^\| (\d+) \| `([^`]*)` \| `([^`]*)` \| `(\w+)`[^|`]*\| [\d,]+ \| `(\w+)`"
     return re.findall(row, read(f"{ROOT}/docs/WRONG-ELSEWHERE.md"), re.M)
 
 

@@ -114,7 +114,7 @@ class BuildOfTheModule(unittest.TestCase):
         for it in found:
             self.assertTrue(all(it[name] for name in ("title", "a", "b", "says")), it)
         elsewhere = next(it for it in found if "elsewhere" in it)
-        self.assertEqual((elsewhere["elsewhere"], elsewhere["sfq"]), ("0F100F102: crosses", "1FF00F102: within"))
+        self.assertEqual((elsewhere["elsewhere"], elsewhere["sfq"]), ("1F100F102: overlaps", "1FF00F102: within"))
         self.assertEqual(elsewhere["engines"], "GEOS, SpatiaLite, PostGIS and JTS")
 
     def test_every_file_that_the_page_names_is_made(self):

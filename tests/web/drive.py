@@ -240,7 +240,7 @@ def cells_are_explained(page):
 def an_example_is_opened_by_its_card(page):
     page.open()
     card = next(it for it in page.driver.find_elements(By.CSS_SELECTOR, "#cards a") if "Wrong elsewhere 1" in it.text)
-    same(card.find_element(By.TAG_NAME, "del").text, "0F100F102: crosses")
+    same(card.find_element(By.TAG_NAME, "del").text, "1F100F102: overlaps")
     page.run("arguments[0].scrollIntoView()", card)
     card.click()
     same((page.matrix(), page.lights()), ("1FF00F102", ["Intersects", "Within"]))
