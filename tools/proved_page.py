@@ -289,6 +289,12 @@ NOT_SO = [
     (r"writes the lines of find_witnesses", "that they are of the first witnesses is no clause of a command"),
     (r"\bsfq-tiles are proved", "what split writes is, and not what the files hold"),
     (r"without end is refused with L11, once[^.]* too long\.", "one of short records is L10"),
+    (r"an edge on its line shares a point with it", "sharing a common end isn't enough"),
+    (r"A reason, exactly if the fault's record has one", "this is so only of bytes that are known"),
+    (r"An explanation has the line of the fault's byte", "it has part of that line, and none if the fault has no byte"),
+    (r"\| The place of a name at most two edits", "None is returned as well"),
+    (r"how many matrices|number of matrices computed|matrices it computes", "the work counts predicates that were decided, some without a matrix"),
+    (r"Else none is shown", "that a place is shown if there is one is only tested"),
 ]
 
 

@@ -161,7 +161,10 @@ int sfq_step(sfq_database *database, size_t statement, uint64_t most);
 /* Begins a statement anew, before its first row. It takes no memory. */
 int sfq_reset(sfq_database *database, size_t statement);
 
-/* How many matrices a statement has computed since it began: the work so far, as EXPLAIN ANALYZE counts it. */
+/*
+ * The work of a statement since it began, as EXPLAIN ANALYZE counts it: how many DE-9IM predicates without a NULL argument were decided; a
+ * pair that the probe or an earlier condition rules out costs none.
+ */
 int sfq_work(sfq_database *database, size_t statement, uint64_t *work);
 
 /* Ends a statement. Its number is then free for another one. */

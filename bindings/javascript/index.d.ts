@@ -303,7 +303,7 @@ export class Statement {
   /** The plan, as EXPLAIN writes it. */
   readonly plan: string;
 
-  /** How many matrices were computed since it began. */
+  /** How many DE-9IM predicates without a NULL argument were decided since it began; a pair that the probe or an earlier condition rules out costs none. */
   readonly work: number | bigint;
 
   /** Ends it. Ending it again does nothing. */

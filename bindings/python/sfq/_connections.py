@@ -299,7 +299,10 @@ class Cursor:
 
     @property
     def work(self) -> int:
-        """How many matrices the query has computed so far."""
+        """How many DE-9IM predicates without a NULL argument were decided so far.
+
+        A pair that the probe or an earlier condition rules out costs none.
+        """
         return self._need_statement().work()
 
     def plan(self) -> str:

@@ -384,7 +384,10 @@ class Statement:
         return read
 
     def work(self) -> int:
-        """Returns how many matrices were computed so far."""
+        """Returns how many DE-9IM predicates without a NULL argument were decided so far.
+
+        A pair that the probe or an earlier condition rules out costs none.
+        """
         found = ctypes.c_uint64()
         with self.database.lock:
             self._need()

@@ -52,7 +52,7 @@ COMMANDS = (
     Command(".schema", "[TABLE]", "prints the schema, or the part of a table"),
     Command(".load", "[TABLE ..]", "loads tables now, or all, and prints how many rows each has"),
     Command(".plan", "[QUERY]", "prints the plan of a query, or of the last one (EXPLAIN)"),
-    Command(".work", "[QUERY]", "the same, and how many matrices it computes (EXPLAIN ANALYZE)"),
+    Command(".work", "[QUERY]", "the same, and how many predicates it decides (EXPLAIN ANALYZE)"),
     Command(".why", "[CODE | A [B]]", "explains the last fault, a code, why geometry A isn't valid, or where A and B meet"),
     Command(".mode", "[MODE]", "writes answers as csv, table, json or geojson from now on"),
     Command(".output", "[FILE]", "writes them into a file, or to standard output again"),
