@@ -172,7 +172,7 @@ class Unproved(WithCheckout):
             os.symlink(path, f"{self.checkout.room}/bin/{name}")
         ran = self.call(path=f"{self.checkout.room}/bin")
         self.assertEqual((ran.stdout, ran.returncode), (b"", 1))
-        self.assertRegex(ran.stderr.decode(), r"\Asfq: building the program needs the Rattle kit, and its command rt isn't on the path \(.*\)\n\Z")
+        self.assertRegex(ran.stderr.decode(), r"\Asfq: the Rattle kit's command rt isn't found: put the kit's folder bin on your path; README.md says which kit\n\Z")
 
     def test_closed_and_full_streams(self):
         self.call()

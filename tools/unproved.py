@@ -253,7 +253,7 @@ def answer(words: Sequence[str]) -> int:
     if known:
         return print_text(known, is_version=list(words) in (["--version"], ["-V"]))
     if not shutil.which("rt"):
-        say("building the program needs the Rattle kit, and its command rt isn't on the path (README.md, What is trusted)")
+        say("the Rattle kit's command rt isn't found: put the kit's folder bin on your path; README.md says which kit")
         return NO_ANSWER
     try:
         return run(words)

@@ -21,7 +21,7 @@ pub fn opened<'p>(
 }
 
 /// The reader of a file that is opened once more, to explain a fault. If it can't be opened, or is a folder, or nothing that gives the same
-/// bytes again, that is written, and the result is None.
+/// bytes again, that is written, and the result is None. Where the folder that should have it isn't there, that is written instead.
 pub fn opened_again<'p, E: Sink>(
     rt: &HostRuntime,
     progress: &'p Progress<'p>,
@@ -31,7 +31,8 @@ pub fn opened_again<'p, E: Sink>(
     match lasting_input(rt, file) {
         Ok(input) => Some(reader(progress, file, input)),
         Err(words) => {
-            if let Ok(line) = unopened(rt.alloc(), file.path(), words) {
+            let (path, words) = missing_folder(rt, file.path()).unwrap_or((file.path(), words));
+            if let Ok(line) = unopened(rt.alloc(), path, words) {
                 let _ = put_all(err, line.as_slice());
             }
             None
@@ -55,6 +56,21 @@ fn unopened(alloc: Global, path: &str, words: &str) -> Result<Vec<u8>, AllocErro
         return said_line(alloc, b"the path is empty: name a file");
     }
     file_explained(alloc, path.as_bytes(), words)
+}
+
+/// The folder that should have the file at a path, where it isn't there or isn't a folder, and what is said of it.
+fn missing_folder<'a>(rt: &HostRuntime, path: &'a str) -> Option<(&'a str, &'static str)> {
+    let (folder, _) = path.rsplit_once('/')?;
+    if folder.is_empty() {
+        return None;
+    }
+    match fs::metadata(rt, folder) {
+        Ok(found) if !found.is_dir() => Some((folder, " isn't a folder")),
+        Err(error) if error.kind() == ErrorKind::NotFound => {
+            Some((folder, " isn't there: it should be a folder"))
+        }
+        _ => None,
+    }
 }
 
 /// The reader of a file that was opened.
