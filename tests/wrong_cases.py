@@ -28,7 +28,8 @@ class Case(NamedTuple):
     is_later: bool = False
 
     def make(self, folder: str) -> list[str]:
-        """Writes the files into a folder, and returns the words with its path before each file's name."""
+        """Makes a folder with the files, and returns the words with its path before each file's name."""
+        os.makedirs(folder, exist_ok=True)
         for name, text in self.files.items():
             path = f"{folder}/{name}"
             os.makedirs(os.path.dirname(path), exist_ok=True)
