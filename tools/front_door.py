@@ -119,6 +119,8 @@ def walk() -> Report:
     if len(two) < 2 or not two[0].prints:
         return Report(failures=[Failure("README's two commands", "README.md lacks two blocks of shell, or what the first prints.", COMMAND)])
     with tempfile.TemporaryDirectory(prefix="sfq-clone-") as folder:
+        # Tests that take another user's place have to find the clone, as in a folder of one's own that others may pass.
+        os.chmod(folder, 0o755)
         clone, home = f"{folder}/sfq", f"{folder}/home"
         os.mkdir(home)
         try:
