@@ -69,7 +69,8 @@ class Run:
             return str(self.given.query)
         path = f"{self.room}/input.sql"
         with open(path, "wb") as file:
-            shutil.copyfileobj(standard_input().buffer, file)
+            given = standard_input()
+            shutil.copyfileobj(given.buffer, file)
         return f"@{path}"
 
     def query_text(self) -> str:
