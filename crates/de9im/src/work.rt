@@ -1,8 +1,9 @@
-//! The count of the matrices that were computed.
+//! The count of the pairs of geometries that were decided.
 
 use std::marker::Model;
 
-/// How many matrices were computed. The count stays at the greatest u64 once it is there.
+/// How many pairs of geometries were decided: `decide` adds one for a predicate, `relate` one for a matrix. The count stays at the
+/// greatest u64 once it is there.
 #[derive(Debug, Drop)]
 pub struct Work {
     count: u64,
@@ -20,21 +21,21 @@ impl Work {
     ghost use Rattle.std.specs.Prelude.{◌≡◌};
     ghost use Rattle.basics.specs.Counts.{one_more};
 
-    /// No matrix yet.
+    /// No pair yet.
     pub fn new() -> Work
         ensures { result ≡ 0 }
     {
         Work { count: 0 }
     }
 
-    /// The number of matrices.
+    /// The number of pairs.
     pub fn count(&self) -> u64
         ensures { result ≡ self.now }
     {
         self.count
     }
 
-    /// One matrix more.
+    /// One pair more.
     pub(crate) fn add_one(&mut self)
         ensures { self.new ≡ one_more self.old }
     {

@@ -115,7 +115,7 @@ const ENDINGS: [(&str, Result<u64, Fault>, &str); 4] = [
 
 /// A probe fails with its search, which comes after the header was written. Rows are written as they are found, also those before
 /// a search that fails. A number is written once all rows were counted. A scan doesn't search an index. The work returned is the
-/// number of matrices.
+/// number of predicates that were decided.
 #[test]
 fn plans_meet_their_index(rt: HostRuntime) -> Result<(), Fail> {
     for (query, wanted, text) in &ENDINGS {

@@ -39,7 +39,8 @@ use table_model::queries::Explain;
 
 /// Runs a query over tables. There is one reader for each table of the schema, in its order. `run` reads the query, loads all
 /// tables, binds names, chooses the plan, and writes the header and the rows, or what EXPLAIN prints. It returns the work of
-/// the chosen plan: how many matrices were computed, none under EXPLAIN.
+/// the chosen plan: how many DE-9IM predicates without a NULL argument were decided. A pair that the probe or an earlier
+/// condition rules out costs none; under EXPLAIN the work is 0.
 ///
 /// If the readers' bytes are known, the answer is that of the records that `csv` reads from them. Whatever the readers are,
 /// there are records whose answer it is.

@@ -105,8 +105,8 @@ pub extern "C" fn sfq_proved_finalize(
     status
 }
 
-/// Writes the work of an open statement so far: how many matrices were computed since it began; status 4 where none has this number
-/// (06-103r4, 6.1.15).
+/// Writes the work of an open statement so far: how many DE-9IM predicates without a NULL argument were decided since it began. A
+/// pair that the probe or an earlier condition rules out costs none. Status 4 where no statement has this number (06-103r4, 6.1.15).
 #[unsafe(no_mangle)]
 pub extern "C" fn sfq_proved_work(
     kept: KeptConnection,

@@ -143,7 +143,8 @@ impl Statement {
         self.row = CurrentRow::Absent;
     }
 
-    /// The work so far: how many matrices were computed since the statement began (06-103r4, 6.1.15).
+    /// The work so far: how many DE-9IM predicates without a NULL argument were decided since the statement began. A pair that the
+    /// probe or an earlier condition rules out costs none (06-103r4, 6.1.15).
     pub fn work(&self) -> &Work
         ensures { result.now ≡ work_so_far self.now }
     {
