@@ -1,5 +1,5 @@
 -- The name of a list that is nearest to a word (how near is this project's choice).
-use Rattle.std.specs.Prelude.{◌≡◌, ◌≤◌, ℕ, List, length, nat_eq, slice_get, Some}
+use Rattle.std.specs.Prelude.{◌≡◌, ◌≤◌, ◌<◌, ◌+◌, ℕ, List, Option, None, Some, length, nat_eq, slice_get}
 use Rattle.std.specs.Str.{str_to_ascii_lowercase}
 use Rattle.strsim.specs.Edits.{levenshtein_row}
 use denote.Ref.{Bor}
@@ -9,9 +9,28 @@ abbrev pub distance : List ℕ → List ℕ → ℕ
 distance word name =
     levenshtein_row nat_eq (str_to_ascii_lowercase word) (str_to_ascii_lowercase name) (length (str_to_ascii_lowercase name))
 
--- the name at this place of a list is at most two edits away from the word, and none of the list is nearer
+-- the most bytes of a word that is compared
+abbrev pub word_limit : ℕ
+word_limit = 64
+
+-- a name is near a word: at most two edits away, and no more than half of the word's bytes
+pub record IsNear (word name : List ℕ) : Type 0 where
+  pub most : distance word name ≤ 2
+  pub half : distance word name + distance word name ≤ length word
+
+-- the name at this place of a list is near the word, none of the list is nearer, and all before it are farther
 pub record IsNearest (word : List ℕ) (names : List (Bor (List ℕ))) (place : ℕ) : Type 0 where
   pub name : Bor (List ℕ)
   pub there : slice_get names place ≡ Some name
-  pub near : distance word name.now ≤ 2
+  pub near : IsNear word name.now
   pub least : (k : ℕ) (other : Bor (List ℕ)) → slice_get names k ≡ Some other → distance word name.now ≤ distance word other.now
+  pub first : (k : ℕ) (other : Bor (List ℕ)) → k < place → slice_get names k ≡ Some other → distance word name.now < distance word other.now
+
+-- no name of a list is near the word
+abbrev pub AreFar : List ℕ → List (Bor (List ℕ)) → Type 0
+AreFar word names = (k : ℕ) (other : Bor (List ℕ)) → slice_get names k ≡ Some other → IsNear word other.now → ⊥
+
+-- what is found: the place of the nearest name; or none, where no name is near or the word has too many bytes
+abbrev pub IsFound : List ℕ → List (Bor (List ℕ)) → Option ℕ → Type 0
+IsFound word names (Some place) = IsNearest word names place
+IsFound word names None = length word ≤ word_limit → AreFar word names

@@ -1,7 +1,7 @@
 //! The name that is nearest to one that is misspelt.
 
-ghost use Rattle.std.specs.Prelude.{◌≡◌, IfOk, IfSome};
-ghost use Rattle.explanations.specs.Names.{IsNearest};
+ghost use Rattle.std.specs.Prelude.{◌≡◌, IfOk};
+ghost use Rattle.explanations.specs.Names.{IsFound};
 ghost use Rattle.explanations.specs.Names as spec;
 
 use std::alloc::{AllocError, Global};
@@ -14,7 +14,7 @@ const WORD_BYTES: usize = 64;
 /// the word's bytes. Of several that are as near the first is taken. None is also for a word of more than 64 bytes. At Err memory ran
 /// out (edits: Levenshtein's; how near: this project's choice).
 pub fn nearest(alloc: Global, word: &[u8], names: &[&[u8]]) -> Result<Option<usize>, AllocError>
-    ensures { IfOk result (λ found. IfSome found (IsNearest word.now names.now)) }
+    ensures { IfOk result (λ found. IsFound word.now names.now found) }
 {
     if word.len() > WORD_BYTES {
         return Ok(None);
