@@ -34,6 +34,7 @@ runpy.run_path(str(ROOT / "tools" / "paths.py"))
 import library
 import repository
 import tiles
+from sfq import _endings
 
 COUNTS, TIMES = "instructions", "times"
 
@@ -275,4 +276,4 @@ def run_all(asked, folder, builds, report):
 
 
 if __name__ == "__main__":
-    sys.exit(main())
+    sys.exit(_endings.ended("every.py", main))

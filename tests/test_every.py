@@ -3,6 +3,8 @@ import contextlib
 import io
 import os
 import pathlib
+import subprocess
+import sys
 import tempfile
 import unittest
 from unittest import mock
@@ -145,6 +147,14 @@ class Programs(unittest.TestCase):
     """The list of programs, the folder and the document have the same."""
 
     README = read(f"{ROOT}/bench/README.md")
+
+    def test_a_list_that_nobody_reads_to_its_end(self):
+        """As of `| head`: a line says so, and nothing of Python is shown."""
+        ours, theirs = os.pipe()
+        os.close(ours)
+        with open(theirs, "wb") as closed:
+            ran = subprocess.run([sys.executable, "-B", f"{ROOT}/bench/every.py", "--list"], stdout=closed, stderr=subprocess.PIPE, text=True)
+        self.assertEqual((ran.stderr, ran.returncode), ("every.py: write failed\n", 6))
 
     def test_each_program_is_run(self):
         programs = {it for it in os.listdir(f"{ROOT}/bench") if it.endswith(".py") and "\ndef main(" in read(f"{ROOT}/bench/{it}")}

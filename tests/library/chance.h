@@ -1,6 +1,6 @@
 /*
- * What fuzz.c and fuzz_binaries.c share: chance, and values that end where memory ends that may be read, so that a byte too far ends
- * the program. What is read has to be what its canonical text spells.
+ * What fuzz.c, fuzz_binaries.c and fuzz_tables.c share: chance, and values that end where memory ends that may be read, so that a byte
+ * too far ends the program. What is read has to be what its canonical text spells.
  */
 #ifndef CHANCE_H
 #define CHANCE_H

@@ -70,10 +70,9 @@ class Cluster:
 
     def threads(self) -> int:
         """Returns how many threads the workers have together; none where the scheduler doesn't say."""
-        try:
+        with contextlib.suppress(KeyError, *self.faults):
             return sum(it["nthreads"] for it in self.client.scheduler_info()["workers"].values())
-        except (KeyError, *self.faults):
-            return 0
+        return 0
 
     def wait_for_workers(self) -> None:
         """Waits until there is a worker."""
