@@ -14,7 +14,7 @@ from support import ROOT, read, write
 import every
 import figures
 import machine
-import timing
+import repository
 
 DOCUMENT = """# Measures
 
@@ -181,9 +181,14 @@ class Tables(unittest.TestCase):
         with tempfile.TemporaryDirectory(prefix="sfq-test-") as room:
             path = pathlib.Path(room) / "x.md"
             path.write_text("old", encoding="utf-8")
-            with mock.patch.object(pathlib.Path, "replace", side_effect=OSError), self.assertRaises(OSError):
-                timing.write_whole(path, "new")
+            path.chmod(0o640)
+            with mock.patch.object(os, "replace", side_effect=OSError), self.assertRaises(OSError):
+                repository.write_whole(path, "new")
             self.assertEqual((path.read_text(encoding="utf-8"), os.listdir(room)), ("old", ["x.md"]))
+            repository.write_whole(path, "new")
+            repository.write_whole(f"{room}/y.md", "other")
+            modes = {it: os.stat(f"{room}/{it}").st_mode & 0o777 for it in sorted(os.listdir(room))}
+            self.assertEqual((path.read_text(encoding="utf-8"), modes), ("new", {"x.md": 0o640, "y.md": 0o644}))
 
 
 if __name__ == "__main__":

@@ -5,6 +5,7 @@
 #ifndef CHANCE_H
 #define CHANCE_H
 
+#include "random.h"
 #include "sfq.h"
 
 #include <stdio.h>
@@ -14,16 +15,6 @@
 #include <time.h>
 
 #define PAGE 4096
-
-static unsigned long long state;
-
-static unsigned chance(unsigned below)
-{
-    state ^= state << 13;
-    state ^= state >> 7;
-    state ^= state << 17;
-    return (unsigned)(state >> 20) % below;
-}
 
 /* Begins the chances of a seed. */
 static void begin(const char *seed)
