@@ -28,12 +28,13 @@ from typing import NamedTuple
 import figures
 import machine
 from gauged import GAUGE
-from timing import README, ROOT, write_whole
+from timing import README, ROOT
 
 runpy.run_path(str(ROOT / "tools" / "paths.py"))
 import library
 import repository
 import tiles
+from sfq import _endings
 
 COUNTS, TIMES = "instructions", "times"
 
@@ -196,7 +197,7 @@ class Report:
         text = self.readme.read_text()
         if any(it.word == "written" for it in self.outcomes):
             text = with_first_line(text, first_line(figures.tables(text), *self.now))
-            write_whole(self.readme, text)
+            repository.write_whole(self.readme, text)
         self.print_outcomes(text)
         self.print_prose(text)
         return 1 if any(it.fault for it in self.outcomes) else 0
@@ -275,4 +276,4 @@ def run_all(asked, folder, builds, report):
 
 
 if __name__ == "__main__":
-    sys.exit(main())
+    sys.exit(_endings.ended("every.py", main))

@@ -12,6 +12,9 @@ import sys
 import machine
 
 ROOT = pathlib.Path(__file__).resolve().parent.parent
+runpy.run_path(str(ROOT / "tools" / "paths.py"))
+from repository import write_whole
+
 PROGRAM = ROOT / "crates" / "sfq" / "out" / "sfq"
 # The document that has the tables of the measures.
 README = ROOT / "bench" / "README.md"
@@ -189,19 +192,8 @@ def with_table(text, table, stamp=None):
     return "\n".join(lines[:start] + table + lines[end:])
 
 
-def write_whole(path, text):
-    """Writes a file anew. It stays as it was where that fails."""
-    beside = path.with_name(f".{path.name}.new")
-    try:
-        beside.write_text(text)
-        beside.replace(path)
-    finally:
-        beside.unlink(missing_ok=True)
-
-
 def enter_folder(folder):
     """Runs this program in a folder of peers in place of here; there it names them."""
-    runpy.run_path(str(ROOT / "tools" / "paths.py"))
     import peer_folder
 
     if peer_folder.INSIDE in os.environ:

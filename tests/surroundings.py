@@ -2,6 +2,7 @@
 import contextlib
 import json
 import os
+import shlex
 import shutil
 import subprocess
 import sys
@@ -48,7 +49,7 @@ def words_of(name, room, out):
         "sfq-schema": [f"{room}/plain"], "sfq-export": [f"{room}/rows.csv", "--like", f"{room}/tables", *(["--to", out] if out else ["--svg", "/dev/stdout"])],
         "sfq-import": [f"{room}/source.geojson", "--grid", "1", "--sfq", program, "--out", out],
         "sfq-ask": [f"{room}/tables", QUERY, "--out", "csv", "--sfq", program, *to],
-        "sfq-shell": [f"{room}/tables/schema.sql", f"{room}/tables", "--sfq", program, *(["-c", f".output '{out}'"] if out else []), "-c", QUERY],
+        "sfq-shell": [f"{room}/tables/schema.sql", f"{room}/tables", "--sfq", program, *(["-c", f".output {shlex.quote(out)}"] if out else []), "-c", QUERY],
         "sfq-audit": ["write", f"{room}/pairs.csv", "--format", "csv", "--sfq", program, *to],
         "sfq-scale": ["run", f"{room}/tables/schema.sql", f"{room}/tables", QUERY, "--scheduler", "tcp://127.0.0.1:1", "--sfq", program, "--tiles", program],
     }
@@ -114,7 +115,9 @@ class Room(unittest.TestCase):
 
 
 def contents(path):
-    """Returns the texts of a file, or of those of a folder by their names."""
+    """Returns the text of a file, of a folder those of its files by their names; None where there is nothing."""
+    if not os.path.lexists(path):
+        return None
     if os.path.isdir(path):
         return {it: contents(f"{path}/{it}") for it in sorted(os.listdir(path))}
     with open(path, encoding="utf-8") as file:

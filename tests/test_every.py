@@ -3,6 +3,8 @@ import contextlib
 import io
 import os
 import pathlib
+import subprocess
+import sys
 import tempfile
 import unittest
 from unittest import mock
@@ -12,7 +14,7 @@ from support import ROOT, read, write
 import every
 import figures
 import machine
-import timing
+import repository
 
 DOCUMENT = """# Measures
 
@@ -146,6 +148,14 @@ class Programs(unittest.TestCase):
 
     README = read(f"{ROOT}/bench/README.md")
 
+    def test_a_list_that_nobody_reads_to_its_end(self):
+        """As of `| head`: a line says so, and nothing of Python is shown."""
+        ours, theirs = os.pipe()
+        os.close(ours)
+        with open(theirs, "wb") as closed:
+            ran = subprocess.run([sys.executable, "-B", f"{ROOT}/bench/every.py", "--list"], stdout=closed, stderr=subprocess.PIPE, text=True)
+        self.assertEqual((ran.stderr, ran.returncode), ("every.py: write failed\n", 6))
+
     def test_each_program_is_run(self):
         programs = {it for it in os.listdir(f"{ROOT}/bench") if it.endswith(".py") and "\ndef main(" in read(f"{ROOT}/bench/{it}")}
         self.assertEqual({it.words.split()[0] for it in every.MEASURES}, programs - {"every.py"})
@@ -171,9 +181,14 @@ class Tables(unittest.TestCase):
         with tempfile.TemporaryDirectory(prefix="sfq-test-") as room:
             path = pathlib.Path(room) / "x.md"
             path.write_text("old", encoding="utf-8")
-            with mock.patch.object(pathlib.Path, "replace", side_effect=OSError), self.assertRaises(OSError):
-                timing.write_whole(path, "new")
+            path.chmod(0o640)
+            with mock.patch.object(os, "replace", side_effect=OSError), self.assertRaises(OSError):
+                repository.write_whole(path, "new")
             self.assertEqual((path.read_text(encoding="utf-8"), os.listdir(room)), ("old", ["x.md"]))
+            repository.write_whole(path, "new")
+            repository.write_whole(f"{room}/y.md", "other")
+            modes = {it: os.stat(f"{room}/{it}").st_mode & 0o777 for it in sorted(os.listdir(room))}
+            self.assertEqual((path.read_text(encoding="utf-8"), modes), ("new", {"x.md": 0o640, "y.md": 0o644}))
 
 
 if __name__ == "__main__":

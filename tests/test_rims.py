@@ -13,7 +13,9 @@ import bindings
 import c_programs
 import engine_rows
 import library
+import surroundings
 import wasm
+from fuzz import geopackages
 
 # How the C of each folder is compiled, beside what all have.
 FOLDERS = {
@@ -92,13 +94,50 @@ class Binary(unittest.TestCase):
 
 @needs("gcc", "cc")
 class Rims(engine_rows.WithLibrary):
-    """Random texts and binaries, and joins in SQLite."""
+    """Random texts, binaries, tables and queries, and joins in SQLite."""
 
     def test_half_a_minute_of_each(self):
         ran = subprocess.run([sys.executable, "-B", f"{ROOT}/tests/fuzz/rims.py", "--seed", "1", "--seconds", "30"], capture_output=True, text=True)
         self.assertEqual(ran.returncode, 0, ran.stdout + ran.stderr)
         self.assertEqual(ran.stdout.splitlines()[0], "seed 1")
-        self.assertGreaterEqual(ran.stdout.count(": well"), 2)
+        self.assertGreaterEqual(ran.stdout.count(": well"), 3)
+
+
+@unittest.skipUnless(surroundings.GDAL, "needs the package python3-gdal")
+class GeoPackages(unittest.TestCase):
+    """GeoPackages with changed bytes and cells, which sfq-import reads."""
+
+    def ran(self, *words):
+        ran = subprocess.run([surroundings.GDAL, "-B", f"{ROOT}/tests/fuzz/geopackages.py", "--seed", "1", *words], capture_output=True, text=True)
+        self.assertEqual((ran.returncode, ran.stderr), (0, ""), ran.stdout)
+        return ran.stdout.splitlines()
+
+    def test_half_a_minute(self):
+        first, last = self.ran("--seconds", "30")
+        self.assertEqual(first, "seed 1")
+        self.assertRegex(last, r"^\d\d+ imports, statuses \{0: .*\}, 0 wrong$")
+
+    def test_text_of_gdal_that_is_not_utf8(self):
+        """A warning while a file is opened, an error, and a warning while its layers are asked."""
+        for it in ("183", "192", "316"):
+            self.assertRegex(self.ran("--case", it)[-1], r"^1 imports, .*, 0 wrong$")
+
+    def test_what_is_wrong_is_found(self):
+        """A status that isn't of the page, a line of another, a signal, and a folder that is left."""
+        with tempfile.TemporaryDirectory(prefix="sfq-room-") as room:
+            out = f"{room}/out"
+            for status, err, said in (
+                (99, "", "status 99"), (-11, "", "signal 11"), (-14, "", "signal 14: more than 60 s"), (6, "Traceback\n", "another line"), (6, "", "another line"),
+                (0, "", "no folder"), (6, "sfq-import: a\n", ""),
+            ):
+                self.assertEqual(geopackages.wrong(status, err, out, room, ""), said)
+            os.mkdir(out)
+            self.assertEqual(geopackages.wrong(6, "sfq-import: a\n", out, room, ""), "a folder in spite of the status")
+            with open(f"{out}/grid.json", "w", encoding="ascii") as file:
+                file.write('{"layers": []}')
+            self.assertEqual(geopackages.wrong(0, "", out, room, ""), "files ['left-out.csv', 'schema.sql']")
+            os.mkdir(f"{room}/.sfq-a")
+            self.assertEqual(geopackages.wrong(0, "", out, room, ""), "left: ['.sfq-a']")
 
 
 if __name__ == "__main__":

@@ -272,6 +272,15 @@ class Piped(WithProgram):
             self.assertIn(said, err)
         self.assertEqual(self.program.run(".read nothing.sql\n")[1:], ("sfq-shell: nothing.sql: No such file or directory\n", 6))
 
+    def test_where_a_quote_is_open(self):
+        """As shlex has it, of which each text is one word where none is."""
+        for text, quote in (
+            ("a", ""), ("'a", "'"), ("'a' \"b", '"'), ("'a\\' b", ""), ('"a\\" b', '"'), ("a\\'b", ""), ("\"it's", '"'), ("'\"' c", ""), ("\\", ""), ("'\n", "'"), ("", ""),
+        ):
+            self.assertEqual(shell.open_quote(text, ""), quote, text)
+            if quote:
+                self.assertEqual(shell.open_quote(f"b{quote} c", quote), "", text)
+
     def test_files(self):
         since, room = KNOWN["SELECT since FROM owner"][0], self.program.room
         write(f"{room}/q.sql", "SELECT since\nFROM owner;\n.read 'more of it.sql'\nSELECT since FROM owner")
@@ -279,6 +288,8 @@ class Piped(WithProgram):
         self.wanted(".read q.sql\n", since + '[{"COUNT(*)":5}]\n' + since)
         self.wanted(".output out.csv\n.read q.sql\n.output\nSELECT COUNT(*) FROM owner;\n", "COUNT(*)\n5\n")
         self.assertEqual(read(f"{room}/out.csv"), since + '[{"COUNT(*)":5}]\n' + since)
+        self.wanted(".output 'a\nb'\n.read q.sql\n.output\n.nothing\n", "", "sfq-shell: standard input line 5: there is no .nothing: .help lists the commands\n", 2)
+        self.assertEqual(read(f"{room}/a\nb"), since + '[{"COUNT(*)":5}]\n' + since)
         write(f"{room}/bad.sql", f"\n\n{ORDERED};\nSELECT since FROM owner;\n")
         found = f"{ORDERED_FAULT}sfq-shell: bad.sql line 3: here the query begins\n"
         self.wanted(".read bad.sql\nSELECT since FROM owner;\n", "", found, 5)

@@ -10,7 +10,7 @@ class Threats(unittest.TestCase):
     """The page of who may hand us what."""
 
     def test_each_row_names_a_test(self):
-        rows = re.findall(r"^\| (?!who |-)(.*) \|$", read(f"{ROOT}/docs/THREATS.md"), re.M)
+        rows = re.findall(r"^\| (?!who |what |-)(.*) \|$", read(f"{ROOT}/docs/THREATS.md"), re.M)
         self.assertGreaterEqual(len(rows), 7)
         for row in rows:
             cells = row.split(" | ")
@@ -22,6 +22,18 @@ class Threats(unittest.TestCase):
                 for part in re.findall(r"`(\w+)`", parts):
                     text = read(path) + (read(f"{ROOT}/tests/fuzz/rims.py") if name == "test_rims" else "")
                     self.assertIn(part, text, name)
+
+    def test_what_is_trusted_is_in_the_readme(self):
+        """Each part of the table is a word of README's part of that name."""
+        _, _, page = read(f"{ROOT}/docs/THREATS.md").partition("## What is trusted\n")
+        _, _, readme = read(f"{ROOT}/README.md").partition("## What is trusted\n")
+        rows = re.findall(r"^\| (?!what |-)(.*?) \|", page, re.M)
+        self.assertEqual(len(rows), 4)
+        words = " ".join(readme.partition("\n## ")[0].split())
+        for row, named in zip(rows, (("toolchain", "logic", "LLVM"), ("C library",), ("Python", "SQLite", "PostgreSQL", "GDAL", "GEOS"), ("files as installed",))):
+            for it in named:
+                self.assertIn(it, words, row)
+                self.assertTrue(it in row or it == "toolchain", row)
 
     def test_the_page_is_named(self):
         self.assertIn("(docs/THREATS.md)", read(f"{ROOT}/SECURITY.md"))

@@ -1,4 +1,5 @@
 """The Python of bindings/ and tools/ has types, which mypy checks, and one file says where modules are looked for."""
+import ast
 import configparser
 import os
 import re
@@ -60,6 +61,47 @@ class Types(unittest.TestCase):
         self.assertEqual((own, known[own]["strict"], dict(known[others])), ("mypy", "True", {"ignore_missing_imports": "True"}))
         for path in sources(*CHECKED):
             self.assertIsNone(re.search(r"#\s*(type: ignore|mypy:)", read(f"{ROOT}/{path}")), path)
+
+
+# What catches each exception and goes on, with why: the file and the function.
+CATCHES_ALL = {
+    ("bindings/python/sfq/_apart.py", "of_child"): "what a child raises is never its parent's: it is printed, and the child ends",
+    ("bindings/python/sfq_scale/cluster.py", "submit"): "Dask raises Exception itself where its connection is closed; others are raised again",
+}
+
+
+def catching_all(text):
+    """Returns the functions of a Python file that catch each exception, or all but those of Ctrl-C and of an end, and go on."""
+    found = []
+    for function in ast.walk(ast.parse(text)):
+        if isinstance(function, (ast.FunctionDef, ast.AsyncFunctionDef)):
+            for it in ast.walk(function):
+                if isinstance(it, ast.ExceptHandler):
+                    names = {name.id for name in ast.walk(it.type) if isinstance(name, ast.Name)} if it.type else {"BaseException"}
+                    is_raised_again = isinstance(it.body[-1], ast.Raise) and not it.body[-1].exc
+                    found += [function.name] if names & {"Exception", "BaseException"} and not is_raised_again else []
+                elif isinstance(it, ast.Call) and ast.unparse(it.func) == "contextlib.suppress":
+                    found += [function.name] if {ast.unparse(word) for word in it.args} & {"Exception", "BaseException"} else []
+    return found
+
+
+class Handlers(unittest.TestCase):
+    """Handlers of exceptions name what they catch, so that nobody's mistake is lost in one."""
+
+    def test_none_catches_all(self):
+        folders = ("bindings", "tools", "bench", "docs", "examples")
+        found = {(path, name) for path in [*sources(*folders), "build", "lint", "test"] for name in catching_all(read(f"{ROOT}/{path}"))}
+        self.assertEqual(found, set(CATCHES_ALL))
+
+    def test_one_that_does_is_found(self):
+        text = "def one():\n    try:\n        two()\n    except {}:\n        {}\n"
+        for what, body, is_found in (
+            ("Exception", "pass", True), ("(OSError, Exception) as it", "pass", True), ("BaseException", "raise", False), ("OSError", "pass", False),
+            ("Exception as it", "raise it", True), ("BaseException", "raise OSError() from None", True), ("ValueError", "raise", False),
+        ):
+            self.assertEqual(catching_all(text.format(what, body)), ["one"] if is_found else [], what)
+        self.assertEqual(catching_all(text.replace(" {}", "", 1).format("pass")), ["one"])
+        self.assertEqual(catching_all("def one():\n    with contextlib.suppress(Exception):\n        two()\n"), ["one"])
 
 
 class Modules(unittest.TestCase):

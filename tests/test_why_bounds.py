@@ -1,18 +1,22 @@
 """`why` of Python: what is large is made in a process of its own, whose memory is bounded and which Ctrl-C ends."""
+import ctypes
 import os
 import resource
+import struct
 import subprocess
 import sys
 import textwrap
 import unittest
+from unittest import mock
 
+import support
 from support import ROOT
 
 import engine_rows
 import library
 import sfq
 import test_databases_python as databases
-from sfq import _apart, _library
+from sfq import _apart, _library, _wkb
 
 HEAD = """
     import ctypes, os, sys, time
@@ -65,6 +69,20 @@ class Processes(unittest.TestCase):
             print(children())
         """), ("interrupted\nFalse\n", ""))
 
+    def test_rows_of_frames_are_made_apart_as_well(self):
+        """Where they are large. The lines are here the number of the process that makes them."""
+        one, two = (_library.CGeometry(), _library.CGeometry())
+        with mock.patch.object(_library, "lines_of_why", lambda *_: str(os.getpid())):
+            for most_pairs, is_here in ((_library.MANY_PAIRS - 1, True), (_library.MANY_PAIRS, False)):
+                found = _library.why_addresses(ctypes.addressof(one), ctypes.addressof(two), most_pairs)
+                self.assertEqual(found == str(os.getpid()), is_here)
+
+    def test_positions_of_well_known_binary(self):
+        """Of a ring of five there may be five, of a point one."""
+        point = struct.pack("<BIdd", 1, 1, 1, 2)
+        ring = struct.pack("<BIII10d", 1, 3, 1, 5, *range(10))
+        self.assertEqual([_wkb.most_positions(it) for it in (point, ring)], [1, 5])
+
     def test_what_is_small_stays_in_this_process(self):
         self.assertEqual([sfq.Geometry(it)._kept.most_positions() for it in ("POINT(1 1)", "LINESTRING(0 0,1 1,2 2)")], [1, 3])
         self.assertLess(2 * 2 * 2_048 * _library.MANY_PAIRS, 1 << 28)
@@ -73,9 +91,9 @@ class Processes(unittest.TestCase):
 class OverLibrary(engine_rows.WithLibrary):
     """Combs, of which each tooth of one crosses each of the other."""
 
-    def ran(self, text):
+    def ran(self, text, python=sys.executable):
         known = {**os.environ, "PYTHONPATH": f"{ROOT}/bindings/python:{ROOT}/tests", "PYTHONDONTWRITEBYTECODE": "1", "SFQ_LIBRARY": library.SHARED}
-        found = subprocess.run([sys.executable, "-c", textwrap.dedent(HEAD) + textwrap.dedent(text)], env=known, capture_output=True, text=True)
+        found = subprocess.run([python, "-c", textwrap.dedent(HEAD) + textwrap.dedent(text)], env=known, capture_output=True, text=True)
         return found.stdout + found.stderr
 
     def test_the_cells_are_the_same(self):
@@ -97,6 +115,21 @@ class OverLibrary(engine_rows.WithLibrary):
             except MemoryError as error:
                 print(error, resource.getrusage(resource.RUSAGE_CHILDREN).ru_maxrss < 300_000)
         """), "sfq: out of memory True\n")
+
+    def test_memory_of_rows_of_frames(self):
+        if not support.python_with("geopandas"):
+            self.skipTest("needs the package python3-geopandas")
+        self.assertEqual(self.ran("""
+            import resource
+            import geopandas, sfq.geopandas
+            from sfq import _library
+            _library.WHY_BYTES = 1 << 26
+            one, other = (geopandas.GeoSeries.from_wkt([str(comb(900, it))]) for it in (False, True))
+            try:
+                sfq.geopandas.why(one, other, step=None)
+            except MemoryError as error:
+                print(error, resource.getrusage(resource.RUSAGE_CHILDREN).ru_maxrss < 500_000)
+        """, support.python_with("geopandas")), "sfq: out of memory True\n")
 
     def test_ctrl_c_ends_why(self):
         os.environ["SFQ_LIBRARY"] = library.SHARED

@@ -236,8 +236,7 @@ def main() -> int:
         return 1 if old else 0
     os.makedirs(SOURCE, exist_ok=True)
     for path, text in sources().items():
-        with open(path, "w", encoding="utf-8") as file:
-            file.write(text)
+        repository.write_whole(path, text)
     return 0
 
 

@@ -154,16 +154,15 @@ def found_text(words: Sequence[str]) -> Optional[Text]:
 def main() -> int:
     """Writes the texts of help, by the program."""
     import answers
+    import repository
 
     given = answers.ask([["--help"], *([it, "--help"] for it in COMMANDS)])
     os.makedirs(FOLDER, exist_ok=True)
     for name, it in zip(("sfq", *COMMANDS), given):
         if it.status or it.err:
             raise SystemExit(f"sfq {name} --help ended with status {it.status}: {it.err.decode()}")
-        with open(f"{FOLDER}/{name}.txt", "wb") as file:
-            file.write(it.out)
-    with open(f"{FOLDER}/sum.txt", "w", encoding="utf-8") as file:
-        file.write(f"{sum_of_words()}\n")
+        repository.write_whole(f"{FOLDER}/{name}.txt", it.out.decode())
+    repository.write_whole(f"{FOLDER}/sum.txt", f"{sum_of_words()}\n")
     return 0
 
 

@@ -132,9 +132,8 @@ def main() -> int:
 
     noted, crates = read_seconds(), repository.read_crates()
     found = {it: float(proving.read_mark(it)[2] or noted.get(it, 0)) for it in crates}
-    with open(SECONDS, "w", encoding="utf-8") as file:
-        file.write("# Processor seconds of each crate's check from nothing, written by tools/pace.py.\n")
-        file.writelines(f"{name} {seconds:.0f}\n" for name, seconds in found.items() if seconds)
+    head = "# Processor seconds of each crate's check from nothing, written by tools/pace.py.\n"
+    repository.write_whole(SECONDS, head + "".join(f"{name} {seconds:.0f}\n" for name, seconds in found.items() if seconds))
     return 0
 
 

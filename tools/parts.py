@@ -1,6 +1,5 @@
 """Runs parts of the tests side by side, and says how far they are."""
 import os
-import signal
 import subprocess
 import tempfile
 import threading
@@ -110,16 +109,7 @@ def run(words: Sequence[str], folder: str = repository.ROOT, given: Union[int, I
 
 def end_all() -> None:
     """Ends the commands that run still, each with what it started."""
-    for number in (signal.SIGTERM, signal.SIGKILL):
-        left = [it for it in CHILDREN if it.poll() is None]
-        for it in left:
-            try:
-                os.killpg(it.pid, number)
-            except ProcessLookupError:
-                pass
-        until = time.monotonic() + 10
-        while any(it.poll() is None for it in left) and time.monotonic() < until:
-            time.sleep(0.05)
+    proving.end_groups(CHILDREN, lambda it: it.poll() is not None)
 
 
 class Board:

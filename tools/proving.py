@@ -5,6 +5,7 @@ of others above it, by several processes where fewer crates than that can be pro
 run that was broken off goes on where it was. A crate that is proved gets the file out/proved: a sum over its files, those below
 it and the kit's logic, the last line of its check, and what that took. While the sums stay the same, nothing is called.
 """
+import contextlib
 import hashlib
 import os
 import queue
@@ -14,7 +15,7 @@ import subprocess
 import sys
 import threading
 import time
-from typing import Optional, Sequence
+from typing import Callable, Iterable, Optional, Sequence
 
 import pace
 import repository
@@ -147,6 +148,19 @@ def crates_of(root: str, logic: str, tops: Sequence[str] = ()) -> list[Crate]:
         if it in lines:
             make(it)
     return sorted(made.values(), key=lambda it: len(it.every_below))
+
+
+def end_groups(children: Iterable["subprocess.Popen[str]"], is_over: Callable[["subprocess.Popen[str]"], bool]) -> None:
+    """Ends the groups of those children that run still: by SIGTERM, and 10 seconds later by SIGKILL."""
+    left = list(children)
+    for number in (signal.SIGTERM, signal.SIGKILL):
+        left = [it for it in left if not is_over(it)]
+        for it in left:
+            with contextlib.suppress(ProcessLookupError):
+                os.killpg(it.pid, number)
+        until = time.monotonic() + 10
+        while not all(map(is_over, left)) and time.monotonic() < until:
+            time.sleep(0.05)
 
 
 class Proving:
@@ -321,17 +335,8 @@ class Proving:
 
     def end(self) -> None:
         """Ends the checks that run still: each is a group of its own, which this run started."""
-        left = [it for it in self.children.values() if it.returncode is None]
-        for sign in (signal.SIGTERM, signal.SIGKILL):
-            for it in left:
-                try:
-                    os.killpg(it.pid, sign)
-                except ProcessLookupError:
-                    pass
-            until = time.monotonic() + 10
-            while any(it.returncode is None for it in left) and time.monotonic() < until:
-                time.sleep(0.05)
-            left = [it for it in left if it.returncode is None]
+        # A thread waits for each, and takes what the system says of its end.
+        end_groups(self.children.values(), lambda it: it.returncode is not None)
 
 
 class Verdict(Proving):

@@ -13,7 +13,7 @@ from typing import Callable
 
 import common_facts
 import repository
-from repository import read
+from repository import read, write_whole
 
 COLUMNS = 130
 
@@ -72,8 +72,7 @@ class Table:
                 lines += [f"{head[1]} {now}"] if now else []
             else:
                 lines.append(line)
-        with open(f"{root}/{self.path}", "w", encoding="utf-8") as file:
-            file.write("".join(f"{it}\n" for it in lines))
+        write_whole(f"{root}/{self.path}", "".join(f"{it}\n" for it in lines))
         return fell
 
 

@@ -1,11 +1,14 @@
 """The repository: its crates, the program that a build leaves, and the kit that proves it."""
+import contextlib
 import glob
 import hashlib
 import os
 import re
 import shutil
+import stat
 import subprocess
 import sys
+import tempfile
 from typing import NoReturn
 
 ROOT = os.path.dirname(os.path.dirname(os.path.realpath(__file__)))
@@ -23,6 +26,19 @@ def read(path: str) -> str:
     """Returns the text of a file."""
     with open(path, encoding="utf-8") as file:
         return file.read()
+
+
+def write_whole(path: str, text: str) -> None:
+    """Writes a file anew, under a name of its own beside it first. It stays as it was where that fails."""
+    handle, beside = tempfile.mkstemp(prefix=".new-", dir=os.path.dirname(path))
+    try:
+        with open(handle, "w", encoding="utf-8") as file:
+            file.write(text)
+        os.chmod(beside, stat.S_IMODE(os.stat(path).st_mode) if os.path.exists(path) else 0o644)
+        os.replace(beside, path)
+    finally:
+        with contextlib.suppress(FileNotFoundError):
+            os.remove(beside)
 
 
 def need_rt() -> str:

@@ -57,8 +57,7 @@ def main(words: list[str]) -> int:
             print(f"{path} has another version than {version}: run python3 tools/version.py")
             status = 1
         else:
-            with open(f"{repository.ROOT}/{path}", "w", encoding="utf-8") as file:
-                file.write(new)
+            repository.write_whole(f"{repository.ROOT}/{path}", new)
     return status
 
 

@@ -22,9 +22,9 @@ import library
 # What is handed in, and the program that does it.
 PROGRAMS = {
     "texts": "well-known text, patterns, arrays of positions, indexes", "binaries": "well-known binary, joins",
-    "sqlite": "joins and transactions in SQLite",
+    "tables": "schemas, tables of CSV, queries with constants", "sqlite": "joins and transactions in SQLite",
 }
-SOURCES = {"texts": "library/fuzz.c", "binaries": "library/fuzz_binaries.c", "sqlite": "sqlite/fuzz_joins.c"}
+SOURCES = {"texts": "library/fuzz.c", "binaries": "library/fuzz_binaries.c", "tables": "library/fuzz_tables.c", "sqlite": "sqlite/fuzz_joins.c"}
 
 
 def names():
@@ -57,6 +57,7 @@ def options_of(words):
     listed = "; ".join(f"{name}: {what}" for name, what in PROGRAMS.items())
     parser.add_argument("names", nargs="*", metavar="NAME", help=f"what is handed in (all of it). {listed}")
     parser.add_argument("--seconds", type=int, default=30, help="how long each goes on (30)")
+    parser.add_argument("--minutes", type=int, default=0, help="how long each goes on, in minutes")
     parser.add_argument("--seed", type=int, help="the seed (a random one)")
     options = parser.parse_args(words)
     unknown = set(options.names) - set(PROGRAMS)
@@ -73,7 +74,7 @@ def main(words):
     print(f"seed {seed}", flush=True)
     asked = options.names or names()
     with ThreadPoolExecutor(len(asked)) as pool:
-        found = list(pool.map(lambda name: ran(name, seed, options.seconds), asked))
+        found = list(pool.map(lambda name: ran(name, seed, 60 * options.minutes or options.seconds), asked))
     for name, (is_well, text) in zip(asked, found):
         print(f"{name}: {'well' if is_well else 'WRONG'}\n{text}".rstrip(), flush=True)
     return 0 if all(is_well for is_well, _ in found) else 1

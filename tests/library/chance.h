@@ -1,10 +1,11 @@
 /*
- * What fuzz.c and fuzz_binaries.c share: chance, and values that end where memory ends that may be read, so that a byte too far ends
- * the program. What is read has to be what its canonical text spells.
+ * What fuzz.c, fuzz_binaries.c and fuzz_tables.c share: chance, and values that end where memory ends that may be read, so that a byte
+ * too far ends the program. What is read has to be what its canonical text spells.
  */
 #ifndef CHANCE_H
 #define CHANCE_H
 
+#include "random.h"
 #include "sfq.h"
 
 #include <stdio.h>
@@ -14,16 +15,6 @@
 #include <time.h>
 
 #define PAGE 4096
-
-static unsigned long long state;
-
-static unsigned chance(unsigned below)
-{
-    state ^= state << 13;
-    state ^= state >> 7;
-    state ^= state << 17;
-    return (unsigned)(state >> 20) % below;
-}
 
 /* Begins the chances of a seed. */
 static void begin(const char *seed)

@@ -9,6 +9,8 @@
  */
 #define _POSIX_C_SOURCE 200809L
 
+#include "../library/random.h"
+
 #include <sqlite3.h>
 #include <stdarg.h>
 #include <stdbool.h>
@@ -25,16 +27,6 @@
 int sqlite3_sfq_init(sqlite3 *, char **, const void *);
 
 /* ---- chance ---- */
-
-static unsigned long long state;
-
-static unsigned chance(unsigned below)
-{
-    state ^= state << 13;
-    state ^= state >> 7;
-    state ^= state << 17;
-    return (unsigned)(state >> 20) % below;
-}
 
 static void begin(unsigned long long seed, unsigned long long turn)
 {

@@ -66,9 +66,12 @@ class ByProgram:
         return [self.reason(text) if line.startswith("first ") else None for text, line in zip(texts, lines)]
 
     def reason(self, text: str) -> str:
-        """Returns why a text is refused."""
+        """Returns why a text is refused. LibraryError where the program doesn't say."""
         ran = self.given(text, "why", "@-")
-        return (ran.stdout or ran.stderr.rpartition("sfq: first ")[2]).strip()
+        found = (ran.stdout or ran.stderr.rpartition("sfq: first ")[2]).strip()
+        if not found:
+            raise LibraryError(f"sfq: {self.program} why printed no reason")
+        return found
 
 
 Checker = Union[ByLibrary, ByProgram]

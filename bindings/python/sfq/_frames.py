@@ -118,6 +118,10 @@ class Column:
         """Returns where the geometries at these places are."""
         return places.astype(numpy.uintp) * ctypes.sizeof(_library.CGeometry) + self.kept.address(0)
 
+    def most_positions(self, address: int) -> int:
+        """Returns a number of positions that the geometry at an address hasn't more of."""
+        return _wkb.most_positions(self.binaries[(address - self.kept.address(0)) // ctypes.sizeof(_library.CGeometry)])
+
     def has_shape(self) -> bool:
         """Whether a geometry is kept that isn't empty."""
         return any(not it.is_empty for it in self.shapes[self.is_kept])

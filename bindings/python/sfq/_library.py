@@ -392,10 +392,14 @@ def why(first: Kept, second: Kept) -> str:
     """Returns the nine lines that show the cells of the matrix. Those of large geometries are made in a process of their own."""
     need_valid(first, second)
     with held((first, second)):
-        one, two = first.geometry, second.geometry
-        if first.most_positions() * second.most_positions() < MANY_PAIRS:
-            return lines_of_why(one, two)
-        return _apart.text_of(lambda: lines_of_why(one, two), WHY_BYTES)
+        return bounded_why(first.geometry, second.geometry, first.most_positions() * second.most_positions())
+
+
+def bounded_why(one: CGeometry, two: CGeometry, most_pairs: int) -> str:
+    """Returns the nine lines, of geometries that have not more than so many pairs of positions. MemoryError where they take more than WHY_BYTES."""
+    if most_pairs < MANY_PAIRS:
+        return lines_of_why(one, two)
+    return _apart.text_of(lambda: lines_of_why(one, two), WHY_BYTES)
 
 
 def lines_of_why(one: CGeometry, two: CGeometry) -> str:
@@ -544,6 +548,6 @@ def relate_addresses(firsts: Any, seconds: Any, count: int) -> list[str]:
     return matrices(room, count)
 
 
-def why_addresses(first: int, second: int) -> str:
+def why_addresses(first: int, second: int, most_pairs: int) -> str:
     """Returns the nine lines that show the cells of the matrix, by the addresses of both geometries."""
-    return lines_of_why(CGeometry.from_address(first), CGeometry.from_address(second))
+    return bounded_why(CGeometry.from_address(first), CGeometry.from_address(second), most_pairs)

@@ -51,6 +51,13 @@ def without_secrets(source: str) -> str:
     return SECRET.sub(lambda it: f"{it[1] or it[3]}***", source)
 
 
+class Unreadable(Exception):
+    """A text of GDAL isn't UTF-8."""
+
+
+UNREADABLE = Unreadable()
+
+
 class Warnings:
     """Keeps GDAL's warnings, and says each once. Errors are exceptions besides."""
 
@@ -58,7 +65,14 @@ class Warnings:
         self.say, self.most = say, 10
         self.said: set[str] = set()
 
-    def __call__(self, level: int, number: int, text: str) -> None:
+    def __call__(self, level: int = 0, _number: int = 0, text: str = "") -> None:
+        if not level:
+            # GDAL's text isn't UTF-8, and its module calls with that exception pending. One that is there already takes its place, as
+            # nothing can be called before, and is caught.
+            try:
+                raise UNREADABLE
+            except Unreadable:
+                text, level = "it says what isn't UTF-8", 2
         if level == 2 and text not in self.said and len(self.said) < self.most:
             self.said.add(text)
             self.say(f"GDAL: {text}")

@@ -24,17 +24,26 @@ class Unwritten(OSError):
         super().__init__("write failed")
 
 
-class Input(io.RawIOBase):
-    """Standard input, whose faults name it."""
+class Stream(io.RawIOBase):
+    """A standard stream, by its number."""
+
+    number = 0
 
     def readable(self) -> bool:
-        return True
+        return self.number == 0
+
+    def writable(self) -> bool:
+        return self.number > 0
 
     def fileno(self) -> int:
-        return 0
+        return self.number
 
     def isatty(self) -> bool:
-        return os.isatty(0)
+        return os.isatty(self.number)
+
+
+class Input(Stream):
+    """Standard input, whose faults name it."""
 
     def readinto(self, buffer: Any) -> Optional[int]:
         try:
@@ -43,19 +52,10 @@ class Input(io.RawIOBase):
             raise OSError(error.errno, error.strerror, "standard input") from None
 
 
-class Output(io.RawIOBase):
+class Output(Stream):
     """Standard output. Unwritten where a write fails; what comes later is lost."""
 
-    is_lost = False
-
-    def writable(self) -> bool:
-        return True
-
-    def fileno(self) -> int:
-        return 1
-
-    def isatty(self) -> bool:
-        return os.isatty(1)
+    number, is_lost = 1, False
 
     def write(self, data: Any) -> int:
         try:
@@ -65,17 +65,10 @@ class Output(io.RawIOBase):
             raise Unwritten() from None
 
 
-class Messages(io.RawIOBase):
+class Messages(Stream):
     """Standard error. A message that can't be written is lost."""
 
-    def writable(self) -> bool:
-        return True
-
-    def fileno(self) -> int:
-        return 2
-
-    def isatty(self) -> bool:
-        return os.isatty(2)
+    number = 2
 
     def write(self, data: Any) -> int:
         with contextlib.suppress(OSError):

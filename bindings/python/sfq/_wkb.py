@@ -44,6 +44,11 @@ class Shape(NamedTuple):
     parts: list[list[Numbers]]
 
 
+def most_positions(binary: bytes) -> int:
+    """Returns a number of positions that a geometry hasn't more of: each takes two doubles."""
+    return len(binary) // 16
+
+
 def numbers(binary: bytes, at: int, count: int) -> array[float]:
     found = array("d")
     found.frombytes(binary[at:at + 16 * count])

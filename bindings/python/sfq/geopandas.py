@@ -203,11 +203,15 @@ def why(
     left: Any, right: Any, align: Optional[bool] = None, *, step: Step = AUTO, origin: Origin = None, flat: bool = False,
     on_invalid: str = "raise",
 ) -> Any:
-    """Returns for each row of two GeoSeries the nine cells of the matrix, each with what shows it in the source's coordinates."""
+    """Returns for each row of two GeoSeries the nine cells of the matrix, each with what shows it in the source's coordinates.
+
+    The cells of two large geometries are made in a process of their own, which Ctrl-C ends. MemoryError where they take more than 1 GiB.
+    """
     pairs = Pairs(left, right, align, Options(step, origin, flat, on_invalid))
 
     def cells(first: int, second: int) -> list[Cell]:
-        lines = _library.why_addresses(first, second).splitlines()
+        most_pairs = pairs.left.most_positions(first) * pairs.right.most_positions(second)
+        lines = _library.why_addresses(first, second, most_pairs).splitlines()
         return [Cell(*in_source(line, pairs.left.grid).split(" ", 3)) for line in lines]
 
     def ask(firsts: Any, seconds: Any) -> Any:

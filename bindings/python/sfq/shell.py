@@ -16,7 +16,7 @@ import re
 import shlex
 import sys
 import time
-from typing import Iterable, NamedTuple, Optional
+from typing import Iterable, Iterator, NamedTuple, Optional
 
 from . import __version__, _asking, _endings, _outputs, _prompt, _showing, _statements, _streams
 from ._asking import Refused
@@ -28,6 +28,12 @@ NAME = "sfq-shell"
 DEEPEST = 16
 # What is said at the beginning of a prompt.
 GREETING = f"{NAME}: a query ends with ; and .help lists what else there is"
+# Those whose words are names and texts, which may span lines in quotes.
+SPANNING = (".output", ".read", ".why")
+# What is up to the next quote that counts, where none is open, and where one is.
+UP_TO_QUOTE = {
+    "": re.compile(r"""(?:\\.|[^'"\\])*(['"])""", re.S), "'": re.compile("[^']*(')"), '"': re.compile(r'(?:\\.|[^"\\])*(")', re.S),
+}
 # What people type to end, or for help, in place of a command.
 WORDS = {"quit": ".quit", "exit": ".quit", "help": ".help"}
 
@@ -105,13 +111,13 @@ class Shell:
     def run(self, lines: Iterable[str], source: str) -> None:
         """Does what lines say, up to the first fault. At the end of the last one a query needs no `;`."""
         splitter = _statements.Splitter()
-        statement = None
+        statement, rest = None, iter(lines)
         try:
-            for line in lines:
+            for line in rest:
                 if not splitter.is_begun and line.lstrip().startswith("."):
-                    splitter.line += 1
-                    statement = _statements.Statement(line, splitter.line)
-                    self.do(line)
+                    statement = _statements.Statement(whole(line, rest), splitter.line + 1)
+                    splitter.line += statement.text.count("\n")
+                    self.do(statement.text)
                     continue
                 for statement in splitter.add(line):
                     self.ask(statement.text)
@@ -280,6 +286,25 @@ class Shell:
             print(file=sys.stderr)
             say("interrupted")
         sys.stderr.flush()
+
+
+def whole(line: str, rest: Iterator[str]) -> str:
+    """Returns a command: its line, and of the rest those lines into which its quotes go on."""
+    lines, quote = [line], ""
+    if line.split(maxsplit=1)[0] in SPANNING:
+        quote = open_quote(line, "")
+        while quote and (more := next(rest, "")):
+            lines.append(more)
+            quote = open_quote(more, quote)
+    return "".join(lines)
+
+
+def open_quote(line: str, quote: str) -> str:
+    """Returns which quote is open behind a line, before which this one is open."""
+    at = 0
+    while found := UP_TO_QUOTE[quote].match(line, at):
+        quote, at = "" if quote else found[1], found.end()
+    return quote
 
 
 def takes(name: str) -> str:

@@ -44,12 +44,12 @@ def one_line(error: BaseException) -> str:
     return " ".join(str(error).split()) or type(error).__name__
 
 
-def each(pairs: Sequence[Two], call: Callable[[str, str], str]) -> Iterator[str]:
-    """Yields the answer to each pair, of a refusal its reason."""
+def each(pairs: Sequence[Two], call: Callable[[str, str], str], refusals: tuple[type[Exception], ...]) -> Iterator[str]:
+    """Yields the answer to each pair, of a refusal its reason. `refusals` is what the engine raises where it refuses a pair."""
     for first, second in pairs:
         try:
             yield call(first, second)
-        except Exception as error:
+        except refusals as error:
             yield f"! {one_line(error)}"
 
 
@@ -58,30 +58,33 @@ class Shapely:
 
     def __init__(self, _of: str) -> None:
         try:
-            from shapely import geos, wkt
+            from shapely import errors, geos, wkt
         except ImportError:
             raise Lacking("the package shapely: Debian's python3-shapely has it") from None
         import shapely
 
+        # A text that isn't Unicode is a ValueError.
+        self.refusals = (errors.ShapelyError, ValueError)
         self.read, self.version = wkt.loads, f"shapely {shapely.__version__}, GEOS {'.'.join(map(str, geos.geos_version))}"
 
     def answers(self, ask: str, pairs: Sequence[Two]) -> Iterator[str]:
         read = self.read
         if ask == MATRIX:
-            return each(pairs, lambda a, b: str(read(a).relate(read(b))))
+            return each(pairs, lambda a, b: str(read(a).relate(read(b))), self.refusals)
         if ask == VALIDITY:
-            return each(pairs, lambda a, b: truth(read(a).is_valid) + truth(read(b).is_valid))
+            return each(pairs, lambda a, b: truth(read(a).is_valid) + truth(read(b).is_valid), self.refusals)
 
         def held(first: str, second: str) -> str:
             a, b = read(first), read(second)
             return "".join(truth(getattr(a, it)(b)) for it in PREDICATES)
 
-        return each(pairs, held)
+        return each(pairs, held, self.refusals)
 
 
 class Gdal:
     """GDAL's own predicates of two geometries. It has no matrix, and its Equals compares positions."""
 
+    REFUSALS = (RuntimeError, ValueError)
     NAMES = ("", "Disjoint", "Intersects", "Touches", "Crosses", "Within", "Contains", "Overlaps")
 
     def __init__(self, _of: str) -> None:
@@ -95,13 +98,13 @@ class Gdal:
     def answers(self, ask: str, pairs: Sequence[Two]) -> Iterator[str]:
         read = self.read
         if ask == VALIDITY:
-            return each(pairs, lambda a, b: truth(read(a).IsValid()) + truth(read(b).IsValid()))
+            return each(pairs, lambda a, b: truth(read(a).IsValid()) + truth(read(b).IsValid()), self.REFUSALS)
 
         def held(first: str, second: str) -> str:
             a, b = read(first), read(second)
             return "".join(truth(getattr(a, it)(b)) if it else "*" for it in self.NAMES)
 
-        return each(pairs, held)
+        return each(pairs, held, self.REFUSALS)
 
 
 class Spatialite:
@@ -116,7 +119,7 @@ class Spatialite:
             connection.load_extension("mod_spatialite")
         except (AttributeError, sqlite3.OperationalError):
             raise Lacking("the extension mod_spatialite: Debian's libsqlite3-mod-spatialite has it") from None
-        self.call = connection.execute
+        self.call, self.refusals = connection.execute, (sqlite3.Error, ValueError)
         self.version = "SpatiaLite {}, GEOS {}".format(*self.call("SELECT spatialite_version(), geos_version()").fetchone())
 
     def answers(self, ask: str, pairs: Sequence[Two]) -> Iterator[str]:
@@ -132,7 +135,7 @@ class Spatialite:
             found = self.call(query, (first, second)).fetchone()
             return str(found[0] or "-") if ask == MATRIX else "".join(map(truth, found))
 
-        return each(pairs, asked)
+        return each(pairs, asked, self.refusals)
 
 
 class Postgis:

@@ -1,6 +1,10 @@
 """The workers of a Dask cluster, which run the parts of a query."""
+import asyncio
 import collections
+import concurrent.futures
+import contextlib
 import logging
+import pickle
 import queue
 import time
 import uuid
@@ -34,6 +38,17 @@ def library() -> Any:
     return distributed
 
 
+def faults(distributed: Any) -> tuple[type[Exception], ...]:
+    """Returns what Dask's calls raise where the cluster, or the connection with it, fails.
+
+    A connection that is closed is an OSError, a client that is closed or whose scheduler is gone an OSError or a RuntimeError, and an
+    answer that isn't whole a ValueError or an EOFError. asyncio and concurrent.futures have a TimeoutError of their own each, as has
+    Python before 3.11.
+    """
+    timeouts = (TimeoutError, asyncio.TimeoutError, concurrent.futures.TimeoutError, distributed.TimeoutError)
+    return (OSError, RuntimeError, ValueError, EOFError, pickle.UnpicklingError, *timeouts, distributed.CancelledError)
+
+
 class Cluster:
     """A connection with a scheduler. `most` is for how many seconds it waits for a first worker, or for a new one."""
 
@@ -41,25 +56,23 @@ class Cluster:
         self.address, self.most = address, most
         self.name = uuid.uuid4().hex[:12]
         distributed = library()
+        self.faults = faults(distributed)
         try:
             self.client = distributed.Client(address, timeout=most, set_as_default=False)
-        except (OSError, TimeoutError, ValueError, distributed.TimeoutError) as error:
+        except self.faults as error:
             raise ended(CLUSTER, f"no scheduler answers at {address}: {' '.join(str(error).split()) or 'it took too long'}") from error
         self.wait_for_workers()
 
     def close(self) -> None:
-        try:
+        # It may be gone.
+        with contextlib.suppress(*self.faults):
             self.client.close(timeout=2)
-        except Exception:
-            # It is gone.
-            pass
 
     def threads(self) -> int:
         """Returns how many threads the workers have together; none where the scheduler doesn't say."""
-        try:
+        with contextlib.suppress(KeyError, *self.faults):
             return sum(it["nthreads"] for it in self.client.scheduler_info()["workers"].values())
-        except Exception:
-            return 0
+        return 0
 
     def wait_for_workers(self) -> None:
         """Waits until there is a worker."""
@@ -73,7 +86,7 @@ class Cluster:
         """Asks each worker whether it has the same program and sees the folder."""
         try:
             found = self.client.run(tasks.look, program, wanted, room, on_error="return")
-        except Exception as error:
+        except self.faults as error:
             raise ended(CLUSTER, f"the workers can't be asked: {error}") from error
         for worker, said in sorted(found.items()):
             if said:
@@ -115,6 +128,9 @@ class Cluster:
         try:
             return self.client.submit(tasks.run, *arguments, key=key, retries=RETRIES, pure=False)
         except Exception as error:
+            # Where its connection is closed, Dask raises Exception itself.
+            if type(error) is not Exception and not isinstance(error, self.faults):
+                raise
             raise ended(CLUSTER, f"the scheduler at {self.address} takes no run: {error}") from error
 
     def outcome(self, future: Any, job: Job) -> Taken:
@@ -122,7 +138,7 @@ class Cluster:
         if future.status == "finished":
             try:
                 status, err, output, seconds, own = future.result(timeout=self.most)
-            except Exception as error:
+            except self.faults as error:
                 raise ended(CLUSTER, f"{job.name}: its answer can't be fetched: {error}") from error
             if status == "other":
                 raise ended(CLUSTER, f"a worker at {job.name}: {err.decode(errors='replace')}")
