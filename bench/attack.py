@@ -533,7 +533,7 @@ def main():
     if options.write:
         parser.error("there is no table to write")
     if not os.access(options.program, os.X_OK):
-        sys.exit("the program isn't built: run ./build")
+        sys.exit(f"there is no program {options.program}" if options.program != str(PROGRAM) else "the program isn't built: run ./build")
     with tempfile.TemporaryDirectory(prefix="sfq-attack-") as room:
         measures = Measures(options, room, found_programs(os.path.abspath(options.program), pathlib.Path(room)))
         table, counts = Table(["number", "input", "size", "sfq ms", "growth", "best peer, ms", "ratio", "what is seen"]), [0, 0, 0]
