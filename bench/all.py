@@ -37,6 +37,8 @@ from workloads import Measure, Workload, built_programs, commands_in, compare_ou
 runpy.run_path(str(ROOT / "tools" / "paths.py"))
 import repository
 
+# The columns of the peer, which is sqlite3 for the filter and else GEOS: what it takes, and what `sfq` takes of that.
+OF_PEER = ("GEOS or sqlite3", "to the peer")
 PICTURE = ROOT / "docs" / "pictures" / "costs.svg"
 
 
@@ -49,7 +51,7 @@ class Measured(NamedTuple):
     def row(self):
         """The row of README: its largest size, and what `sfq` takes of what the peer and the floor take."""
         size = self.costs["sfq"][-1][0]
-        return [self.workload.named(size), *ratios(self.workload, {who: line[-1][1] for who, line in self.costs.items()})]
+        return [self.workload.named(size), *reversed(ratios(self.workload, {who: line[-1][1] for who, line in self.costs.items()}))]
 
 
 def measured(workload, room, programs, how, table):
@@ -76,12 +78,12 @@ def measured(workload, room, programs, how, table):
 
 def table_of_costs(unit):
     """The table of all workloads at all sizes."""
-    return Table([f"{unit} a row", "sfq", "floor", "ratio", "peer", "ratio", "growth", "sfq MB"])
+    return Table([f"{unit} a row", "sfq", "floor", "to the floor", *OF_PEER, "growth", "sfq MB"], OF_PEER)
 
 
 def table_of_ratios(found):
     """The table of README, of those workloads that it names."""
-    table = Table(["task (more in [bench](bench/README.md))", "fastest peer", "C program"])
+    table = Table(["task (more in [bench](bench/README.md))", "C program", OF_PEER[0]], OF_PEER)
     for it in found:
         if it.workload.named:
             table.add(it.row())

@@ -69,7 +69,7 @@ def folders(room):
 def table_of_times(room, repeats):
     """The table of times beside `sqlite3`."""
     heads = ["`sfq` wall", "`sqlite3` wall", "ratio", "`sfq` processor", "`sqlite3` processor", "ratio", "growth", "`sfq` peak, MB"]
-    table, before = Table(["rows", "CSV, KB", *heads]), None
+    table, before = Table(["rows", "CSV, KB", *heads], ("`sqlite3` wall", "`sqlite3` processor", "ratio")), None
     for rows, folder, size in folders(room):
         ours, theirs = (best(command, folder, repeats) for command in (COMMAND, sqlite_command()))
         if ours[3] != theirs[3]:

@@ -89,7 +89,7 @@ def main():
                     times[:] = [min(old, measure(words(it, what, many), folder)[1]) for old, many in zip(times, (0, TURNS))]
             return [(least[it][1] - least[it][0]) / TURNS * 1e6 for it in engines]
 
-        table = Table(["what", "rows", "found", "`sfq`", "`sqlite3`", "GEOS", "to the best"])
+        table = Table(["what", "rows", "found", "`sfq`", "`sqlite3`", "GEOS", "to the best"], ("`sqlite3`", "GEOS", "to the best"))
         for what in options.what or WHAT:
             count, engines = WHAT[what]
             for size in SIZES:

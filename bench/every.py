@@ -78,6 +78,7 @@ MEASURES = (
     Measure("pair_files.py", TIMES, ("sfq",)),
     Measure("stream.py --repeats 15", TIMES, ("sfq",)),
     Measure("imports.py", TIMES, ("library",)),
+    Measure("attack.py", TIMES, ("sfq",), False),
     Measure("scale.py --repeats 2 --sizes 10000 100000 1000000 10000000", TIMES, ("sfq", "tiles")),
 )
 # Those that want Debian's Python, for its packages.

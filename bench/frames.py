@@ -82,8 +82,8 @@ def main():
     parts.around(_library, "KeptMany", "reading")
     parts.around(sfq.geopandas.Index, "query", "pairs")
     # GeoPandas 1 joins in C; the table of each is one of its own.
-    before = "before 1" if int(geopandas.__version__.split(".")[0]) < 1 else "from 1 on"
-    table = Table([f"join, GeoPandas {before}", "rows", "sfq", "GeoPandas", "ratio", "writing", "reading", "pairs", "the rest"])
+    which = "before GeoPandas 1" if int(geopandas.__version__.split(".")[0]) < 1 else "from GeoPandas 1 on"
+    table = Table([f"join, {which}", "rows", "sfq", "GeoPandas", "ratio", "writing", "reading", "pairs", "the rest"])
     for label, predicate, count, side in CASES:
         cells = [wkt.loads(it) for it in parcels(side)]
         left = [wkt.loads(it) for it in points(count)] if count else cells
@@ -95,7 +95,7 @@ def main():
         seconds = [own[0], theirs[0], own[0] / theirs[0], *of_parts, own[0] - sum(of_parts)]
         table.add([label, f"{count or side * side:,} and {side * side:,}", *(f"{it:.2f}" for it in seconds)])
     if options.write:
-        table.write_into(README)
+        table.write_into(README, is_of_peers=True)
 
 
 if __name__ == "__main__":

@@ -84,7 +84,7 @@ def main():
                     times[:] = [min(old, measure([program, it, many], folder, given)[1]) for old, many in zip(times, (0, turns))]
             return [(times[1] - times[0]) / turns * 1e9 for times in least]
 
-        table = Table(["envelopes", "what", "found", "`sfq`", "GEOS", "ratio"])
+        table = Table(["envelopes", "what", "found", "`sfq`", "GEOS", "ratio"], ("GEOS", "ratio"))
         for name, kind in KINDS:
             for size in SIZES:
                 write_input(given, kind, size)

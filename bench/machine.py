@@ -1,6 +1,7 @@
 """Where and when figures are taken: the machine, its system, the commit and the day."""
 
 import datetime
+import functools
 import os
 import pathlib
 import platform
@@ -11,6 +12,8 @@ ROOT = pathlib.Path(__file__).resolve().parent.parent
 
 # The variable that names the commit to a measure in a folder of peers, which has no git.
 COMMIT = "SFQ_COMMIT"
+# The variable that a command in such a folder has: tools/peer_folder.py sets it.
+INSIDE = "SFQ_IN_PEER_FOLDER"
 # What is called a peer, by Debian's packages.
 PEERS = {
     "libgeos-dev": "GEOS", "sqlite3": "sqlite3", "libsqlite3-mod-spatialite": "SpatiaLite", "libjts-java": "JTS",
@@ -52,14 +55,30 @@ def system():
     return ", ".join(filter(None, [name, f"{platform.system()} {platform.release()} {platform.machine()}"]))
 
 
-def peers():
-    """The peers that are installed by Debian's packages, each with its version."""
+def is_beside_newer():
+    """Whether this runs in a folder of newer peers."""
+    return INSIDE in os.environ
+
+
+@functools.lru_cache
+def versions():
+    """The versions of the peers that are installed by Debian's packages, by their names."""
     try:
         ran = subprocess.run(["dpkg-query", "-W", "-f", "${Package} ${Version}\n", *PEERS], capture_output=True, text=True)
     except OSError:
-        return "unknown"
+        return {}
     found = re.findall(r"^(\S+) (?:\d+:)?([^-+~\s]+)", ran.stdout, re.M)
-    return ", ".join(f"{PEERS[name]} {version}" for name, version in found) or "unknown"
+    return {PEERS[name]: version for name, version in found}
+
+
+def peers():
+    """The peers that are installed by Debian's packages, each with its version."""
+    return ", ".join(f"{name} {version}" for name, version in versions().items()) or "unknown"
+
+
+def versioned(text):
+    """A text in which each peer that is installed has its version behind its name."""
+    return re.sub(rf"\b({'|'.join(PEERS.values())})\b(?! \d)", lambda it: " ".join(filter(None, [it[1], versions().get(it[1])])), text)
 
 
 def said_in(path, pattern):

@@ -91,7 +91,7 @@ def main():
         subprocess.run(["gcc", "-O2", "-o", str(peer), str(PEER), "-lgeos_c"], check=True)
         ours, theirs = [options.program, "pairs", str(file)], [str(peer), str(file)]
         if options.instructions:
-            table = Table(["pairs", "`sfq`, instructions a pair", "GEOS", "ratio"])
+            table = Table(["pairs", "`sfq`, instructions a pair", "GEOS", "ratio"], ("GEOS", "ratio"))
             write_pairs(file, options.instructions)
             counts = [instructions(command, folder) / options.instructions for command in (ours, theirs)]
             table.add([f"{options.instructions:,}", *(f"{it:,.0f}" for it in counts), f"{counts[0] / counts[1]:.2f}"])

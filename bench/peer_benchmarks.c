@@ -17,7 +17,9 @@
  *
  *   sfq           the library, by geometries that it keeps; what it reads it also tests, and `locate` is handed coordinates
  *   geos          GEOS, by geometries
- *   prepared      GEOS, the first ones being prepared; of intersects, contains, covers and locate
+ *   prepared      GEOS, the first ones being prepared; of all that is asked of pairs, of relate from GEOS 3.13 on
+ *
+ * Without words it prints the version of GEOS, and whether it prepares relate, as 1 or 0.
  *
  * A turn is made before those that count, so that what is made once is there. Under valgrind's callgrind with --instr-atstart=no the
  * next one is counted. Then turns are timed, until they took so many nanoseconds of processor. It prints the answers of the last
@@ -31,6 +33,12 @@
 #include <string.h>
 #include <time.h>
 #include <valgrind/callgrind.h>
+
+#if GEOS_VERSION_MAJOR > 3 || GEOS_VERSION_MINOR >= 13
+#define PREPARES_RELATE 1
+#else
+#define PREPARES_RELATE 0
+#endif
 
 /* A text, and what either engine has of it. */
 struct shape {
@@ -59,9 +67,9 @@ static const struct relation RELATIONS[] = {
     {"intersects", SFQ_INTERSECTS, GEOSIntersects_r, GEOSPreparedIntersects_r},
     {"contains", SFQ_CONTAINS, GEOSContains_r, GEOSPreparedContains_r},
     {"covers", SFQ_COVERS, GEOSCovers_r, GEOSPreparedCovers_r},
-    {"touches", SFQ_TOUCHES, GEOSTouches_r, NULL},
-    {"crosses", SFQ_CROSSES, GEOSCrosses_r, NULL},
-    {"overlaps", SFQ_OVERLAPS, GEOSOverlaps_r, NULL},
+    {"touches", SFQ_TOUCHES, GEOSTouches_r, GEOSPreparedTouches_r},
+    {"crosses", SFQ_CROSSES, GEOSCrosses_r, GEOSPreparedCrosses_r},
+    {"overlaps", SFQ_OVERLAPS, GEOSOverlaps_r, GEOSPreparedOverlaps_r},
     /* Of a point, `locate` is this by GEOS. */
     {"locate", SFQ_INTERSECTS, GEOSIntersects_r, GEOSPreparedIntersects_r},
 };
@@ -152,13 +160,25 @@ static void holds_by_prepared(struct shape *first, struct shape *other) {
     answer(relation->holds_prepared(geos, first->prepared, other->geometry) == 1);
 }
 
-static void relate_by_geos(struct shape *first, struct shape *other) {
-    char *matrix = GEOSRelate_r(geos, first->geometry, other->geometry);
+/* Notes a matrix, and frees it. */
+static void note_matrix(char *matrix) {
     need(matrix != NULL, "GEOSRelate");
     memcpy(answers + written, matrix, 9);
     written += 9;
     GEOSFree_r(geos, matrix);
 }
+
+static void relate_by_geos(struct shape *first, struct shape *other) {
+    note_matrix(GEOSRelate_r(geos, first->geometry, other->geometry));
+}
+
+#if PREPARES_RELATE
+static void relate_by_prepared(struct shape *first, struct shape *other) {
+    note_matrix(GEOSPreparedRelate_r(geos, first->prepared, other->geometry));
+}
+#else
+#define relate_by_prepared NULL
+#endif
 
 static void read_again_by_geos(struct shape *first) {
     GEOSGeometry *again = geometry_of(first->text);
@@ -231,7 +251,7 @@ static struct ways ways_of(const char *who, const char *asked) {
     struct ways it = {NULL, NULL, NULL, NULL, NULL};
     for (size_t i = 0; i < sizeof RELATIONS / sizeof *RELATIONS; i++)
         if (strcmp(asked, RELATIONS[i].name) == 0) relation = &RELATIONS[i];
-    if (strcmp(asked, "relate") == 0) it.of_pair = is_sfq ? relate_by_sfq : relate_by_geos;
+    if (strcmp(asked, "relate") == 0) it.of_pair = is_sfq ? relate_by_sfq : is_prepared ? relate_by_prepared : relate_by_geos;
     else if (strcmp(asked, "read") == 0) it.of_first = is_sfq ? read_again_by_sfq : read_again_by_geos;
     else if (strcmp(asked, "test") == 0) it.of_first = is_sfq ? read_again_by_sfq : test_by_geos;
     else if (strcmp(asked, "build") == 0 || strcmp(asked, "search") == 0)
@@ -285,6 +305,7 @@ static void keep(const char *who) {
 }
 
 int main(int number, char **words) {
+    if (number == 1) return printf("%s %d\n", GEOSversion(), PREPARES_RELATE) < 0;
     if (number != 5) return 2;
     int is_build = strcmp(words[2], "build") == 0;
     read_input(words[4]);

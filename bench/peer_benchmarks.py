@@ -19,6 +19,7 @@ tests/test_peer_benchmarks.py.
 """
 
 import argparse
+import functools
 import os
 import pathlib
 import subprocess
@@ -29,13 +30,13 @@ from typing import Callable, NamedTuple
 
 import peer_shapes as shapes
 from peers import build_beside_geos
-from timing import ROOT, Table, counted_shares, figure, marked
+from timing import README, Table, counted_shares, figure, marked, read_options
 
-# Who is asked, by the words of the program.
+# Who is asked, by the words of the program. Of relate GEOS's prepared geometries are asked where its version has the call.
 ALL, UNPREPARED = ("sfq", "geos", "prepared"), ("sfq", "geos")
 ASKED = {
-    "intersects": ALL, "contains": ALL, "covers": ALL, "locate": ("sfq", "prepared"), "touches": UNPREPARED, "crosses": UNPREPARED,
-    "relate": UNPREPARED, "read": UNPREPARED, "test": UNPREPARED, "build": UNPREPARED, "search": UNPREPARED,
+    "intersects": ALL, "contains": ALL, "covers": ALL, "locate": ("sfq", "prepared"), "touches": ALL, "crosses": ALL,
+    "relate": ALL, "read": UNPREPARED, "test": UNPREPARED, "build": UNPREPARED, "search": UNPREPARED,
 }
 POSITIONS = (10, 100, 1_000, 10_000)
 ENVELOPES = (1_000, 10_000, 100_000)
@@ -123,9 +124,20 @@ def said(row, program, who, nanoseconds=0):
     return answers, float(least)
 
 
+@functools.lru_cache
+def prepares_relate(program):
+    """Whether GEOS has relate of prepared geometries, as the program says that was compiled with it."""
+    return subprocess.run([program], stdout=subprocess.PIPE, text=True).stdout.split()[-1:] == ["1"]
+
+
+def engines_of(row, program):
+    """Who is asked in a row."""
+    return UNPREPARED if row.asked == "relate" and not prepares_relate(program) else ASKED[row.asked]
+
+
 def check(row, program):
     """Ends the program where the answers of one engine differ from those of another."""
-    found = {who: said(row, program, who)[0] for who in ASKED[row.asked]}
+    found = {who: said(row, program, who)[0] for who in engines_of(row, program)}
     for who, answers in found.items():
         if answers != found["sfq"]:
             sys.exit(f"{row.name}: sfq and {who} differ: {found['sfq']} and {answers}")
@@ -134,7 +146,7 @@ def check(row, program):
 def counted(row, program):
     """The instructions of a turn by each engine."""
     found, room = {}, row.folder / row.asked
-    for who in reversed(ASKED[row.asked]):
+    for who in reversed(engines_of(row, program)):
         (room / who).mkdir(parents=True)
         found[who] = marked(row.command(program, who), room / who)
     return Measured(found, counted_shares(room / "sfq"))
@@ -142,7 +154,7 @@ def counted(row, program):
 
 def timed(row, program):
     """The nanoseconds of a turn by each engine."""
-    rounds = [{who: said(row, program, who, NANOSECONDS)[1] for who in ASKED[row.asked]} for _ in range(ROUNDS)]
+    rounds = [{who: said(row, program, who, NANOSECONDS)[1] for who in engines_of(row, program)} for _ in range(ROUNDS)]
     return {who: min(it[who] for it in rounds) for who in rounds[0]}
 
 
@@ -163,23 +175,20 @@ def options_of():
     parser.add_argument("--only", default="", help="the shapes whose name has this word")
     parser.add_argument("--largest", type=int, default=4, help="how many sizes of each (4)")
     parser.add_argument("--profile", action="store_true", help="where the instructions go of what takes more than GEOS")
-    parser.add_argument("--write", action="store_true", help="write the table into bench/README.md")
-    options = parser.parse_args()
-    if options.write and (options.only or options.largest < 4):
-        parser.error("--write needs all shapes and sizes")
-    return options
+    parser.add_argument("--jobs", type=int, default=os.cpu_count(), help="how many counts at once (as many as processors)")
+    return read_options(parser, ("only", "largest"))
 
 
 def main():
     options = options_of()
-    with tempfile.TemporaryDirectory() as name, ThreadPoolExecutor(os.cpu_count()) as pool:
+    with tempfile.TemporaryDirectory() as name, ThreadPoolExecutor(options.jobs) as pool:
         room = pathlib.Path(name)
         program = build_beside_geos("peer_benchmarks", room)
         rows = rows_of([it for it in CASES if options.only in it.label], room, options.largest)
         list(pool.map(lambda it: check(it[0], program), rows))
         counts = list(pool.map(lambda it: counted(it[0], program), rows))
         units = ["sfq", "GEOS", "prepared", "ratio"]
-        table = Table(["shapes", "size", "asked", *units, *(f"{it}, ns" for it in units[:3]), "ratio"])
+        table = Table(["shapes", "size", "asked", *units, *(f"{it}, ns" for it in units)], units[1:])
         for (row, calls), found in zip(rows, counts):
             times = timed(row, program)
             table.add([row.case.label, f"{row.size:,}", row.asked, *columns_of(found.instructions, calls), *columns_of(times, calls)])
@@ -187,7 +196,7 @@ def main():
                 behind = ", ".join(f"`{who}` {share:.0f}" for who, share in found.shares[:8])
                 print(f"{row.name}: of 100 instructions {behind}", file=sys.stderr, flush=True)
     if options.write:
-        table.write_into(ROOT / "bench" / "README.md")
+        table.write_into(README)
 
 
 if __name__ == "__main__":

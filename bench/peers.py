@@ -90,9 +90,10 @@ def add_options(parser):
 def table_of_rows(title, options, ours="sfq"):
     """The table whose rows a comparison adds, with what is asked for of our program, which is named."""
     if options.instructions:
-        return Table([title, f"{ours}, millions", "GEOS, millions", "ratio", "growth"])
+        peers = ["GEOS, millions", "ratio"]
+        return Table([title, f"{ours}, millions", *peers, "growth"], peers)
     peers = ["SpatiaLite ms", "ratio", "GEOS ms", "ratio", "to the best"]
-    return Table([title, f"{ours} ms", *peers, "growth", f"{ours}, SpatiaLite, GEOS MB"])
+    return Table([title, f"{ours} ms", *peers, "growth", f"{ours}, SpatiaLite, GEOS MB"], peers)
 
 
 class Comparison:

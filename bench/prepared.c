@@ -15,7 +15,7 @@
  *   meet            sfq_holds of intersects
  *   relate          sfq_relate
  *   geos_meet       GEOSPreparedIntersects_r
- *   geos_relate     GEOSRelate_r
+ *   geos_relate     GEOSPreparedRelate_r, before GEOS 3.13 GEOSRelate_r
  *
  * Everything is read, tested and kept once, then all positions are asked for TIMES times. It prints how many of them the call
  * holds of.
@@ -64,7 +64,11 @@ static int two_by_geos(const char *how, long times, const char *one, const char 
             holds = GEOSPreparedIntersects_r(geos, kept, second);
         } else {
             if (matrix != NULL) GEOSFree_r(geos, matrix);
+#if GEOS_VERSION_MAJOR > 3 || GEOS_VERSION_MINOR >= 13
+            matrix = GEOSPreparedRelate_r(geos, kept, second);
+#else
             matrix = GEOSRelate_r(geos, first, second);
+#endif
         }
     }
     printf("%d %s\n", holds, matrix != NULL ? matrix : "");

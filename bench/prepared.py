@@ -72,13 +72,13 @@ def main():
             table.add([*what, f"{size:,}", *map(figure, taken), f"{taken[0] / taken[1]:.2g}"])
 
         columns = ["positions", "`sfq`", "GEOS", "ratio"]
-        points = Table(["asked", *columns])
+        points = Table(["asked", *columns], columns[2:])
         for what, ours, theirs in ASKED:
             for size in SIZES:
                 write_input(given, size)
                 compare(points, [what], size, (ours, theirs), POINTS, 300)
         print()
-        stars = Table(["stars", "asked", *columns])
+        stars = Table(["stars", "asked", *columns], columns[2:])
         for what, by in MOVED:
             for how, asked in ("meet", "intersects"), ("relate", "relate"):
                 for size in SIZES:

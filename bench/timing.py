@@ -156,9 +156,15 @@ def rule_under(heads):
 
 
 class Table:
-    """A Markdown table that is printed row by row, and can be written into a document."""
+    """A Markdown table that is printed row by row, and can be written into a document.
 
-    def __init__(self, heads):
+    A head that names peers, such as `GEOS`, is shown with their versions. The heads in `peers` are those of the columns that depend on
+    which peers there are. Beside newer peers only these are written, behind the columns of the table that is there.
+    """
+
+    def __init__(self, heads, peers=()):
+        heads = [machine.versioned(it) for it in heads]
+        self.peers = [at for at, it in enumerate(heads) if without_versions(it) in peers]
         self.lines = [line_of(heads), rule_under(heads)]
         print_heads(heads)
 
@@ -167,36 +173,105 @@ class Table:
         self.lines.append(line_of(columns))
         print_columns(columns)
 
-    def write_into(self, path):
-        """Writes the table in place of the one of a document that has the same heads, in bench/README.md below the day and the commit."""
-        stamp = f"<!-- {machine.day()}, commit {machine.commit()} -->" if path == README else None
-        write_whole(path, with_table(path.read_text(), self.lines, stamp))
+    def write_into(self, path, is_of_peers=False):
+        """Writes the table in place of the one of a document that has the same heads, in bench/README.md below the day and the commit.
+
+        `is_of_peers` says that the heads say which peers it is of, so that newer ones have a table of their own.
+        """
+        text, said = path.read_text(), f"{machine.day()}, commit {machine.commit()}"
+        if machine.is_beside_newer() and not self.peers and not is_of_peers:
+            sys.exit("this table has no columns of newer peers, so it isn't written")
+        if not machine.is_beside_newer() or is_of_peers:
+            write_whole(path, with_table(text, self.lines, f"<!-- {said} -->" if path == README else None))
+        else:
+            write_whole(path, with_newer(text, self.lines, self.peers, f"<!-- newer peers: {said} -->" if path == README else None))
 
 
-# What is above a table of bench/README.md: the day and the commit of its figures.
+# What is above a table of bench/README.md: the day and the commit of its figures, and above that those of newer peers.
 STAMP = re.compile(r"<!-- (\d{4}-\d\d-\d\d), commit (.+) -->")
+NEWER = re.compile(r"<!-- newer peers: (\d{4}-\d\d-\d\d), commit (.+) -->")
+
+
+def without_versions(line):
+    """A line in which peers are named without their versions."""
+    return re.sub(rf"\b({'|'.join(machine.PEERS.values())}) \d[\w.]*", r"\1", line)
+
+
+def cells_of(line):
+    """The columns of a line of a Markdown table."""
+    return [it.strip() for it in line.strip().strip("|").split("|")]
+
+
+def found_table(lines, heads):
+    """Where the table of a document begins and ends that has these heads, whatever versions they name, perhaps with more behind them."""
+    wanted = cells_of(without_versions(heads))
+    known = {at: cells_of(without_versions(line)) for at, line in enumerate(lines) if line.startswith("|") and lines[at - 1][:1] != "|"}
+    found = [at for at, it in known.items() if it == wanted] or [at for at, it in known.items() if it[: len(wanted)] == wanted]
+    if not found:
+        sys.exit(f"no table begins with {heads}")
+    return found[0], next((at for at in range(found[0], len(lines)) if not lines[at].startswith("|")), len(lines))
+
+
+def labels_of(table):
+    """How many columns of a table say what a row is: those before the first that names sfq, at least one."""
+    return max(1, next((at for at, it in enumerate(cells_of(table[0])) if "sfq" in it), 1))
+
+
+def rows_by_label(table, count):
+    """The columns of the heads and the rows of a table, given as lines, by what the row is."""
+    heads, _, *rows = map(cells_of, table)
+    return {"": heads, **{tuple(it[:count]): it for it in rows}}
+
+
+def joined(table, further):
+    """The lines of a table with further columns behind its rows; further rows have what there is of each by its label."""
+    count = labels_of(table)
+    behind = rows_by_label(further[0], count) if further[0] else {}
+    lines = []
+    for at, line in enumerate(table):
+        cells = cells_of(line)
+        if at == 1:
+            lines.append(rule_under([*cells, *further[1]]))
+        else:
+            of_row = behind.get("" if at == 0 else tuple(cells[:count]))
+            lines.append(line_of([*cells, *([of_row[it] for it in further[1]] if of_row else [""] * len(further[1]))]))
+    return lines
 
 
 def with_table(text, table, stamp=None):
     """A document's text in which a table, given as lines, is in place of the one with the same heads, below a stamp, if there is one,
-    in place of the one above that."""
+    in place of the one above that. Further columns that are there, of newer peers, stay."""
     lines = text.split("\n")
-    if table[0] not in lines:
-        sys.exit(f"no table begins with {table[0]}")
-    start = end = lines.index(table[0])
-    while lines[end].startswith("|"):
-        end += 1
+    start, end = found_table(lines, table[0])
+    own = len(cells_of(table[0]))
+    table = joined(table, (lines[start:end], range(own, len(cells_of(lines[start])))))
     if stamp:
         table = [stamp, *table]
         start -= bool(STAMP.fullmatch(lines[start - 1]))
     return "\n".join(lines[:start] + table + lines[end:])
 
 
+def with_newer(text, table, columns, stamp=None):
+    """A document's text in which some columns of a table, given as lines, are behind those of the table that is there with its heads, in
+    place of others; above it is a stamp, if there is one, in place of the one there."""
+    lines = text.split("\n")
+    start, end = found_table(lines, table[0])
+    own = len(cells_of(table[0]))
+    there = [line_of(cells_of(it)[:own]) for it in lines[start:end]]
+    table = joined(there, (table, columns))
+    first = start - bool(STAMP.fullmatch(lines[start - 1]))
+    above = lines[first:start]
+    if stamp:
+        above = [stamp, *above]
+        first -= bool(NEWER.fullmatch(lines[first - 1]))
+    return "\n".join(lines[:first] + above + table + lines[end:])
+
+
 def enter_folder(folder):
     """Runs this program in a folder of peers in place of here; there it names them."""
     import peer_folder
 
-    if peer_folder.INSIDE in os.environ:
+    if machine.is_beside_newer():
         print(f"Peers: {machine.peers()}\n", flush=True)
         return
     lacking = peer_folder.lacking_to_run(folder)
@@ -213,8 +288,6 @@ def read_options(parser, parts=()):
     parser.add_argument("--write", action="store_true", help="write the tables into bench/README.md")
     parser.add_argument("--peers", metavar="DIR", help="run in a folder that tools/peer_folder.py made, beside its peers")
     options = parser.parse_args()
-    if options.peers and options.write:
-        parser.error("--write is for this machine's peers: leave '--peers' out")
     if options.peers:
         enter_folder(options.peers)
     for it in parts:

@@ -34,8 +34,9 @@ python3 -B -m sfq_audit.engines postgis "host=$room user=postgres dbname=postgre
 # How each engine of the folder is asked for matrices. JTS's `relate` has an older method and RelateNG.
 OF_GEOS = {"shapely": [*PYTHON, "shapely", "", "matrix"], "SpatiaLite": [*PYTHON, "spatialite", "", "matrix"], "PostGIS": ["sh", "-c", POSTGIS]}
 NEW, OLD = ["java", "-Djts.relate=ng", *JAVA], ["java", "-Djts.relate=old", *JAVA]
-# The pairs of the second table that JTS 1.20's older method has right.
-RIGHT_BY_OLD = {"2", "3", "4", "5", "9", "11"}
+# The pairs of the first table that JTS 1.20 has right by RelateNG, and those of both that it has right by its older method.
+RIGHT_BY_NEW = {"4", "5"}
+RIGHT_BY_OLD = {"3", "4", "5", "6", "7", "11", "13"}
 
 
 class Today(unittest.TestCase):
@@ -72,8 +73,7 @@ class Today(unittest.TestCase):
                 self.compare(*self.ask(words), [it.newer[0] for it in self.rows])
 
     def test_jts_by_relate_ng(self):
-        # The third pair is right.
-        self.compare(*self.ask(NEW), [it.ours[0] if it.number == "3" else it.newer[0] for it in self.rows])
+        self.compare(*self.ask(NEW), [it.ours[0] if it.number in RIGHT_BY_NEW else it.newer[0] for it in self.rows])
 
     def test_jts_by_its_older_method(self):
         self.compare(*self.ask(OLD), [it.ours[0] if it.number in RIGHT_BY_OLD else it.older[0] for it in self.rows])

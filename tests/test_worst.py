@@ -1,10 +1,15 @@
 """Bad inputs at small sizes: the instructions that they take don't grow faster than they did."""
+import contextlib
+import io
+import os
 import tempfile
 import unittest
 from concurrent.futures import ThreadPoolExecutor
+from unittest import mock
 
 from support import needs, needs_build
 
+import machine
 import proving
 import repository
 import timing
@@ -85,6 +90,37 @@ class Tables(unittest.TestCase):
         before = "text\n\n| input | n |\n|---|---|\n| old | 1 |\n| older | 1 |\n\n| input |\n|---|\n"
         after = "text\n\n| input | n |\n|---|---|\n| new | 2 |\n\n| input |\n|---|\n"
         self.assertEqual(timing.with_table(before, self.TABLE), after)
+
+    # The table of a document, and one that was taken beside newer peers, whose columns 2 and 3 are theirs.
+    OWN = "<!-- 2026-01-02, commit 12345678 -->\n| input | sfq | GEOS 3.11.1 | ratio | growth |\n|---|---|---|---|---|\n| a, 1 | 2 | 4 | 0.5 | 1.0 |\n| b | 3 | 3 | 1 | |\n"
+    NEWER = ["| input | sfq | GEOS 3.15.0 | ratio | growth |", "|---|---|---|---|---|", "| a, 1 | 2 | 8 | 0.25 | 1.0 |"]
+    BOTH = ("<!-- newer peers: 2026-01-03, commit 9 -->\n<!-- 2026-01-02, commit 12345678 -->\n| input | sfq | GEOS 3.11.1 | ratio | growth | GEOS 3.15.0 | ratio |\n"
+            "|---|---|---|---|---|---|---|\n| a, 1 | 2 | 4 | 0.5 | 1.0 | 8 | 0.25 |\n| b | 3 | 3 | 1 |  |  |  |\n")
+
+    def test_columns_of_newer_peers_are_behind_the_others(self):
+        stamp = "<!-- newer peers: 2026-01-03, commit 9 -->"
+        found = timing.with_newer(self.OWN, self.NEWER, [2, 3], stamp)
+        self.assertEqual(found, self.BOTH)
+        self.assertEqual(timing.with_newer(found, self.NEWER, [2, 3], stamp), found)
+
+    def test_they_stay_where_the_table_is_taken_again(self):
+        again = ["| input | sfq | GEOS 3.11.1 | ratio | growth |", "|---|---|---|---|---|", "| a, 1 | 1 | 4 | 0.25 | 1.0 |", "| c | 1 | 1 | 1 | |"]
+        found = timing.with_table(self.BOTH, again, "<!-- 2026-01-04, commit 10 -->")
+        self.assertEqual(found, self.BOTH.replace("2026-01-02, commit 12345678", "2026-01-04, commit 10").replace("| 2 | 4 | 0.5 |", "| 1 | 4 | 0.25 |")
+                         .replace("| b | 3 | 3 | 1 |", "| c | 1 | 1 | 1 |"))
+
+    def test_a_table_without_columns_of_peers_is_not_written_beside_newer_ones(self):
+        with mock.patch.dict(os.environ, {machine.INSIDE: "/folder"}), contextlib.redirect_stdout(io.StringIO()):
+            table = timing.Table(["input", "n"])
+            with self.assertRaisesRegex(SystemExit, "no columns of newer peers"):
+                table.write_into(timing.README)
+
+    def test_heads_name_versions(self):
+        with mock.patch.object(machine, "versions", return_value={"GEOS": "3.15.0", "sqlite3": "3.53.4"}):
+            for text, versioned in (("GEOS or sqlite3", "GEOS 3.15.0 or sqlite3 3.53.4"), ("`sqlite3` wall", "`sqlite3 3.53.4` wall"), ("JTS µs", "JTS µs"),
+                                    ("before GeoPandas 1", "before GeoPandas 1")):
+                self.assertEqual(machine.versioned(text), versioned)
+                self.assertEqual(timing.without_versions(versioned), text.replace(" GeoPandas 1", " GeoPandas"))
 
     def test_functions_have_short_names(self):
         for path, name in (

@@ -14,7 +14,8 @@ import org.locationtech.jts.io.WKTReader;
  * Answers pairs of geometries by JTS: a line has two well-known texts with a tab between them, its answer is a line.
  *
  * <p>The first word says what is asked: matrix, predicates or validity. The first line says which JTS it is. An empty line ends
- * a batch, behind which the answers are written; each at once where there is a second word.
+ * a batch, behind which the answers are written; each at once where there is a second word. With `-Djts.relate=ng` JTS relates by
+ * RelateNG, else by its older method.
  */
 public final class AskJts {
     private static final WKTReader READER = new WKTReader();
@@ -24,7 +25,13 @@ public final class AskJts {
     /** Reads pairs up to the end of standard input. */
     public static void main(String[] words) throws IOException {
         PrintStream out = new PrintStream(new BufferedOutputStream(new FileOutputStream(FileDescriptor.out), 1 << 16), false, "UTF-8");
-        out.println("JTS " + JTSVersion.CURRENT_VERSION);
+        boolean isNew = "ng".equalsIgnoreCase(System.getProperty("jts.relate"));
+        if (isNew && !hasRelateNg()) {
+            out.println("! JTS 1.20 or later, which has RelateNG");
+            out.close();
+            System.exit(1);
+        }
+        out.println("JTS " + JTSVersion.CURRENT_VERSION + (isNew ? ", RelateNG" : ""));
         out.flush();
         BufferedReader lines = new BufferedReader(new InputStreamReader(System.in, StandardCharsets.UTF_8));
         for (String line = lines.readLine(); line != null; line = lines.readLine()) {
@@ -34,6 +41,16 @@ public final class AskJts {
             if (line.isEmpty() || words.length > 1) {
                 out.flush();
             }
+        }
+    }
+
+    /** Whether this JTS has its new way to relate. */
+    private static boolean hasRelateNg() {
+        try {
+            Class.forName("org.locationtech.jts.operation.relateng.RelateNG");
+            return true;
+        } catch (ClassNotFoundException error) {
+            return false;
         }
     }
 

@@ -16,7 +16,7 @@ from sfq import _checking
 from sfq._endings import Stopped
 from sfq._faults import LibraryError
 
-from .engines import AT_ONCE, ENGINES, Lacking, Two, jts_words, listed
+from .engines import AT_ONCE, ENGINES, JTS, JTS_NG, Lacking, Two, jts_words, listed
 
 # The status where sfq or an engine isn't there, or fails.
 LACKING = 8
@@ -131,8 +131,8 @@ class Engine:
     def words_of(self) -> list[str]:
         if self.name == "command":
             return shlex.split(self.of)
-        if self.name == "jts":
-            return [*jts_words(), self.ask]
+        if self.name in (JTS, JTS_NG):
+            return [*jts_words(self.name), self.ask]
         return [sys.executable, "-B", "-m", f"{__package__}.engines", self.name, self.of, self.ask]
 
     def asked_version(self) -> str:

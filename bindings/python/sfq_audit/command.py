@@ -93,7 +93,8 @@ def add_sources(parser: argparse.ArgumentParser) -> None:
     add("file", metavar="FILE", nargs="?", help="a CSV file of pairs, without a header; - for standard input")
     add("--random", type=whole(1), metavar="N", help="make so many pairs")
     add("--seed", type=int, default=1, metavar="S", help="what the pairs are made from (1)")
-    add("--family", choices=tuple(families.FAMILIES), action="append", default=[], help="make pairs of this family, several in turn (all)")
+    add("--family", choices=tuple(families.ALL_FAMILIES), action="append", default=[],
+        help=f"make pairs of this family, several in turn (all but {', '.join(families.NAMED_ALONE)})")
     add("--scale", type=whole(1, families.MOST), metavar="N", help="stretch made pairs by up to so much (by several scales)")
     add("--sql", nargs=2, metavar=("DATABASE", "QUERY"), help="take the pairs of a query of two columns of well-known text, of a file of SQLite, or of "
         "PostgreSQL by postgresql://..")

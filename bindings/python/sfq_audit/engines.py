@@ -26,6 +26,8 @@ from .predicates import NAMES as PREDICATES
 MATRIX, VALIDITY, OF_PREDICATES = "matrix", "validity", "predicates"
 ASKS = (MATRIX, OF_PREDICATES, VALIDITY)
 AT_ONCE = "at-once"
+# JTS by the method that its `relate` uses, and by the new one.
+JTS, JTS_NG = "jts", "jts-ng"
 TRUTHS = {True: "1", False: "0", 1: "1", 0: "0"}
 Two = tuple[str, str]
 
@@ -182,7 +184,8 @@ ENGINES = {
     "postgis": Engine(Postgis, ASKS, "DSN", False),
     "spatialite": Engine(Spatialite, ASKS),
     "gdal": Engine(Gdal, (OF_PREDICATES, VALIDITY)),
-    "jts": Engine(None, ASKS),
+    JTS: Engine(None, ASKS),
+    JTS_NG: Engine(None, ASKS),
     "command": Engine(None, ASKS, "CMD", False),
 }
 
@@ -192,14 +195,14 @@ def listed() -> str:
     return ", ".join(f"{name}:{it.takes}" if it.takes else name for name, it in ENGINES.items())
 
 
-def jts_words() -> list[str]:
+def jts_words(name: str = JTS) -> list[str]:
     """Returns the words that run the class over JTS, which Java compiles as it begins. Lacking where something isn't installed."""
     jars = sorted(glob.glob("/usr/share/java/jts-core.jar") + glob.glob("/usr/share/java/jts.jar"))
     if not jars:
         raise Lacking("JTS: Debian's libjts-java has it")
     if not shutil.which("javac"):
         raise Lacking("a Java that compiles: Debian's default-jdk-headless has it")
-    return ["java", "-cp", jars[0], f"{os.path.dirname(os.path.abspath(__file__))}/AskJts.java"]
+    return ["java", f"-Djts.relate={'ng' if name == JTS_NG else 'old'}", "-cp", jars[0], f"{os.path.dirname(os.path.abspath(__file__))}/AskJts.java"]
 
 
 def serve(words: Sequence[str], lines: TextIO, out: TextIO) -> int:

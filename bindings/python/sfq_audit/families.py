@@ -460,6 +460,107 @@ def any_shapes(dice: Dice) -> Two:
     return draw(dice, WORDS[below(dice, 6)]), draw(dice, WORDS[below(dice, 6)])
 
 
+# ---- families that are drawn by name alone ----
+
+# Into how many parts of whole steps an edge of their lines can be cut.
+STEPS = (1, 2, 2, 3)
+
+
+def crossing_lines(dice: Dice) -> tuple[list[Line], int]:
+    """Returns lines that cross themselves or one another, and into how many whole steps each of their edges can be cut."""
+    wide, steps = 3 + below(dice, 4), pick(dice, STEPS)
+    known = [(steps * x, steps * y) for x, y in spots(dice, 5, wide)]
+    found = [line_of(dice, known, 5)] if dice.random() < 0.6 else [line_of(dice, known, 2) for _ in range(2 + below(dice, 2))]
+    return [it for it in found if len(it) > 1] or [[(0, 0), (steps, 0)]], steps
+
+
+def cut_edges(dice: Dice, line: Line, steps: int, share: float) -> Line:
+    """Returns a line with a share of the positions at whole steps along its edges as vertices."""
+    found = line[:1]
+    for (x, y), (u, v) in zip(line, line[1:]):
+        found += [(x + at * (u - x) // steps, y + at * (v - y) // steps) for at in range(1, steps) if dice.random() < share]
+        found.append((u, v))
+    return found
+
+
+def piece_of(dice: Dice, line: Line) -> Line:
+    """Returns a part of a line from one of its vertices to a later one, at times the other way round."""
+    first, last = sorted(some(dice, range(len(line)), 2))
+    found = line[first : last + 1]
+    return found if dice.random() < 0.5 else found[::-1]
+
+
+def of_lines(lines: list[Line]) -> Shape:
+    """Returns the shape of some lines."""
+    return Shape(LINESTRING, [lines]) if len(lines) == 1 else Shape(MULTILINESTRING, [[it] for it in lines])
+
+
+def more_vertices(dice: Dice) -> Two:
+    """Lines that cross themselves, and the same with more vertices on their edges, whole or cut into several."""
+    lines, steps = crossing_lines(dice)
+    found: list[Line] = []
+    for it in lines:
+        it = cut_edges(dice, it, steps, 0.6)
+        at = 1 + below(dice, len(it) - 2) if len(it) > 2 and dice.random() < 0.4 else 0
+        found += [it[: at + 1], it[at:]] if at else [it]
+    return of_lines(lines), of_lines([it[::-1] if dice.random() < 0.3 else it for it in some(dice, found, len(found))])
+
+
+def parts_of_lines(dice: Dice) -> Two:
+    """Lines that cross themselves, and parts of them, whose ends lie within their edges."""
+    lines, steps = crossing_lines(dice)
+    cut = [cut_edges(dice, it, steps, 1) for it in lines]
+    found = [piece_of(dice, pick(dice, cut)) for _ in range(1 + below(dice, 2))]
+    if dice.random() < 0.2:
+        found.append(spots(dice, 2, 4))
+    both = of_lines(lines), of_lines([it for it in found if it[0] != it[-1] or len(it) > 2] or lines)
+    return both if dice.random() < 0.5 else both[::-1]
+
+
+def lines_along_rings(dice: Dice) -> Two:
+    """An area, and a line that goes along its ring and crosses itself or the ring on the way; the ring may have more vertices."""
+    wide, steps = 3 + below(dice, 4), pick(dice, STEPS)
+    known = [(steps * x, steps * y) for x, y in spots(dice, 5, wide)]
+    ring = ring_of(dice, known) or closed([(0, 0), (steps, 0), (0, steps)])
+    along = piece_of(dice, cut_edges(dice, ring, steps, 0.5))
+    before, after = ([pick(dice, known) for _ in range(below(dice, 3))] for _ in range(2))
+    line = [*before, *along, *after]
+    line = [p for at, p in enumerate(line) if not at or p != line[at - 1]]
+    area = Shape(POLYGON, [[turned(dice, cut_edges(dice, ring, steps, 0.3))]])
+    if dice.random() < 0.25:
+        more = [(x + steps * wide, y) for x, y in ring]
+        area = Shape(MULTIPOLYGON, [*area.elements, [turned(dice, more)]])
+    both = area, of_lines([line] if dice.random() < 0.7 else [line, line_of(dice, known, 3)])
+    return both if dice.random() < 0.5 else both[::-1]
+
+
+def areas_along_areas(dice: Dice) -> Two:
+    """Two areas whose edges lie on one another in part, with more vertices on them, and cross elsewhere."""
+    wide, steps = 3 + below(dice, 4), pick(dice, STEPS)
+    known = [(steps * x, steps * y) for x, y in spots(dice, 6, wide)]
+    ring = ring_of(dice, known) or closed([(0, 0), (steps, 0), (0, steps)])
+    vertices = cut_edges(dice, ring, steps, 1)
+    other = ring_of(dice, [*some(dice, vertices, 4), pick(dice, known)]) or ring
+    first, second = (Shape(POLYGON, [[turned(dice, cut_edges(dice, it, steps, 0.3))]]) for it in (ring, other))
+    if dice.random() < 0.4:
+        more = [(x + steps * wide, y) for x, y in other]
+        second = Shape(MULTIPOLYGON, [*second.elements, [turned(dice, more)]])
+    return first, second
+
+
+def some_ends(dice: Dice) -> Two:
+    """Lines that meet at ends, and points or lines at some ends of these, but not at all: boundaries less points."""
+    wide = 2 + below(dice, 2)
+    known = spots(dice, 4, wide)
+    first = of_lines([it for it in (line_of(dice, known, 3) for _ in range(1 + below(dice, 3))) if len(it) > 1] or [[(0, 0), (1, 1)]])
+    ends = [p for it in first.lines for p in (it[0], it[-1])]
+    if dice.random() < 0.5:
+        second = Shape(MULTIPOINT, [[[p]] for p in some(dice, ends, 1 + below(dice, 2))])
+    else:
+        second = of_lines([it for it in (line_of(dice, [*ends, spot(dice, wide)], 3) for _ in range(1 + below(dice, 2))) if len(it) > 1] or first.lines)
+    return (first, second) if dice.random() < 0.5 else (second, first)
+
+
 # ---- pairs ----
 
 FAMILIES: dict[str, Callable[[Dice], Two]] = {
@@ -476,11 +577,20 @@ FAMILIES: dict[str, Callable[[Dice], Two]] = {
     "touching": touching_elements,
     "slivers": slivers,
 }
+# Those that are drawn only where they are named, so that a number of pairs of all families stays what it was.
+NAMED_ALONE: dict[str, Callable[[Dice], Two]] = {
+    "vertices": more_vertices,
+    "parts": parts_of_lines,
+    "rings": lines_along_rings,
+    "borders": areas_along_areas,
+    "boundaries": some_ends,
+}
+ALL_FAMILIES = {**FAMILIES, **NAMED_ALONE}
 
 
 def meaning(name: str) -> str:
     """Returns what the pairs of a family are."""
-    return (FAMILIES[name].__doc__ or "").strip()
+    return (ALL_FAMILIES[name].__doc__ or "").strip()
 
 
 def stretched(dice: Dice, two: Two, scale: int) -> Two:
@@ -504,7 +614,7 @@ def stretched(dice: Dice, two: Two, scale: int) -> Two:
 
 def drawn(name: str, seed: object, scale: Optional[int] = None) -> Iterator[tuple[str, str]]:
     """Yields pairs of well-known texts of a family without end, the same for a name, a seed and a scale."""
-    dice, family = random.Random(f"{seed} {name}"), FAMILIES[name]
+    dice, family = random.Random(f"{seed} {name}"), ALL_FAMILIES[name]
     while True:
         two, most = family(dice), pick(dice, SCALES) if scale is None else scale
         if most > 1:
@@ -513,7 +623,7 @@ def drawn(name: str, seed: object, scale: Optional[int] = None) -> Iterator[tupl
 
 
 def pairs(count: int, seed: object, names: Sequence[str] = (), scale: Optional[int] = None) -> Iterator[Pair]:
-    """Yields so many pairs, of the named families in turn, or of all. KeyError for an unknown name."""
+    """Yields so many pairs, of the named families in turn, or of all that aren't drawn by name alone. KeyError for an unknown name."""
     known = list(names or FAMILIES)
     makers = [drawn(name, seed, scale) for name in known]
     for number, (name, maker) in zip(range(count), itertools.cycle(zip(known, makers))):
