@@ -16,6 +16,36 @@ import wrong_cases
 
 SWITCH = "--why"
 COMMANDS = ("run", "relate", "why", "pairs", "check")
+# What can come at a place of a query, by the phrase that says so.
+COMING = {
+    "SELECT": ["SELECT"],
+    "a column, * or COUNT(*)": ["id", "*", "COUNT(*)"],
+    "a column": ["id"],
+    "a comma or FROM": [",", "FROM"],
+    "FROM and a table": ["FROM parcel"],
+    "a column's name": ["id"],
+    "a table's name": ["parcel"],
+    "an alias": ["q"],
+    "JOIN": ["JOIN"],
+    "a comma, JOIN, WHERE or LIMIT": [",", "JOIN", "WHERE", "LIMIT"],
+    "WHERE or LIMIT": ["WHERE", "LIMIT"],
+    "ON and a condition": ["ON id = 1"],
+    "a condition": ["id = 1"],
+    "a comparison or IS NULL": ["= 1", "IS NULL"],
+    "a value": ["3"],
+    "digits": ["3"],
+    "NULL or NOT NULL": ["NULL", "NOT NULL"],
+    "NULL": ["NULL"],
+    "1 or 0": ["1", "0"],
+    "AND, OR, WHERE or LIMIT": ["AND", "OR", "WHERE", "LIMIT"],
+    "AND, OR or LIMIT": ["AND", "OR", "LIMIT"],
+    "AND, OR or )": ["AND", "OR", ")"],
+    "a column or ST_GeomFromText": ["geom", "ST_GeomFromText('POINT(1 1)')"],
+    "a comma": [","],
+    "a text in single quotes": ["'POINT(1 1)'"],
+    "a number": ["5"],
+    "the query's end": [],
+}
 
 
 @functools.lru_cache(maxsize=None)
@@ -35,6 +65,11 @@ def played():
     return list(zip(cases, first, second, folders)), can
 
 
+def source(name):
+    """Returns the text of a module of the crate that says the sentences."""
+    return read(f"{ROOT}/crates/explanations/src/{name}.rt")
+
+
 class Cases(unittest.TestCase):
     """What the files say, without the program."""
 
@@ -50,11 +85,23 @@ class Cases(unittest.TestCase):
         cases = wrong_cases.all_cases()
         texts = [it.decode(errors="replace") for case in cases for it in case.files.values() if it]
         asked = "\n".join([*(it for case in cases for it in case.words), *texts])
-        for name, tables, least in (("query_words", 4, 120), ("geometry_sentences", 1, 10), ("schema_explanations", 1, 50)):
-            found = re.findall(r"^(?:pub\(crate\) )?const \w+: \[\(&str, &str\); \d+\] = \[\n(.*?)^\];", read(f"{ROOT}/crates/explanations/src/{name}.rt"), re.M | re.S)
-            words = re.findall(r'\(\s*"(\w+)",', "".join(found))
+        for name, tables, least in (("query_words", 3, 100), ("geometry_sentences", 1, 10), ("schema_explanations", 4, 50)):
+            found = re.findall(r"^(?:pub\(crate\) )?const \w+: \[\(&str, &str\); \d+\] = \[\n(.*?)^\];", source(name), re.M | re.S)
+            words = " ".join(re.findall(r'\(\s*"([\w ]+)",', "".join(found))).split()
             self.assertTrue(len(found) >= tables and len(words) >= least, (name, words))
             self.assertEqual([it for it in words if not re.search(rf"\b{it}\b", asked, re.I)], [], name)
+
+    def test_what_can_come_is_said_of_two_texts(self):
+        """The phrases for what can come at a place, and the sentences of single tokens, each of which a case has."""
+        said = [it for case in wrong_cases.all_cases() for it in case.added]
+        phrases = re.findall(r'"([^"]+ (?:is|are) to come)"', source("query_words"))
+        self.assertGreaterEqual(len(phrases), 20)
+        self.assertEqual([it for it in phrases if sum(it in line for line in said) < 2], [])
+        text = source("query_words")
+        rows = text[text.index("const THIRD") : text.index("const CHANGES")]
+        sentences = [it for it in re.findall(r'"([^"\n]+)"', rows) if " " in it and re.search("[a-z]{2}", it)]
+        self.assertGreaterEqual(len(sentences), 30)
+        self.assertEqual([it for it in sentences if f"sfq: {it}" not in said], [])
 
     def test_there_are_enough(self):
         count = collections.Counter(it.name.partition(":")[0] for it in wrong_cases.all_cases())
@@ -99,6 +146,29 @@ class Played(unittest.TestCase):
                 self.assertEqual((given.out.decode(), given.err.decode(), given.status), (case.out, case.fault + added, case.status))
         if skipped:
             self.skipTest(f"{SWITCH} says nothing or something else yet of {len(skipped)} cases: {' '.join(skipped)}")
+
+
+    @needs_build
+    def test_what_is_said_to_come_can_come(self):
+        """Behind what is before the place, each token that the sentence says can come has no fault at its first byte."""
+        asked, fronts = [], []
+        with tempfile.TemporaryDirectory(prefix="sfq-coming-") as room:
+            for at, case in enumerate(wrong_cases.all_cases()):
+                place = re.match(r"sfq: Q2 at (\d+)\n", case.fault)
+                phrase = re.search(r"(?:can't be here: |the query ends where )([^:]*) (?:is|are) to come\Z", "\n".join(case.added))
+                if not place or not phrase:
+                    continue
+                words = case.make(f"{room}/{at}")
+                front = wrong_cases.text_of(case, case.words[3])[: int(place[1])].decode()
+                for token in COMING[phrase[1]]:
+                    asked.append([*words[:3], f"{front} {token}"])
+                    fronts.append(len(front.encode()) + 1)
+            given = answers.ask(asked)
+        self.assertGreaterEqual(len(asked), 80)
+        for words, begin, it in zip(asked, fronts, given):
+            place = re.match(r"sfq: Q2 at (\d+)\n", it.err.decode())
+            with self.subTest(query=words[3]):
+                self.assertTrue(place is None or int(place[1]) > begin, it.err)
 
 
 class Streams(unittest.TestCase):

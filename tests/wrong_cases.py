@@ -189,7 +189,7 @@ def of_table(case: Case, fault: str, reason: str) -> list[str]:
         if not found:
             return []
         names = [it[1].strip(b'"').decode("latin-1").lower() for it in found[0]]
-        column = reason.split(" ")[2] if code == "L2" else ""
+        column = reason.split(" ")[2] if code == "L2" else None
         at = [found[0][it][0] for it, name in enumerate(names) if name == column]
         return place_lines(text, at[1] if at else found[0][0][0], bool(at))
     if code == "L10":

@@ -4,20 +4,23 @@ ghost use Rattle.std.specs.Prelude.{◌≡◌, IfOk};
 ghost use Rattle.explanations.specs.Faults.{query_place};
 ghost use Rattle.explanations.specs.Marks.{IsExplanation};
 
+use crate::expected::compares;
 use crate::named_tables::{
     Column, Named, arguments, column_at, column_named, found_column, function_at, named_tables,
 };
 use crate::nearest_names::nearest;
-use crate::parts::{joined, shown};
-use crate::query_explanations::{Names, place_of, proposed, query_sentence};
+use crate::parts::{is, joined, place_in, shown, worded};
+use crate::query_explanations::{
+    Names, ambiguous_column, place_of, proposed, push_names, query_sentence,
+};
 use crate::query_sentences::token_at;
 use crate::said_lines::explained;
-use crate::token_lists::written;
-use sql_text::lex::lex;
+use crate::token_lists::{back, kind_of, written};
+use sql_text::lex::{lex, same_kind};
 use sql_text::{ColumnDef, ColumnType, Schema, TableDef};
 use std::alloc::{AllocError, Global};
 use table_model::faults::QueryFault;
-use table_model::tokens::Token;
+use table_model::tokens::{Token, TokenKind};
 
 /// The explanation of a fault of a query over the tables of a schema: the place of the fault, and a sentence. At Err memory ran out.
 pub fn query_explained_over(
@@ -28,57 +31,106 @@ pub fn query_explained_over(
 ) -> Result<Vec<u8>, AllocError>
     ensures { IfOk result (λ e. IsExplanation text.now (query_place fault) e.items) }
 {
-    let sentence = match column_sentence(alloc, text, fault, schema)? {
-        Some(sentence) => sentence,
-        None => sentence_by_names(alloc, text, fault, schema)?,
-    };
+    let sentence = sentence_over(alloc, text, fault, schema)?;
     explained(alloc, text, place_of(fault), sentence.as_slice())
 }
 
-/// The sentence of a fault, by the names of the schema alone.
-fn sentence_by_names(
+/// The sentence of a fault of a query over the tables of a schema: by those of FROM, or by the names of the schema.
+fn sentence_over(
     alloc: Global,
     text: &[u8],
     fault: QueryFault,
     schema: &Schema,
 ) -> Result<Vec<u8>, AllocError> {
-    let mut tables: Vec<&[u8]> = Vec::new(alloc);
-    let mut columns: Vec<&[u8]> = Vec::new(alloc);
-    for table in schema.tables() {
-        tables.push(table.name.bytes())?;
-        for column in table.columns.as_slice() {
-            columns.push(column.name.bytes())?;
-        }
-    }
+    let list = lex(alloc, text, true)?;
+    let tokens = list.as_slice();
+    let named = named_tables(alloc, tokens, schema)?;
+    let tables = table_names(alloc, schema)?;
+    let columns = match fault {
+        QueryFault::UnknownColumn(_) => named_columns(alloc, named.as_slice())?,
+        _ => all_columns(alloc, schema)?,
+    };
     let names = Names {
         tables: tables.as_slice(),
         columns: columns.as_slice(),
     };
+    if let Some(at) = place_of(fault)
+        && let Some(place) = token_at(tokens, at)
+        && let Some(sentence) = column_sentence(
+            alloc,
+            tokens,
+            place,
+            fault,
+            named.as_slice(),
+            &names,
+        )?
+    {
+        return Ok(sentence);
+    }
     query_sentence(alloc, text, fault, &names)
 }
 
-/// The sentence of a column that its table lacks, or that isn't of the type of a function's argument.
+/// The names of the tables of a schema.
+fn table_names(alloc: Global, schema: &Schema) -> Result<Vec<&[u8]>, AllocError> {
+    let mut names: Vec<&[u8]> = Vec::new(alloc);
+    for table in schema.tables() {
+        names.push(table.name.bytes())?;
+    }
+    Ok(names)
+}
+
+/// The names of the columns of a schema.
+fn all_columns(alloc: Global, schema: &Schema) -> Result<Vec<&[u8]>, AllocError> {
+    let mut names: Vec<&[u8]> = Vec::new(alloc);
+    for table in schema.tables() {
+        push_columns(&mut names, table)?;
+    }
+    Ok(names)
+}
+
+/// The names of the columns of the tables of FROM.
+fn named_columns<'s>(alloc: Global, tables: &[Named<'_, 's>]) -> Result<Vec<&'s [u8]>, AllocError> {
+    let mut names: Vec<&[u8]> = Vec::new(alloc);
+    for table in tables {
+        push_columns(&mut names, table.definition)?;
+    }
+    Ok(names)
+}
+
+/// Adds the names of a table's columns, but those that are there already.
+fn push_columns<'s>(names: &mut Vec<&'s [u8]>, table: &'s TableDef) -> Result<(), AllocError> {
+    for column in table.columns.as_slice() {
+        if place_in(names.as_slice(), column.name.bytes()).is_none() {
+            names.push(column.name.bytes())?;
+        }
+    }
+    Ok(())
+}
+
+/// The sentence of the columns and types at a place, by the tables of FROM.
 fn column_sentence(
     alloc: Global,
-    text: &[u8],
+    tokens: &[Token<'_>],
+    place: usize,
     fault: QueryFault,
-    schema: &Schema,
+    tables: &[Named<'_, '_>],
+    names: &Names<'_>,
 ) -> Result<Option<Vec<u8>>, AllocError> {
-    let list = lex(alloc, text, true)?;
-    let tokens = list.as_slice();
-    let tables = named_tables(alloc, tokens, schema)?;
     match fault {
-        QueryFault::TypeMismatch(at) => match token_at(tokens, at) {
-            Some(place) => argument_sentence(alloc, tokens, place, tables.as_slice()),
-            None => Ok(None),
+        QueryFault::TypeMismatch(_) => match argument_sentence(alloc, tokens, place, tables)? {
+            Some(sentence) => Ok(Some(sentence)),
+            None => comparison_sentence(alloc, tokens, place, tables),
         },
-        QueryFault::UnknownColumn(at) => match token_at(tokens, at) {
-            Some(place) => lacking_sentence(alloc, tokens, place, tables.as_slice()),
-            None => Ok(None),
-        },
+        QueryFault::UnknownColumn(_) => lacking_sentence(alloc, tokens, place, tables, names),
+        QueryFault::AmbiguousColumn(_) if !tables.is_empty() => {
+            let name = written(tokens, place);
+            Ok(Some(ambiguous_column(alloc, name, tables[0].name)?))
+        }
         _ => Ok(None),
     }
 }
+
+// ---- types
 
 /// The sentence of a function whose argument isn't a geometry.
 fn argument_sentence(
@@ -130,6 +182,159 @@ fn plain_kind(column: &ColumnDef) -> Option<&'static str> {
     }
 }
 
+/// A value of a comparison: how the query writes it, and what it is.
+#[derive(Drop)]
+struct Compared {
+    written: Vec<u8>,
+    kind: Kind,
+    /// The value, if the query writes it itself.
+    literal: Vec<u8>,
+}
+
+/// What a value is.
+#[derive(Clone, Copy, PartialEq, Eq)]
+enum Kind {
+    Number,
+    Text,
+    Geometry,
+}
+
+/// The word for what a value is.
+fn kind_word(kind: Kind) -> &'static str {
+    match kind {
+        Kind::Number => "number",
+        Kind::Text => "text",
+        Kind::Geometry => "geometry",
+    }
+}
+
+/// The sentence of the comparison that begins at a place.
+fn comparison_sentence(
+    alloc: Global,
+    tokens: &[Token<'_>],
+    place: usize,
+    tables: &[Named<'_, '_>],
+) -> Result<Option<Vec<u8>>, AllocError> {
+    let Some(left) = compared_at(alloc, tokens, place, tables)? else {
+        return Ok(None);
+    };
+    let behind = sign_after(tokens, place).saturating_add(1);
+    let Some(right) = compared_at(alloc, tokens, behind, tables)? else {
+        return Ok(None);
+    };
+    for side in [&left, &right] {
+        if side.kind == Kind::Geometry {
+            let sentence = " is a geometry: geometries are compared by ST_Equals";
+            return Ok(Some(worded(alloc, "", side.written.as_slice(), sentence)?));
+        }
+    }
+    Ok(Some(unequal_sentence(alloc, &left, &right)?))
+}
+
+/// The sentence of a number and a text.
+fn unequal_sentence(
+    alloc: Global,
+    left: &Compared,
+    right: &Compared,
+) -> Result<Vec<u8>, AllocError> {
+    let mut sentence = joined(
+        alloc,
+        &[
+            left.written.as_slice(),
+            b" is a ",
+            kind_word(left.kind).as_bytes(),
+            b", and ",
+            right.written.as_slice(),
+            b" a ",
+            kind_word(right.kind).as_bytes(),
+        ],
+    )?;
+    for side in [left, right] {
+        let value = side.literal.as_slice();
+        if !value.is_empty() && value.iter().all(|byte| byte.is_ascii_digit()) {
+            let quote: &[u8] = if side.kind == Kind::Number { b"'" } else { b"" };
+            let advice = joined(alloc, &[b": write ", quote, value, quote])?;
+            sentence.extend_from_slice(advice.as_slice())?;
+            return Ok(sentence);
+        }
+    }
+    sentence.extend_from_slice(b": numbers are compared with numbers, and texts with texts")?;
+    Ok(sentence)
+}
+
+/// The place of the next sign that compares, from a place on; past the list, if there is none.
+fn sign_after(tokens: &[Token<'_>], place: usize) -> usize {
+    for at in place..tokens.len() {
+        if compares(tokens[at].kind) {
+            return at;
+        }
+    }
+    tokens.len()
+}
+
+/// The value that begins at a place: a number, a text, a column, or a function's.
+fn compared_at(
+    alloc: Global,
+    tokens: &[Token<'_>],
+    place: usize,
+    tables: &[Named<'_, '_>],
+) -> Result<Option<Compared>, AllocError> {
+    let text = written(tokens, place);
+    match kind_of(tokens, place) {
+        TokenKind::Integer => literal(alloc, text, Kind::Number, ""),
+        TokenKind::Text => literal(alloc, text, Kind::Text, "'"),
+        _ => {
+            let (name, kind) = match column_at(tokens, place) {
+                Some(column) => (full_name(alloc, column)?, kind_of_column(tables, column)),
+                None => (shown(alloc, text)?, kind_of_function(text)),
+            };
+            match kind {
+                Some(kind) => Ok(Some(Compared {
+                    written: name,
+                    kind,
+                    literal: Vec::new(alloc),
+                })),
+                None => Ok(None),
+            }
+        }
+    }
+}
+
+/// A value that the query writes itself, in quotes or none.
+fn literal(
+    alloc: Global,
+    text: &[u8],
+    kind: Kind,
+    quote: &str,
+) -> Result<Option<Compared>, AllocError> {
+    Ok(Some(Compared {
+        written: worded(alloc, quote, text, quote)?,
+        kind,
+        literal: Vec::from_slice(alloc, text)?,
+    }))
+}
+
+/// What the values of a column are.
+fn kind_of_column(tables: &[Named<'_, '_>], column: Column<'_>) -> Option<Kind> {
+    let (_, found) = found_column(tables, column)?;
+    match &found.column_type {
+        ColumnType::Integer => Some(Kind::Number),
+        ColumnType::Text => Some(Kind::Text),
+        ColumnType::Geometry(_) => Some(Kind::Geometry),
+    }
+}
+
+/// What the value of a function is.
+fn kind_of_function(name: &[u8]) -> Option<Kind> {
+    if is(name, "ST_AsText") {
+        Some(Kind::Text)
+    } else if is(name, "ST_Dimension") {
+        Some(Kind::Number)
+    } else {
+        None
+    }
+}
+
 /// A column as the query writes it.
 fn full_name(alloc: Global, column: Column<'_>) -> Result<Vec<u8>, AllocError> {
     let name = shown(alloc, column.name)?;
@@ -140,20 +345,26 @@ fn full_name(alloc: Global, column: Column<'_>) -> Result<Vec<u8>, AllocError> {
     joined(alloc, &[table.as_slice(), b".", name.as_slice()])
 }
 
-/// The sentence of a column that its table lacks, where the table is written before it.
+// ---- names
+
+/// The sentence of a name that no column of the tables of FROM has.
 fn lacking_sentence(
     alloc: Global,
     tokens: &[Token<'_>],
     place: usize,
     tables: &[Named<'_, '_>],
+    names: &Names<'_>,
 ) -> Result<Option<Vec<u8>>, AllocError> {
     let Some(column) = column_at(tokens, place) else {
         return Ok(None);
     };
+    if column.table.is_empty() {
+        return text_hint(alloc, tokens, place, tables, names);
+    }
     let mut wanted: Option<&TableDef> = None;
     let mut other: Option<&[u8]> = None;
     for table in tables {
-        if !column.table.is_empty() && column.table.eq_ignore_ascii_case(table.name) {
+        if column.table.eq_ignore_ascii_case(table.name) {
             wanted = Some(table.definition);
         } else if column_named(table.definition, column.name).is_some() {
             other = Some(table.name);
@@ -161,8 +372,90 @@ fn lacking_sentence(
     }
     match wanted {
         Some(table) => Ok(Some(lacking_words(alloc, column, table, other)?)),
-        None => Ok(None),
+        None => Ok(Some(table_sentence(alloc, column, tables)?)),
     }
+}
+
+/// The sentence of a word that is compared with a column of texts, and is near to no column's name.
+fn text_hint(
+    alloc: Global,
+    tokens: &[Token<'_>],
+    place: usize,
+    tables: &[Named<'_, '_>],
+    names: &Names<'_>,
+) -> Result<Option<Vec<u8>>, AllocError> {
+    let word = written(tokens, place);
+    let is_text = match compared_column(tokens, place) {
+        Some(column) => kind_of_column(tables, column) == Some(Kind::Text),
+        None => false,
+    };
+    if !is_text || nearest(alloc, word, names.columns)?.is_some() {
+        return Ok(None);
+    }
+    let name = shown(alloc, word)?;
+    Ok(Some(joined(
+        alloc,
+        &[
+            b"there is no column ",
+            name.as_slice(),
+            b": a text is in single quotes, as '",
+            name.as_slice(),
+            b"'",
+        ],
+    )?))
+}
+
+/// The column with which the word at a place is compared.
+fn compared_column<'t>(tokens: &[Token<'t>], place: usize) -> Option<Column<'t>> {
+    if compares(kind_of(tokens, place.saturating_add(1))) {
+        return column_at(tokens, place.saturating_add(2));
+    }
+    if !compares(kind_of(tokens, back(place, 1))) {
+        return None;
+    }
+    let name = written(tokens, back(place, 2));
+    let is_full = same_kind(kind_of(tokens, back(place, 3)), TokenKind::Point);
+    let table = if is_full {
+        written(tokens, back(place, 4))
+    } else {
+        &[]
+    };
+    Some(Column { table, name })
+}
+
+/// The sentence of a table that FROM doesn't have under this name.
+fn table_sentence(
+    alloc: Global,
+    column: Column<'_>,
+    tables: &[Named<'_, '_>],
+) -> Result<Vec<u8>, AllocError> {
+    let called = shown(alloc, column.table)?;
+    let mut names: Vec<&[u8]> = Vec::new(alloc);
+    for table in tables {
+        if column.table.eq_ignore_ascii_case(table.table) {
+            let alias = shown(alloc, table.name)?;
+            let name = shown(alloc, column.name)?;
+            return joined(
+                alloc,
+                &[
+                    called.as_slice(),
+                    b" is called ",
+                    alias.as_slice(),
+                    b" here: write ",
+                    alias.as_slice(),
+                    b".",
+                    name.as_slice(),
+                ],
+            );
+        }
+        names.push(table.name)?;
+    }
+    let mut sentence = joined(
+        alloc,
+        &[b"FROM has no table ", called.as_slice(), b": it has "],
+    )?;
+    push_names(&mut sentence, names.as_slice())?;
+    Ok(sentence)
 }
 
 /// The sentence of a column that this table lacks, and that another has, or none.

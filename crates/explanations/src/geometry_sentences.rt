@@ -2,8 +2,8 @@
 
 use crate::nearest_names::nearest;
 use crate::parts::{
-    before, character, first, front, is, joined, last, number, place_in, rest, said_of, shown,
-    trimmed, trimmed_back, word, worded, worded_with,
+    before, character, first, front, is, is_one_of, joined, last, number, place_in, rest, said_of,
+    shown, trimmed, trimmed_back, word, worded, worded_with,
 };
 use geometry_model::{TextFault, ValidityFault};
 use std::alloc::{AllocError, Global};
@@ -18,36 +18,25 @@ pub(crate) const TYPES: [&[u8]; 6] = [
     b"MULTIPOLYGON",
 ];
 
-/// Types that others have, and what to do.
-const OTHER_TYPES: [(&str, &str); 14] = [
+/// Words that others begin a geometry with, with blanks between them, and what is said after the word.
+const OTHER_TYPES: [(&str, &str); 10] = [
     (
         "GEOMETRYCOLLECTION",
         " isn't taken: relate its parts one by one",
     ),
     (
-        "CIRCULARSTRING",
+        "CIRCULARSTRING COMPOUNDCURVE CURVEPOLYGON MULTICURVE",
         " isn't taken: curves aren't; write lines for them",
     ),
     (
-        "COMPOUNDCURVE",
-        " isn't taken: curves aren't; write lines for them",
+        "MULTISURFACE TIN POLYHEDRALSURFACE",
+        " isn't taken: write MULTIPOLYGON",
     ),
-    (
-        "CURVEPOLYGON",
-        " isn't taken: curves aren't; write lines for them",
-    ),
-    (
-        "MULTICURVE",
-        " isn't taken: curves aren't; write lines for them",
-    ),
-    ("MULTISURFACE", " isn't taken: write MULTIPOLYGON"),
     ("TRIANGLE", " isn't taken: write POLYGON"),
-    ("TIN", " isn't taken: write MULTIPOLYGON"),
-    ("POLYHEDRALSURFACE", " isn't taken: write MULTIPOLYGON"),
     ("LINEARRING", " isn't taken: write LINESTRING"),
-    ("BOX", " isn't taken: write POLYGON, and its four corners"),
+    ("LINE", " isn't a type: write LINESTRING"),
     (
-        "ENVELOPE",
+        "BOX ENVELOPE",
         " isn't taken: write POLYGON, and its four corners",
     ),
     ("NULL", " isn't a geometry: leave the field empty for NULL"),
@@ -55,6 +44,7 @@ const OTHER_TYPES: [(&str, &str); 14] = [
         "EMPTY",
         " comes after a type: write POINT EMPTY for a point that isn't there",
     ),
+    ("SRID EPSG", " isn't a type: write the geometry alone"),
 ];
 
 /// The sentence of a fault of a geometry's text.
@@ -73,14 +63,13 @@ pub(crate) fn text_sentence(
 
 /// The sentence of a number that isn't whole.
 fn fraction_sentence(alloc: Global, text: &[u8]) -> Result<Vec<u8>, AllocError> {
-    let found = shown(alloc, number(text))?;
-    joined(
-        alloc,
-        &[
-            found.as_slice(),
-            b" isn't whole: scale or round the coordinates; sfq-import does",
-        ],
-    )
+    let found = number(text);
+    let words = if found.contains(&b'e') || found.contains(&b'E') {
+        " has an exponent: write all its digits"
+    } else {
+        " isn't whole: scale or round the coordinates; sfq-import does"
+    };
+    worded(alloc, "", found, words)
 }
 
 /// What is said of a number that is too large, by its sign.
@@ -149,6 +138,12 @@ fn other_form(written: &[u8]) -> Option<&'static str> {
         Some(
             "this looks like GeoJSON: write the geometry as text, as POINT(1 2); sfq-import reads GeoJSON",
         )
+    } else if first(written) == b'\'' || first(written) == b'"' {
+        Some("leave the quotes out: a geometry begins with its type, as POINT(1 2)")
+    } else if is(front(name, 3), "ST_") {
+        Some("this is a call of a function: write the geometry's text alone, as POINT(1 2)")
+    } else if first(written) == 0xef {
+        Some("the text begins with a byte order mark: save it without one")
     } else if is_binary(name) {
         Some("this looks like WKB in hexadecimal digits: write the geometry as text, as POINT(1 2)")
     } else if name.is_empty() || first(name).is_ascii_digit() {
@@ -279,31 +274,34 @@ fn place_sentence(
     found: &[u8],
 ) -> Result<Vec<u8>, AllocError> {
     let at = word(found);
-    let is_height = is(at, "Z") || is(at, "ZM");
-    if is_height || is(at, "M") {
-        let mut sentence = worded(alloc, "", name, " ")?;
-        let tail = worded(alloc, "", at, dimension_words(is_height))?;
-        sentence.extend_from_slice(tail.as_slice())?;
-        return Ok(sentence);
+    let is_front = trimmed_back(trimmed(text)).len() <= name.len();
+    if is_front && is_one_of(at, "Z M ZM") {
+        let kind = joined(alloc, &[name, b" ", at])?;
+        return worded(alloc, "", kind.as_slice(), dimension_words(!is(at, "M")));
     }
-    if trimmed_back(text).len() > name.len() && opened(text) == 0 {
-        return after_sentence(alloc, found);
+    if is_front {
+        return worded(alloc, "( or EMPTY is to come after ", name, "");
     }
     if opened(text) == 0 {
-        return worded(alloc, "( or EMPTY is to come after ", name, "");
+        return after_sentence(alloc, found);
+    }
+    if is(at, "EMPTY") {
+        let before = "an element isn't EMPTY: leave it out, or write ";
+        return worded(alloc, before, name, " EMPTY for none");
     }
     let behind = last(trimmed_back(text));
     if behind == b'(' || behind == b',' {
-        return missing_sentence(alloc, name, behind, found);
+        return missing_sentence(alloc, name, text, found);
     }
-    if behind != b')' && numbers(text) >= 1 {
-        return second_sentence(alloc, text, found);
+    if behind != b')' {
+        return second_sentence(alloc, name, text, found);
     }
-    let there = shown(alloc, character(found))?;
-    joined(
-        alloc,
-        &[b"a comma or ) is to come, and not ", there.as_slice()],
-    )
+    unexpected(alloc, "a comma or ) is to come, and not ", found)
+}
+
+/// The sentence of a character where something else is to come.
+fn unexpected(alloc: Global, before: &str, found: &[u8]) -> Result<Vec<u8>, AllocError> {
+    worded(alloc, before, character(found), "")
 }
 
 /// The sentence of what comes after a geometry.
@@ -314,11 +312,7 @@ fn after_sentence(alloc: Global, found: &[u8]) -> Result<Vec<u8>, AllocError> {
             &[b"the geometry ends before this: write one in a word"],
         );
     }
-    let there = shown(alloc, character(found))?;
-    joined(
-        alloc,
-        &[b"the geometry ends before this ", there.as_slice()],
-    )
+    unexpected(alloc, "the geometry ends before this ", found)
 }
 
 /// Whether a byte begins a number.
@@ -326,25 +320,28 @@ fn begins_number(byte: u8) -> bool {
     byte.is_ascii_digit() || byte == b'-' || byte == b'+' || byte == b'.'
 }
 
-/// The sentence where a number or a parenthesis is to come.
+/// How many parentheses are around a position of a geometry of a type.
+fn depth(name: &[u8]) -> usize {
+    if is(name, "MULTIPOLYGON") {
+        3
+    } else if is(name, "POLYGON") || is(name, "MULTILINESTRING") {
+        2
+    } else {
+        1
+    }
+}
+
+/// The sentence where a number or a parenthesis is to come, behind `(` or a comma.
 fn missing_sentence(
     alloc: Global,
     name: &[u8],
-    behind: u8,
+    text: &[u8],
     found: &[u8],
 ) -> Result<Vec<u8>, AllocError> {
-    if first(found) == b'(' {
-        return worded(
-            alloc,
-            "a number is to come here: a ",
-            name,
-            " has one pair of parentheses",
-        );
-    }
-    if begins_number(first(found)) {
-        return worded(alloc, ring_words(name), name, " has parentheses of its own");
-    }
-    if first(found) == b')' && behind == b'(' {
+    let byte = first(found);
+    let behind = last(trimmed_back(text));
+    let is_outside = opened(text) < depth(name);
+    if byte == b')' && behind == b'(' {
         return worded(
             alloc,
             "a number is to come here: write ",
@@ -352,60 +349,99 @@ fn missing_sentence(
             " EMPTY for one without positions",
         );
     }
-    if first(found) == b')' || first(found) == b',' {
-        return joined(alloc, &[b"a number is to come after the comma"]);
+    if is_outside && begins_number(byte) {
+        return worded(
+            alloc,
+            part_words(name, true),
+            name,
+            " has parentheses of its own",
+        );
+    }
+    if byte == b'(' {
+        return worded(
+            alloc,
+            part_words(name, false),
+            name,
+            " has one pair of parentheses",
+        );
+    }
+    if byte == b')' || byte == b',' && behind == b',' {
+        return joined(alloc, &[comma_words(is_outside).as_bytes()]);
+    }
+    if byte == b',' {
+        return unexpected(alloc, "a number is to come here, and not ", found);
     }
     number_sentence(alloc, found)
 }
 
-/// The words of what a geometry of a type has in parentheses.
-fn ring_words(name: &[u8]) -> &'static str {
-    if is(name, "POLYGON") {
-        "( is to come here: each ring of a "
-    } else if is(name, "MULTIPOLYGON") {
-        "( is to come here: each polygon of a "
-    } else if is(name, "MULTILINESTRING") {
-        "( is to come here: each line of a "
+/// What is to come after a comma, outside a list of positions or in one.
+fn comma_words(is_outside: bool) -> &'static str {
+    if is_outside {
+        "( is to come after the comma"
     } else {
-        "( is to come here: each point of a "
+        "a number is to come after the comma"
     }
 }
 
-/// The sentence of a word where a number is to come.
-fn number_sentence(alloc: Global, found: &[u8]) -> Result<Vec<u8>, AllocError> {
-    let there = if word(found).is_empty() {
-        shown(alloc, character(found))?
+/// The words of what a geometry of a type has in parentheses, where one is to come or a number.
+fn part_words(name: &[u8], opens: bool) -> &'static str {
+    let is_line = is(name, "MULTILINESTRING");
+    if opens && is(name, "POLYGON") {
+        "( is to come here: each ring of a "
+    } else if opens && is(name, "MULTIPOLYGON") {
+        "( is to come here: each polygon of a "
+    } else if opens && is_line {
+        "( is to come here: each line of a "
+    } else if opens {
+        "( is to come here: each point of a "
+    } else if is_line {
+        "a number is to come here: a line of a "
+    } else if depth(name) > 1 {
+        "a number is to come here: a ring of a "
     } else {
-        shown(alloc, word(found))?
-    };
-    joined(
-        alloc,
-        &[
-            there.as_slice(),
-            b" isn't a number: coordinates are whole numbers",
-        ],
-    )
+        "a number is to come here: a "
+    }
+}
+
+/// The sentence of what begins no number where one is to come.
+fn number_sentence(alloc: Global, found: &[u8]) -> Result<Vec<u8>, AllocError> {
+    let words = " isn't a number: coordinates are whole numbers";
+    if begins_number(first(found)) {
+        return worded(
+            alloc,
+            "",
+            number(found),
+            " isn't a number: coordinates are whole numbers, with one sign or none",
+        );
+    }
+    if word(found).is_empty() {
+        return worded(alloc, "", character(found), words);
+    }
+    worded(alloc, "", word(found), words)
 }
 
 /// The sentence within a position, or after it.
-fn second_sentence(alloc: Global, text: &[u8], found: &[u8]) -> Result<Vec<u8>, AllocError> {
+fn second_sentence(
+    alloc: Global,
+    name: &[u8],
+    text: &[u8],
+    found: &[u8],
+) -> Result<Vec<u8>, AllocError> {
     let at = first(found);
     let is_joined = last(text).is_ascii_digit();
-    if is_joined && (at == b'e' || at == b'E') {
-        return joined(alloc, &[b"a number has no exponent: write all its digits"]);
+    if is_joined && (at.is_ascii_alphabetic() || at == b'_') {
+        return joined_sentence(alloc, text, found);
     }
     if is_joined && at >= 128 {
-        let there = shown(alloc, character(found))?;
-        return joined(
+        return worded(
             alloc,
-            &[
-                there.as_slice(),
-                b" isn't in a number: coordinates are whole numbers",
-            ],
+            "",
+            character(found),
+            " isn't in a number: coordinates are whole numbers",
         );
     }
     if numbers(text) >= 2 {
-        return third_sentence(alloc, found);
+        return third_sentence(alloc, name, text, found);
     }
     let sentence = if at == b',' {
         "a blank is to come between the two numbers of a position, and commas between positions"
@@ -419,19 +455,57 @@ fn second_sentence(alloc: Global, text: &[u8], found: &[u8]) -> Result<Vec<u8>, 
     joined(alloc, &[sentence.as_bytes()])
 }
 
-/// The sentence after the two numbers of a position.
-fn third_sentence(alloc: Global, found: &[u8]) -> Result<Vec<u8>, AllocError> {
-    if begins_number(first(found)) {
-        return joined(
-            alloc,
-            &[b"a position has two numbers: heights aren't taken"],
-        );
+/// The sentence of letters behind the digits of a number.
+fn joined_sentence(alloc: Global, text: &[u8], found: &[u8]) -> Result<Vec<u8>, AllocError> {
+    let behind = first(rest(found, 1));
+    if is(front(found, 1), "E") && (behind.is_ascii_digit() || behind == b'-' || behind == b'+') {
+        return joined(alloc, &[b"a number has no exponent: write all its digits"]);
     }
-    let there = shown(alloc, character(found))?;
-    joined(
+    let mut whole = text;
+    for at in 0..text.len() {
+        if !begins_number(text[at]) {
+            whole = rest(text, at.saturating_add(1));
+        }
+    }
+    let number = joined(alloc, &[whole, word(found)])?;
+    worded(
         alloc,
-        &[b"a comma or ) is to come, and not ", there.as_slice()],
+        "",
+        number.as_slice(),
+        " isn't a number: write it in digits, 0 to 9",
     )
+}
+
+/// The sentence after the two numbers of a position.
+fn third_sentence(
+    alloc: Global,
+    name: &[u8],
+    text: &[u8],
+    found: &[u8],
+) -> Result<Vec<u8>, AllocError> {
+    let at = first(found);
+    let sentence = if begins_number(at) {
+        third_words(name, found)
+    } else if at == b',' && is(name, "POINT") {
+        "a POINT has one position: write MULTIPOINT for several"
+    } else if at == b',' {
+        ") is to come: each point of a MULTIPOINT has parentheses of its own, or none"
+    } else if is(name, "POINT") || opened(text) > depth(name) {
+        return unexpected(alloc, ") is to come, and not ", found);
+    } else {
+        return unexpected(alloc, "a comma or ) is to come, and not ", found);
+    };
+    joined(alloc, &[sentence.as_bytes()])
+}
+
+/// What is said of further numbers in a position: of one it is a height, and of more a comma is missing.
+fn third_words(name: &[u8], found: &[u8]) -> &'static str {
+    let count = numbers(before(before(found, b','), b')'));
+    if count == 1 || is(name, "POINT") {
+        "a position has two numbers: heights aren't taken"
+    } else {
+        "a comma is to come between two positions"
+    }
 }
 
 /// What to do about a geometry that isn't valid. Of a line with too few positions something else is said than of a ring.

@@ -3,6 +3,7 @@
 #![tactic(auto)]
 
 mod column_sentences;
+mod expected;
 mod field_places;
 mod geometry_sentences;
 mod lines;

@@ -125,10 +125,25 @@ pub(crate) fn place_in(words: &[&[u8]], text: &[u8]) -> Option<usize> {
     None
 }
 
-/// The sentence of the first row whose word this is, in any ASCII case.
+/// Whether a text is one of these words, which have a blank between them, in any ASCII case.
+pub(crate) fn is_one_of(text: &[u8], words: &str) -> bool {
+    let words = words.as_bytes();
+    let mut from = 0;
+    for (at, byte) in words.iter().enumerate() {
+        if *byte == b' ' {
+            if text.eq_ignore_ascii_case(rest(front(words, at), from)) {
+                return true;
+            }
+            from = at.saturating_add(1);
+        }
+    }
+    text.eq_ignore_ascii_case(rest(words, from))
+}
+
+/// The sentence of the first row that has this word, in any ASCII case.
 pub(crate) fn said_of(text: &[u8], rows: &[(&str, &'static str)]) -> Option<&'static str> {
     for row in rows {
-        if is(text, row.0) {
+        if is_one_of(text, row.0) {
             return Some(row.1);
         }
     }

@@ -7,9 +7,10 @@ ghost use Rattle.explanations.specs.Marks.{IsExplanation};
 use crate::geometry_sentences::{advice, text_sentence};
 use crate::nearest_names::nearest;
 use crate::parts::{
-    before, character, first, front, is, joined, last, last_word, rest, shown, trimmed_back, word,
+    before, character, front, is, is_one_of, joined, last, last_word, place_in, rest, shown,
+    trimmed_back, word, worded,
 };
-use crate::query_sentences::{byte_sentence, syntax_sentence, truth_words};
+use crate::query_sentences::{byte_sentence, syntax_sentence};
 use crate::said_lines::explained;
 use geometry_model::GeometryFault;
 use std::alloc::{AllocError, Global};
@@ -22,6 +23,13 @@ pub struct Names<'n> {
     pub tables: &'n [&'n [u8]],
     /// Those of their columns.
     pub columns: &'n [&'n [u8]],
+}
+
+impl Names<'_> {
+    /// Whether a table or a column has this name, in any ASCII case.
+    pub(crate) fn has(&self, name: &[u8]) -> bool {
+        place_in(self.tables, name).is_some() || place_in(self.columns, name).is_some()
+    }
 }
 
 /// The explanation of a fault of a query's text, or of its names and types: the place of the fault, and a sentence. At Err memory ran out.
@@ -65,12 +73,12 @@ pub(crate) fn query_sentence(
     names: &Names<'_>,
 ) -> Result<Vec<u8>, AllocError> {
     match fault {
-        QueryFault::Lex(at) => byte_sentence(alloc, text, at),
-        QueryFault::Syntax(at) => syntax_sentence(alloc, text, at),
+        QueryFault::Lex(at) => byte_sentence(alloc, text, at, names),
+        QueryFault::Syntax(at) => syntax_sentence(alloc, text, at, names),
         QueryFault::UnknownTable(at) => unknown_table(alloc, word(rest(text, at)), names),
         QueryFault::SameName(at) => same_name(alloc, word(rest(text, at))),
         QueryFault::UnknownColumn(at) => unknown_name(alloc, text, at, names),
-        QueryFault::AmbiguousColumn(at) => ambiguous_column(alloc, word(rest(text, at))),
+        QueryFault::AmbiguousColumn(at) => ambiguous_column(alloc, word(rest(text, at)), b"a"),
         QueryFault::TypeMismatch(_) => joined(
             alloc,
             &[
@@ -148,7 +156,7 @@ pub(crate) fn proposed(
 const LIST_BYTES: usize = 150;
 
 /// Adds the names of a list, with commas between them, and two dots for those that don't fit.
-fn push_names(sentence: &mut Vec<u8>, names: &[&[u8]]) -> Result<(), AllocError> {
+pub(crate) fn push_names(sentence: &mut Vec<u8>, names: &[&[u8]]) -> Result<(), AllocError> {
     for (place, name) in names.iter().enumerate() {
         if place > 0 {
             sentence.extend_from_slice(b", ")?;
@@ -174,45 +182,18 @@ fn same_name(alloc: Global, found: &[u8]) -> Result<Vec<u8>, AllocError> {
     )
 }
 
-/// The sentence of what isn't a column's name: of a truth that is compared, or of a name.
+/// The sentence of a name that no column has: of a truth, or of a name.
 fn unknown_name(
     alloc: Global,
     text: &[u8],
     at: usize,
     names: &Names<'_>,
 ) -> Result<Vec<u8>, AllocError> {
-    let found = rest(text, at);
-    if is_compared(text, at)
-        && let Some(sentence) = truth_words(word(found))
-    {
-        return joined(alloc, &[sentence.as_bytes()]);
+    let name = word(rest(text, at));
+    if is_one_of(name, "TRUE FALSE") {
+        return worded(alloc, "", name, truth_words(name, is_compared(text, at)));
     }
-    unknown_column(alloc, found, names)
-}
-
-/// The sentence of a column or an alias that isn't there.
-fn unknown_column(alloc: Global, found: &[u8], names: &Names<'_>) -> Result<Vec<u8>, AllocError> {
-    let name = word(found);
     let there = shown(alloc, name)?;
-    if is(name, "TRUE") || is(name, "FALSE") {
-        return joined(
-            alloc,
-            &[
-                there.as_slice(),
-                b" isn't there: write the condition alone, and NOT turns it around",
-            ],
-        );
-    }
-    if first(rest(found, name.len())) == b'.' {
-        return joined(
-            alloc,
-            &[
-                b"there is no table ",
-                there.as_slice(),
-                b" in FROM: a table with an alias is called by it alone",
-            ],
-        );
-    }
     let close = nearest(alloc, name, names.columns)?;
     proposed(
         alloc,
@@ -222,15 +203,33 @@ fn unknown_column(alloc: Global, found: &[u8], names: &Names<'_>) -> Result<Vec<
     )
 }
 
-/// The sentence of a column that both tables have.
-fn ambiguous_column(alloc: Global, found: &[u8]) -> Result<Vec<u8>, AllocError> {
+/// What is said of a truth, with which something is compared or not.
+fn truth_words(name: &[u8], is_compared: bool) -> &'static str {
+    if !is_compared {
+        " isn't there: write the condition alone, and NOT turns it around"
+    } else if is(name, "TRUE") {
+        " isn't there: write 1"
+    } else {
+        " isn't there: write 0"
+    }
+}
+
+/// The sentence of a column that both tables have, with the name of one of them.
+pub(crate) fn ambiguous_column(
+    alloc: Global,
+    found: &[u8],
+    table: &[u8],
+) -> Result<Vec<u8>, AllocError> {
     let name = shown(alloc, found)?;
+    let called = shown(alloc, table)?;
     joined(
         alloc,
         &[
             b"both tables have a column ",
             name.as_slice(),
-            b": write its table and a point before it, as a.",
+            b": write its table and a point before it, as ",
+            called.as_slice(),
+            b".",
             name.as_slice(),
         ],
     )

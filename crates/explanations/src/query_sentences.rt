@@ -1,30 +1,42 @@
-//! What is said of a query that isn't in the grammar, by the token at the place of the fault and those around it.
+//! What is said of a query that isn't in the grammar, by the token at the place of the fault and what can come there.
 
 ghost use Rattle.std.specs.Prelude.{◌≡◌, ◌<◌, length, IfSome, slice_get, Some};
 ghost use Rattle.table_model.specs.declared.tokens.Token.{Token};
 
+use crate::expected::{Expected, enclosing, expected_at, opening};
+use crate::geometry_sentences::TYPES;
 use crate::nearest_names::nearest;
 use crate::parts::{
-    character, first, front, is, joined, place_in, rest, said_of, shown, word, worded, worded_with,
+    before, character, first, front, is, is_one_of, joined, place_in, rest, said_of, shown,
+    trimmed, trimmed_back, word, worded, worded_with,
 };
-use crate::query_words::{BEFORE, FUNCTIONS, HERE, OWN_FUNCTIONS, OWN_WORDS, STATEMENTS};
+use crate::query_explanations::Names;
+use crate::query_words::{
+    CLAUSES, FUNCTIONS, OWN_FUNCTIONS, STATEMENTS, SYMBOLS, TOKENS, own_words, to_come,
+};
 use crate::token_lists::{back, kind_of, written};
 use sql_text::lex::{lex, same_kind};
 use std::alloc::{AllocError, Global};
 use table_model::tokens::{Token, TokenKind};
 
-/// The tokens around the place of a fault, as they are written; nothing where there is none.
+/// The tokens around the place of a fault, as they are written, and what can come there; nothing where there is no token.
 #[derive(Clone, Copy)]
 struct Around<'t> {
+    expected: Expected,
     /// The two tokens before the place.
     second: &'t [u8],
     before: &'t [u8],
+    before_kind: TokenKind,
     /// The token at the place.
     here: &'t [u8],
     kind: TokenKind,
-    /// The token after it.
+    /// The tokens after it.
     next: &'t [u8],
+    next_kind: TokenKind,
     later: &'t [u8],
+    /// Whether nothing is between the token and the one before it, and whether a parenthesis is open before it.
+    is_joined: bool,
+    is_enclosed: bool,
 }
 
 /// The place in a list of the token at this byte of its text.
@@ -41,14 +53,32 @@ pub(crate) fn token_at(tokens: &[Token<'_>], at: usize) -> Option<usize>
 
 /// The tokens around one.
 fn tokens_around<'t>(tokens: &[Token<'t>], place: usize) -> Around<'t> {
+    let before = back(place, 1);
+    let next = place.saturating_add(1);
     Around {
+        expected: expected_at(tokens, place),
         second: written(tokens, back(place, 2)),
-        before: written(tokens, back(place, 1)),
+        before: written(tokens, before),
+        before_kind: kind_of(tokens, before),
         here: written(tokens, place),
         kind: kind_of(tokens, place),
-        next: written(tokens, place.saturating_add(1)),
+        next: written(tokens, next),
+        next_kind: kind_of(tokens, next),
         later: written(tokens, place.saturating_add(2)),
+        is_joined: are_joined(tokens, before, place),
+        is_enclosed: opening(tokens, place) < tokens.len(),
     }
+}
+
+/// Whether nothing is between two tokens, of which the first is no text.
+fn are_joined(tokens: &[Token<'_>], first: usize, second: usize) -> bool {
+    if first >= tokens.len() || second >= tokens.len() {
+        return false;
+    }
+    tokens[first]
+        .at
+        .saturating_add(written(tokens, first).len())
+        == tokens[second].at
 }
 
 /// The sentence of a token that can't be there.
@@ -56,6 +86,7 @@ pub(crate) fn syntax_sentence(
     alloc: Global,
     text: &[u8],
     at: usize,
+    names: &Names<'_>,
 ) -> Result<Vec<u8>, AllocError> {
     let list = lex(alloc, text, true)?;
     let tokens = list.as_slice();
@@ -64,147 +95,219 @@ pub(crate) fn syntax_sentence(
     };
     let near = tokens_around(tokens, place);
     if same_kind(near.kind, TokenKind::End) {
-        return joined(alloc, &[end_sentence(tokens, &near).as_bytes()]);
+        return end_sentence(alloc, text, &near);
     }
-    if place == 0 {
-        return statement_sentence(alloc, near.here);
+    if let Some((found, sentence)) = listed(&near, names) {
+        return worded(alloc, "", found, sentence);
     }
-    if let Some(sentence) = listed(&near) {
-        return worded(alloc, "", sentence.0, sentence.1);
+    if let Some(sentence) = number_sentence(alloc, &near)? {
+        return Ok(sentence);
     }
-    if same_kind(near.kind, TokenKind::Word) && is(near.next, "(") {
-        return function_sentence(alloc, &near);
+    if let Some(sentence) = said_at(&near) {
+        return joined(alloc, &[sentence.as_bytes()]);
+    }
+    if begins_statement(near.expected) {
+        return statement_sentence(alloc, &near);
     }
     if let Some((function, sentence)) = call_sentence(tokens, place) {
         return worded(alloc, "", function, sentence);
     }
-    if let Some(sentence) = value_sentence(tokens, place, &near) {
-        return joined(alloc, &[sentence.as_bytes()]);
+    if is_function(&near) {
+        return function_sentence(alloc, &near);
     }
-    if let Some(sentence) = plain_sentence(tokens, place, &near) {
-        return joined(alloc, &[sentence.as_bytes()]);
-    }
-    other_sentence(alloc, &near)
+    other_sentence(alloc, &near, names)
 }
 
-/// Whether a token is one of these words.
-fn has_word(tokens: &[Token<'_>], place: usize, wanted: &str) -> bool {
-    for at in 0..place.min(tokens.len()) {
-        if is(tokens[at].text.bytes(), wanted) {
-            return true;
-        }
-    }
-    false
-}
-
-/// How many parentheses are open before a token.
-fn opened(tokens: &[Token<'_>], place: usize) -> usize {
-    let mut count: usize = 0;
-    for at in 0..place.min(tokens.len()) {
-        if same_kind(tokens[at].kind, TokenKind::LeftParenthesis) {
-            count = count.saturating_add(1);
-        } else if same_kind(tokens[at].kind, TokenKind::RightParenthesis) {
-            count = count.saturating_sub(1);
-        }
-    }
-    count
-}
-
-/// Whether a token compares.
-fn compares(token: &[u8]) -> bool {
-    is(token, "=")
-        || is(token, "<")
-        || is(token, ">")
-        || is(token, "<=")
-        || is(token, ">=")
-        || is(token, "<>")
-        || is(token, "!=")
-}
+// ---- ends
 
 /// The sentence of a query that ends too early.
-fn end_sentence(tokens: &[Token<'_>], near: &Around<'_>) -> &'static str {
-    let place = tokens.len();
-    if near.before.is_empty() {
-        "the query is empty: it begins with SELECT"
-    } else if is(near.before, "FROM") || is(near.before, "JOIN") {
-        "the query ends where a table's name is to come"
-    } else if is(near.before, "SELECT") {
-        "the query ends where a column, * or COUNT(*) is to come"
-    } else if is(near.before, "LIMIT") {
-        "the query ends where a number is to come"
-    } else if compares(near.before) {
-        "the query ends where a value is to come"
-    } else if is(near.before, "AND")
-        || is(near.before, "OR")
-        || is(near.before, "WHERE")
-        || is(near.before, "ON")
-        || is(near.before, "NOT")
-    {
-        "the query ends where a condition is to come"
-    } else if opened(tokens, place) > 0 {
-        "the query ends where ) is to come: one ( is still open"
-    } else if !has_word(tokens, place, "FROM") {
-        "the query ends where FROM and a table are to come"
-    } else if has_word(tokens, place, "JOIN") && !has_word(tokens, place, "ON") {
-        "the query ends where ON and a condition are to come"
-    } else {
-        "the query ends where a comparison or IS NULL is to come"
+fn end_sentence(alloc: Global, text: &[u8], near: &Around<'_>) -> Result<Vec<u8>, AllocError> {
+    if near.before.is_empty() && same_kind(near.before_kind, TokenKind::End) {
+        return joined(alloc, &[b"the query is empty: it begins with SELECT"]);
     }
-}
-
-/// The sentence of a statement that isn't a query.
-fn statement_sentence(alloc: Global, here: &[u8]) -> Result<Vec<u8>, AllocError> {
-    let found = shown(alloc, here)?;
-    if let Some(sentence) = said_of(here, &STATEMENTS) {
-        return joined(alloc, &[found.as_slice(), sentence.as_bytes()]);
+    let is_truth = is_one_of(near.before, "TRUE FALSE");
+    if is_truth && near.expected == Expected::Comparison {
+        let sentence = " isn't there: leave it out, with the AND or WHERE before it";
+        return worded(alloc, "", near.before, sentence);
     }
-    if let Some(place) = nearest(alloc, here, &OWN_WORDS)?
-        && place < 12
-    {
-        return joined(alloc, &[b"did you mean ", OWN_WORDS[place], b"?"]);
-    }
+    let phrase = match near.expected {
+        Expected::Grouped | Expected::Close | Expected::Comma => {
+            ") is to come: one ( is still open"
+        }
+        expected => to_come(expected),
+    };
     joined(
         alloc,
-        &[b"a query begins with SELECT, or EXPLAIN before it"],
+        &[
+            b"the query ends where ",
+            phrase.as_bytes(),
+            comment_words(text).as_bytes(),
+        ],
     )
 }
 
-/// The word of a clause that others have, and what to do instead: at the place, or before it.
-fn listed<'t>(near: &Around<'t>) -> Option<(&'t [u8], &'static str)> {
-    if same_kind(near.kind, TokenKind::Text) {
-        return None;
+/// What is said of a comment at a text's end, which may be two signs.
+fn comment_words(text: &[u8]) -> &'static str {
+    let mut line = text;
+    for at in 0..text.len() {
+        if text[at] == b'\n' {
+            line = rest(text, at.saturating_add(1));
+        }
     }
-    if is(near.here, "OUTER")
-        && let Some(sentence) = said_of(near.before, &BEFORE)
+    let mut words = "";
+    for at in 0..line.len() {
+        if is(front(rest(line, at), 2), "--") && !trimmed(front(line, at)).is_empty() {
+            words = ": -- begins a comment";
+        }
+    }
+    words
+}
+
+// ---- words
+
+/// The word of a clause that others have, and what to do instead: before the place, where it was taken as a name, or at it.
+fn listed<'t>(near: &Around<'t>, names: &Names<'_>) -> Option<(&'t [u8], &'static str)> {
+    if same_kind(near.before_kind, TokenKind::Word)
+        && !names.has(near.before)
+        && let Some(sentence) = said_of(near.before, &CLAUSES)
     {
         return Some((near.before, sentence));
     }
-    if let Some(sentence) = said_of(near.here, &HERE) {
-        return Some((near.here, sentence));
+    let has_own = near.expected == Expected::Is
+        || near.expected == Expected::IsNot
+        || near.expected == Expected::CountStar
+        || near.expected == Expected::Number;
+    if has_own || same_kind(near.kind, TokenKind::Text) {
+        return None;
     }
     if is(near.here, "NOT")
-        && let Some(sentence) = said_of(near.next, &HERE)
+        && let Some(sentence) = said_of(near.next, &CLAUSES)
     {
         return Some((near.next, sentence));
     }
-    if let Some(sentence) = said_of(near.before, &BEFORE) {
-        return Some((near.before, sentence));
+    match said_of(near.here, &CLAUSES) {
+        Some(sentence) => Some((near.here, sentence)),
+        None => None,
+    }
+}
+
+/// What is said of a token where something else can come.
+fn said_at(near: &Around<'_>) -> Option<&'static str> {
+    if let Some(sentence) = said_of_signs(near) {
+        return Some(sentence);
+    }
+    let here: &[u8] = if same_kind(near.kind, TokenKind::Text) {
+        b"'"
+    } else {
+        near.here
+    };
+    for row in &TOKENS {
+        if row.0 == near.expected && (row.1.is_empty() || is_one_of(here, row.1)) {
+            return Some(row.2);
+        }
     }
     None
 }
 
+/// What is said of tokens that are something together, or after one that isn't at the place.
+fn said_of_signs(near: &Around<'_>) -> Option<&'static str> {
+    let here = near.here;
+    let opens = is(here, "(") && is(near.next, "SELECT");
+    if opens && !begins_statement(near.expected) || is(here, "SELECT") && is(near.before, "(") {
+        Some("subqueries aren't there: join the two tables, or run two queries")
+    } else if is(here, ")") && !near.is_enclosed {
+        Some("there is no ( for this )")
+    } else if is(here, ".") && is(near.next, "csv") {
+        Some("a table is called by its name alone: leave .csv out")
+    } else if is(here, "*") && is(near.before, "COUNT") {
+        Some("COUNT takes * in parentheses: write COUNT(*)")
+    } else if is(here, "COUNT") && near.expected == Expected::FirstItem {
+        Some("COUNT takes * alone: write COUNT(*), with WHERE and IS NOT NULL if that is meant")
+    } else if near.expected == Expected::Value {
+        said_of_comparison(near)
+    } else if is(here, ">") && is(near.before, "-") && is(near.second, "<") {
+        Some("<-> isn't there: no function measures a shape")
+    } else {
+        None
+    }
+}
+
+/// What is said of a sign behind one that compares.
+fn said_of_comparison(near: &Around<'_>) -> Option<&'static str> {
+    if is(near.before, "=") && is(near.here, "=") {
+        Some("== isn't there: write = once")
+    } else if is(near.before, "=") && is(near.here, "<") {
+        Some("=< isn't there: write <=")
+    } else if is(near.before, "=") && is(near.here, ">") {
+        Some("=> isn't there: write >=")
+    } else if is(near.before, "<=") && is(near.here, ">") {
+        Some("<=> isn't there: write =")
+    } else {
+        None
+    }
+}
+
+/// Whether SELECT can come at a place.
+fn begins_statement(expected: Expected) -> bool {
+    expected == Expected::Statement
+        || expected == Expected::Explained
+        || expected == Expected::Analyzed
+}
+
+/// The sentence of a statement that isn't a query.
+fn statement_sentence(alloc: Global, near: &Around<'_>) -> Result<Vec<u8>, AllocError> {
+    if let Some(sentence) = said_of(near.here, &STATEMENTS) {
+        return worded(alloc, "", near.here, sentence);
+    }
+    if let Some(word) = misspelt(alloc, near.here, near.expected)? {
+        return joined(alloc, &[b"did you mean ", word, b"?"]);
+    }
+    if near.expected == Expected::Statement && !is(near.here, "EXPLAIN") {
+        return joined(
+            alloc,
+            &[b"a query begins with SELECT, or EXPLAIN before it"],
+        );
+    }
+    joined(
+        alloc,
+        &[b"only ANALYZE may come between EXPLAIN and SELECT"],
+    )
+}
+
+/// The word of the language that can come at a place and is nearest to another one.
+fn misspelt(
+    alloc: Global,
+    here: &[u8],
+    expected: Expected,
+) -> Result<Option<&'static [u8]>, AllocError> {
+    let words = own_words(expected);
+    match nearest(alloc, here, words)? {
+        Some(place) if place < words.len() && place_in(words, here).is_none() => {
+            Ok(Some(words[place]))
+        }
+        _ => Ok(None),
+    }
+}
+
+// ---- functions
+
+/// Whether a function is at a place, where a value, a condition or an argument can come.
+fn is_function(near: &Around<'_>) -> bool {
+    let is_place = near.expected == Expected::FirstItem
+        || near.expected == Expected::Item
+        || near.expected == Expected::Condition
+        || near.expected == Expected::Value
+        || near.expected == Expected::Argument;
+    is_place && same_kind(near.kind, TokenKind::Word) && is(near.next, "(")
+}
+
 /// The sentence of a function that can't be there.
 fn function_sentence(alloc: Global, near: &Around<'_>) -> Result<Vec<u8>, AllocError> {
-    if is(near.here, "COUNT") {
-        return joined(alloc, &[count_sentence(near).as_bytes()]);
-    }
+    let prefixed = worded(alloc, "ST_", near.here, "")?;
     if let Some(sentence) = said_of(near.here, &FUNCTIONS) {
         return worded(alloc, "", near.here, sentence);
     }
-    if let Some(place) = place_in(&OWN_FUNCTIONS, near.here) {
-        return worded(alloc, "", near.here, misplaced(place));
-    }
-    if is_type(near.here) {
+    if place_in(&TYPES, near.here).is_some() {
         return worded(
             alloc,
             "a geometry in a query is a text: write ST_GeomFromText('",
@@ -212,17 +315,28 @@ fn function_sentence(alloc: Global, near: &Around<'_>) -> Result<Vec<u8>, AllocE
             "(..)')",
         );
     }
-    match close_function(alloc, near.here)? {
+    if let Some(sentence) = said_of(prefixed.as_slice(), &FUNCTIONS) {
+        return worded(alloc, "", near.here, sentence);
+    }
+    if let Some(place) = place_in(&OWN_FUNCTIONS, near.here) {
+        return worded(alloc, "", near.here, misplaced(place));
+    }
+    let close = match place_in(&OWN_FUNCTIONS, prefixed.as_slice()) {
+        Some(place) => Some(place),
+        None => nearest(alloc, near.here, &OWN_FUNCTIONS)?,
+    };
+    let there = "there is no function ";
+    match close {
         Some(place) if place < 14 => worded_with(
             alloc,
-            "there is no function ",
+            there,
             near.here,
             ": did you mean ",
             OWN_FUNCTIONS[place],
         ),
         _ => worded(
             alloc,
-            "there is no function ",
+            there,
             near.here,
             ": the manual, man sfq, lists those that are there",
         ),
@@ -236,55 +350,6 @@ fn misplaced(place: usize) -> &'static str {
     } else {
         " can't be here: a condition compares it with a value"
     }
-}
-
-/// The place of the function of the language that was meant: the one of this name with `ST_` before it, or the nearest.
-fn close_function(alloc: Global, name: &[u8]) -> Result<Option<usize>, AllocError> {
-    let prefixed = worded(alloc, "ST_", name, "")?;
-    match place_in(&OWN_FUNCTIONS, prefixed.as_slice()) {
-        Some(place) => Ok(Some(place)),
-        None => nearest(alloc, name, &OWN_FUNCTIONS),
-    }
-}
-
-/// Whether a word is a type of geometries.
-fn is_type(here: &[u8]) -> bool {
-    is(here, "POINT")
-        || is(here, "LINESTRING")
-        || is(here, "POLYGON")
-        || is(here, "MULTIPOINT")
-        || is(here, "MULTILINESTRING")
-        || is(here, "MULTIPOLYGON")
-}
-
-/// The sentence of COUNT.
-fn count_sentence(near: &Around<'_>) -> &'static str {
-    if is(near.later, "*") {
-        "COUNT(*) comes alone: nothing else is selected beside it"
-    } else {
-        "COUNT takes * alone: write COUNT(*), with WHERE and IS NOT NULL if that is meant"
-    }
-}
-
-/// The place of the word before the parenthesis that is open at a token, and how many commas are between them; past every list, if none is.
-fn enclosing(tokens: &[Token<'_>], place: usize) -> (usize, usize) {
-    let mut depth: usize = 0;
-    let mut commas: usize = 0;
-    for count in 1..place.saturating_add(1) {
-        let at = back(place, count);
-        let kind = kind_of(tokens, at);
-        if same_kind(kind, TokenKind::RightParenthesis) {
-            depth = depth.saturating_add(1);
-        } else if same_kind(kind, TokenKind::Comma) && depth == 0 {
-            commas = commas.saturating_add(1);
-        } else if same_kind(kind, TokenKind::LeftParenthesis) {
-            if depth == 0 {
-                return (back(at, 1), commas);
-            }
-            depth = depth.saturating_sub(1);
-        }
-    }
-    (usize::MAX, 0)
 }
 
 /// What is said of a function of the language with too few or too many arguments, after its name.
@@ -306,168 +371,57 @@ fn call_sentence<'t>(tokens: &[Token<'t>], place: usize) -> Option<(&'t [u8], &'
         ))
     } else if 9 <= number && number < 12 && goes_on {
         Some((function, " takes one geometry: leave the rest out"))
+    } else if number == 12 && goes_on {
+        Some((function, " takes one text: reference systems aren't taken"))
     } else {
         None
     }
 }
 
-/// The sentences of what is compared, or is a geometry's text.
-fn value_sentence(tokens: &[Token<'_>], place: usize, near: &Around<'_>) -> Option<&'static str> {
-    if is(near.before, "(") && is(near.second, "ST_GeomFromText") {
-        Some("ST_GeomFromText takes one text in single quotes, as 'POINT(1 1)'")
-    } else if is(near.here, ",") && is(written(tokens, back(place, 3)), "ST_GeomFromText") {
-        Some("ST_GeomFromText takes one text: reference systems aren't taken")
-    } else if compares(near.before) {
-        truth_words(near.here)
-    } else {
-        None
+// ---- numbers
+
+/// The sentence of what is joined to a number, or comes before a text, and isn't one here.
+fn number_sentence(alloc: Global, near: &Around<'_>) -> Result<Option<Vec<u8>>, AllocError> {
+    let is_number = same_kind(near.before_kind, TokenKind::Integer);
+    let goes_on = same_kind(near.next_kind, TokenKind::Integer);
+    let whole: &[u8] = if is_number { near.before } else { b"" };
+    if is_number && goes_on && is(near.here, "-") && is_date(near) {
+        let sentence = b"a date is a text: write it in single quotes, as '2026-01-31'";
+        return Ok(Some(joined(alloc, &[sentence])?));
     }
+    let is_comma = is(near.here, ",") && is_number && goes_on && near.is_joined;
+    let has_point = is(near.here, ".") && (is_number || goes_on) || is_comma;
+    if has_point && near.expected != Expected::End {
+        let behind: &[u8] = if goes_on { near.next } else { b"" };
+        let after = " isn't whole: numbers are whole here; sfq-import brings data to a grid";
+        return joined_number(alloc, whole, near.here, behind, after);
+    }
+    if !is_number || !near.is_joined || !same_kind(near.kind, TokenKind::Word) {
+        return Ok(None);
+    }
+    let after = if has_exponent(near.here) {
+        " has an exponent: write the whole number"
+    } else {
+        " isn't a number here: write it in digits, 0 to 9"
+    };
+    joined_number(alloc, whole, near.here, b"", after)
 }
 
-/// What is said of a truth that something is compared with.
-pub(crate) fn truth_words(here: &[u8]) -> Option<&'static str> {
-    if is(here, "TRUE") {
-        Some("TRUE isn't there: write 1")
-    } else if is(here, "FALSE") {
-        Some("FALSE isn't there: write 0")
-    } else {
-        None
-    }
+/// The sentence of a number in three parts.
+fn joined_number(
+    alloc: Global,
+    whole: &[u8],
+    here: &[u8],
+    behind: &[u8],
+    after: &str,
+) -> Result<Option<Vec<u8>>, AllocError> {
+    let number = joined(alloc, &[whole, here, behind])?;
+    Ok(Some(worded(alloc, "", number.as_slice(), after)?))
 }
 
-/// The sentences that name no word.
-fn plain_sentence(tokens: &[Token<'_>], place: usize, near: &Around<'_>) -> Option<&'static str> {
-    let here = near.here;
-    let from = has_word(tokens, place, "FROM");
-    let condition = has_word(tokens, place, "WHERE") || has_word(tokens, place, "ON");
-    if is(here, "(") && is(near.next, "SELECT") || is(here, "SELECT") && is(near.before, "(") {
-        Some("subqueries aren't there: join the two tables, or run two queries")
-    } else if is(near.before, "(") && is(near.second, "COUNT") {
-        Some("COUNT takes * alone: write COUNT(*), with WHERE and IS NOT NULL if that is meant")
-    } else if is(near.before, ";") {
-        Some("one query is taken at a time: run the next one by itself")
-    } else if is(here, "*") && is(near.before, ".") {
-        Some("all columns of one table can't be selected: write * for all columns, or name each")
-    } else if is(here, ",") && is(near.before, "*") {
-        Some("* comes alone: it has all columns")
-    } else if is(here, ",") && !from {
-        Some("COUNT(*) comes alone: nothing else is selected beside it")
-    } else if is(here, ",") && is(near.second, "LIMIT") {
-        Some("LIMIT takes one number: go on from a key, as by WHERE id > 5")
-    } else if from && (is(here, ",") || is(here, "JOIN") || is(here, "INNER")) {
-        Some(
-            "a third table isn't there: a query takes two; write the output of one as a table for the next",
-        )
-    } else if is(near.before, "LIMIT") {
-        Some(limit_sentence(here))
-    } else if is(here, "WHERE")
-        && has_word(tokens, place, "JOIN")
-        && !has_word(tokens, place, "ON")
-    {
-        Some("ON and a condition are to come here: write ON for WHERE, or a comma for JOIN")
-    } else if is(here, "=") && is(near.before, "=") {
-        Some("== isn't there: write = once")
-    } else if is(here, "NULL") && compares(near.before) {
-        Some("nothing is compared with NULL: write IS NULL or IS NOT NULL")
-    } else if is(near.before, "IS") || (is(near.before, "NOT") && is(near.second, "IS")) {
-        Some("IS takes NULL or NOT NULL: write = before a value")
-    } else if is(here, ".") && from && !condition {
-        Some("tables have no schema before their name: write the name alone")
-    } else if is(here, ")") && opened(tokens, place) == 0 {
-        Some("there is no ( for this )")
-    } else {
-        None
-    }
-}
-
-/// The sentence of what LIMIT doesn't take.
-fn limit_sentence(here: &[u8]) -> &'static str {
-    if is(here, "ALL") {
-        "LIMIT takes digits: leave LIMIT out for all rows"
-    } else {
-        "LIMIT takes digits, without a sign"
-    }
-}
-
-/// The sentence of any other token that can't be there.
-fn other_sentence(alloc: Global, near: &Around<'_>) -> Result<Vec<u8>, AllocError> {
-    let here = near.here;
-    let found = shown(alloc, here)?;
-    if same_kind(near.kind, TokenKind::Text) {
-        return joined(
-            alloc,
-            &[b"a text can't be here: a geometry is written ST_GeomFromText('..')"],
-        );
-    }
-    if is(here, ".") {
-        let whole = shown(alloc, near.before)?;
-        let after = shown(alloc, near.next)?;
-        return joined(
-            alloc,
-            &[
-                whole.as_slice(),
-                b".",
-                after.as_slice(),
-                b" isn't whole: numbers are whole here; sfq-import brings data to a grid",
-            ],
-        );
-    }
-    if first(near.before).is_ascii_digit() && has_exponent(here) {
-        let digits = shown(alloc, near.before)?;
-        return joined(
-            alloc,
-            &[
-                digits.as_slice(),
-                found.as_slice(),
-                b" has an exponent: write the whole number",
-            ],
-        );
-    }
-    if is(here, "+") || is(here, "-") || is(here, "*") {
-        return joined(
-            alloc,
-            &[
-                found.as_slice(),
-                b" isn't there: values are taken as they are, without arithmetic",
-            ],
-        );
-    }
-    if let Some(place) = nearest(alloc, here, &OWN_WORDS)?
-        && place < 12
-        && !is(here, "OR")
-        && !is(here, "ON")
-        && !same_name(here, OWN_WORDS[place])
-    {
-        return joined(alloc, &[b"did you mean ", OWN_WORDS[place], b"?"]);
-    }
-    if same_kind(near.kind, TokenKind::Word) {
-        return joined(
-            alloc,
-            &[
-                found.as_slice(),
-                b" can't be here: put a comma between columns, and AND or OR between conditions",
-            ],
-        );
-    }
-    if same_kind(near.kind, TokenKind::Integer) {
-        return joined(
-            alloc,
-            &[
-                found.as_slice(),
-                b" can't be here: columns are selected, and values compared with columns",
-            ],
-        );
-    }
-    if first(here).is_ascii_alphabetic() {
-        return joined(
-            alloc,
-            &[
-                found.as_slice(),
-                b" is a word of the language, and can't be here",
-            ],
-        );
-    }
-    joined(alloc, &[found.as_slice(), b" can't be here"])
+/// Whether a number of four digits, a sign and a number of two are a date's.
+fn is_date(near: &Around<'_>) -> bool {
+    near.before.len() == 4 && near.next.len() == 2 && is(near.later, "-")
 }
 
 /// Whether a word is the exponent of a number.
@@ -475,84 +429,157 @@ fn has_exponent(here: &[u8]) -> bool {
     is(front(here, 1), "E") && first(rest(here, 1)).is_ascii_digit()
 }
 
-/// Whether two words are the same, in any ASCII case.
-fn same_name(first: &[u8], second: &[u8]) -> bool {
-    first.eq_ignore_ascii_case(second)
+// ---- other tokens
+
+/// The sentence of any other token that can't be there.
+fn other_sentence(
+    alloc: Global,
+    near: &Around<'_>,
+    names: &Names<'_>,
+) -> Result<Vec<u8>, AllocError> {
+    if same_kind(near.kind, TokenKind::Text) {
+        return text_sentence(alloc, near, names);
+    }
+    if is_one_of(near.here, "+ - *") && is_value_before(near.expected) {
+        let sentence = " isn't there: values are taken as they are, without arithmetic";
+        return worded(alloc, "", near.here, sentence);
+    }
+    if same_kind(near.before_kind, TokenKind::Word)
+        && is_table_before(near.expected)
+        && let Some(word) = misspelt(alloc, near.before, Expected::AfterFirst)?
+    {
+        let between = " is taken as an alias here: did you mean ";
+        return worded_with(alloc, "", near.before, between, word);
+    }
+    if !names.has(near.here)
+        && let Some(word) = misspelt(alloc, near.here, near.expected)?
+    {
+        return joined(alloc, &[b"did you mean ", word, b"?"]);
+    }
+    unexpected(alloc, "", near.here, "", near.expected)
 }
 
-/// The sentence of a byte that begins no token, or of a string that isn't closed.
-pub(crate) fn byte_sentence(alloc: Global, text: &[u8], at: usize) -> Result<Vec<u8>, AllocError> {
-    let found = rest(text, at);
-    let byte = first(found);
-    if let Some(sentence) = symbol_sentence(found) {
-        return joined(alloc, &[sentence.as_bytes()]);
-    }
-    if byte == b'"' || byte == b'`' || byte == b'[' {
-        let name = shown(alloc, word(rest(found, 1)))?;
-        if byte == b'"' {
-            return joined(
-                alloc,
-                &[
-                    b"names aren't quoted, and texts are in single quotes: write ",
-                    name.as_slice(),
-                    b" or '",
-                    name.as_slice(),
-                    b"'",
-                ],
-            );
-        }
-        return joined(alloc, &[b"names aren't quoted: write ", name.as_slice()]);
-    }
-    let there = shown(alloc, character(found))?;
-    if byte == b'?' || byte == b'$' || byte == b':' || byte == b'@' {
-        return joined(
-            alloc,
-            &[there.as_slice(), b" isn't there: write the value itself"],
-        );
-    }
-    if byte == b'/' || byte == b'%' || byte == b'^' {
-        return joined(
-            alloc,
-            &[
-                there.as_slice(),
-                b" isn't there: values are compared as they are, without arithmetic",
-            ],
-        );
-    }
+/// The sentence of a token in quotes or none, where something else is to come.
+fn unexpected(
+    alloc: Global,
+    before: &str,
+    here: &[u8],
+    after: &str,
+    expected: Expected,
+) -> Result<Vec<u8>, AllocError> {
+    let found = worded(alloc, before, here, after)?;
+    let phrase = to_come(expected);
     joined(
         alloc,
-        &[
-            there.as_slice(),
-            b" isn't in the language: names have letters A to Z, digits and _",
-        ],
+        &[found.as_slice(), b" can't be here: ", phrase.as_bytes()],
     )
 }
 
-/// The sentence of what begins with a symbol that others have.
-fn symbol_sentence(found: &[u8]) -> Option<&'static str> {
-    if first(found) == b'\'' {
-        Some("the text that begins here isn't closed: a quote within a text is doubled")
-    } else if is(front(found, 2), "/*") {
-        Some("/* isn't there: a comment begins with -- and ends with its line")
-    } else if is(front(found, 2), "||") {
-        Some("|| isn't there: texts are compared as they are")
-    } else if is(front(found, 2), "&&") {
-        Some("&& isn't there: write AND, or ST_Intersects for shapes")
-    } else if is(front(found, 2), "::") {
-        Some(":: isn't there: a column keeps its type")
-    } else if first(found) == b'!' {
-        Some("! isn't there: write NOT")
-    } else if first(found) == b'~' {
-        Some("~ isn't there: compare whole texts by =, or filter the output")
-    } else if first(found) == b'#' {
-        Some("# isn't there: a comment begins with -- and ends with its line")
-    } else if first(found) == 0xef && found.len() > 2 && found[1] == 0xbb {
-        Some("the text begins with a byte order mark: save it without one")
-    } else if first(found) == 0xe2 && found.len() > 2 && found[1] == 0x80 {
-        Some("a quote of this kind isn't there: texts are in single quotes, '")
-    } else if first(found) == 0 && !found.is_empty() {
-        Some("the text has bytes that are 0: is it UTF-16? save it as UTF-8")
-    } else {
-        None
+/// Whether arithmetic would go on at a place.
+fn is_value_before(expected: Expected) -> bool {
+    expected == Expected::AfterItem
+        || expected == Expected::Comparison
+        || expected == Expected::AfterComparison
+        || expected == Expected::Grouped
+        || expected == Expected::AfterOn
+}
+
+/// Whether a table or its alias is before a place.
+fn is_table_before(expected: Expected) -> bool {
+    expected == Expected::AfterFirst
+        || expected == Expected::AfterSecond
+        || expected == Expected::AfterCrossed
+        || expected == Expected::On
+}
+
+/// The sentence of a text that can't be there: it is a name, comes behind a word such as DATE, or is a text.
+fn text_sentence(
+    alloc: Global,
+    near: &Around<'_>,
+    names: &Names<'_>,
+) -> Result<Vec<u8>, AllocError> {
+    if names.has(near.here) {
+        return worded(alloc, "names aren't quoted: write ", near.here, "");
     }
+    let is_behind = near.expected == Expected::AfterComparison
+        || near.expected == Expected::Comparison
+        || near.expected == Expected::Grouped;
+    if is_behind && same_kind(near.before_kind, TokenKind::Word) && !names.has(near.before) {
+        let sentence = " can't be before a text: write the text alone";
+        return worded(alloc, "", near.before, sentence);
+    }
+    unexpected(alloc, "'", near.here, "'", near.expected)
+}
+
+// ---- bytes
+
+/// The sentence of a byte that begins no token, or of a string that isn't closed.
+pub(crate) fn byte_sentence(
+    alloc: Global,
+    text: &[u8],
+    at: usize,
+    names: &Names<'_>,
+) -> Result<Vec<u8>, AllocError> {
+    let found = rest(text, at);
+    let byte = first(found);
+    if byte == b'"' {
+        let inside = before(rest(found, 1), b'"');
+        return quoted_sentence(alloc, front(text, at), inside, names);
+    }
+    if byte == b'`' || byte == b'[' {
+        let name = word(rest(found, 1));
+        return worded(alloc, "names aren't quoted: write ", name, "");
+    }
+    if byte == b'\'' && has_backslash(front(text, at)) {
+        return joined(
+            alloc,
+            &[
+                b"the text that begins here isn't closed: a quote within a text is doubled, and \\ changes nothing",
+            ],
+        );
+    }
+    for row in &SYMBOLS {
+        if front(found, row.0.len()).eq_ignore_ascii_case(row.0) {
+            return joined(alloc, &[row.1.as_bytes()]);
+        }
+    }
+    let sentence = " isn't in the language: names have letters A to Z, digits and _";
+    worded(alloc, "", character(found), sentence)
+}
+
+/// Whether a text has a backslash before a quote.
+fn has_backslash(text: &[u8]) -> bool {
+    for at in 0..text.len() {
+        if is(front(rest(text, at), 2), "\\'") {
+            return true;
+        }
+    }
+    false
+}
+
+/// The sentence of what is between double quotes: a name, a number, or a text, which is compared or isn't a name.
+fn quoted_sentence(
+    alloc: Global,
+    text: &[u8],
+    inside: &[u8],
+    names: &Names<'_>,
+) -> Result<Vec<u8>, AllocError> {
+    let behind = trimmed_back(text);
+    let is_value = is_one_of(rest(behind, behind.len().saturating_sub(1)), "= < > (");
+    if names.has(inside) {
+        worded(alloc, "names aren't quoted: write ", inside, "")
+    } else if !inside.is_empty() && inside.iter().all(|byte| byte.is_ascii_digit()) {
+        worded(alloc, "numbers aren't quoted: write ", inside, "")
+    } else if is_value || word(inside).len() < inside.len() {
+        worded(alloc, "texts are in single quotes: write '", inside, "'")
+    } else {
+        let name = shown(alloc, inside)?;
+        let start = "names aren't quoted, and texts are in single quotes: write ";
+        worded_with_text(alloc, start, name.as_slice())
+    }
+}
+
+/// The sentence that proposes a word as a name or as a text.
+fn worded_with_text(alloc: Global, start: &str, name: &[u8]) -> Result<Vec<u8>, AllocError> {
+    joined(alloc, &[start.as_bytes(), name, b" or '", name, b"'"])
 }

@@ -7,13 +7,17 @@ ghost use Rattle.explanations.specs.Marks.{IsExplanation};
 use crate::lines::is_white;
 use crate::nearest_names::nearest;
 use crate::parts::{
-    first, front, is, joined, last, last_word, place_in, rest, said_of, shown, trimmed,
-    trimmed_back, word, worded, worded_with,
+    before, first, front, is, is_one_of, joined, last, last_word, place_in, rest, said_of, shown,
+    trimmed, trimmed_back, word, worded, worded_with,
 };
-use crate::query_sentences::byte_sentence;
+use crate::query_explanations::Names;
+use crate::query_sentences::{byte_sentence, token_at};
 use crate::said_lines::explained;
+use crate::token_lists::{back, kind_of, written};
+use sql_text::lex::{lex, same_kind};
 use std::alloc::{AllocError, Global};
 use table_model::faults::SchemaFault;
+use table_model::tokens::{Token, TokenKind};
 
 /// The explanation of a fault of a schema's text: the place of the fault, and a sentence. At Err memory ran out.
 pub fn schema_explained(
@@ -56,76 +60,34 @@ const TYPES: [&[u8]; 11] = [
     b"MULTIPOLYGON",
 ];
 
-/// What is said of types of texts.
-const TEXTS: &str = " isn't a type here: write TEXT, without a length";
-
-/// What is said of types of numbers that aren't whole.
-const FRACTIONS: &str =
-    " isn't a type here: numbers are whole; sfq-import --scale makes INTEGER of them";
-
-/// What is said of types of time.
-const TIMES: &str =
-    " isn't a type here: write TEXT; dates as 2026-01-31 are compared in their order";
-
-/// What is said of types of whole numbers.
-const WHOLE: &str = " isn't a type here: write INTEGER";
-
-/// What is said of what may come after a type.
-const AFTER: &str = " isn't there: after a type come NOT NULL and PRIMARY KEY alone";
-
-/// What is said of curves.
-const CURVES: &str = " isn't a type here: curves aren't taken; write lines for them";
-
-/// Words that others have in a schema, and what to do instead.
-const WORDS: [(&str, &str); 51] = [
-    ("VARCHAR", TEXTS),
-    ("CHAR", TEXTS),
-    ("CHARACTER", TEXTS),
-    ("NVARCHAR", TEXTS),
-    ("CLOB", TEXTS),
-    ("STRING", TEXTS),
-    ("UUID", TEXTS),
-    ("JSON", TEXTS),
-    ("JSONB", TEXTS),
-    ("REAL", FRACTIONS),
-    ("FLOAT", FRACTIONS),
-    ("DOUBLE", FRACTIONS),
-    ("NUMERIC", FRACTIONS),
-    ("DECIMAL", FRACTIONS),
-    ("DATE", TIMES),
-    ("TIME", TIMES),
-    ("TIMESTAMP", TIMES),
-    ("DATETIME", TIMES),
-    ("TIMESTAMPTZ", TIMES),
+/// Words of types that other engines have, with blanks between them, and what is said after the word.
+const OTHER_TYPES: [(&str, &str); 10] = [
     (
-        "BOOLEAN",
+        "VARCHAR CHAR CHARACTER NVARCHAR CLOB STRING UUID JSON JSONB",
+        " isn't a type here: write TEXT, without a length",
+    ),
+    (
+        "REAL FLOAT DOUBLE NUMERIC DECIMAL",
+        " isn't a type here: numbers are whole; sfq-import --scale makes INTEGER of them",
+    ),
+    (
+        "DATE TIME TIMESTAMP DATETIME TIMESTAMPTZ",
+        " isn't a type here: write TEXT; dates as 2026-01-31 are compared in their order",
+    ),
+    (
+        "BOOLEAN BOOL",
         " isn't a type here: write INTEGER, and 0 or 1 in the table",
     ),
     (
-        "BOOL",
-        " isn't a type here: write INTEGER, and 0 or 1 in the table",
-    ),
-    (
-        "SERIAL",
+        "SERIAL BIGSERIAL",
         " isn't a type here: write INTEGER, and the keys in the table",
     ),
     (
-        "BIGSERIAL",
-        " isn't a type here: write INTEGER, and the keys in the table",
-    ),
-    ("SMALLINT", WHOLE),
-    ("TINYINT", WHOLE),
-    ("MEDIUMINT", WHOLE),
-    ("INT4", WHOLE),
-    ("INT8", WHOLE),
-    ("NUMBER", WHOLE),
-    ("UNSIGNED", " isn't there: write INTEGER alone"),
-    (
-        "BLOB",
-        " isn't a type here: keep the bytes elsewhere, and their name in a TEXT column",
+        "SMALLINT TINYINT MEDIUMINT INT4 INT8 NUMBER",
+        " isn't a type here: write INTEGER",
     ),
     (
-        "BYTEA",
+        "BLOB BYTEA",
         " isn't a type here: keep the bytes elsewhere, and their name in a TEXT column",
     ),
     (
@@ -136,29 +98,36 @@ const WORDS: [(&str, &str); 51] = [
         "GEOMETRYCOLLECTION",
         " isn't a type here: collections aren't taken; keep points, lines and areas in columns of their own",
     ),
-    ("CIRCULARSTRING", CURVES),
-    ("COMPOUNDCURVE", CURVES),
-    ("CURVEPOLYGON", CURVES),
-    ("CURVE", CURVES),
-    ("UNIQUE", AFTER),
-    ("DEFAULT", AFTER),
-    ("AUTOINCREMENT", AFTER),
-    ("AUTO_INCREMENT", AFTER),
-    ("CHECK", AFTER),
-    ("REFERENCES", AFTER),
-    ("COLLATE", AFTER),
-    ("GENERATED", AFTER),
-    ("CONSTRAINT", AFTER),
+    (
+        "CIRCULARSTRING COMPOUNDCURVE CURVEPOLYGON CURVE",
+        " isn't a type here: curves aren't taken; write lines for them",
+    ),
+];
+
+/// Words that other engines have behind a type, with blanks between them, and what is said after the word.
+const MARKS: [(&str, &str); 4] = [
+    ("UNSIGNED", " isn't there: write INTEGER alone"),
+    (
+        "UNIQUE DEFAULT AUTOINCREMENT AUTO_INCREMENT CHECK REFERENCES COLLATE GENERATED CONSTRAINT IDENTITY COMMENT",
+        " isn't there: after a type come NOT NULL and PRIMARY KEY alone",
+    ),
     (
         "NULL",
         " isn't there: a column takes NULL unless NOT NULL comes after its type",
     ),
-    ("WITHOUT", " isn't there: the table ends with ) and ;"),
+    ("SRID", " isn't there: reference systems aren't taken"),
+];
+
+/// Words that other engines have before a table's name and behind its columns, with blanks between them, and what is said after the word.
+const TABLE_WORDS: [(&str, &str); 2] = [
     (
-        "IF",
-        " NOT EXISTS isn't there: write CREATE TABLE and the name",
+        "TEMPORARY TEMP",
+        " isn't there: write CREATE TABLE and the name",
     ),
-    ("TEMPORARY", " isn't there: write CREATE TABLE and the name"),
+    (
+        "WITHOUT STRICT ENGINE AS",
+        " isn't there: the table ends with ) and ;",
+    ),
 ];
 
 /// What is said of indexes.
@@ -249,16 +218,111 @@ fn key_sentence(alloc: Global, text: &[u8], at: usize) -> Result<Vec<u8>, AllocE
     )
 }
 
+/// What can come at a place of a schema.
+#[derive(Clone, Copy, PartialEq, Eq)]
+enum Expected {
+    Create,
+    Table,
+    Name,
+    /// The parenthesis behind a table's name.
+    Columns,
+    Column,
+    Type,
+    /// What follows PRIMARY and NOT.
+    Key,
+    Null,
+    /// What follows a type or a mark behind it.
+    Mark,
+    /// What follows a table.
+    Behind,
+}
+
+/// What can come at a place of a schema, by the tokens before it, which begin one.
+fn expected_at(tokens: &[Token<'_>], place: usize) -> Expected {
+    let before = back(place, 1);
+    let start = part_start(tokens, place);
+    let count = place.saturating_sub(start);
+    match kind_of(tokens, before) {
+        TokenKind::LeftParenthesis | TokenKind::Comma => Expected::Column,
+        TokenKind::RightParenthesis => Expected::Behind,
+        TokenKind::Semicolon | TokenKind::End => Expected::Create,
+        TokenKind::Not => Expected::Null,
+        TokenKind::Null => Expected::Mark,
+        _ if is_inside(tokens, start) => {
+            if count == 1 {
+                Expected::Type
+            } else if is(written(tokens, before), "PRIMARY") {
+                Expected::Key
+            } else {
+                Expected::Mark
+            }
+        }
+        _ if count == 1 => Expected::Table,
+        _ if count == 2 => Expected::Name,
+        _ => Expected::Columns,
+    }
+}
+
+/// The place of the first token of the column or of the table's beginning that a place is in.
+fn part_start(tokens: &[Token<'_>], place: usize) -> usize {
+    for count in 1..place.saturating_add(1) {
+        let kind = kind_of(tokens, back(place, count));
+        if same_kind(kind, TokenKind::LeftParenthesis)
+            || same_kind(kind, TokenKind::Comma)
+            || same_kind(kind, TokenKind::Semicolon)
+        {
+            return back(place, count).saturating_add(1);
+        }
+    }
+    0
+}
+
+/// Whether the part that begins at a place is a column.
+fn is_inside(tokens: &[Token<'_>], start: usize) -> bool {
+    let before = kind_of(tokens, back(start, 1));
+    same_kind(before, TokenKind::LeftParenthesis) || same_kind(before, TokenKind::Comma)
+}
+
+/// What is said of a token that is none of those that can come.
+fn to_come(expected: Expected) -> &'static str {
+    match expected {
+        Expected::Create | Expected::Table => "a schema has CREATE TABLE alone",
+        Expected::Name => "a table's name is to come",
+        Expected::Columns => "( is to come after the table's name",
+        Expected::Column => "a column's name and type are to come here",
+        Expected::Type => "a type is to come after the column's name",
+        Expected::Key => "KEY is to come after PRIMARY",
+        Expected::Null => "NULL is to come after NOT",
+        Expected::Mark => "a comma or ) is to come",
+        Expected::Behind => "; is to come between tables",
+    }
+}
+
+/// What is said of a schema that ends too early.
+fn end_words(expected: Expected) -> &'static str {
+    match expected {
+        Expected::Create => "the schema is empty: it begins with CREATE TABLE",
+        Expected::Table => "the schema ends where TABLE is to come",
+        Expected::Name => "the schema ends where a table's name is to come",
+        Expected::Columns => "the schema ends where ( is to come",
+        Expected::Column => "the schema ends where a column is to come",
+        Expected::Type => "the schema ends where a type is to come",
+        Expected::Key => "the schema ends where KEY is to come",
+        Expected::Null => "the schema ends where NULL is to come",
+        Expected::Mark | Expected::Behind => "the schema ends where a comma or ) is to come",
+    }
+}
+
 /// The sentence of what can't be there.
 fn syntax_sentence(alloc: Global, text: &[u8], at: usize) -> Result<Vec<u8>, AllocError> {
+    let list = lex(alloc, text, false)?;
+    let tokens = list.as_slice();
+    let place = token_at(tokens, at).unwrap_or(tokens.len());
+    let expected = expected_at(tokens, place);
     let found = rest(text, at);
     let here = word(found);
-    let before = last_word(front(text, at));
     if trimmed(found).is_empty() {
-        return joined(
-            alloc,
-            &[end_sentence(trimmed_back(front(text, at))).as_bytes()],
-        );
+        return joined(alloc, &[end_words(expected).as_bytes()]);
     }
     if here.len() < found.len() && found[here.len()] == 0 {
         return joined(
@@ -270,22 +334,13 @@ fn syntax_sentence(alloc: Global, text: &[u8], at: usize) -> Result<Vec<u8>, All
         return joined(alloc, &[sentence.as_bytes()]);
     }
     if here.is_empty() {
-        return symbol_sentence(alloc, text, at, before);
+        return symbol_sentence(alloc, text, at, tokens, place);
     }
-    let name = shown(alloc, here)?;
-    if is(before, "IF") {
-        return joined(
-            alloc,
-            &[b"IF NOT EXISTS isn't there: write CREATE TABLE and the name"],
-        );
+    match expected {
+        Expected::Type => type_sentence(alloc, here),
+        Expected::Mark => mark_sentence(alloc, tokens, place, here),
+        _ => word_sentence(alloc, here, expected, written(tokens, back(place, 1))),
     }
-    if is(here, "PRIMARY") && place_in(&TYPES, before).is_some() {
-        return key_type_sentence(alloc, before, trimmed_back(front(text, at)));
-    }
-    if let Some(sentence) = said_of(here, &WORDS) {
-        return joined(alloc, &[name.as_slice(), sentence.as_bytes()]);
-    }
-    word_sentence(alloc, here, before, trimmed_back(front(text, at)))
 }
 
 /// The sentence of a constraint of a table, or of an index, by the text before the place and what begins at it. It is a word where a column is
@@ -303,53 +358,63 @@ fn constraint_sentence(text: &[u8], found: &[u8]) -> Option<&'static str> {
     let known = trimmed_back(front(known, known.len().saturating_sub(before.len())));
     let is_first = last(known) == b',' || last(known) == b'(';
     let is_kind = is(here, "KEY") || is(here, "INDEX") || is(here, "USING");
-    if is_first && (is_kind || (opens && said_of(here, &WORDS).is_none())) {
+    if is_first
+        && (is_kind
+            || (opens
+                && said_of(here, &MARKS).is_none()
+                && said_of(here, &OTHER_TYPES).is_none()))
+    {
         return said_of(before, &CONSTRAINTS);
     }
     None
 }
 
-/// The sentence of a key that isn't a whole number, by its type and the text up to that type's end.
-fn key_type_sentence(alloc: Global, kind: &[u8], text: &[u8]) -> Result<Vec<u8>, AllocError> {
-    let name = last_word(front(text, text.len().saturating_sub(kind.len())));
-    let name = shown(alloc, name)?;
-    joined(
-        alloc,
-        &[
-            b"the key is a column of type INTEGER: ",
-            name.as_slice(),
-            b" is a ",
-            kind,
-        ],
-    )
-}
-
-/// The sentence of a schema that ends too early.
-fn end_sentence(text: &[u8]) -> &'static str {
-    if text.is_empty() {
-        "the schema is empty: it begins with CREATE TABLE"
-    } else if last(text) == b',' {
-        "the schema ends where a column is to come"
-    } else {
-        "the schema ends where a comma or ) is to come"
-    }
-}
-
-/// The sentence of a word that can't be there.
+/// The sentence of a word that can't be there, and comes behind another one.
 fn word_sentence(
     alloc: Global,
     here: &[u8],
+    expected: Expected,
     before: &[u8],
-    text: &[u8],
 ) -> Result<Vec<u8>, AllocError> {
-    if let Some(after) = misplaced(here, before, text) {
-        return worded(alloc, "", here, after);
+    let is_table = expected == Expected::Table || expected == Expected::Behind;
+    if is_table && let Some(sentence) = said_of(here, &TABLE_WORDS) {
+        return worded(alloc, "", here, sentence);
     }
-    if first(here).is_ascii_digit() {
-        return worded(alloc, "a name begins with a letter or _: write _", here, "");
+    if expected == Expected::Create || expected == Expected::Table {
+        let sentence = " isn't there: a schema has CREATE TABLE alone";
+        return worded(alloc, "", here, sentence);
     }
-    if let Some(sentence) = missing(before, text) {
-        return joined(alloc, &[sentence.as_bytes()]);
+    if expected == Expected::Name || expected == Expected::Column {
+        if first(here).is_ascii_digit() {
+            return worded(alloc, "a name begins with a letter or _: write _", here, "");
+        }
+        return worded(alloc, "", here, " is a word of the language, and no name");
+    }
+    if is(before, "IF") {
+        return joined(
+            alloc,
+            &[b"IF NOT EXISTS isn't there: write CREATE TABLE and the name"],
+        );
+    }
+    joined(alloc, &[to_come(expected).as_bytes()])
+}
+
+/// The sentence of a word that is no type.
+fn type_sentence(alloc: Global, here: &[u8]) -> Result<Vec<u8>, AllocError> {
+    if let Some(sentence) = said_of(here, &OTHER_TYPES) {
+        return worded(alloc, "", here, sentence);
+    }
+    if let Some(sentence) = said_of(here, &MARKS) {
+        return worded(alloc, "", here, sentence);
+    }
+    let shorter = front(here, here.len().saturating_sub(1));
+    if is_one_of(shorter, "POINT POLYGON LINESTRING") {
+        return worded(
+            alloc,
+            "",
+            here,
+            " isn't a type here: heights and measures aren't taken; leave the last letter out",
+        );
     }
     match nearest(alloc, here, &TYPES)? {
         Some(place) if place < 11 => worded_with(
@@ -368,47 +433,55 @@ fn word_sentence(
     }
 }
 
-/// What is said of a word that begins no table, is no name or is a type with Z or M at its end.
-fn misplaced(here: &[u8], before: &[u8], text: &[u8]) -> Option<&'static str> {
-    let shorter = front(here, here.len().saturating_sub(1));
-    let is_name = last(text) == b',' || last(text) == b'(' || is(before, "TABLE");
-    if text.is_empty() || last(text) == b';' || is(before, "CREATE") {
-        Some(" isn't there: a schema has CREATE TABLE alone")
-    } else if is_name && !first(here).is_ascii_digit() {
-        Some(" is a word of the language, and no name")
-    } else if is(shorter, "POINT") || is(shorter, "POLYGON") || is(shorter, "LINESTRING") {
-        Some(" isn't a type here: heights and measures aren't taken; leave the last letter out")
-    } else {
-        None
+/// The sentence of a word behind a type.
+fn mark_sentence(
+    alloc: Global,
+    tokens: &[Token<'_>],
+    place: usize,
+    here: &[u8],
+) -> Result<Vec<u8>, AllocError> {
+    let start = part_start(tokens, place);
+    let kind = written(tokens, start.saturating_add(1));
+    if is(here, "PRIMARY") && !is_one_of(kind, "INTEGER INT BIGINT") {
+        let name = shown(alloc, written(tokens, start))?;
+        return joined(
+            alloc,
+            &[
+                b"the key is a column of type INTEGER: ",
+                name.as_slice(),
+                b" is a ",
+                kind,
+            ],
+        );
     }
-}
-
-/// What is to come before a word.
-fn missing(before: &[u8], text: &[u8]) -> Option<&'static str> {
-    if is(before, "PRIMARY") {
-        Some("KEY is to come after PRIMARY")
-    } else if is(before, "KEY") || place_in(&TYPES, before).is_some() {
-        Some("a comma is to come between columns")
-    } else if last(text) == b')' {
-        Some("; is to come between tables")
-    } else {
-        None
+    if let Some(sentence) = said_of(here, &MARKS) {
+        return worded(alloc, "", here, sentence);
     }
+    if let Some(sentence) = said_of(here, &OTHER_TYPES) {
+        return worded(alloc, "", here, sentence);
+    }
+    let sentence = if is(here, "PRIMARY") {
+        "PRIMARY KEY is there twice: leave one out"
+    } else if is(here, "NOT") {
+        "NOT NULL is there twice: leave one out"
+    } else if is(here, "KEY") {
+        "PRIMARY is to come before KEY"
+    } else {
+        "a comma is to come between columns"
+    };
+    joined(alloc, &[sentence.as_bytes()])
 }
 
 /// The sentence of a name in quotes.
-fn quoted_sentence(alloc: Global, name: &[u8]) -> Result<Vec<u8>, AllocError> {
-    let name = shown(alloc, name)?;
-    joined(
-        alloc,
-        &[
-            b"names aren't quoted: write ",
-            name.as_slice(),
-            b" for \"",
-            name.as_slice(),
-            b"\"",
-        ],
-    )
+fn quoted_sentence(alloc: Global, found: &[u8], quote: u8) -> Result<Vec<u8>, AllocError> {
+    let name = before(rest(found, 1), quote);
+    if word(name).len() < name.len() {
+        return joined(
+            alloc,
+            &[b"names aren't quoted, and have letters A to Z, digits and _"],
+        );
+    }
+    worded(alloc, "names aren't quoted: write ", name, "")
 }
 
 /// The sentence of a symbol that can't be there.
@@ -416,34 +489,62 @@ fn symbol_sentence(
     alloc: Global,
     text: &[u8],
     at: usize,
-    before: &[u8],
+    tokens: &[Token<'_>],
+    place: usize,
 ) -> Result<Vec<u8>, AllocError> {
     let found = rest(text, at);
     let byte = first(found);
-    if byte == b'"' {
-        return quoted_sentence(alloc, word(rest(found, 1)));
+    let expected = expected_at(tokens, place);
+    let before = written(tokens, back(place, 1));
+    if byte == b'"' || byte == b'\'' {
+        return quoted_sentence(alloc, found, byte);
     }
-    let behind = last(trimmed_back(front(text, at)));
-    let sentence = if byte == b'('
-        && (is(before, "TEXT") || is(before, "INTEGER") || is(before, "INT"))
-    {
-        "a type has no length here: write it alone"
-    } else if byte == b'(' && place_in(&TYPES, before).is_some() {
-        "a type has no reference system here: write POLYGON for GEOMETRY(POLYGON, 4326)"
-    } else if byte == b'.' {
-        "tables have no schema before their name: write the name alone"
-    } else if byte == b')' && behind == b',' {
-        "a column is to come after the comma: leave the comma out"
-    } else if byte == b')' && behind == b'(' {
-        "a column's name and type are to come here"
-    } else if (byte == b')' || byte == b',') && is(before, "PRIMARY") {
-        "KEY is to come after PRIMARY"
-    } else if byte == b')' || byte == b',' {
-        "a type is to come after the column's name"
-    } else if byte >= 128 && byte != 0xef {
-        "this letter isn't in the letters of a name: A to Z, digits and _ are"
-    } else {
-        return byte_sentence(alloc, text, at);
+    if byte == b'(' && is_one_of(before, "TEXT INTEGER INT BIGINT") {
+        return joined(alloc, &[b"a type has no length here: write it alone"]);
+    }
+    if byte == b'(' && expected == Expected::Mark && place_in(&TYPES, before).is_some() {
+        let kind = written(tokens, place.saturating_add(1));
+        let plain = plain_type(kind).unwrap_or(before);
+        let kind = plain.to_ascii_uppercase(alloc)?;
+        let start = "a type has no reference system here: write ";
+        return worded(alloc, start, kind.as_slice(), "");
+    }
+    if byte == b'.' {
+        return joined(
+            alloc,
+            &[b"tables have no schema before their name: write the name alone"],
+        );
+    }
+    if byte == b')' && is(before, ",") {
+        return joined(
+            alloc,
+            &[b"a column is to come after the comma: leave the comma out"],
+        );
+    }
+    if byte >= 128 && byte != 0xef {
+        return joined(
+            alloc,
+            &[b"this letter isn't in the letters of a name: A to Z, digits and _ are"],
+        );
+    }
+    if is_one_of(front(found, 1), "( ) , ; : =") && expected != Expected::Create {
+        return joined(alloc, &[to_come(expected).as_bytes()]);
+    }
+    let names = Names {
+        tables: &[],
+        columns: &[],
     };
-    joined(alloc, &[sentence.as_bytes()])
+    byte_sentence(alloc, text, at, &names)
+}
+
+/// A type, without a Z or an M at its end.
+fn plain_type(kind: &[u8]) -> Option<&[u8]> {
+    for count in 0..3 {
+        let shorter = front(kind, kind.len().saturating_sub(count));
+        let is_end = is_one_of(rest(kind, shorter.len()), "Z M ZM") || count == 0;
+        if is_end && place_in(&TYPES, shorter).is_some() {
+            return Some(shorter);
+        }
+    }
+    None
 }

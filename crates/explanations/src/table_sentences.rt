@@ -5,7 +5,7 @@ use crate::geometry_sentences::{TYPES, advice, is_binary, opened, text_sentence}
 use crate::marks::{is_plain, push_shown};
 use crate::nearest_names::nearest;
 use crate::parts::{
-    first, front, is, joined, last, place_in, rest, trimmed, trimmed_back, word, worded,
+    first, front, is, is_one_of, joined, last, place_in, rest, trimmed, trimmed_back, word, worded,
 };
 use crate::record_parts::{field_count, fields_of, name_of, unquoted};
 use geometry_model::{GeometryFault, TextFault};
@@ -69,6 +69,9 @@ fn plain_sentence(fault: LoadFault, near: &Near<'_>) -> &'static str {
     match fault {
         LoadFault::DoubleHeader => "case doesn't count: rename one of the two",
         LoadFault::NotUtf8(_) => "is the file in Latin-1? save it as UTF-8",
+        LoadFault::NullNotAllowed(_) if near.record.iter().all(|byte| *byte == b',') => {
+            "the record's fields are all empty: leave the line out"
+        }
         LoadFault::NullNotAllowed(_) if is_key(near) => NO_KEY,
         LoadFault::NullNotAllowed(_) => NOT_NULL,
         _ => "this is record 100001, and 100000 are taken: split the table, or ask by sfq-scale",
@@ -121,6 +124,18 @@ fn header_sentence(alloc: Global, near: &Near<'_>) -> Result<Vec<u8>, AllocError
         return joined(
             alloc,
             &[b"the file has bytes that are 0: is it UTF-16? save it as UTF-8"],
+        );
+    }
+    if is(front(header, 4), "sep=") {
+        return joined(
+            alloc,
+            &[b"sep= is a line of Excel's: leave it out; sfq takes commas"],
+        );
+    }
+    if first(header) == b'{' || first(header) == b'[' {
+        return joined(
+            alloc,
+            &[b"this looks like JSON: write CSV; sfq-import reads GeoJSON"],
         );
     }
     if let Some(separator) = separator_of(header) {
@@ -320,7 +335,10 @@ fn length_sentence(alloc: Global, near: &Near<'_>) -> Result<Vec<u8>, AllocError
     if !more && let Some(separator) = separator_of(record) {
         return one_field(alloc, record, separator);
     }
-    let sentence = if more {
+    let is_one_more = field_count(record) == field_count(near.header).saturating_add(1);
+    let sentence = if is_one_more && last(record) == b',' {
+        "the record ends with a comma: leave it out"
+    } else if more {
         "write one field for each column of the header; a field with a comma needs quotes"
     } else if first(record) == b'#' {
         "comments aren't taken: every line is a record"
@@ -433,8 +451,10 @@ fn integer_words(near: &Near<'_>, value: &[u8], text: &[u8]) -> &'static str {
         LINE_END
     } else if text.is_empty() && takes_null(near) {
         "the field has blanks alone: leave it empty for NULL"
-    } else if text.is_empty() || is(text, "NULL") {
+    } else if text.is_empty() || is_one_of(text, "NULL \\N NaN") {
         null_words(near)
+    } else if is_date(text) {
+        "a date is a text: declare the column TEXT"
     } else if is_digits(unsigned(text)) && is_key(near) {
         "the number is past 64 bits: declare the column TEXT, or number the records anew"
     } else if is_digits(unsigned(text)) {
@@ -448,6 +468,14 @@ fn integer_words(near: &Near<'_>, value: &[u8], text: &[u8]) -> &'static str {
     } else {
         "write digits, with a sign or none; leave the field empty for NULL"
     }
+}
+
+/// Whether a text is a date, as 2026-01-31.
+fn is_date(text: &[u8]) -> bool {
+    let (year, month) = (front(text, 4), rest(text, 5));
+    let day = rest(month, 3);
+    let has_signs = first(rest(text, 4)) == b'-' && first(rest(month, 2)) == b'-';
+    has_signs && day.len() == 2 && is_digits(year) && is_digits(front(month, 2)) && is_digits(day)
 }
 
 /// A number without its sign.
