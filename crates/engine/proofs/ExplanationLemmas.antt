@@ -1,7 +1,13 @@
--- What is written after a fault, as one of what may be.
-use Rattle.std.proofs.Common.{◌⊎◌, inl, inr}
+-- What is written of a schema's file, by what is written of its text.
+use Rattle.std.proofs.Common.{◌≡◌, ℕ, inl, inr, List, Option, Some, IfSome, take}
+use Rattle.engine.specs.Commands.{ExplainsFile, MayExplainSchema}
+use Rattle.engine.specs.declared.commands.TheConstants.{SCHEMA_BYTES}
+use Rattle.failures.specs.declared.failure.Failure.{Failure}
 
--- nothing, or what is one of others
-pub wider : {Nothing One Any : Type 0} → (One → Any) → Nothing ⊎ One → Nothing ⊎ Any
-wider embed (inl nothing) = inl nothing
-wider embed (inr one) = inr (embed one)
+pub of-file : {R M : Type 0} (remaining : R → Option (List ℕ)) (taken : M → Option (List ℕ)) (failures : M → ℕ) (old new : M)
+    (file : Option R) (reader : R) (text : List ℕ) (failure : Failure) → file ≡ Some reader
+    → IfSome (remaining reader) (λ bytes. text ≡ take SCHEMA_BYTES bytes) → MayExplainSchema taken failures old new text failure
+    → ExplainsFile taken failures old new remaining file failure
+of-file remaining taken failures old new file reader text failure is read (inl nothing) = inl nothing
+of-file remaining taken failures old new file reader text failure is read (inr e) =
+    inr (reader, text, e.0, is, read, e.1, e.2)

@@ -2,4 +2,4 @@ pub mod CountLemmas
 mod ExplanationLemmas
 pub mod FileLemmas
 mod NoteLemmas
-mod PathLemmas
+pub mod PathLemmas

@@ -1,18 +1,16 @@
 -- What a command does with an opener of files, it does with the opener of paths that this one calls: each state of the first has one of the
 -- second under it, and each call a call.
-use Rattle.std.proofs.Common.{true, false, ◌≡◌, inl, inr, ℕ, List, [], ◌∷◌, Option, None, Some, Result, Ok, Err, refl, ap}
+use Rattle.std.proofs.Common.{◌≡◌, inl, ℕ, List, [], ◌∷◌, Option, None, Some, Result, Ok, Err, refl, ap}
 use Rattle.std.specs.Prelude.{codes}
 use Rattle.std.specs.String.{string_bytes}
 use denote.Ref.{Bor}
 use Rattle.command_line.specs.declared.known_commands.Order.{Order}
 use Rattle.command_line.specs.declared.known_commands.Order.TheVariants as orders
-use Rattle.engine.specs.Commands.{CheckEnds, ChecksFiles, ChecksTables, Explains, ExplainsFiles, ExplainsTable, LooksAgain, MayExplain, MayOpen, Notes, NotesTables, Opens, OpensTables, OverFiles, OverTables, RunEnds, RunsFiles, RunsQuery, RunsTables, SaysQuote, ServesOrder, table_names, table_path, table_paths}
+use Rattle.engine.specs.Commands.{AfterSchema, CheckEnds, ChecksTables, EndsUnread, ExplainsCheck, ExplainsFile, ExplainsRun, ChecksFiles, RunsQuery, Opens, OpensTables, OverFiles, OverTables, RunEnds, RunsFiles, RunsTables, ServesAlone, ServesOrder, table_path, table_paths}
 use Rattle.failures.specs.declared.failure.Failure.{Failure}
 use Rattle.failures.specs.declared.failure.Failure.TheVariants as f
-use Rattle.record_reasons.specs.declared.line_ends.LineEnd.{LineEnd}
 use Rattle.table_model.specs.Loading.{Record}
 use Rattle.table_model.specs.SpatialTables.{SpatialSchema}
-use Rattle.table_model.specs.declared.faults.LoadFault.{LoadFault}
 use Rattle.failures.specs.Ends.{End}
 use Rattle.text_commands.specs.Ends.{Serves, Then}
 use Rattle.text_commands.specs.Files.{Opening, Role, path_of}
@@ -23,11 +21,19 @@ use Rattle.text_commands.specs.declared.files.File.TheVariants as role
 
 -- ---- ends
 
-then-more : {X : Type 0} (step : Result X Failure) (Rest Rest' : X → Type 0) (end : End) (Nothing : Type 0)
-    → ((x : X) → Rest x → Rest' x)
-    → Then step Rest end Nothing → Then step Rest' end Nothing
-then-more (Ok x) Rest Rest' end Nothing more rest = more x rest
-then-more (Err failure) Rest Rest' end Nothing more rest = rest
+then-more : {X : Type 0} (step : Result X Failure) (Rest Rest' : X → Type 0) (end : End) (Nothing Nothing' : Type 0)
+    → (Nothing → Nothing') → ((x : X) → Rest x → Rest' x)
+    → Then step Rest end Nothing → Then step Rest' end Nothing'
+then-more (Ok x) Rest Rest' end Nothing Nothing' less more rest = more x rest
+then-more (Err failure) Rest Rest' end Nothing Nothing' less more rest = (rest.0, less rest.1)
+
+schema-more : (schema : Result SpatialSchema Failure) (Rest Rest' : SpatialSchema → Type 0) (end : End)
+    (Unread Unread' : Failure → Type 0)
+    → ((failure : Failure) → Unread failure → Unread' failure) →
+    ((definitions : SpatialSchema) → Rest definitions → Rest' definitions)
+    → AfterSchema schema Rest end Unread → AfterSchema schema Rest' end Unread'
+schema-more (Ok definitions) Rest Rest' end Unread Unread' less more rest = more definitions rest
+schema-more (Err failure) Rest Rest' end Unread Unread' less more rest = (rest.0, less failure rest.1)
 
 serves-more : {E : Type 0} (taken : E → Option (List ℕ)) (failures : E → ℕ) (Ends Ends' : End → Type 0) (status : ℕ) (old new : E)
     → ((end : End) → Ends end → Ends' end) → Serves taken failures Ends status old new
@@ -53,15 +59,16 @@ module _ {F G R : Type 0} (files : Opening G R) (paths : Opening F R) (under : G
 
   over-word : (kind : Role) → ((lent : Bor (List ℕ)) → path_of (kind lent) ≡ lent.now)
       → (Reads : Option R → Result (List ℕ) Failure → Type 0) (opener : G) (word : List ℕ)
-      (Over : G → List ℕ → End → Type 0) (Over' : F → List ℕ → End → Type 0) (end : End) (Nothing : Type 0)
-      → ((next : G) (text : List ℕ) → Over next text end → Over' (under next) text end)
+      (Over : G → List ℕ → End → Type 0) (Over' : F → List ℕ → End → Type 0) (end : End) (Nothing Nothing' : Type 0)
+      → (Nothing → Nothing') → ((next : G) (text : List ℕ) → Over next text end → Over' (under next) text end)
       → OverWord (files kind) Reads opener word Over end Nothing
-      → OverWord (paths kind) Reads (under opener) word Over' end Nothing
-  over-word kind is Reads opener word Over Over' end Nothing more w = record {
+      → OverWord (paths kind) Reads (under opener) word Over' end Nothing'
+  over-word kind is Reads opener word Over Over' end Nothing Nothing' less more w = record {
     text = w.text;
     next = under w.next;
     given = gives kind is Reads opener word (file_named word) w.text w.next w.given;
-    rest = then-more w.text (λ t. Over w.next t end) (λ t. Over' (under w.next) t end) end Nothing (more w.next) w.rest;
+    rest = then-more w.text (λ t. Over w.next t end) (λ t. Over' (under w.next) t end) end Nothing Nothing' less
+        (more w.next) w.rest;
   }
 
   over-texts : (remaining : R → Option (List ℕ)) (Over : List ℕ → List ℕ → End → Type 0) (Nothing : Type 0) (opener : G)
@@ -74,10 +81,10 @@ module _ {F G R : Type 0} (files : Opening G R) (paths : Opening F R) (under : G
       (λ after other last. Over one other last) ending Nothing)
       (λ next one ending. OverWord (paths role.Geometry) (ReadsGeometry remaining (codes "second")) next second
       (λ after other last. Over one other last) ending Nothing)
-      end Nothing
+      end Nothing Nothing (λ nothing. nothing)
       (λ next one. over-word role.Geometry (λ lent. refl) (ReadsGeometry remaining (codes "second")) next second
       (λ after other last. Over one other last)
-      (λ after other last. Over one other last) end Nothing (λ after other over. over))
+      (λ after other last. Over one other last) end Nothing Nothing (λ nothing. nothing) (λ after other over. over))
 
   -- ---- files of tables
 
@@ -125,57 +132,84 @@ module _ {F G R : Type 0} (files : Opening G R) (paths : Opening F R) (under : G
 
   over-files : (remaining : R → Option (List ℕ)) (opener : G) (path : List ℕ) (Over : G → SpatialSchema → End → Type 0)
       (Over' : F → SpatialSchema → End → Type 0) (end : End)
-      (Nothing : Type 0) → ((next : G) (definitions : SpatialSchema) → Over next definitions end
+      (Unread Unread' : Option R → Failure → Type 0)
+      → ((file : Option R) (failure : Failure) → Unread file failure → Unread' file failure)
+      → ((next : G) (definitions : SpatialSchema) → Over next definitions end
       → Over' (under next) definitions end)
-      → OverFiles files remaining opener path Over end Nothing → OverFiles paths remaining (under opener) path Over' end Nothing
-  over-files remaining opener path Over Over' end Nothing more o = record {
+      → OverFiles files remaining opener path Over end Unread → OverFiles paths remaining (under opener) path Over' end Unread'
+  over-files remaining opener path Over Over' end Unread Unread' less more o = record {
     file = o.file;
     next = under o.next;
     opened = called role.Schema (λ lent. refl) opener path o.file o.next o.opened;
     schema = o.schema;
     read = o.read;
-    rest = then-more o.schema (λ ds. Over o.next ds end) (λ ds. Over' (under o.next) ds end) end Nothing (more o.next) o.rest;
+    rest = schema-more o.schema (λ ds. Over o.next ds end) (λ ds. Over' (under o.next) ds end) end (Unread o.file)
+        (Unread' o.file)
+        (less o.file) (more o.next) o.rest;
   }
 
-  module _ {S : Type 0} (remaining : R → Option (List ℕ)) (taken : S → Option (List ℕ)) (failures : S → ℕ) (old new : S) where
-    checks-tables : (next after : G) (directory : List ℕ) (definitions : SpatialSchema) (end : End)
-        → ChecksTables files remaining taken failures old new next after directory definitions end
-        → ChecksTables paths remaining taken failures old new (under next) (under after) directory definitions end
-    checks-tables next after directory definitions end =
-        over-tables remaining next after directory definitions
-        (CheckEnds definitions (taken old) (taken new) (failures old) (failures new)) end (new ≡ old)
+  -- ---- commands, of which nothing is explained
+
+  module _ {S M : Type 0} (remaining : R → Option (List ℕ)) (taken : S → Option (List ℕ)) (failures : S → ℕ) (old new : S)
+      (mtaken : M → Option (List ℕ)) (mfailures : M → ℕ) (mold mnew : M) where
+    -- a schema's file that isn't read
+    no-schema : (file : Option R) (failure : Failure) → EndsUnread files remaining taken failures old new mtaken mfailures mold
+        mnew file failure
+        → EndsUnread paths remaining taken failures old new (λ none. None) (λ none. 0) (tt {0}) (tt {0}) file failure
+    no-schema file failure unread = (unread.0, inl refl)
 
     checks-files : (opener : G) (schema directory : List ℕ) (end : End)
-        → ChecksFiles files remaining taken failures old new opener schema directory end
-        → ChecksFiles paths remaining taken failures old new (under opener) schema directory end
+        → ChecksFiles files remaining taken failures old new mtaken mfailures mold mnew opener schema directory end
+        → ChecksFiles paths remaining taken failures old new (λ none. None) (λ none. 0) (tt {0}) (tt {0})
+        (under opener) schema directory end
     checks-files opener schema directory end =
         over-files remaining opener schema
         (λ next definitions ending. (after : G) × ChecksTables files remaining taken failures old new next after directory
-        definitions ending)
+        definitions ending
+        × ExplainsCheck files remaining mtaken mfailures mold mnew after directory definitions ending)
         (λ next definitions ending. (after : F) × ChecksTables paths remaining taken failures old new next after directory
-        definitions ending) end (new ≡ old)
-        (λ next definitions checks. (under checks.0, checks-tables next checks.0 directory definitions end checks.1))
+        definitions ending
+        × ExplainsCheck paths remaining (λ none. None) (λ none. 0) (tt {0}) (tt {0}) after directory definitions ending)
+        end (EndsUnread files remaining taken failures old new mtaken mfailures mold mnew)
+        (EndsUnread paths remaining taken failures old new (λ none. None) (λ none. 0) (tt {0}) (tt {0})) no-schema
+        (λ next definitions checks. (
+          under checks.0,
+          over-tables remaining next checks.0 directory definitions
+              (CheckEnds definitions (taken old) (taken new) (failures old) (failures new)) end (new ≡ old) checks.1,
+          inl refl,
+        ))
 
     runs-files : (opener : G) (schema directory query : List ℕ) (end : End)
-        → RunsFiles files remaining taken failures old new opener schema directory query end
-        → RunsFiles paths remaining taken failures old new (under opener) schema directory query end
+        → RunsFiles files remaining taken failures old new mtaken mfailures mold mnew opener schema directory query end
+        → RunsFiles paths remaining taken failures old new (λ none. None) (λ none. 0) (tt {0}) (tt {0})
+        (under opener) schema directory query end
     runs-files opener schema directory query end =
-        over-files remaining opener schema (λ next. RunsTables files remaining taken failures old new next directory query)
-        (λ next. RunsTables paths remaining taken failures old new next directory query) end (new ≡ old)
+        over-files remaining opener schema
+        (λ next definitions ending. (after : G) × RunsTables files remaining taken failures old new next after directory query
+        definitions ending
+        × ExplainsRun files remaining mtaken mfailures mold mnew after directory query definitions ending)
+        (λ next definitions ending. (after : F) × RunsTables paths remaining taken failures old new next after directory query
+        definitions ending
+        × ExplainsRun paths remaining (λ none. None) (λ none. 0) (tt {0}) (tt {0}) after directory query definitions ending)
+        end (EndsUnread files remaining taken failures old new mtaken mfailures mold mnew)
+        (EndsUnread paths remaining taken failures old new (λ none. None) (λ none. 0) (tt {0}) (tt {0})) no-schema
         (λ next definitions runs. (
           under runs.0,
           over-tables remaining next runs.0 directory definitions
-              (RunEnds definitions query (taken old) (taken new) (failures old) (failures new)) end
-              (new ≡ old) runs.1,
+              (RunEnds definitions query (taken old) (taken new) (failures old) (failures new)) end (new ≡ old) runs.1,
+          inl refl,
         ))
 
     runs-query : (opener : G) (schema directory word : List ℕ) (end : End)
-        → RunsQuery files remaining taken failures old new opener schema directory word end
-        → RunsQuery paths remaining taken failures old new (under opener) schema directory word end
+        → RunsQuery files remaining taken failures old new mtaken mfailures mold mnew opener schema directory word end
+        → RunsQuery paths remaining taken failures old new (λ none. None) (λ none. 0) (tt {0}) (tt {0})
+        (under opener) schema directory word end
     runs-query opener schema directory word end =
         over-word role.Query (λ lent. refl) (ReadsQuery remaining) opener word
-        (λ next query. RunsFiles files remaining taken failures old new next schema directory query)
-        (λ next query. RunsFiles paths remaining taken failures old new next schema directory query) end (new ≡ old)
+        (λ next query. RunsFiles files remaining taken failures old new mtaken mfailures mold mnew next schema directory query)
+        (λ next query. RunsFiles paths remaining taken failures old new (λ none. None) (λ none. 0) (tt {0})
+        (tt {0}) next schema directory query) end
+        ((new ≡ old) × (mnew ≡ mold)) ((new ≡ old) × (tt {0} ≡ tt {0})) (λ nothing. (nothing.0, refl))
         (λ next query. runs-files next schema directory query end)
 
     relates-file : (opener : G) (path : List ℕ) (end : End)
@@ -183,179 +217,64 @@ module _ {F G R : Type 0} (files : Opening G R) (paths : Opening F R) (under : G
         → RelatesFile paths remaining taken failures old new (under opener) path end
     relates-file opener path end r = (r.0, under r.1, called role.Pairs (λ lent. refl) opener path r.0 r.1 r.2, r.3)
 
-  -- ---- reasons
-
-  module _ {E : Type 0} (remaining : R → Option (List ℕ)) (taken : E → Option (List ℕ)) (failures : E → ℕ) (directory : List ℕ) where
-    explains-table : (before : G) (definitions : SpatialSchema) (name : List ℕ) (fault : LoadFault) (explanation : List ℕ)
-        → ExplainsTable files remaining before directory definitions name fault explanation
-        → ExplainsTable paths remaining (under before) directory definitions name fault explanation
-    explains-table before definitions name fault explanation e = record {
-      place = e.place;
-      named = e.named;
-      table = e.table;
-      there = e.there;
-      reader = e.reader;
-      middle = under e.middle;
-      opened = called role.Table (λ lent. refl) before (table_path directory name) (Some e.reader) e.middle e.opened;
-      line = e.line;
-      says = e.says;
-      again = e.again;
-      after = under e.after;
-      reopened = called role.Table (λ lent. refl) e.middle (table_path directory name) (Some e.again) e.after e.reopened;
-      left = e.left;
-      text = e.text;
-      front = e.front;
-      explains = e.explains;
-    }
-
-    may-open : (name : List ℕ) (before after : G) → MayOpen files directory name before after
-        → MayOpen paths directory name (under before) (under after)
-    may-open name before after (inl same) = inl (ap under same)
-    may-open name before after (inr by) =
-        inr (by.0, called role.Table (λ lent. refl) before (table_path directory name) by.0 after by.1)
-
-    looks-again : (name : List ℕ) (before after : G) (looked : Result (Option LineEnd) LoadFault)
-        → LooksAgain files remaining directory name before after looked → LooksAgain paths remaining directory name
-        (under before) (under after) looked
-    looks-again name before after (Ok found) l =
-        (l.0, called role.Table (λ lent. refl) before (table_path directory name) (Some l.0) after l.1, l.2)
-    looks-again name before after (Err fault) l = (l.0, may-open name before after l.1)
-
-    says-quote : (name : List ℕ) (number : ℕ) (before after : G) (old new : E)
-        → SaysQuote files remaining taken failures directory name number before after old new
-        → SaysQuote paths remaining taken failures directory name number (under before) (under after) old new
-    says-quote name number before after old new (inl nothing) = inl (may-open name before after nothing.0, nothing.1)
-    says-quote name number before after old new (inr s) =
-        inr (record {
-          reader = s.reader;
-          opened = called role.Table (λ lent. refl) before (table_path directory name) (Some s.reader) after s.opened;
-          left = s.left;
-          text = s.text;
-          front = s.front;
-          note = s.note;
-          notes = s.notes;
-          written = s.written;
-        })
-
-    notes-more : (name : List ℕ) (looked : Result (Option LineEnd) LoadFault) (before after : G) (old new : E)
-        → Notes files remaining taken failures directory name looked before after old new
-        → Notes paths remaining taken failures directory name looked (under before) (under after) old new
-    notes-more name (Ok (Some at_field)) before after old new n =
-        (n.0, n.1, says-quote name at_field.number before after n.0 new n.2)
-    notes-more name (Ok None) before after old new n = (ap under n.0, n.1)
-    notes-more name (Err fault) before after old new n = (ap under n.0, n.1)
-
-    may-explain : (old new : E) (before : G) (definitions : SpatialSchema) (failure : Failure)
-        → MayExplain files remaining taken failures old new before directory definitions failure
-        → MayExplain paths remaining taken failures old new (under before) directory definitions failure
-    may-explain old new before definitions failure (inl same) = inl same
-    may-explain old new before definitions failure (inr e) =
-        inr (
-          e.0,
-          e.1,
-          e.2,
-          record {
-            explanation = e.3.explanation;
-            explains = explains-table before definitions e.0.now e.1 e.3.explanation e.3.explains;
-            written = e.3.written;
-          },
-        )
-
-    notes-tables : (names : List (List ℕ)) (before after : G) (old new : E)
-        → NotesTables files remaining taken failures directory names before after old new
-        → NotesTables paths remaining taken failures directory names (under before) (under after) old new
-    notes-tables [] before after old new noted = (ap under noted.0, noted.1)
-    notes-tables (name ∷ names) before after old new noted =
-        let n = noted.2 in (
-          under noted.0,
-          noted.1,
-          record {
-            looked = n.looked;
-            middle = under n.middle;
-            looks = looks-again name before n.middle n.looked n.looks;
-            notes = notes-more name n.looked n.middle noted.0 old noted.1 n.notes;
-          },
-          notes-tables names noted.0 after noted.1 new noted.3,
-        )
-
-    explains : (old new : E) (loaded : G) (definitions : SpatialSchema) (end : End)
-        → Explains files remaining taken failures old new loaded directory definitions end
-        → Explains paths remaining taken failures old new (under loaded) directory definitions end
-    explains old new loaded definitions (Ok done) notes = (
-      under notes.0,
-      notes-tables (table_names definitions) loaded
-          notes.0 old new notes.1,
-    )
-    explains old new loaded definitions (Err failure) explained = may-explain old new loaded definitions failure explained
-
   -- ---- orders
 
-  module _ {E S : Type 0} (remaining : R → Option (List ℕ)) (etaken : E → Option (List ℕ)) (efailures : E → ℕ)
-      (taken : S → Option (List ℕ)) (failures : S → ℕ) (old new : S) where
-    explains-files : (shown explained : E) (opener : G) (schema directory : List ℕ) (end : End)
-        → ExplainsFiles files remaining etaken efailures shown explained taken failures old new opener schema directory end
-        → ExplainsFiles paths remaining etaken efailures shown explained taken failures old new (under opener) schema directory
-        end
-    explains-files shown explained opener schema directory end =
-        over-files remaining opener schema
-        (λ next definitions ending. (loaded : G) × ChecksTables files remaining taken failures old new next loaded directory
-        definitions ending
-        × Explains files remaining etaken efailures shown explained loaded directory definitions ending)
-        (λ next definitions ending. (loaded : F) × ChecksTables paths remaining taken failures old new next loaded directory
-        definitions ending
-        × Explains paths remaining etaken efailures shown explained loaded directory definitions ending)
-        end ((new ≡ old) × (explained ≡ shown))
-        (λ next definitions both. (
-          under both.0,
-          checks-tables remaining taken failures old new next both.0 directory definitions end both.1,
-          explains remaining etaken efailures directory shown explained both.0 definitions end both.2,
-        ))
-
+  module _ {E S M : Type 0} (remaining : R → Option (List ℕ)) (etaken : E → Option (List ℕ)) (efailures : E → ℕ)
+      (taken : S → Option (List ℕ)) (failures : S → ℕ) (old new : S) (mtaken : M → Option (List ℕ)) (mfailures : M → ℕ)
+      (mold mnew : M) where
     serves-order : (opener : G) (order : Order) (status : ℕ) (before after : E)
-        → ServesOrder files remaining etaken efailures taken failures old new opener order status before after
-        → ServesOrder paths remaining etaken efailures taken failures old new (under opener) order status before after
+        → ServesOrder files remaining etaken efailures taken failures old new mtaken mfailures mold mnew opener order status
+        before after
+        → ServesAlone paths remaining etaken efailures taken failures old new (under opener) order status before after
     serves-order opener (orders.Run schema directory query why) status before after served =
         serves-more etaken efailures _ _ status before after
-        (runs-query remaining taken failures old new opener (string_bytes schema) (string_bytes directory) (string_bytes query))
+        (runs-query remaining taken failures old new mtaken mfailures mold mnew opener (string_bytes schema)
+        (string_bytes directory) (string_bytes query))
         served
-    serves-order opener (orders.Check schema directory false) status before after served =
+    serves-order opener (orders.Check schema directory why) status before after served =
         serves-more etaken efailures _ _ status before after
-        (checks-files remaining taken failures old new opener (string_bytes schema) (string_bytes directory)) served
-    serves-order opener (orders.Check schema directory true) status before after served = (
-      served.0,
-      serves-more etaken efailures _ _ status before served.0
-          (explains-files served.0 after opener (string_bytes schema) (string_bytes directory)) served.1,
+        (checks-files remaining taken failures old new mtaken mfailures mold mnew opener (string_bytes schema)
+        (string_bytes directory)) served
+    serves-order opener (orders.Relate first second why) status before after served = (
+      serves-more etaken efailures _ _ status before after
+          (over-texts remaining (λ one other end. RelateEnds one other end (taken old) (taken new) (failures old) (failures new))
+          (new ≡ old) opener (string_bytes first) (string_bytes second)) served.0,
+      refl,
     )
-    serves-order opener (orders.Relate first second why) status before after served =
-        serves-more etaken efailures _ _ status before after
-        (over-texts remaining (λ one other end. RelateEnds one other end (taken old) (taken new) (failures old) (failures new))
-        (new ≡ old) opener
-        (string_bytes first) (string_bytes second)) served
-    serves-order opener (orders.Why first (Some second) why) status before after served =
-        serves-more etaken efailures _ _ status before after
-        (over-texts remaining (ShowsCells taken failures old new) (new ≡ old) opener (string_bytes first) (string_bytes second))
-        served
-    serves-order opener (orders.Why first None why) status before after served =
-        serves-more etaken efailures _ _ status before after
-        (λ end. over-word role.Geometry (λ lent. refl) (ReadsGeometry remaining (codes "first")) opener (string_bytes first)
-        (λ next text ending. ShowsVerdict taken failures old new text ending)
-        (λ next text ending. ShowsVerdict taken failures old new text ending) end (new ≡ old)
-        (λ next text shows. shows)) served
-    serves-order opener (orders.Pairs path why) status before after served =
-        serves-more etaken efailures _ _ status before after
-        (relates-file remaining taken failures old new opener (string_bytes path)) served
-    serves-order opener (orders.Fault code) status before after served = served
+    serves-order opener (orders.Why first (Some second) why) status before after served = (
+      serves-more etaken efailures _ _ status before after
+          (over-texts remaining (ShowsCells taken failures old new) (new ≡ old) opener (string_bytes first) (string_bytes second))
+          served.0,
+      refl,
+    )
+    serves-order opener (orders.Why first None why) status before after served = (
+      serves-more etaken efailures _ _ status before after
+          (λ end. over-word role.Geometry (λ lent. refl) (ReadsGeometry remaining (codes "first")) opener (string_bytes first)
+          (λ next text ending. ShowsVerdict taken failures old new text ending)
+          (λ next text ending. ShowsVerdict taken failures old new text ending) end (new ≡ old) (new ≡ old) (λ nothing. nothing)
+          (λ next text shows. shows)) served.0,
+      refl,
+    )
+    serves-order opener (orders.Pairs path why) status before after served = (
+      serves-more etaken efailures _ _ status before after
+          (relates-file remaining taken failures old new mtaken mfailures mold mnew opener (string_bytes path)) served.0,
+      refl,
+    )
+    serves-order opener (orders.Fault code) status before after served = (served.0, refl)
 
 -- what an order does with the opener of files, whose members are found first
-pub by-paths : {F G R E S : Type 0} {files : Opening G R} (paths : Opening F R) (remaining : R → Option (List ℕ))
+pub by-paths : {F G R E S M : Type 0} {files : Opening G R} (paths : Opening F R) (remaining : R → Option (List ℕ))
     (etaken : E → Option (List ℕ)) (efailures : E → ℕ)
-    (taken : S → Option (List ℕ)) (failures : S → ℕ) (old new : S) (opener : G) (order : Order) (status : ℕ) (before after : E)
-    → ServesOrder files remaining etaken efailures taken failures old new opener order status before after → (under : G → F)
+    (taken : S → Option (List ℕ)) (failures : S → ℕ) (old new : S)
+    (mtaken : M → Option (List ℕ)) (mfailures : M → ℕ) (mold mnew : M) (opener : G) (order : Order) (status : ℕ)
+    (before after : E)
+    → ServesOrder files remaining etaken efailures taken failures old new mtaken mfailures mold mnew opener order status before
+    after → (under : G → F)
     → ((kind : Role) → ((lent : Bor (List ℕ)) → path_of (kind lent) ≡ lent.now)
     → (state : G) (path : List ℕ) (reader : Option R) (next : G)
     → files kind state path reader next → paths kind (under state) path reader (under next))
-    → ServesOrder paths remaining etaken efailures taken failures old new (under opener) order status before after
-by-paths {files = files} paths remaining etaken efailures taken failures old new opener order status before after served under
-    called =
-    serves-order files paths under called remaining etaken efailures taken failures old new opener order status before after
-    served
+    → ServesAlone paths remaining etaken efailures taken failures old new (under opener) order status before after
+by-paths {files = files} paths remaining etaken efailures taken failures old new mtaken mfailures mold mnew opener order status
+    before after served under called =
+    serves-order files paths under called remaining etaken efailures taken failures old new mtaken mfailures mold mnew opener
+    order status before after served

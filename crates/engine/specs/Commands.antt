@@ -1,5 +1,5 @@
 -- What each command means: the texts of the outcomes, the files that are opened, and the ends that there may be.
-use Rattle.std.specs.Prelude.{◌≡◌, ◌++◌, ◌<◌, ◌⊎◌, ⊤, ℕ, Bool, true, false, List, [], ◌∷◌, codes, decimal, length, map, take, slice_get, Option, Some, None, Result, Ok, Err}
+use Rattle.std.specs.Prelude.{◌≡◌, ◌++◌, ◌<◌, ◌⊎◌, ⊤, ℕ, true, List, [], ◌∷◌, codes, decimal, length, map, take, slice_get, IfSome, Option, Some, None, Result, Ok, Err}
 use denote.Ref.{Bor}
 use Rattle.command_line.specs.declared.known_commands.Order.{Order}
 use Rattle.command_line.specs.declared.known_commands.Order.TheVariants as orders
@@ -7,6 +7,9 @@ use Rattle.failures.specs.declared.failure.Failure.{Failure}
 use Rattle.failures.specs.declared.failure.Failure.TheVariants as f
 use Rattle.failures.specs.declared.run_fault.Fault.{Fault}
 use Rattle.failures.specs.declared.run_fault.Fault.TheVariants as faults
+use Rattle.engine.specs.declared.commands.TheConstants.{SCHEMA_BYTES}
+use Rattle.explanations.specs.Faults.{query_place, schema_place}
+use Rattle.explanations.specs.Marks.{IsExplanation}
 use Rattle.explanations.specs.Tables.{IsFront, IsTableExplanation, IsTableNote}
 use Rattle.feature_table.specs.Tables.{EachRecordsOf, EarlierLoad}
 use Rattle.feature_table.specs.Outcomes.{IsFailure}
@@ -27,6 +30,7 @@ use Rattle.table_model.specs.SpatialTables.{SpatialSchema, SpatialTable}
 use Rattle.table_model.specs.Texts.{same_name}
 use Rattle.table_model.specs.declared.definitions.TableDef.{TableDef}
 use Rattle.table_model.specs.declared.faults.LoadFault.{LoadFault}
+use Rattle.table_model.specs.declared.faults.QueryFault.{QueryFault}
 use Rattle.table_model.specs.declared.faults.SchemaFault.{SchemaFault}
 use Rattle.table_model.specs.declared.faults.SchemaFault.TheVariants as s
 use Rattle.text_commands.specs.Files.{Opening}
@@ -140,15 +144,20 @@ pub record OverTables {F R : Type 0} (opens : Opening F R) (remaining : R → Op
   pub opened : OpensTables opens opener directory definitions readers after
   pub rest : Then readers (OverReaders remaining Over end) end Nothing
 
+-- the rest of a command after its schema's file is read: it goes on with the schema, or ends in the failure of reading it
+abbrev pub AfterSchema : Result SpatialSchema Failure → (SpatialSchema → Type 0) → End → (Failure → Type 0) → Type 0
+AfterSchema (Ok definitions) Over end Unread = Over definitions
+AfterSchema (Err failure) Over end Unread = (end ≡ Err failure) × Unread failure
+
 -- how a command over files ends: the schema's file is opened first, and the command ends over its schema; else it ends in the failure of reading it
 pub record OverFiles {F R : Type 0} (opens : Opening F R) (remaining : R → Option (List ℕ)) (opener : F) (path : List ℕ)
-    (Over : F → SpatialSchema → End → Type 0) (end : End) (Nothing : Type 0) : Type 0 where
+    (Over : F → SpatialSchema → End → Type 0) (end : End) (Unread : Option R → Failure → Type 0) : Type 0 where
   pub file : Option R
   pub next : F
   pub opened : opens role.Schema opener path file next
   pub schema : Result SpatialSchema Failure
   pub read : ReadsSchema remaining file schema
-  pub rest : Then schema (λ definitions. Over next definitions end) end Nothing
+  pub rest : AfterSchema schema (λ definitions. Over next definitions end) end (Unread file)
 
 -- a run over the tables' records may end like this
 pub record RunEnds (definitions : SpatialSchema) (query : List ℕ) (old new : Option (List ℕ)) (before after : ℕ) (records : List (List Record)) (end : End) : Type 0 where
@@ -162,32 +171,39 @@ pub record CheckEnds (definitions : SpatialSchema) (old new : Option (List ℕ))
 
 -- the sink of the answer, before and after a command
 module _ {F R S : Type 0} (opens : Opening F R) (remaining : R → Option (List ℕ)) (taken : S → Option (List ℕ)) (failures : S → ℕ) (old new : S) where
-  -- a run over the files of the tables of a schema ends so
-  abbrev pub RunsTables : F → List ℕ → List ℕ → SpatialSchema → End → Type 0
-  RunsTables next directory query definitions end =
-      (after : F) × OverTables opens remaining next after directory definitions (RunEnds definitions query (taken old) (taken new) (failures old) (failures new)) end (new ≡ old)
+  -- a run over the files of the tables of a schema ends so, and leaves the opener in the state `after`
+  abbrev pub RunsTables : F → F → List ℕ → List ℕ → SpatialSchema → End → Type 0
+  RunsTables next after directory query definitions end =
+      OverTables opens remaining next after directory definitions (RunEnds definitions query (taken old) (taken new) (failures old) (failures new)) end (new ≡ old)
 
-  -- and counting their rows, which leaves the opener in the state `after`
+  -- and counting their rows
   abbrev pub ChecksTables : F → F → List ℕ → SpatialSchema → End → Type 0
   ChecksTables next after directory definitions end =
       OverTables opens remaining next after directory definitions (CheckEnds definitions (taken old) (taken new) (failures old) (failures new)) end (new ≡ old)
 
-  -- running a query over a schema's file and those of its tables ends so
-  abbrev pub RunsFiles : F → List ℕ → List ℕ → List ℕ → End → Type 0
-  RunsFiles opener schema directory query end =
-      OverFiles opens remaining opener schema (λ next. RunsTables next directory query) end (new ≡ old)
-
-  -- and running the query that a word gives, whose text is got first
-  abbrev pub RunsQuery : F → List ℕ → List ℕ → List ℕ → End → Type 0
-  RunsQuery opener schema directory word end =
-      OverWord (opens role.Query) (ReadsQuery remaining) opener word (λ next query. RunsFiles next schema directory query) end (new ≡ old)
-
-  -- and counting the rows of its tables
-  abbrev pub ChecksFiles : F → List ℕ → List ℕ → End → Type 0
-  ChecksFiles opener schema directory end =
-      OverFiles opens remaining opener schema (λ next definitions ending. (after : F) × ChecksTables next after directory definitions ending) end (new ≡ old)
-
 -- ---- reasons
+
+-- the sink of explanations, before and after
+module _ {M : Type 0} (taken : M → Option (List ℕ)) (failures : M → ℕ) (old new : M) where
+  -- what explains a fault at this place of a text was written, or a beginning of it
+  abbrev pub ExplainsAt : List ℕ → Option ℕ → Type 0
+  ExplainsAt text place =
+      (explanation : List ℕ) × IsExplanation text place explanation × Writes (taken old) (taken new) (failures old) (failures new) explanation
+
+  -- the same, or nothing
+  abbrev pub MayExplainAt : List ℕ → Option ℕ → Type 0
+  MayExplainAt text place = (new ≡ old) ⊎ ExplainsAt text place
+
+  -- nothing is written, or what explains a failure that is a fault of the text of a schema
+  abbrev pub MayExplainSchema : List ℕ → Failure → Type 0
+  MayExplainSchema text failure = (new ≡ old) ⊎ ((fault : SchemaFault) × (failure ≡ f.Schema fault) × ExplainsAt text (schema_place fault))
+
+  -- the same of a schema's file: as much of it is read as a schema may have, and a byte more
+  abbrev pub ExplainsFile : {R : Type 0} → (R → Option (List ℕ)) → Option R → Failure → Type 0
+  ExplainsFile {R} remaining file failure =
+      (new ≡ old)
+      ⊎ ((reader : R) × (text : List ℕ) × (fault : SchemaFault) × (file ≡ Some reader)
+      × IfSome (remaining reader) (λ bytes. text ≡ take SCHEMA_BYTES bytes) × (failure ≡ f.Schema fault) × ExplainsAt text (schema_place fault))
 
 -- the table at this place has this name, in any ASCII case, as no other table of its schema has
 abbrev pub IsNamed : SpatialSchema → List ℕ → ℕ → Type 0
@@ -225,13 +241,11 @@ pub record ExplainsLoad {F R E : Type 0} (opens : Opening F R) (remaining : R �
   pub explains : ExplainsTable opens remaining before directory definitions name fault explanation
   pub written : Writes (taken old) (taken new) (failures old) (failures new) explanation
 
--- what is written of a failure besides its own line: nothing, or what explains a table's fault
-abbrev pub MayExplain : {F R E : Type 0} → Opening F R → (R → Option (List ℕ)) → (E → Option (List ℕ)) → (E → ℕ) → E → E
-    → F → List ℕ → SpatialSchema → Failure → Type 0
-MayExplain opens remaining taken failures old new before directory definitions failure =
-    (new ≡ old)
-    ⊎ ((name : Bor (List ℕ)) × (fault : LoadFault) × (failure ≡ f.Load name fault)
-    × ExplainsLoad opens remaining taken failures old new before directory definitions name.now fault)
+-- the same, or nothing
+abbrev pub MayExplainLoad : {F R E : Type 0} → Opening F R → (R → Option (List ℕ)) → (E → Option (List ℕ)) → (E → ℕ) → E → E
+    → F → List ℕ → SpatialSchema → List ℕ → LoadFault → Type 0
+MayExplainLoad opens remaining taken failures old new before directory definitions name fault =
+    (new ≡ old) ⊎ ExplainsLoad opens remaining taken failures old new before directory definitions name fault
 
 -- the file of the table of this name may have been opened
 abbrev pub MayOpen : {F R : Type 0} → Opening F R → List ℕ → List ℕ → F → F → Type 0
@@ -286,50 +300,90 @@ module _ {F R E : Type 0} (opens : Opening F R) (remaining : R → Option (List 
   NotesTables (name ∷ names) before after old new =
       (middle : F) × (next : E) × NotesTable name before middle old next × NotesTables names middle after next new
 
--- what is written after a check that ends so, and leaves the opener in this state
-abbrev pub Explains : {F R E : Type 0} → Opening F R → (R → Option (List ℕ)) → (E → Option (List ℕ)) → (E → ℕ) → E → E
-    → F → List ℕ → SpatialSchema → End → Type 0
-Explains {F} opens remaining taken failures old new loaded directory definitions (Ok done) =
-    (after : F) × NotesTables opens remaining taken failures directory (table_names definitions) loaded after old new
-Explains opens remaining taken failures old new loaded directory definitions (Err failure) =
-    MayExplain opens remaining taken failures old new loaded directory definitions failure
+-- the sink of explanations, before and after a command that leaves the opener in this state
+module _ {F R M : Type 0} (opens : Opening F R) (remaining : R → Option (List ℕ)) (taken : M → Option (List ℕ)) (failures : M → ℕ) (old new : M)
+    (loaded : F) (directory : List ℕ) where
+  -- what explains a run that ends so: the fault of its query or of a table
+  abbrev pub SaysOfRun : List ℕ → SpatialSchema → End → Type 0
+  SaysOfRun query definitions (Err (f.Query fault)) = ExplainsAt taken failures old new query (query_place fault)
+  SaysOfRun query definitions (Err (f.Load name fault)) =
+      ExplainsLoad opens remaining taken failures old new loaded directory definitions name.now fault
+  SaysOfRun query definitions _ = ⊥
 
--- a command writes what any command does to standard error, and then more
-abbrev pub ServesReasons : {E : Type 0} → (E → Option (List ℕ)) → (E → ℕ) → (E → End → Type 0) → ℕ → E → Type 0
-ServesReasons {E} taken failures Ends status old = (shown : E) × Serves taken failures (Ends shown) status old shown
+  -- the same, or nothing
+  abbrev pub ExplainsRun : List ℕ → SpatialSchema → End → Type 0
+  ExplainsRun query definitions end = (new ≡ old) ⊎ SaysOfRun query definitions end
 
--- counting the rows of the tables of a schema's file ends so, after which standard error is this one, and with the reason or the notes that one
-module _ {F R E : Type 0} (opens : Opening F R) (remaining : R → Option (List ℕ)) (etaken : E → Option (List ℕ)) (efailures : E → ℕ) (shown explained : E) where
-  abbrev pub ExplainsFiles : {S : Type 0} → (S → Option (List ℕ)) → (S → ℕ) → S → S → F → List ℕ → List ℕ → End → Type 0
-  ExplainsFiles taken failures old new opener schema directory end =
+  -- what is written of a check that ends so: what explains the fault of a table, or notes where there is none
+  abbrev pub SaysOfCheck : SpatialSchema → End → Type 0
+  SaysOfCheck definitions (Ok done) =
+      (after : F) × NotesTables opens remaining taken failures directory (table_names definitions) loaded after old new
+  SaysOfCheck definitions (Err (f.Load name fault)) =
+      ExplainsLoad opens remaining taken failures old new loaded directory definitions name.now fault
+  SaysOfCheck definitions (Err _) = ⊥
+
+  -- the same, or nothing
+  abbrev pub ExplainsCheck : SpatialSchema → End → Type 0
+  ExplainsCheck definitions end = (new ≡ old) ⊎ SaysOfCheck definitions end
+
+-- ---- commands with their explanations
+
+-- the sink of the answer and that of explanations, before and after a command
+module _ {F R S M : Type 0} (opens : Opening F R) (remaining : R → Option (List ℕ)) (taken : S → Option (List ℕ)) (failures : S → ℕ) (old new : S)
+    (mtaken : M → Option (List ℕ)) (mfailures : M → ℕ) (mold mnew : M) where
+  -- the schema's file isn't read: no answer is written, and perhaps what explains the fault of its text
+  abbrev pub EndsUnread : Option R → Failure → Type 0
+  EndsUnread file failure = (new ≡ old) × ExplainsFile mtaken mfailures mold mnew remaining file failure
+
+  -- running a query over a schema's file and those of its tables ends so
+  abbrev pub RunsFiles : F → List ℕ → List ℕ → List ℕ → End → Type 0
+  RunsFiles opener schema directory query end =
       OverFiles opens remaining opener schema
-      (λ next definitions ending. (loaded : F) × ChecksTables opens remaining taken failures old new next loaded directory definitions ending
-      × Explains opens remaining etaken efailures shown explained loaded directory definitions ending)
-      end ((new ≡ old) × (explained ≡ shown))
+      (λ next definitions ending. (after : F) × RunsTables opens remaining taken failures old new next after directory query definitions ending
+      × ExplainsRun opens remaining mtaken mfailures mold mnew after directory query definitions ending)
+      end EndsUnread
+
+  -- and running the query that a word gives, whose text is got first
+  abbrev pub RunsQuery : F → List ℕ → List ℕ → List ℕ → End → Type 0
+  RunsQuery opener schema directory word end =
+      OverWord (opens role.Query) (ReadsQuery remaining) opener word (λ next query. RunsFiles next schema directory query) end
+      ((new ≡ old) × (mnew ≡ mold))
+
+  -- and counting the rows of its tables
+  abbrev pub ChecksFiles : F → List ℕ → List ℕ → End → Type 0
+  ChecksFiles opener schema directory end =
+      OverFiles opens remaining opener schema
+      (λ next definitions ending. (after : F) × ChecksTables opens remaining taken failures old new next after directory definitions ending
+      × ExplainsCheck opens remaining mtaken mfailures mold mnew after directory definitions ending)
+      end EndsUnread
 
 -- ---- orders
 
-module _ {F R E S : Type 0} (opens : Opening F R) (remaining : R → Option (List ℕ)) (etaken : E → Option (List ℕ)) (efailures : E → ℕ) (taken : S → Option (List ℕ)) (failures : S → ℕ) (old new : S) where
-  -- counting the rows of the tables of a schema's file, with or without reasons
-  abbrev pub ServesTables : F → List ℕ → List ℕ → Bool → ℕ → E → E → Type 0
-  ServesTables opener schema directory false status before after =
-      Serves etaken efailures (ChecksFiles opens remaining taken failures old new opener schema directory) status before after
-  ServesTables opener schema directory true status before after =
-      ServesReasons etaken efailures (λ shown. ExplainsFiles opens remaining etaken efailures shown after taken failures old new opener schema directory) status before
+-- a command over texts ends like this, and explains nothing
+abbrev pub ServesTexts : {E M : Type 0} → (E → Option (List ℕ)) → (E → ℕ) → M → M → (End → Type 0) → ℕ → E → E → Type 0
+ServesTexts taken failures mold mnew Ends status before after = Serves taken failures Ends status before after × (mnew ≡ mold)
 
+module _ {F R E S M : Type 0} (opens : Opening F R) (remaining : R → Option (List ℕ)) (etaken : E → Option (List ℕ)) (efailures : E → ℕ)
+    (taken : S → Option (List ℕ)) (failures : S → ℕ) (old new : S) (mtaken : M → Option (List ℕ)) (mfailures : M → ℕ) (mold mnew : M) where
   -- doing what an order says
   abbrev pub ServesOrder : F → Order → ℕ → E → E → Type 0
   ServesOrder opener (orders.Run schema directory query why) status before after =
-      Serves etaken efailures (RunsQuery opens remaining taken failures old new opener (string_bytes schema) (string_bytes directory) (string_bytes query)) status before after
+      Serves etaken efailures (RunsQuery opens remaining taken failures old new mtaken mfailures mold mnew opener (string_bytes schema) (string_bytes directory) (string_bytes query)) status before after
   ServesOrder opener (orders.Check schema directory why) status before after =
-      ServesTables opener (string_bytes schema) (string_bytes directory) why status before after
+      Serves etaken efailures (ChecksFiles opens remaining taken failures old new mtaken mfailures mold mnew opener (string_bytes schema) (string_bytes directory)) status before after
   ServesOrder opener (orders.Relate first second why) status before after =
-      Serves etaken efailures (RelatesWords opens remaining taken failures old new opener (string_bytes first) (string_bytes second)) status before after
+      ServesTexts etaken efailures mold mnew (RelatesWords opens remaining taken failures old new opener (string_bytes first) (string_bytes second)) status before after
   ServesOrder opener (orders.Why first (Some second) why) status before after =
-      Serves etaken efailures (ExplainsCells opens remaining taken failures old new opener (string_bytes first) (string_bytes second)) status before after
+      ServesTexts etaken efailures mold mnew (ExplainsCells opens remaining taken failures old new opener (string_bytes first) (string_bytes second)) status before after
   ServesOrder opener (orders.Why first None why) status before after =
-      Serves etaken efailures (ExplainsValidity opens remaining taken failures old new opener (string_bytes first)) status before after
+      ServesTexts etaken efailures mold mnew (ExplainsValidity opens remaining taken failures old new opener (string_bytes first)) status before after
   ServesOrder opener (orders.Pairs file why) status before after =
-      Serves etaken efailures (RelatesFile opens remaining taken failures old new opener (string_bytes file)) status before after
+      ServesTexts etaken efailures mold mnew (RelatesFile opens remaining taken failures old new opener (string_bytes file)) status before after
   ServesOrder opener (orders.Fault words) status before after =
-      Serves etaken efailures (ExplainsFault taken failures old new (map string_bytes words.items)) status before after
+      ServesTexts etaken efailures mold mnew (ExplainsFault taken failures old new (map string_bytes words.items)) status before after
+
+-- the same with no sink of explanations
+abbrev pub ServesAlone : {F R E S : Type 0} → Opening F R → (R → Option (List ℕ)) → (E → Option (List ℕ)) → (E → ℕ)
+    → (S → Option (List ℕ)) → (S → ℕ) → S → S → F → Order → ℕ → E → E → Type 0
+ServesAlone opens remaining etaken efailures taken failures old new =
+    ServesOrder opens remaining etaken efailures taken failures old new (λ none. None) (λ none. 0) (tt {0}) (tt {0})

@@ -1,11 +1,13 @@
 //! The commands of the program: `serve` does what the command line orders, over readers and sinks of any kind.
 
-ghost use Rattle.std.specs.Prelude.{◌≡◌, ◌<◌, [], length, take, Err, IfErr, IfOk, IfSome, OnErr, OnOk};
+ghost use Rattle.std.specs.Prelude.{◌≡◌, ◌<◌, [], false, length, take, Err, IfErr, IfOk, IfSome, OnErr, OnOk};
+ghost use Rattle.command_line.specs.Orders.{asks_why};
 ghost use Rattle.std.specs.Fn.{CalledAt, TakesAt};
 ghost use Rattle.std.specs.String.{string_bytes};
 ghost use Rattle.std.specs.Io.KnownBytes.{Appends};
-ghost use Rattle.engine.specs.Commands.{ChecksFiles, ChecksTables, ExplainsFiles, ExplainsTable, IsFaultOf, IsNamed, IsUnread, LooksAgain, MayExplain, NotesTable, NotesTables, Opens, OpensTables, ReadsSchema, RunsFiles, RunsQuery, RunsTables, SaysQuote, SaysReason, ServesOrder, ServesReasons, ServesTables, check_text, table_names, table_paths};
+ghost use Rattle.engine.specs.Commands.{ChecksFiles, ChecksTables, ExplainsCheck, ExplainsFile, ExplainsRun, ExplainsTable, IsFaultOf, IsNamed, IsUnread, LooksAgain, MayExplainAt, MayExplainLoad, MayExplainSchema, NotesTable, NotesTables, Opens, OpensTables, ReadsSchema, RunsFiles, RunsQuery, RunsTables, SaysQuote, SaysReason, ServesAlone, ServesOrder, check_text, table_names, table_paths};
 ghost use Rattle.engine.specs.Commands as spec;
+ghost use Rattle.explanations.specs.Faults.{query_place};
 ghost use Rattle.explanations.specs.Tables.{IsTableExplanation};
 ghost use Rattle.feature_table.specs.Outcomes.{IsFailure};
 ghost use Rattle.query_runs.specs.Runs.{IsOfTables};
@@ -15,7 +17,10 @@ ghost use Rattle.text_commands.specs.Ends.{Serves};
 ghost use Rattle.text_commands.specs.Files.{OpensFile, OpensPath, path_of};
 
 use command_line::Order;
-use explanations::{Found, last_record, open_quote_explained, table_explained, table_front};
+use explanations::{
+    Found, last_record, open_quote_explained, query_explained_over, schema_explained,
+    table_explained, table_front,
+};
 use failures::{Failure, Fault, ended, failed};
 use feature_table::{Database, Records, Schema};
 use itoa::Buffer;
@@ -26,7 +31,7 @@ use sql_text::{TableDef, read_schema};
 use std::alloc::{AllocError, Global};
 use std::io::{ErrorKind, Read};
 use streams::{MemorySink, RowObserver, Sink, SinkFault, Unobserved, put_all, put_parts};
-use table_model::faults::{LoadFault, SchemaFault};
+use table_model::faults::{LoadFault, QueryFault, SchemaFault};
 use table_model::texts::same_name;
 use table_model::tokens::TEXT_LIMIT;
 use text_commands::{
@@ -42,9 +47,9 @@ pub(crate) type RowIndex = RowTree;
 /// How many bytes of a schema's file are read: one more than a schema may have.
 pub(crate) const SCHEMA_BYTES: u64 = TEXT_LIMIT as u64 + 1;
 
-/// Does what the order says. It writes the answer to `out` and the line of a failure to `err`. After a failed check with `why` it also
-/// writes what explains a table's fault, if it finds that, and after one that is done a line for each table that has a field with a line end.
-/// It returns the status of the program: 0, or that of the failure. The opener returns the reader of the file at a path, or None if it can't be opened.
+/// Does what the order says. It writes the answer to `out` and the line of a failure to `err`; of what explains a fault it writes nothing.
+/// It returns the status of the program: 0, or that of the failure. The opener returns the reader of the file at a path, or None if it
+/// can't be opened.
 pub fn serve<R: Read + Drop, F: FnMut(&str) -> Option<R>, S: Sink, E: Sink>(
     alloc: Global,
     order: &Order,
@@ -53,27 +58,84 @@ pub fn serve<R: Read + Drop, F: FnMut(&str) -> Option<R>, S: Sink, E: Sink>(
     err: &mut E,
 ) -> u8
     requires { F.IsAlwaysCallable opener }
-    ensures serves { ServesOrder (OpensPath F.FnMut) R.remaining E.taken E.failures S.taken S.failures
+    ensures serves { ServesAlone (OpensPath F.FnMut) R.remaining E.taken E.failures S.taken S.failures
         out.old out.new opener order.now result err.old err.new }
 {
     let by_path = |file: File<'_>|
         requires { TakesAt F.FnMut opener (path_of file) }
         ensures { CalledAt F.FnMut opener.entry (path_of file.entry) result opener.exit }
     { opener(file.path()) };
-    serve_observed(alloc, order, by_path, out, err, &mut Unobserved)
+    let mut unwritten = MemorySink::new(alloc);
+    serve_order(
+        alloc,
+        order,
+        false,
+        by_path,
+        out,
+        err,
+        &mut unwritten,
+        &mut Unobserved,
+    )
 }
 
-/// The same as `serve`, with an opener that learns what each file is. It reports each candidate that a query looks at, and each row that it finds, to an observer.
+/// Like `serve`, with an opener that learns what each file is. It reports each candidate that a query looks at, and each row that it finds,
+/// to an observer. If the order asks why, it writes to `more` what explains a fault of the schema, of a table or of the query, and after a
+/// check that is done a line for each table that has a field with a line end. A caller shows that behind the answer and the line of the fault.
 pub fn serve_observed<
     R: Read + Drop,
     F: FnMut(File<'_>) -> Option<R>,
     S: Sink,
     E: Sink,
+    M: Sink,
     O: RowObserver,
->(alloc: Global, order: &Order, opener: F, out: &mut S, err: &mut E, observer: &mut O) -> u8
+>(
+    alloc: Global,
+    order: &Order,
+    opener: F,
+    out: &mut S,
+    err: &mut E,
+    more: &mut M,
+    observer: &mut O,
+) -> u8
     requires { F.IsAlwaysCallable opener }
     ensures serves { ServesOrder (OpensFile F.FnMut) R.remaining E.taken E.failures S.taken S.failures
-        out.old out.new opener order.now result err.old err.new }
+        out.old out.new M.taken M.failures more.old more.new opener order.now result err.old err.new }
+    ensures unasked { asks_why order.now ≡ false → more.new ≡ more.old }
+{
+    serve_order(
+        alloc,
+        order,
+        order.asks_why(),
+        opener,
+        out,
+        err,
+        more,
+        observer,
+    )
+}
+
+/// Does what the order says, and explains a fault if `why` says so.
+fn serve_order<
+    R: Read + Drop,
+    F: FnMut(File<'_>) -> Option<R>,
+    S: Sink,
+    E: Sink,
+    M: Sink,
+    O: RowObserver,
+>(
+    alloc: Global,
+    order: &Order,
+    why: bool,
+    opener: F,
+    out: &mut S,
+    err: &mut E,
+    more: &mut M,
+    observer: &mut O,
+) -> u8
+    requires { F.IsAlwaysCallable opener }
+    ensures serves { ServesOrder (OpensFile F.FnMut) R.remaining E.taken E.failures S.taken S.failures
+        out.old out.new M.taken M.failures more.old more.new opener order.now result err.old err.new }
+    ensures unasked { why ≡ false → more.new ≡ more.old }
 {
     match order {
         Order::Run {
@@ -85,19 +147,30 @@ pub fn serve_observed<
             let paths = Paths {
                 schema: schema.as_str(),
                 directory: directory.as_str(),
+                why,
             };
-            serve_query(alloc, &paths, query.as_str(), opener, out, err, observer)
+            serve_query(
+                alloc,
+                &paths,
+                query.as_str(),
+                opener,
+                out,
+                err,
+                more,
+                observer,
+            )
         }
         Order::Check {
             schema,
             directory,
-            why,
+            ..
         } => {
             let paths = Paths {
                 schema: schema.as_str(),
                 directory: directory.as_str(),
+                why,
             };
-            serve_tables(alloc, &paths, *why, opener, out, err)
+            serve_check(alloc, &paths, opener, out, err, more)
         }
         Order::Relate { first, second, .. } => {
             serve_relate(alloc, first.as_str(), second.as_str(), opener, out, err)
@@ -113,55 +186,83 @@ pub fn serve_observed<
     }
 }
 
-/// Where the files of a command are.
+/// Where the files of a command are, and whether its fault is explained.
 #[derive(Drop)]
 struct Paths<'a> {
     schema: &'a str,
     directory: &'a str,
+    why: bool,
 }
 
 /// Runs the query that a word gives: its file is read first, if the word names one.
 #[inline(never)]
-fn serve_query<R: Read + Drop, F: FnMut(File<'_>) -> Option<R>, S: Sink, E: Sink, O: RowObserver>(
+fn serve_query<
+    R: Read + Drop,
+    F: FnMut(File<'_>) -> Option<R>,
+    S: Sink,
+    E: Sink,
+    M: Sink,
+    O: RowObserver,
+>(
     alloc: Global,
     paths: &Paths<'_>,
     word: &str,
     mut opener: F,
     out: &mut S,
     err: &mut E,
+    more: &mut M,
     observer: &mut O,
 ) -> u8
     requires { F.IsAlwaysCallable opener }
-    ensures { Serves E.taken E.failures
-        (RunsQuery (OpensFile F.FnMut) R.remaining S.taken S.failures out.old out.new opener
-        paths.now.schema.now paths.now.directory.now word.now)
+    ensures serves { Serves E.taken E.failures
+        (RunsQuery (OpensFile F.FnMut) R.remaining S.taken S.failures out.old out.new M.taken M.failures more.old more.new
+        opener paths.now.schema.now paths.now.directory.now word.now)
         result err.old err.new }
+    ensures unasked { paths.now.why ≡ false → more.new ≡ more.old }
 {
     let query = match query_text(alloc, word, &mut opener) {
         Ok(text) => text,
         Err(failure) => return failed(&failure, err),
     };
-    serve_run(alloc, paths, query.as_str(), opener, out, err, observer)
+    serve_run(
+        alloc,
+        paths,
+        query.as_str(),
+        opener,
+        out,
+        err,
+        more,
+        observer,
+    )
 }
 
 /// Runs a query: the schema's file is read first, then the schema, then all files of tables are opened in the
 /// schema's order, and then the query is run.
-fn serve_run<R: Read + Drop, F: FnMut(File<'_>) -> Option<R>, S: Sink, E: Sink, O: RowObserver>(
+fn serve_run<
+    R: Read + Drop,
+    F: FnMut(File<'_>) -> Option<R>,
+    S: Sink,
+    E: Sink,
+    M: Sink,
+    O: RowObserver,
+>(
     alloc: Global,
     paths: &Paths<'_>,
     query: &str,
     mut opener: F,
     out: &mut S,
     err: &mut E,
+    more: &mut M,
     observer: &mut O,
 ) -> u8
     requires { F.IsAlwaysCallable opener }
-    ensures { Serves E.taken E.failures
-        (RunsFiles (OpensFile F.FnMut) R.remaining S.taken S.failures out.old out.new opener
-        paths.now.schema.now paths.now.directory.now query.now)
+    ensures serves { Serves E.taken E.failures
+        (RunsFiles (OpensFile F.FnMut) R.remaining S.taken S.failures out.old out.new M.taken M.failures more.old more.new
+        opener paths.now.schema.now paths.now.directory.now query.now)
         result err.old err.new }
+    ensures unasked { paths.now.why ≡ false → more.new ≡ more.old }
 {
-    let schema = match schema_in(alloc, opener(File::Schema(paths.schema))) {
+    let schema = match schema_in(alloc, opener(File::Schema(paths.schema)), paths.why, more) {
         Ok(schema) => schema,
         Err(failure) => return failed(&failure, err),
     };
@@ -170,10 +271,11 @@ fn serve_run<R: Read + Drop, F: FnMut(File<'_>) -> Option<R>, S: Sink, E: Sink, 
         &schema,
         paths.directory,
         query,
-        opener,
+        &mut opener,
         out,
         observer,
     );
+    explain_run(alloc, paths, &schema, query, &end, opener, more);
     ended(end, err)
 }
 
@@ -183,15 +285,16 @@ fn run_over<'s, R: Read + Drop, F: FnMut(File<'_>) -> Option<R>, S: Sink, O: Row
     schema: &'s Schema,
     directory: &str,
     query: &str,
-    mut opener: F,
+    opener: &mut F,
     out: &mut S,
     observer: &mut O,
 ) -> Result<(), Failure<'s>>
-    requires { F.IsAlwaysCallable opener }
-    ensures { RunsTables (OpensFile F.FnMut) R.remaining S.taken S.failures out.old out.new opener
-        directory.now query.now schema.entry.now result }
+    requires { F.IsAlwaysCallable opener.old }
+    ensures callable { F.IsAlwaysCallable opener.new }
+    ensures runs { RunsTables (OpensFile F.FnMut) R.remaining S.taken S.failures out.old out.new opener.old
+        opener.new directory.now query.now schema.entry.now result }
 {
-    let readers = open_tables(alloc, schema, directory, &mut opener)?;
+    let readers = open_tables(alloc, schema, directory, opener)?;
     let ran = run_by_references::<ColumnIndex, RowIndex, R, S, O>(
         alloc, schema, readers, query, out, observer,
     );
@@ -201,105 +304,141 @@ fn run_over<'s, R: Read + Drop, F: FnMut(File<'_>) -> Option<R>, S: Sink, O: Row
     }
 }
 
-/// Loads every table and lists how many rows each has. If that is asked for, it says what is wrong where one has a fault, and else which
-/// fields hold a line end.
-fn serve_tables<R: Read + Drop, F: FnMut(File<'_>) -> Option<R>, S: Sink, E: Sink>(
-    alloc: Global,
-    paths: &Paths<'_>,
-    why: bool,
-    opener: F,
-    out: &mut S,
-    err: &mut E,
-) -> u8
-    requires { F.IsAlwaysCallable opener }
-    ensures { ServesTables (OpensFile F.FnMut) R.remaining E.taken E.failures S.taken S.failures out.old out.new
-        opener paths.now.schema.now paths.now.directory.now why result err.old err.new }
-{
-    if why {
-        serve_reasons(alloc, paths, opener, out, err)
-    } else {
-        serve_check(alloc, paths, opener, out, err)
-    }
-}
-
 /// Loads every table, and writes a line for each, in the schema's order: its name and how many rows it has. The files are
 /// opened as for a run. If one of the tables doesn't load, nothing is written.
 #[inline(never)]
-fn serve_check<R: Read + Drop, F: FnMut(File<'_>) -> Option<R>, S: Sink, E: Sink>(
+fn serve_check<R: Read + Drop, F: FnMut(File<'_>) -> Option<R>, S: Sink, E: Sink, M: Sink>(
     alloc: Global,
     paths: &Paths<'_>,
     mut opener: F,
     out: &mut S,
     err: &mut E,
+    more: &mut M,
 ) -> u8
     requires { F.IsAlwaysCallable opener }
-    ensures { Serves E.taken E.failures
-        (ChecksFiles (OpensFile F.FnMut) R.remaining S.taken S.failures out.old out.new opener
-        paths.now.schema.now paths.now.directory.now)
+    ensures serves { Serves E.taken E.failures
+        (ChecksFiles (OpensFile F.FnMut) R.remaining S.taken S.failures out.old out.new M.taken M.failures more.old more.new
+        opener paths.now.schema.now paths.now.directory.now)
         result err.old err.new }
+    ensures unasked { paths.now.why ≡ false → more.new ≡ more.old }
 {
-    let schema = match schema_in(alloc, opener(File::Schema(paths.schema))) {
+    let schema = match schema_in(alloc, opener(File::Schema(paths.schema)), paths.why, more) {
         Ok(schema) => schema,
         Err(failure) => return failed(&failure, err),
     };
     let end = check_over(alloc, &schema, paths.directory, &mut opener, out);
+    explain_check(alloc, paths, &schema, &end, opener, more);
     ended(end, err)
 }
 
-/// The same, and after the line of a table's fault it writes what explains it, if it finds that: the table's file is opened
-/// and read again for it. Of a file that has changed, or that can't be read again, nothing is written. Where all tables load, it writes a line
-/// for each that has a field with a line end.
-#[inline(never)]
-fn serve_reasons<R: Read + Drop, F: FnMut(File<'_>) -> Option<R>, S: Sink, E: Sink>(
+/// Writes what explains the end of a run, if that is asked for and the end is a fault of the query, or one of a table whose reason is found.
+fn explain_run<R: Read + Drop, F: FnMut(File<'_>) -> Option<R>, M: Sink>(
     alloc: Global,
     paths: &Paths<'_>,
-    mut opener: F,
-    out: &mut S,
-    err: &mut E,
-) -> u8
+    schema: &Schema,
+    query: &str,
+    end: &Result<(), Failure<'_>>,
+    opener: F,
+    more: &mut M,
+)
     requires { F.IsAlwaysCallable opener }
-    ensures { ServesReasons E.taken E.failures
-        (λ shown. ExplainsFiles (OpensFile F.FnMut) R.remaining E.taken E.failures shown err.new
-        S.taken S.failures out.old out.new opener paths.now.schema.now paths.now.directory.now)
-        result err.old }
+    ensures explains { ExplainsRun (OpensFile F.FnMut) R.remaining M.taken M.failures more.old more.new opener
+        paths.now.directory.now query.now schema.now end.now }
+    ensures unasked { paths.now.why ≡ false → more.new ≡ more.old }
 {
-    let schema = match schema_in(alloc, opener(File::Schema(paths.schema))) {
-        Ok(schema) => schema,
-        Err(failure) => return failed(&failure, err),
-    };
-    match check_over(alloc, &schema, paths.directory, &mut opener, out) {
-        Ok(()) => {
-            put_notes(alloc, &schema, paths.directory, opener, err);
-            0
+    if !paths.why {
+        return;
+    }
+    match *end {
+        Err(Failure::Query(fault)) => explain_query(alloc, schema, query, fault, more),
+        Err(Failure::Load(name, fault)) => {
+            explain_load(alloc, schema, paths.directory, name, fault, opener, more)
         }
-        Err(failure) => {
-            let status = failed(&failure, err);
-            explain(alloc, &schema, paths.directory, &failure, opener, err);
-            status
-        }
+        _ => {}
     }
 }
 
-/// Writes what explains a failure, if it is a table's fault and its reason is found.
-pub(crate) fn explain<R: Read + Drop, F: FnMut(File<'_>) -> Option<R>, E: Sink>(
+/// Writes what explains the end of a check, if that is asked for: a table's fault, if its reason is found; and if there is no fault, which
+/// fields hold a line end.
+fn explain_check<R: Read + Drop, F: FnMut(File<'_>) -> Option<R>, M: Sink>(
+    alloc: Global,
+    paths: &Paths<'_>,
+    schema: &Schema,
+    end: &Result<(), Failure<'_>>,
+    opener: F,
+    more: &mut M,
+)
+    requires { F.IsAlwaysCallable opener }
+    ensures explains { ExplainsCheck (OpensFile F.FnMut) R.remaining M.taken M.failures more.old more.new opener
+        paths.now.directory.now schema.now end.now }
+    ensures unasked { paths.now.why ≡ false → more.new ≡ more.old }
+{
+    if !paths.why {
+        return;
+    }
+    match *end {
+        Ok(()) => put_notes(alloc, schema, paths.directory, opener, more),
+        Err(Failure::Load(name, fault)) => {
+            explain_load(alloc, schema, paths.directory, name, fault, opener, more)
+        }
+        Err(_) => {}
+    }
+}
+
+/// Writes what explains a fault of a query over the tables of a schema.
+fn explain_query<M: Sink>(
+    alloc: Global,
+    schema: &Schema,
+    query: &str,
+    fault: QueryFault,
+    more: &mut M,
+)
+    ensures { MayExplainAt M.taken M.failures more.old more.new query.now (query_place fault) }
+{
+    if let Ok(explanation) = query_explained_over(alloc, query.as_bytes(), fault, schema) {
+        let _ = put_all(more, explanation.as_slice());
+    }
+}
+
+/// Writes what explains a failure of reading the text of a schema, if that is asked for and the failure is a fault of the text.
+fn explain_schema<M: Sink>(
+    alloc: Global,
+    why: bool,
+    text: &[u8],
+    failure: &Failure<'_>,
+    more: &mut M,
+)
+    ensures explains { MayExplainSchema M.taken M.failures more.old more.new text.now failure.now }
+    ensures unasked { why ≡ false → more.new ≡ more.old }
+{
+    if !why {
+        return;
+    }
+    let Failure::Schema(fault) = *failure else {
+        return;
+    };
+    if let Ok(explanation) = schema_explained(alloc, text, fault) {
+        let _ = put_all(more, explanation.as_slice());
+    }
+}
+
+/// Writes what explains the fault of the table of this name, if its reason is found.
+fn explain_load<R: Read + Drop, F: FnMut(File<'_>) -> Option<R>, M: Sink>(
     alloc: Global,
     schema: &Schema,
     directory: &str,
-    failure: &Failure<'_>,
+    name: &str,
+    fault: LoadFault,
     opener: F,
-    err: &mut E,
+    more: &mut M,
 )
     requires { F.IsAlwaysCallable opener }
-    ensures { MayExplain (OpensFile F.FnMut) R.remaining E.taken E.failures err.old err.new opener directory.now
-        schema.now failure.now }
+    ensures { MayExplainLoad (OpensFile F.FnMut) R.remaining M.taken M.failures more.old more.new opener directory.now
+        schema.now name.now fault }
 {
-    let Failure::Load(name, fault) = *failure else {
-        return;
-    };
-    let Some(explanation) = fault_explained(alloc, schema, directory, name, fault, opener) else {
-        return;
-    };
-    let _ = put_all(err, explanation.as_slice());
+    if let Some(explanation) = fault_explained(alloc, schema, directory, name, fault, opener) {
+        let _ = put_all(more, explanation.as_slice());
+    }
 }
 
 /// What explains the fault of the table of this name; None if nothing is found, or memory runs out. Its file is opened again for the reason,
@@ -483,35 +622,35 @@ fn table_named(schema: &Schema, name: &str) -> Option<usize>
 
 /// Writes a line for each table that has a field with a line end, in the schema's order: the first such field of its first such
 /// record. Each file is opened and read again; of one that can't be, nothing is said.
-fn put_notes<R: Read + Drop, F: FnMut(File<'_>) -> Option<R>, E: Sink>(
+fn put_notes<R: Read + Drop, F: FnMut(File<'_>) -> Option<R>, M: Sink>(
     alloc: Global,
     schema: &Schema,
     directory: &str,
     mut opener: F,
-    err: &mut E,
+    more: &mut M,
 )
     requires { F.IsAlwaysCallable opener }
-    ensures { (after : F) × NotesTables (OpensFile F.FnMut) R.remaining E.taken E.failures directory.now
-        (table_names schema.now) opener after err.old err.new }
+    ensures { (after : F) × NotesTables (OpensFile F.FnMut) R.remaining M.taken M.failures directory.now
+        (table_names schema.now) opener after more.old more.new }
 {
     for table in schema.tables() {
-        put_note(alloc, directory, table.name.as_str(), &mut opener, err);
+        put_note(alloc, directory, table.name.as_str(), &mut opener, more);
     }
 }
 
 /// Writes the line of the first field with a line end in the file of the table of this name, if there is one, and where its quote opens, if
 /// it isn't closed.
-fn put_note<R: Read + Drop, F: FnMut(File<'_>) -> Option<R>, E: Sink>(
+fn put_note<R: Read + Drop, F: FnMut(File<'_>) -> Option<R>, M: Sink>(
     alloc: Global,
     directory: &str,
     name: &str,
     opener: &mut F,
-    err: &mut E,
+    more: &mut M,
 )
     requires { F.IsAlwaysCallable opener.old }
     ensures callable { F.IsAlwaysCallable opener.new }
-    ensures notes { NotesTable (OpensFile F.FnMut) R.remaining E.taken E.failures directory.now name.now
-        opener.old opener.new err.old err.new }
+    ensures notes { NotesTable (OpensFile F.FnMut) R.remaining M.taken M.failures directory.now name.now
+        opener.old opener.new more.old more.new }
 {
     let Ok(found) = found_line_end(alloc, directory, name, opener) else {
         return;
@@ -519,24 +658,24 @@ fn put_note<R: Read + Drop, F: FnMut(File<'_>) -> Option<R>, E: Sink>(
     let Some(at) = found else {
         return;
     };
-    let _ = put_line_end(name, at, err);
-    put_open_quote(alloc, directory, name, at, opener, err);
+    let _ = put_line_end(name, at, more);
+    put_open_quote(alloc, directory, name, at, opener, more);
 }
 
 /// Shows where the quote of a field with a line end opens, in the file of the table of this name, which is opened once more. Nothing is
 /// written if the quote is closed.
-fn put_open_quote<R: Read + Drop, F: FnMut(File<'_>) -> Option<R>, E: Sink>(
+fn put_open_quote<R: Read + Drop, F: FnMut(File<'_>) -> Option<R>, M: Sink>(
     alloc: Global,
     directory: &str,
     name: &str,
     at: LineEnd,
     opener: &mut F,
-    err: &mut E,
+    more: &mut M,
 )
     requires { F.IsAlwaysCallable opener.old }
     ensures callable { F.IsAlwaysCallable opener.new }
-    ensures says { SaysQuote (OpensFile F.FnMut) R.remaining E.taken E.failures directory.now name.now at.number
-        opener.old opener.new err.old err.new }
+    ensures says { SaysQuote (OpensFile F.FnMut) R.remaining M.taken M.failures directory.now name.now at.number
+        opener.old opener.new more.old more.new }
 {
     let Ok(path) = table_path(alloc, directory, name) else {
         return;
@@ -553,7 +692,7 @@ fn put_open_quote<R: Read + Drop, F: FnMut(File<'_>) -> Option<R>, E: Sink>(
     let Ok(note) = open_quote_explained(alloc, text.as_slice(), at.number, at.field) else {
         return;
     };
-    let _ = put_all(err, note.as_slice());
+    let _ = put_all(more, note.as_slice());
 }
 
 /// Whether a reader has nothing more to give.
@@ -586,7 +725,7 @@ fn found_line_end<R: Read + Drop, F: FnMut(File<'_>) -> Option<R>>(
 }
 
 /// Opens the files of all tables, loads the tables, and writes their lines.
-pub(crate) fn check_over<'s, R: Read + Drop, F: FnMut(File<'_>) -> Option<R>, S: Sink>(
+fn check_over<'s, R: Read + Drop, F: FnMut(File<'_>) -> Option<R>, S: Sink>(
     alloc: Global,
     schema: &'s Schema,
     directory: &str,
@@ -633,10 +772,7 @@ fn put_counts<I: EnvelopeIndex + Drop, S: Sink>(
 }
 
 /// The bytes of a schema's file, up to one more than a schema may have: the reader of schemas refuses a longer one.
-pub(crate) fn schema_text<R: Read + Drop>(
-    alloc: Global,
-    file: R,
-) -> Result<Vec<u8>, Failure<'static>>
+fn schema_text<R: Read + Drop>(alloc: Global, file: R) -> Result<Vec<u8>, Failure<'static>>
     ensures text { IfOk result (λ text. IfSome (R.remaining file)
         (λ bytes. text.items ≡ take SCHEMA_BYTES bytes)) }
     ensures failure { IfErr result IsUnread }
@@ -649,12 +785,18 @@ pub(crate) fn schema_text<R: Read + Drop>(
     }
 }
 
-/// The schema in a file, or why there is none. None is for a file that can't be opened.
-pub(crate) fn schema_in<R: Read + Drop>(
+/// The schema in a file, or why there is none; if `why` says so, what explains the fault of its text is written to `more`. None is for a
+/// file that can't be opened.
+fn schema_in<R: Read + Drop, M: Sink>(
     alloc: Global,
     file: Option<R>,
+    why: bool,
+    more: &mut M,
 ) -> Result<Schema, Failure<'static>>
-    ensures { ReadsSchema R.remaining file result }
+    ensures reads { ReadsSchema R.remaining file result }
+    ensures quiet { OnOk result (more.new ≡ more.old) }
+    ensures explains { IfErr result (ExplainsFile M.taken M.failures more.old more.new R.remaining file) }
+    ensures unasked { why ≡ false → more.new ≡ more.old }
 {
     let Some(file) = file else {
         return Err(Failure::SchemaUnreadable);
@@ -662,8 +804,18 @@ pub(crate) fn schema_in<R: Read + Drop>(
     let text = schema_text(alloc, file)?;
     match read_schema(alloc, text.as_slice()) {
         Ok(schema) => Ok(schema),
-        Err(fault) => Err(schema_failure(fault)),
+        Err(fault) => {
+            let failure = schema_failure(fault);
+            explain_schema(alloc, why, text.as_slice(), &failure, more);
+            Err(failure)
+        }
     }
+}
+
+/// The schema in a file that is opened once more, if it has one.
+pub(crate) fn schema_again<R: Read + Drop>(alloc: Global, file: Option<R>) -> Option<Schema> {
+    let mut unwritten = MemorySink::new(alloc);
+    schema_in(alloc, file, false, &mut unwritten).ok()
 }
 
 /// The failure of the program for a fault of a schema.

@@ -1,36 +1,35 @@
 //! What is written after the line of a fault, where more is asked for: files are opened once more for it.
 
-ghost use Rattle.std.specs.Prelude.{◌≡◌, ◌⊎◌, false, IfSome};
+ghost use Rattle.std.specs.Prelude.{◌≡◌, ◌⊎◌, false};
 ghost use Rattle.command_line.specs.Orders.{asks_why};
-ghost use Rattle.engine.specs.Explanations.{ExplainsOrder, ExplainsQuery, ExplainsRun, ExplainsSchema, ExplainsTables, ExplainsUnread, HasQueryFault, MayNote, MayOpenQuery, NotesOrder, SaysEncoding, SaysOf, not_utf8};
+ghost use Rattle.engine.specs.Explanations.{ExplainsOrder, MayNote, NotesOrder, SaysEncoding, SaysOf, not_utf8};
 ghost use Rattle.std.specs.String.{string_bytes};
 ghost use Rattle.text_commands.specs.Explanations.{MayExplainBoth, MayExplainWord};
 ghost use Rattle.text_commands.specs.Files.{OpensFile};
 ghost use Rattle.text_commands.specs.PairNotes.{MayExplainUnequal, NotesFile};
 
-use crate::commands::{
-    RowIndex, SCHEMA_BYTES, check_over, explain, open_tables, schema_in, schema_text,
-};
+use crate::commands::{RowIndex, SCHEMA_BYTES, open_tables, schema_again};
 use command_line::Order;
-use explanations::{file_explained, query_explained_over, query_notes, schema_explained};
+use explanations::{file_explained, query_notes};
 use feature_table::{Database, Schema};
 use rtree::EnvelopeIndex;
-use spatial_sql::bind_to_tables;
-use sql_text::{read_query, read_schema};
+use sql_text::read_query;
 use std::alloc::{AllocError, Global};
 use std::io::Read;
-use streams::{MemorySink, Sink, put_all};
-use table_model::faults::QueryFault;
+use streams::{Sink, put_all};
 use text_commands::{
     File, explain_pairs, explain_unequal, explain_word, explain_words, geometry_text, query_text,
 };
+
+/// The status of a command that can't open or read a file.
+const UNREAD: u8 = 6;
 
 /// What is said of a query's file that isn't UTF-8, after its path.
 const NOT_UTF8: &str = " isn't UTF-8: save it as UTF-8";
 
 /// Writes what explains the fault of an order that has ended with a status, after the line of that fault: the line of the text that has it
 /// and what to do. Nothing is written if the order doesn't ask why, if there is no such fault now, if a file can't be opened again, or if
-/// memory runs out. A table's fault under `check` is explained by `serve`. Of an order that is done, see `note_order`.
+/// memory runs out. A fault of a schema, a table or a query is explained by `serve_observed`. Of an order that is done, see `note_order`.
 #[inline(never)]
 pub fn explain_order<R: Read + Drop, F: FnMut(File<'_>) -> Option<R>, E: Sink>(
     alloc: Global,
@@ -65,19 +64,16 @@ fn explain_asked<R: Read + Drop, F: FnMut(File<'_>) -> Option<R>, E: Sink>(
             directory,
             query,
             ..
-        } => explain_run_of(alloc, schema, directory, query, status, opener, err),
+        } => explain_unread_run(alloc, schema, directory, query, status, opener, err),
         Order::Check {
             schema,
             directory,
             ..
-        } => explain_check(
-            alloc,
-            schema.as_str(),
-            directory.as_str(),
-            status,
-            opener,
-            err,
-        ),
+        } => {
+            if status == UNREAD {
+                open_again(alloc, schema.as_str(), directory.as_str(), opener);
+            }
+        }
         Order::Relate { first, second, .. } => {
             explain_both(alloc, first, second, status, opener, err)
         }
@@ -150,136 +146,6 @@ fn explain_one<R: Read + Drop, F: FnMut(File<'_>) -> Option<R>, E: Sink>(
             let _ = geometry_text(alloc, word, "first", &mut opener);
         }
         _ => {}
-    }
-}
-
-/// Explains the fault of a run with these words, which has ended with a status.
-fn explain_run_of<R: Read + Drop, F: FnMut(File<'_>) -> Option<R>, E: Sink>(
-    alloc: Global,
-    schema: &String,
-    directory: &String,
-    query: &String,
-    status: u8,
-    opener: F,
-    err: &mut E,
-)
-    requires { F.IsAlwaysCallable opener }
-    ensures { ExplainsRun (OpensFile F.FnMut) R.remaining E.taken E.failures opener
-        (string_bytes schema.now) (string_bytes directory.now) (string_bytes query.now) err.old err.new }
-{
-    let places = Places {
-        schema: schema.as_str(),
-        directory: directory.as_str(),
-        query: query.as_str(),
-    };
-    explain_run(alloc, &places, status, opener, err)
-}
-
-/// Explains the fault of a run that has ended with a status.
-fn explain_run<R: Read + Drop, F: FnMut(File<'_>) -> Option<R>, E: Sink>(
-    alloc: Global,
-    places: &Places<'_>,
-    status: u8,
-    opener: F,
-    err: &mut E,
-)
-    requires { F.IsAlwaysCallable opener }
-    ensures { ExplainsRun (OpensFile F.FnMut) R.remaining E.taken E.failures opener
-        places.now.schema.now places.now.directory.now places.now.query.now err.old err.new }
-{
-    match status {
-        3 => explain_schema(alloc, places.schema, opener, err),
-        4 => explain_tables(alloc, places.schema, places.directory, opener, err),
-        5 => explain_query(alloc, places.schema, places.query, opener, err),
-        6 => explain_unread_run(alloc, places, opener, err),
-        _ => {}
-    }
-}
-
-/// Explains the fault of a check that has ended with a status, unless it is a table's.
-fn explain_check<R: Read + Drop, F: FnMut(File<'_>) -> Option<R>, E: Sink>(
-    alloc: Global,
-    schema: &str,
-    directory: &str,
-    status: u8,
-    opener: F,
-    err: &mut E,
-)
-    requires { F.IsAlwaysCallable opener }
-    ensures { (err.new ≡ err.old)
-        ⊎ ExplainsSchema (OpensFile F.FnMut) R.remaining E.taken E.failures opener schema.now err.old err.new }
-{
-    match status {
-        3 => explain_schema(alloc, schema, opener, err),
-        6 => open_again(alloc, schema, directory, opener),
-        _ => {}
-    }
-}
-
-/// Explains the first fault of a schema's text.
-fn explain_schema<R: Read + Drop, F: FnMut(File<'_>) -> Option<R>, E: Sink>(
-    alloc: Global,
-    path: &str,
-    mut opener: F,
-    err: &mut E,
-)
-    requires { F.IsAlwaysCallable opener }
-    ensures { (err.new ≡ err.old)
-        ⊎ ExplainsSchema (OpensFile F.FnMut) R.remaining E.taken E.failures opener path.now err.old err.new }
-{
-    let Some(file) = opener(File::Schema(path)) else {
-        return;
-    };
-    let Ok(text) = schema_text(alloc, file) else {
-        return;
-    };
-    let Err(fault) = read_schema(alloc, text.as_slice()) else {
-        return;
-    };
-    let Ok(explanation) = schema_explained(alloc, text.as_slice(), fault) else {
-        return;
-    };
-    let _ = put_all(err, explanation.as_slice());
-}
-
-/// Explains the first fault of the query that a word gives.
-fn explain_query<R: Read + Drop, F: FnMut(File<'_>) -> Option<R>, E: Sink>(
-    alloc: Global,
-    path: &str,
-    word: &str,
-    mut opener: F,
-    err: &mut E,
-)
-    requires { F.IsAlwaysCallable opener }
-    ensures { (err.new ≡ err.old)
-        ⊎ ExplainsQuery (OpensFile F.FnMut) R.remaining E.taken E.failures opener path.now word.now err.old err.new }
-{
-    let Ok(text) = query_text(alloc, word, &mut opener) else {
-        return;
-    };
-    let Ok(schema) = schema_in(alloc, opener(File::Schema(path))) else {
-        return;
-    };
-    let Some(fault) = query_fault(alloc, &schema, text.as_str()) else {
-        return;
-    };
-    let Ok(explanation) = query_explained_over(alloc, text.as_bytes(), fault, &schema) else {
-        return;
-    };
-    let _ = put_all(err, explanation.as_slice());
-}
-
-/// The first fault of a query over the tables of a schema, if it has one.
-fn query_fault(alloc: Global, schema: &Schema, text: &str) -> Option<QueryFault>
-    ensures { IfSome result (HasQueryFault schema.now text.now) }
-{
-    let query = match read_query(alloc, text) {
-        Ok(query) => query,
-        Err(fault) => return Some(fault),
-    };
-    match bind_to_tables(alloc, &query, schema.tables()) {
-        Ok(_) => None,
-        Err(fault) => Some(fault),
     }
 }
 
@@ -361,7 +227,7 @@ fn note_run<R: Read + Drop, F: FnMut(File<'_>) -> Option<R>, E: Sink>(
     let Ok(text) = query_text(alloc, places.query, &mut opener) else {
         return;
     };
-    let Ok(schema) = schema_in(alloc, opener(File::Schema(places.schema))) else {
+    let Some(schema) = schema_again(alloc, opener(File::Schema(places.schema))) else {
         return;
     };
     let Ok(rows) = rows_for(alloc, &schema, text.as_str(), places.directory, opener) else {
@@ -420,47 +286,25 @@ fn has_two_tables(alloc: Global, text: &str) -> bool {
     }
 }
 
-// ---- tables and files
+// ---- files
 
-/// Explains the first fault of the tables of a schema, which are loaded again.
-fn explain_tables<R: Read + Drop, F: FnMut(File<'_>) -> Option<R>, E: Sink>(
-    alloc: Global,
-    path: &str,
-    directory: &str,
-    mut opener: F,
-    err: &mut E,
-)
-    requires { F.IsAlwaysCallable opener }
-    ensures { (err.new ≡ err.old)
-        ⊎ ExplainsTables (OpensFile F.FnMut) R.remaining E.taken E.failures opener path.now directory.now err.old err.new }
-{
-    let Ok(schema) = schema_in(alloc, opener(File::Schema(path))) else {
-        return;
-    };
-    let mut counts = MemorySink::new(alloc);
-    if let Err(failure) = check_over(alloc, &schema, directory, &mut opener, &mut counts) {
-        explain(alloc, &schema, directory, &failure, opener, err);
-    }
-}
-
-/// Says why a run couldn't open or read a file: its files are opened once more, in the order in which it opened them, so that the opener
-/// says of the first which can't be opened why. Of a query's file that isn't UTF-8 that is said here, and what a table's file has that can't
-/// be read is explained.
+/// Says why a run that has ended with a status couldn't open or read a file: its files are opened once more, in the order in which it opened
+/// them, so that the opener says of the first which can't be opened why. Of a query's file that isn't UTF-8 that is said here.
 fn explain_unread_run<R: Read + Drop, F: FnMut(File<'_>) -> Option<R>, E: Sink>(
     alloc: Global,
-    places: &Places<'_>,
+    schema: &String,
+    directory: &String,
+    query: &String,
+    status: u8,
     mut opener: F,
     err: &mut E,
 )
     requires { F.IsAlwaysCallable opener }
-    ensures { (err.new ≡ err.old) ⊎ SaysEncoding E.taken E.failures places.now.query.now err.old err.new
-        ⊎ ExplainsUnread (OpensFile F.FnMut) R.remaining E.taken E.failures opener places.now.schema.now
-        places.now.directory.now places.now.query.now err.old err.new }
+    ensures { (err.new ≡ err.old) ⊎ SaysEncoding E.taken E.failures (string_bytes query.now) err.old err.new }
 {
-    if explain_encoding(alloc, places.query, &mut opener, err) {
-        return;
+    if status == UNREAD && !explain_encoding(alloc, query.as_str(), &mut opener, err) {
+        open_again(alloc, schema.as_str(), directory.as_str(), opener);
     }
-    explain_tables(alloc, places.schema, places.directory, opener, err);
 }
 
 /// Says of the file that a query's word names that it isn't UTF-8, and returns whether the word names one that can't be read as a query.
@@ -472,8 +316,6 @@ fn explain_encoding<R: Read + Drop, F: FnMut(File<'_>) -> Option<R>, E: Sink>(
 ) -> bool
     requires { F.IsAlwaysCallable opener.old }
     ensures callable { F.IsAlwaysCallable opener.new }
-    ensures opened { MayOpenQuery (OpensFile F.FnMut) opener.old word.now opener.new }
-    ensures quiet { result ≡ false → err.new ≡ err.old }
     ensures said { (err.new ≡ err.old) ⊎ SaysEncoding E.taken E.failures word.now err.old err.new }
 {
     let Some(path) = word.strip_prefix("@") else {
@@ -515,7 +357,7 @@ fn open_again<R: Read + Drop, F: FnMut(File<'_>) -> Option<R>>(
 )
     requires { F.IsAlwaysCallable opener }
 {
-    let Ok(schema) = schema_in(alloc, opener(File::Schema(path))) else {
+    let Some(schema) = schema_again(alloc, opener(File::Schema(path))) else {
         return;
     };
     let _ = open_tables(alloc, &schema, directory, &mut opener);

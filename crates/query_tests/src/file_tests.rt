@@ -30,7 +30,16 @@ fn opened(alloc: Global, order: &Order) -> Result<u64, Fail> {
         digits.set(digits.get().wrapping_mul(10).wrapping_add(digit));
         Some(text)
     };
-    match serve_observed(alloc, order, opener, &mut out, &mut err, &mut Unobserved) {
+    let mut more = MemorySink::new(alloc);
+    match serve_observed(
+        alloc,
+        order,
+        opener,
+        &mut out,
+        &mut err,
+        &mut more,
+        &mut Unobserved,
+    ) {
         0 => Ok(digits.get()),
         _ => Err(Fail::from("the command failed")),
     }

@@ -96,7 +96,8 @@ fn served_counted(
     err: &mut MemorySink,
 ) -> u8 {
     let opener = |file: File<'_>| file_at(file.path());
-    serve_observed(alloc, order, opener, out, err, count)
+    let mut more = MemorySink::new(alloc);
+    serve_observed(alloc, order, opener, out, err, &mut more, count)
 }
 
 /// Counts rows as an order is served. It returns whether that goes well, and writes what is written where nothing is observed.

@@ -2,7 +2,7 @@
 
 use crate::files::Files;
 use command_line::{Order, order};
-use engine::{File, explain_order, note_order, serve};
+use engine::{File, Unobserved, explain_order, note_order, serve_observed};
 use std::alloc::{AllocError, Global};
 use streams::MemorySink;
 
@@ -41,18 +41,28 @@ fn output_of_words(alloc: Global, files: &Files, line: &str) -> Result<Vec<u8>, 
 fn output_of_order(alloc: Global, files: &Files, order: &Order) -> Result<Vec<u8>, AllocError> {
     let mut out = MemorySink::new(alloc);
     let mut err = MemorySink::new(alloc);
-    let opener = |path: &str| files.text_at(path);
-    let status = serve(alloc, order, opener, &mut out, &mut err);
+    let mut more = MemorySink::new(alloc);
+    let opener = |file: File<'_>| files.text_at(file.path());
+    let status = serve_observed(
+        alloc,
+        order,
+        opener,
+        &mut out,
+        &mut err,
+        &mut more,
+        &mut Unobserved,
+    );
     let again = |file: File<'_>| files.text_at(file.path());
     if status == 0 {
-        note_order(alloc, order, again, &mut err);
+        note_order(alloc, order, again, &mut more);
     } else {
-        explain_order(alloc, order, status, again, &mut err);
+        explain_order(alloc, order, status, again, &mut more);
     }
     let mut text = Vec::from_slice(alloc, out.bytes())?;
-    if !err.bytes().is_empty() {
+    if !err.bytes().is_empty() || !more.bytes().is_empty() {
         text.extend_from_slice(b"! ")?;
         text.extend_from_slice(err.bytes())?;
+        text.extend_from_slice(more.bytes())?;
     }
     if status != 0 {
         push_status(alloc, status, &mut text)?;

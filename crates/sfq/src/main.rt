@@ -15,11 +15,10 @@ use engine::{
     Failure, File, explain_order, failed, failed_words, flushed, note_order, serve_observed,
 };
 use std::alloc::Global;
-use std::cell::Cell;
 use std::env;
 use std::io::{BufWriter, Stderr};
 use std::process::ExitCode;
-use streams::{Sink, StdSink};
+use streams::{MemorySink, Sink, StdSink, put_all};
 
 /// The status if memory ran out.
 const OUT_OF_MEMORY: u8 = 7;
@@ -42,22 +41,29 @@ fn main(rt: HostRuntime) -> ExitCode {
         Err(_) => return ExitCode::from(failed(&Failure::OutOfMemory, &mut err)),
     };
     let mut out = StdSink::new(buffer);
-    let Served { status, is_said } = serve(&rt, &progress, &order, &mut out, &mut err);
+    let Served { status, said, more } = serve(&rt, &progress, &order, &mut out, &mut err);
     let status = flushed(&mut out, status, &mut err);
-    if is_explained(status) && !is_said && !progress.is_broken() {
+    if progress.is_broken() {
+        return ExitCode::from(status);
+    }
+    let mut explained = explaining(&rt, &progress);
+    let _ = put_all(&mut explained, said.bytes());
+    let _ = put_all(&mut explained, more.bytes());
+    if is_explained(status) && said.bytes().is_empty() && more.bytes().is_empty() {
         explain(&rt, &progress, &order, status);
     }
-    if status == 0 && !progress.is_broken() {
+    if status == 0 {
         note(&rt, &progress, &order);
     }
     ExitCode::from(status)
 }
 
-/// How an order was served: the status, and whether it was said of a table that it can't be read again.
-#[derive(Clone, Copy)]
+/// How an order was served: the status, what is said of a table that can't be read again, and what explains a fault.
+#[derive(Drop)]
 struct Served {
     status: u8,
-    is_said: bool,
+    said: MemorySink,
+    more: MemorySink,
 }
 
 /// Does what an order says. A table that is opened again, for a reason or a note, has to give the same bytes.
@@ -69,22 +75,18 @@ fn serve<'p, S: Sink, E: Sink>(
     err: &mut E,
 ) -> Served {
     let mut tables = OpenedTables::new(rt.alloc());
-    let mut again = explaining(rt, progress);
+    let mut said = MemorySink::new(rt.alloc());
+    let mut more = MemorySink::new(rt.alloc());
     let mut search = progress.search();
-    let is_said = Cell::new(false);
     let opener = |file: File<'_>| {
-        if !tables.has(rt.alloc(), file) {
-            return opened(rt, progress, file);
+        if tables.has(rt.alloc(), file) {
+            opened_again(rt, progress, file, &mut said)
+        } else {
+            opened(rt, progress, file)
         }
-        let reader = opened_again(rt, progress, file, &mut again);
-        is_said.set(is_said.get() || reader.is_none());
-        reader
     };
-    let status = serve_observed(rt.alloc(), order, opener, out, err, &mut search);
-    Served {
-        status,
-        is_said: is_said.get(),
-    }
+    let status = serve_observed(rt.alloc(), order, opener, out, err, &mut more, &mut search);
+    Served { status, said, more }
 }
 
 /// Writes what explains the fault of an order, if it asks for that. Files are opened once more.

@@ -1,3 +1,2 @@
 pub mod PieceFacts
-pub mod OpenerLemmas
 pub mod ServingFacts

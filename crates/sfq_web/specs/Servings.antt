@@ -9,7 +9,7 @@ use Rattle.command_line.specs.Misuses.{status_of}
 use Rattle.command_line.specs.Orders.{Orders, asks_why, with_why}
 use Rattle.command_line.specs.declared.known_commands.Order.{Order}
 use Rattle.command_line.specs.declared.misuse.Misuse.{Misuse}
-use Rattle.engine.specs.Commands.{ServesOrder}
+use Rattle.engine.specs.Commands.{ServesAlone}
 use Rattle.failures.specs.Failures.{failure_status}
 use Rattle.failures.specs.declared.failure.Failure.TheVariants as f
 use Rattle.library_calls.specs.Explained.{HandsOut}
@@ -45,7 +45,7 @@ known_bytes sink = Some (memory_bytes sink)
 
 -- doing what an order says over the files that are handed in, by sinks over memory
 abbrev pub ServesHanded : MemorySink → MemorySink → Handed → Order → ℕ → MemorySink → MemorySink → Type 0
-ServesHanded = ServesOrder OpensHanded known_in known_bytes memory_failures known_bytes memory_failures
+ServesHanded = ServesAlone OpensHanded known_in known_bytes memory_failures known_bytes memory_failures
 
 -- an order, which is made to ask why where a caller does
 abbrev pub asking : Bool → Order → Order

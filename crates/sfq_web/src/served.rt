@@ -71,8 +71,9 @@ fn serve_asked(alloc: Global, order: Order, handing: &mut Handing<'_>) -> Result
 {
     let mut out = MemorySink::new(alloc);
     let mut err = MemorySink::new(alloc);
+    let mut more = MemorySink::new(alloc);
     let (files, input) = (handing.files, handing.input);
-    let status = serve_handed(alloc, &order, handing, &mut out, &mut err);
+    let status = serve_handed(alloc, &order, handing, &mut out, &mut err, &mut more);
     if status == UNREAD
         && let Some(missed) = handing.take_missed(files, input)
     {
@@ -82,7 +83,7 @@ fn serve_asked(alloc: Global, order: Order, handing: &mut Handing<'_>) -> Result
     if out.failures() != 0 || err.failures() != 0 {
         return Err(AllocError);
     }
-    let more = explained(alloc, &order, status, handing)?;
+    let more = explained(alloc, &order, status, handing, more)?;
     Ok(Served::Done(Written {
         status,
         out,
@@ -98,27 +99,29 @@ fn serve_handed(
     handing: &mut Handing<'_>,
     out: &mut MemorySink,
     err: &mut MemorySink,
+    more: &mut MemorySink,
 ) -> u8
-    ensures { ServesHanded out.old out.new (handed handing.old) order.now result err.old err.new }
+    ensures serves { ServesHanded out.old out.new (handed handing.old) order.now result err.old err.new }
+    ensures unasked { asks_why order.now ≡ false → more.new ≡ more.old }
 {
     let opener = |file: File<'_>|
         ensures { OpensAs (handed handing.entry.now) file.entry result (handed handing.exit.now) }
     { handing.open(alloc, file) };
-    serve_observed(alloc, order, opener, out, err, &mut Unobserved)
+    serve_observed(alloc, order, opener, out, err, more, &mut Unobserved)
 }
 
-/// What explains the fault of an order that has ended with a status, or notes on the query of one that is done, if the order asks why. Its
-/// files are opened once more.
+/// What explains the fault of an order that has ended with a status, or notes on the query of one that is done, if the order asks why. If
+/// nothing is said yet, its files are opened once more.
 fn explained(
     alloc: Global,
     order: &Order,
     status: u8,
     handing: &Handing<'_>,
+    mut said: MemorySink,
 ) -> Result<MemorySink, AllocError>
-    ensures { IfOk result (λ more. asks_why order.now ≡ false → memory_bytes more ≡ []) }
+    ensures { IfOk result (λ more. asks_why order.now ≡ false → more ≡ said) }
 {
-    let mut said = MemorySink::new(alloc);
-    if !order.asks_why() || status == OUT_OF_MEMORY {
+    if !order.asks_why() || status == OUT_OF_MEMORY || !said.bytes().is_empty() {
         return Ok(said);
     }
     let mut more = MemorySink::new(alloc);

@@ -18,13 +18,13 @@ loop-table-preserved g c =
     (read_at c.tables-table-items.result.now c.loop-table.table-index item c.loop-table-test.true c.table-item.is) in
     record {
       callable = λ always. c.put_note.ensures.callable;
-      notes = note-next (OpensFile g.F.FnMut) g.R.Read.remaining g.E.Sink.taken g.E.Sink.failures c.args.directory.now (table_names c.args.schema.now) c.loop-table.table-index item.name
-          c.args.opener c.loop-table.opener c.put_note.new.opener c.args.err.now c.loop-table.err c.put_note.new.err
+      notes = note-next (OpensFile g.F.FnMut) g.R.Read.remaining g.M.Sink.taken g.M.Sink.failures c.args.directory.now (table_names c.args.schema.now) c.loop-table.table-index item.name
+          c.args.opener c.loop-table.opener c.put_note.new.opener c.args.more.now c.loop-table.more c.put_note.new.more
           (mapped (λ t. t.name) c.args.schema.now c.loop-table.table-index item here)
           c.loop-table.invariant.notes
-          (subst (λ name. NotesTable (OpensFile g.F.FnMut) g.R.Read.remaining g.E.Sink.taken g.E.Sink.failures
+          (subst (λ name. NotesTable (OpensFile g.F.FnMut) g.R.Read.remaining g.M.Sink.taken g.M.Sink.failures
           c.args.directory.now name c.loop-table.opener c.put_note.new.opener
-          c.loop-table.err c.put_note.new.err)
+          c.loop-table.more c.put_note.new.more)
           c.as_str.ensures c.put_note.ensures.notes);
     }
 
@@ -38,8 +38,8 @@ returns g c =
       c.loop-table-test.false,
     ) in (
       c.loop-table.opener,
-      all-noted (OpensFile g.F.FnMut) g.R.Read.remaining g.E.Sink.taken g.E.Sink.failures c.args.directory.now
+      all-noted (OpensFile g.F.FnMut) g.R.Read.remaining g.M.Sink.taken g.M.Sink.failures c.args.directory.now
           (table_names c.args.schema.now)
-          c.loop-table.table-index c.args.opener c.loop-table.opener c.args.err.now c.loop-table.err past
+          c.loop-table.table-index c.args.opener c.loop-table.opener c.args.more.now c.loop-table.more past
           c.loop-table.invariant.notes,
     )

@@ -8,7 +8,7 @@ use Rattle.engine.proofs.commands.put_notes.Given as goal
 abbrev pub invariant-loop-table : goal.invariant-loop-table
 invariant-loop-table g l = record {
   callable : always_mut g.F.FnMut l.initial.opener → always_mut g.F.FnMut l.opener;
-  notes : NotesTables (OpensFile g.F.FnMut) g.R.Read.remaining g.E.Sink.taken g.E.Sink.failures l.directory
+  notes : NotesTables (OpensFile g.F.FnMut) g.R.Read.remaining g.M.Sink.taken g.M.Sink.failures l.directory
       (take l.table-index (table_names l.schema)) l.fn.opener l.opener
-      l.fn.err l.err;
+      l.fn.more l.more;
 }

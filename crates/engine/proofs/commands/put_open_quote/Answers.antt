@@ -20,6 +20,6 @@ returns-clause-says g c =
       note = c.in-Ok-open_quote_explained.note.items;
       notes = subst (λ text. IsTableNote text c.args.at.number c.in-Ok-open_quote_explained.note.items) c.as_slice.ensures.value
           c.in-Ok-open_quote_explained.ensures;
-      written = subst (λ text. Adds g.E.Sink.taken g.E.Sink.failures c.args.err.now c.put_all.new.sink text) c.as_slice-2.ensures.value
+      written = subst (λ text. Adds g.M.Sink.taken g.M.Sink.failures c.args.more.now c.put_all.new.sink text) c.as_slice-2.ensures.value
           (writes c.put_all.result _ _ _ _ _ puts.ok puts.front puts.failures);
     })

@@ -6,50 +6,38 @@ use Rattle.engine.specs.Commands.{RunsTables}
 use Rattle.text_commands.specs.Files.{OpensFile}
 use Rattle.engine.proofs.commands.run_over.Goals as goal
 
-pub returns-in_err-readers : goal.returns-in_err-readers
-returns-in_err-readers g c =
+pub returns-in_err-readers-clause-runs : goal.returns-in_err-readers-clause-runs
+returns-in_err-readers-clause-runs g c =
     handed-on c.from_residual.result c.in_err-readers.field-0.0 c.from_residual.ensures.1
     (RunsTables (OpensFile g.F.FnMut) g.R.Read.remaining g.S.Sink.taken g.S.Sink.failures c.args.out.now c.args.out.now
-    c.args.opener c.args.directory.now c.args.query.now c.args.schema.now) (
-      c.open_tables.new.opener,
-      record {
-        readers = Err c.in_err-readers.field-0.0;
-        opened = c.in_err-readers.ensures.failure;
-        rest = (refl, refl);
-      },
-    )
+    c.args.opener.now c.open_tables.new.opener c.args.directory.now c.args.query.now c.args.schema.now)
+    (record { readers = Err c.in_err-readers.field-0.0; opened = c.in_err-readers.ensures.failure; rest = (refl, refl) })
 
-pub returns-in-Ok : goal.returns-in-Ok
-returns-in-Ok g c =
-    let these = c.in-Ok.ensures.records in (
-      c.open_tables.new.opener,
-      record {
-        readers = Ok c.in_ok-readers.readers.items;
-        opened = c.in_ok-readers.ensures.opened;
-        rest = (these.0, these.1, record { runs = these.2; failures = c.in-Ok.ensures.failures });
-      },
-    )
+pub returns-in-Ok-clause-runs : goal.returns-in-Ok-clause-runs
+returns-in-Ok-clause-runs g c =
+    let these = c.in-Ok.ensures.records in record {
+      readers = Ok c.in_ok-readers.readers.items;
+      opened = c.in_ok-readers.ensures.opened;
+      rest = (these.0, these.1, record { runs = these.2; failures = c.in-Ok.ensures.failures });
+    }
 
-pub returns : goal.returns
-returns g c =
-    let these = c.in-Err.ensures.records in (
-      c.open_tables.new.opener,
-      record {
-        readers = Ok c.in_ok-readers.readers.items;
-        opened = c.in_ok-readers.ensures.opened;
-        rest = (
-          these.0,
-          these.1,
-          record {
-            runs = (
-              c.in-Err.fault,
-              c.run_failure.ensures,
-              λ matrix gives. runs-as ℕ (Unit {0}) c.in-Err.fault _ _ _ _
-                  (these.2 matrix gives),
-            );
-            failures = c.in-Err.ensures.failures ∙ counts-as c.args.schema.now c.in-Err.fault c.run_failure.result
-                (g.S.Sink.failures c.args.out.now) c.run_failure.ensures;
-          },
-        );
-      },
-    )
+pub returns-in-Err-clause-runs : goal.returns-in-Err-clause-runs
+returns-in-Err-clause-runs g c =
+    let these = c.in-Err.ensures.records in record {
+      readers = Ok c.in_ok-readers.readers.items;
+      opened = c.in_ok-readers.ensures.opened;
+      rest = (
+        these.0,
+        these.1,
+        record {
+          runs = (
+            c.in-Err.fault,
+            c.run_failure.ensures,
+            λ matrix gives. runs-as ℕ (Unit {0}) c.in-Err.fault _ _ _ _
+                (these.2 matrix gives),
+          );
+          failures = c.in-Err.ensures.failures ∙ counts-as c.args.schema.now c.in-Err.fault c.run_failure.result
+              (g.S.Sink.failures c.args.out.now) c.run_failure.ensures;
+        },
+      );
+    }

@@ -6,8 +6,8 @@ use Rattle.engine.proofs.PathLemmas.{by-paths}
 use Rattle.text_commands.specs.Files.{OpensFile, OpensPath, path_of}
 use Rattle.engine.proofs.commands.serve.Goals as goal
 
-pub serve_observed-requires : goal.serve_observed-requires
-serve_observed-requires g c =
+pub serve_order-requires : goal.serve_order-requires
+serve_order-requires g c =
     mut_by _ (λ s. always_mut g.F.FnMut s.0.now) (λ s a i y is. (i.at ((y, tt) ∷ [])).0)
     (λ s a r t i e.
     let called : CalledAt g.F.FnMut s.0.now (path_of a.0) r t.0.now = search of_calls in
@@ -16,8 +16,8 @@ serve_observed-requires g c =
 pub returns : goal.returns
 returns g c = record {
   serves = by-paths {files = OpensFile _} (OpensPath g.F.FnMut) g.R.Read.remaining g.E.Sink.taken g.E.Sink.failures g.S.Sink.taken
-      g.S.Sink.failures c.args.out.now c.serve_observed.new.out _
-      c.args.order.now c.serve_observed.result c.args.err.now c.serve_observed.new.err c.serve_observed.ensures.serves
+      g.S.Sink.failures c.args.out.now c.serve_order.new.out _ _ _ _ _
+      c.args.order.now c.serve_order.result c.args.err.now c.serve_order.new.err c.serve_order.ensures.serves
       (λ s. s.0.now)
       (λ kind is opener path reader after opened.
       subst (λ p. CalledAt g.F.FnMut opener.0.now p reader after.0.now) (is opened.shown ∙ opened.shows) opened.called.met.1.1);

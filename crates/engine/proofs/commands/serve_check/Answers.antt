@@ -1,32 +1,41 @@
--- Each exit: the schema isn't read, or the command over it ends so.
-use Rattle.std.proofs.Common.{Err, Ok, refl}
+-- Each exit: the schema isn't read, or the command over it ends so, and its end is explained or not.
+use Rattle.std.proofs.Common.{Err, Ok, refl, subst}
+use Rattle.engine.specs.Commands.{ExplainsCheck}
+use Rattle.text_commands.specs.Files.{OpensFile}
 use Rattle.engine.proofs.commands.serve_check.Goals as goal
 
-pub returns-in-Err : goal.returns-in-Err
-returns-in-Err g c = record {
+pub returns-in-Err-clause-serves : goal.returns-in-Err-clause-serves
+returns-in-Err-clause-serves g c = record {
   end = Err c.in-Err.failure;
   ends = record {
     file = c.opener.result;
     next = c.opener.new.self;
     opened = record { shown = c.args.paths.now.schema; shows = refl; called = c.opener.ensures };
     schema = Err c.in-Err.failure;
-    read = c.in-Err.ensures;
-    rest = (refl, refl);
+    read = c.in-Err.ensures.reads;
+    rest = (refl, (refl, c.in-Err.ensures.explains));
   };
   returned = c.failed.ensures.status;
   reported = c.failed.ensures.line;
 }
 
-pub returns : goal.returns
-returns g c = record {
+pub returns-clause-serves : goal.returns-clause-serves
+returns-clause-serves g c = record {
   end = c.check_over-end.result;
   ends = record {
     file = c.opener.result;
     next = c.opener.new.self;
     opened = record { shown = c.args.paths.now.schema; shows = refl; called = c.opener.ensures };
     schema = Ok c.in-Ok.schema;
-    read = c.in-Ok.ensures;
-    rest = (c.check_over-end.new.opener, c.check_over-end.ensures.checks);
+    read = c.in-Ok.ensures.reads;
+    rest = (
+      c.check_over-end.new.opener,
+      c.check_over-end.ensures.checks,
+      subst (λ old. ExplainsCheck (OpensFile g.F.FnMut) g.R.Read.remaining g.M.Sink.taken g.M.Sink.failures old
+          c.explain_check.new.more
+          c.check_over-end.new.opener c.args.paths.now.directory.now c.in-Ok.schema c.check_over-end.result)
+          c.in-Ok.ensures.quiet c.explain_check.ensures.explains,
+    );
   };
   returned = c.ended.ensures.status;
   reported = c.ended.ensures.line;

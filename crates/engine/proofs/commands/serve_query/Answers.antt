@@ -5,32 +5,33 @@ use Rattle.engine.specs.Commands.{RunsFiles}
 use Rattle.text_commands.specs.Files.{OpensFile}
 use Rattle.engine.proofs.commands.serve_query.Goals as goal
 
-pub returns-in-Err : goal.returns-in-Err
-returns-in-Err g c = record {
+pub returns-in-Err-clause-serves : goal.returns-in-Err-clause-serves
+returns-in-Err-clause-serves g c = record {
   end = Err c.in-Err.failure;
   ends = record {
     text = Err c.in-Err.failure;
     next = c.query_text.new.opener;
     given = c.in-Err.ensures.failure;
-    rest = (refl, refl);
+    rest = (refl, (refl, refl));
   };
   returned = c.failed.ensures.status;
   reported = c.failed.ensures.line;
 }
 
-pub returns : goal.returns
-returns g c =
+pub returns-clause-serves : goal.returns-clause-serves
+returns-clause-serves g c =
     let paths = c.args.paths.now in record {
-      end = c.serve_run.ensures.end;
+      end = c.serve_run.ensures.serves.end;
       ends = record {
         text = Ok (string_bytes c.in-Ok.text);
         next = c.query_text.new.opener;
         given = c.in-Ok.ensures.text;
         rest = subst
             (λ query. RunsFiles (OpensFile g.F.FnMut) g.R.Read.remaining g.S.Sink.taken g.S.Sink.failures c.args.out.now
-            c.serve_run.new.out c.query_text.new.opener
-            paths.schema.now paths.directory.now query c.serve_run.ensures.end) c.as_str.ensures.value c.serve_run.ensures.ends;
+            c.serve_run.new.out g.M.Sink.taken g.M.Sink.failures c.args.more.now c.serve_run.new.more c.query_text.new.opener
+            paths.schema.now paths.directory.now query c.serve_run.ensures.serves.end) c.as_str.ensures.value
+            c.serve_run.ensures.serves.ends;
       };
-      returned = c.serve_run.ensures.returned;
-      reported = c.serve_run.ensures.reported;
+      returned = c.serve_run.ensures.serves.returned;
+      reported = c.serve_run.ensures.serves.reported;
     }

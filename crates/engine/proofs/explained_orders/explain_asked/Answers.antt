@@ -10,8 +10,8 @@ pub returns-in-Run : goal.returns-in-Run
 returns-in-Run g c =
     let Explains : Order → Type 0 = λ order.
     ExplainsOrder (OpensFile g.F.FnMut) g.R.Read.remaining g.E.Sink.taken g.E.Sink.failures c.args.opener order c.args.err.now
-    c.explain_run_of.new.err in
-    record { explains = subst Explains (sym c.in-Run.is) c.explain_run_of.ensures }
+    c.explain_unread_run.new.err in
+    record { explains = subst Explains (sym c.in-Run.is) c.explain_unread_run.ensures }
 
 pub returns-in-Relate : goal.returns-in-Relate
 returns-in-Relate g c =

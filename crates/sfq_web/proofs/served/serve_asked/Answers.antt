@@ -1,5 +1,6 @@
 -- Both sinks were empty before, and have failed no more than before.
-use Rattle.std.proofs.Common.{◌∙◌, refl, subst, sym}
+use Rattle.std.proofs.Common.{◌∙◌, ap, refl, subst, sym}
+use Rattle.streams.specs.MemorySinks.{memory_bytes}
 use Rattle.sfq_web.specs.Servings.{EndsOrder, ServesHanded, handed, unread_status}
 use Rattle.sfq_web.proofs.served.serve_asked.Goals as goal
 
@@ -13,7 +14,7 @@ returns c =
       no_out = c.new-out.ensures.empty;
       no_err = c.new-err.ensures.empty;
       serves = subst (λ n. ServesHanded c.new-out.result served.new.out files c.args.order n c.new-err.result served.new.err)
-          c.if-status-eq-UNREAD.true served.ensures;
+          c.if-status-eq-UNREAD.true served.ensures.serves;
     } in
     ((served.new.out, served.new.err, ends), c.in-Some.ensures.missed)
 
@@ -26,11 +27,11 @@ returns-2 c = record {
     old_err = c.new-err.result;
     no_out = c.new-out.ensures.empty;
     no_err = c.new-err.ensures.empty;
-    serves = c.serve_handed-status.ensures;
+    serves = c.serve_handed-status.ensures.serves;
   };
   out_is = refl;
   err_is = refl;
   whole_out = sym c.failures.ensures ∙ c.if-failures-ne0.false;
   whole_err = sym c.failures-else-failures-ne0.ensures ∙ c.if-failures-ne0-2.false;
-  unasked = c.in_ok-more.ensures;
+  unasked = λ no. ap memory_bytes (c.in_ok-more.ensures no ∙ c.serve_handed-status.ensures.unasked no) ∙ c.new-more.ensures.empty;
 }

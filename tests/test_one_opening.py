@@ -1,0 +1,78 @@
+"""What `--why` opens: of a schema and a query each file once, whether there is a fault or not, so that pipes are explained too."""
+import os
+import subprocess
+import tempfile
+import unittest
+
+from support import needs, needs_build, write
+
+import repository
+from faults import sweeps
+
+SCHEMA = "CREATE TABLE t (id INTEGER PRIMARY KEY, name TEXT)"
+TABLE = "id,name\n1,a\n2,b\n"
+# Of each the schema, the query and how many files are opened: the query's, the schema's and the table's, up to the fault.
+FAULTS = (
+    ("CREATE TABL t (id INTEGER PRIMARY KEY)", "SELECT id FROM t", 2, "sfq: S1 at 7\n", "sfq: TABL isn't there"),
+    (SCHEMA, "SELECT nam FROM t", 3, "sfq: Q5 at 7\n", "sfq: there is no column nam"),
+    (SCHEMA, "SELECT id FROM t WERE id = 1", 3, "sfq: Q2 at 22\n", "sfq: "),
+)
+
+
+class Openings(unittest.TestCase):
+    def setUp(self):
+        room = tempfile.TemporaryDirectory(prefix="sfq-opening-", dir=sweeps.room())
+        self.addCleanup(room.cleanup)
+        self.folder = room.name
+        os.chmod(self.folder, 0o755)
+        self.make(SCHEMA, "SELECT id FROM t")
+
+    def make(self, schema, query):
+        """Writes the files of a query over one table."""
+        write(f"{self.folder}/schema.sql", schema)
+        write(f"{self.folder}/query.sql", query)
+        write(f"{self.folder}/t.csv", TABLE)
+
+    def said(self, words, given):
+        """Returns what the program writes to standard error, with --why and with this text as standard input."""
+        ran = subprocess.run([repository.PROGRAM, words[0], "--why", *words[1:]], cwd=self.folder, input=given, capture_output=True, text=True, timeout=60)
+        return ran.stderr
+
+    @needs_build
+    @needs("gcc", "cc")
+    def test_a_fault_opens_each_file_once(self):
+        for schema, query, opens, line, reason in FAULTS:
+            with self.subTest(query=query):
+                self.make(schema, query)
+                for switch in ([], ["--why"]):
+                    ran = sweeps.run(["run", *switch, "schema.sql", ".", "@query.sql"], folder=self.folder)
+                    self.assertEqual((ran.counts["open"], ran.counts["statx"]), (opens, 0), switch)
+                    first, _, added = ran.err.decode().partition("\n")
+                    self.assertEqual(f"{first}\n", line)
+                    self.assertEqual(reason in added, bool(switch))
+
+    @needs_build
+    @needs("gcc", "cc")
+    def test_a_check_of_a_schema_with_a_fault_opens_it_once(self):
+        self.make("CREATE TABLE t (id INTEGER)", "")
+        ran = sweeps.run(["check", "--why", "schema.sql", "."], folder=self.folder)
+        self.assertEqual((ran.counts["open"], ran.counts["statx"]), (1, 0))
+        self.assertIn("sfq: S3 at 26\n", ran.err.decode())
+
+    @needs_build
+    def test_reasons_from_standard_input(self):
+        said = self.said(["run", "schema.sql", ".", "@-"], "SELECT nam FROM t")
+        self.assertEqual(said, "sfq: Q5 at 7\n  1 | SELECT nam FROM t\n    |        ^\nsfq: there is no column nam: did you mean name?\n")
+        said = self.said(["check", "/dev/stdin", "."], "CREATE TABL t (id INTEGER PRIMARY KEY)")
+        self.assertRegex(said, r"\Asfq: S1 at 7\n  1 \| CREATE TABL t .*\n    \|        \^\nsfq: TABL isn't there: .*\n\Z")
+
+    @needs_build
+    def test_reasons_from_a_named_pipe(self):
+        os.mkfifo(f"{self.folder}/pipe")
+        for words, text, code in ((["run", "schema.sql", ".", "@pipe"], "SELECT nam FROM t", "Q5 at 7"), (["check", "pipe", "."], "CREATE TABL t", "S1 at 7")):
+            with self.subTest(words=words):
+                writer = subprocess.Popen(["sh", "-c", 'printf %s "$1" > "$2"', "sh", text, f"{self.folder}/pipe"])
+                said = self.said(words, "").splitlines()
+                writer.wait(timeout=60)
+                self.assertEqual(said[:3], [f"sfq: {code}", f"  1 | {text}", "    |        ^"])
+                self.assertEqual(len(said), 4)
