@@ -2,7 +2,7 @@
 use Rattle.std.proofs.Common.{◌≡◌, ◌≢◌, ◌⊎◌, inl, inr, refl, sym, ap, subst, ◌∙◌, true, false, List, []}
 use Rattle.std.specs.List.{All, Contains, list_any}
 use Rattle.std.proofs.lemmas.Bool.{false≢true}
-use Rattle.std.proofs.lemmas.List.Elements.{All-nil, All-weaker, All-contains_itself}
+use Rattle.std.proofs.lemmas.List.Elements.{All-nil}
 use Rattle.std.specs.declared.cmp.Ordering.TheVariants.{Less}
 use Rattle.geometry_model.specs.Points.{Position, Point, IsPoint, point_at, compare, least_form, mediant, same_point}
 use Rattle.geometry_model.specs.Geometries.{Edge, Geometry, kind, edges}
@@ -31,12 +31,10 @@ use Rattle.noding.proofs.Order.{NotAfter, not_after_cases}
 use Rattle.matrix_laws.specs.Cells.{Covers}
 use Rattle.matrix_laws.specs.Gaps.{IsBetween, IsGap, IsClear, IsShared, IsWithin, mostly}
 use Rattle.matrix_laws.specs.Covering.{IsOffEdges, ShowsOff, ShowsEnds}
-use Rattle.matrix_laws.specs.CoveringLaws.{IsFullOff}
 use Rattle.matrix_laws.proofs.Closing.{valid_rings_are_closed}
 use Rattle.matrix_laws.proofs.MatrixLists.{among_from_contains}
 use Rattle.matrix_laws.proofs.Shared.{start_on, end_on}
 use Rattle.matrix_laws.proofs.Located.{off_is_shown}
-use Rattle.matrix_laws.proofs.FullCovering.{full_off_at}
 use Rattle.matrix_laws.proofs.GapTheorems.{gap_has_mediant, gap_end_is_alike}
 use Rattle.matrix_laws.proofs.CoveringTheorems.{gap_is_there}
 use Rattle.de9im.specs.Raising.{IsApart, AreApart, IsRaisedTo, Grows, LiesOff, off_edges}
@@ -181,13 +179,6 @@ pub apart_covers : (a b : Geometry) (e : Edge) (l : Location) (m : Matrix) → I
 apart_covers a b e l m vb apart own long end t s x hx k = off_is_shown a b m t e own x hx k (apart_is_off b e apart x hx k)
     (subst (ShowsOff a m e) (end.part ∙ lie_alike e b vb long apart (point_at e.end) x (position_is_point e.end) hx (end_on e)
     k) s)
-
--- a matrix that shows all that gaps off the other's edges can show covers each such edge
-pub full_apart_covers : (a b : Geometry) (m : Matrix) → AreApart a b → ShowsEnds a b m → ((e : Edge) → IsFullOff a b m e)
-    → All (Covers a b m) (edges a)
-full_apart_covers a b m apart t full = All-weaker (Contains (edges a)) (Covers a b m)
-    (λ e own x hx k. let off = apart_is_off b e (edge_apart a b apart e own) x hx k in off_is_shown a b m t e own x hx k off
-    (full_off_at a b m e (full e) x off)) (edges a) (All-contains_itself (edges a))
 
 -- ---- beside a geometry that has no edges
 -- an edge is apart from it

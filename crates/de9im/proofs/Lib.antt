@@ -10,6 +10,9 @@ pub mod OffEdges
 pub mod ListedPositions
 pub mod Rest
 pub mod ApartEdges
+pub mod ApartChains
+pub mod NoStretch
+pub mod SameEdges
 pub mod OutsideEdges
 pub mod OutsidePositions
 pub mod PointsAndArea

@@ -102,7 +102,7 @@ outside_covers a b vb around is m t e shown c far x hx h =
     off = go (on_or_off b x)
 
 -- ---- of a part of a list
-from_part : {X : Type 0} (xs : List X) (first end : ℕ) (x : X) → Among x (slice_range xs first end) → Among x xs
+pub from_part : {X : Type 0} (xs : List X) (first end : ℕ) (x : X) → Among x (slice_range xs first end) → Among x xs
 from_part xs first end x m = subst (Among x) (take-append-drop first xs) (among_right x (take first xs) (drop first xs)
     (subst (Among x) (take-append-drop (end - first) (drop first xs)) (among_left x (take (end - first) (drop first xs)) (drop (end - first) (drop first xs)) m)))
 

@@ -1,5 +1,5 @@
 -- How a matrix of two geometries grows while it is found.
-use Rattle.std.specs.Prelude.{◌≡◌, ◌≢◌, true, false, Bool, if◌then◌else◌, All, Any}
+use Rattle.std.specs.Prelude.{◌≡◌, ◌≢◌, ℕ, true, false, Bool, if◌then◌else◌, List, get_or, All, Any}
 use Rattle.std.specs.List.{list_any}
 use Rattle.geometry_model.specs.Points.{Position, Point, IsPoint, point_at}
 use Rattle.geometry_model.specs.Geometries.{Edge, Geometry, kind, edges, lines, listed}
@@ -121,3 +121,7 @@ AreApart a b = edges_share (edges a) (edges b) ≡ false
 pub record LiesOff (b : Geometry) (l : Location) (at : Position) : Type 0 where
   pub off : IsOffEdges b (point_at at)
   pub part : l ≡ mostly b (point_at at)
+
+-- the edge at this place starts so
+abbrev pub StartsOff : Geometry → Location → List Edge → ℕ → Type 0
+StartsOff b l es place = (e : Edge) → e ≡ get_or es place e → LiesOff b l e.start

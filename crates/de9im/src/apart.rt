@@ -12,10 +12,10 @@ ghost use Rattle.validity.specs.ValidGeometries.{HasLength};
 ghost use Rattle.edge_boxes.specs.RingEdges.{edges_share};
 ghost use Rattle.matrix_laws.specs.Cells.{Covers};
 ghost use Rattle.matrix_laws.specs.Covering.{IsOffEdges, ShowsEnds};
-ghost use Rattle.de9im.specs.Raising.{AreApart, Grows, LiesOff};
+ghost use Rattle.de9im.specs.Raising.{AreApart, Grows, IsApart, LiesOff, StartsOff};
 
 use crate::MatrixCells;
-use crate::fullness::is_full_off;
+use crate::fullness::{is_full_in, is_full_off};
 use crate::gap_cells::{off_edges, raise_off};
 use crate::matrix_positions::raise_own_ends;
 use crate::outside_edges::left_to_raise;
@@ -30,8 +30,8 @@ use validity::Valid;
 /// A geometry with this many times as many edges as another isn't walked along for the other's sake.
 const MANY_TIMES: usize = 8;
 
-/// Whether no edge of the first geometry shares a point with an edge of the second (06-103r4, 6.1.15: intersection of point sets).
-/// It stops at the first point that is shared, and takes no memory.
+/// Whether no edge of the first geometry shares a point with an edge of the second (06-103r4, 6.1.15: intersection of point
+/// sets). It stops at the first point that is shared, and takes no memory.
 pub(crate) fn are_apart(first: &Valid, second: &Valid) -> bool
     ensures apart { result ≡ true → AreApart first.now second.now }
     ensures shared { result ≡ false → edges_share (edges first.now) (edges second.now) ≡ true }
@@ -72,69 +72,203 @@ fn part_of_end(second: &Valid, edge: &Segment, known: &Option<Known>) -> Locatio
 }
 
 /// Raises cells by an edge of the first geometry that shares no point with an edge of the second: all of it lies where its end
-/// does. Returns where its start lies.
+/// does. Returns in which part of the second one that is.
 fn raise_edge_apart(
     first: &Valid,
     second: &Valid,
     edge: &Segment,
     known: &Option<Known>,
     matrix: &mut MatrixCells,
-) -> Known
+) -> Location
     requires valid { IsValid second.now }
     requires own { Contains (edges first.now) edge.now }
     requires length { HasLength edge.now }
-    requires apart { AreApart first.now second.now }
+    requires apart { IsApart edge.now second.now }
     requires ends { ShowsEnds first.now second.now matrix.old }
     requires known { IfSome known.now (λ k. LiesOff second.now k.part k.at) }
     ensures grows { Grows first.now second.now matrix.old matrix.new }
     ensures covers { Covers first.now second.now matrix.new edge.now }
-    ensures known { LiesOff second.now result.part result.at }
+    ensures part { LiesOff second.now result edge.now.start }
 {
     let part = part_of_end(second, edge, known);
     raise_off(first, edge, part, matrix);
-    Known {
-        at: edge.start(),
-        part,
+    part
+}
+
+/// The place of an edge of the first geometry from which on no edge before the one at a place can raise a cell, and which
+/// starts in the same part of the second geometry as that one. Once the matrix shows all that edges can show in that part, it
+/// passes over the chain that leads to the edge, as far as none of its edges shares a point with one of the second geometry.
+fn left_of_chain(
+    first: &Valid,
+    second: &Valid,
+    part: Location,
+    from: usize,
+    place: usize,
+    matrix: &MatrixCells,
+) -> usize
+    requires valid { IsValid second.now }
+    requires lengths { All HasLength (edges first.now) }
+    requires from { from ≤ place }
+    requires within { place < length (edges first.now) }
+    requires apart { edges_share (slice_range (edges first.now) from place) (edges second.now) ≡ false }
+    requires ends { ShowsEnds first.now second.now matrix.now }
+    requires part { StartsOff second.now part (edges first.now) place }
+    ensures from { from ≤ result }
+    ensures before { result ≤ place }
+    ensures covers { All (Covers first.now second.now matrix.now) (slice_range (edges first.now) result place) }
+    ensures part { StartsOff second.now part (edges first.now) result }
+{
+    if is_full_in(matrix, first.kind(), part) {
+        return first.boxes().chain_start(from, place);
+    }
+    place
+}
+
+/// The same place, and where the edge there starts.
+fn start_in_part(
+    first: &Valid,
+    second: &Valid,
+    part: Location,
+    from: usize,
+    place: usize,
+    matrix: &MatrixCells,
+) -> (usize, Known)
+    requires valid { IsValid second.now }
+    requires lengths { All HasLength (edges first.now) }
+    requires from { from ≤ place }
+    requires within { place < length (edges first.now) }
+    requires apart { edges_share (slice_range (edges first.now) from place) (edges second.now) ≡ false }
+    requires ends { ShowsEnds first.now second.now matrix.now }
+    requires part { StartsOff second.now part (edges first.now) place }
+    ensures from { from ≤ result.0 }
+    ensures before { result.0 ≤ place }
+    ensures covers { All (Covers first.now second.now matrix.now) (slice_range (edges first.now) result.0 place) }
+    ensures known { LiesOff second.now result.1.part result.1.at }
+{
+    let left = left_of_chain(first, second, part, from, place, matrix);
+    let at = first.segments()[left].start();
+    (left, Known { at, part })
+}
+
+/// Whether the edge before a place may be the last of a chain that can be passed over, of edges from another place on: it doesn't
+/// lead to the position that is known, and it isn't in the only chain.
+fn ends_chain(first: &Valid, known: &Option<Known>, from: usize, end: usize) -> bool
+    requires some { from < end }
+    requires within { end ≤ length (edges first.now) }
+{
+    match known {
+        Some(known) => known.at != first.segments()[end - 1].end(),
+        None => first.boxes().chain_start(from, end - 1) > from,
     }
 }
 
-/// The place from which on no edge of the first geometry before the place given can raise a cell. It is looked for only where the
-/// edge before the place leads to a position outside the second geometry's envelope.
+/// The place, from one on, from which on no edge of the first geometry before another place can raise a cell, as far as it is
+/// outside the second one's envelope.
+fn left_outside(
+    first: &Valid,
+    second: &Valid,
+    around: &Envelope,
+    from: usize,
+    end: usize,
+    matrix: &MatrixCells,
+) -> usize
+    requires second_valid { IsValid second.now }
+    requires ends { ShowsEnds first.now second.now matrix.now }
+    requires around { envelope second.now ≡ Some around.now }
+    requires ordered { from ≤ end }
+    requires within { end ≤ length (edges first.now) }
+    ensures from { from ≤ result }
+    ensures before { result ≤ end }
+    ensures covers { All (Covers first.now second.now matrix.now) (slice_range (edges first.now) result end) }
+{
+    let left = left_to_raise(first, second, around, end, matrix);
+    left.max(from)
+}
+
+/// The same place, which is looked for only where a chain ends outside the envelope.
 fn left_beside(
     first: &Valid,
     second: &Valid,
     around: &Option<Envelope>,
+    known: &Option<Known>,
+    from: usize,
     end: usize,
     matrix: &MatrixCells,
 ) -> usize
     requires second_valid { IsValid second.now }
     requires ends { ShowsEnds first.now second.now matrix.now }
     requires around { IfSome around.now (λ e. envelope second.now ≡ Some e) }
-    requires some { 0 < end }
-    requires end { end ≤ length (edges first.now) }
+    requires some { from < end }
+    requires within { end ≤ length (edges first.now) }
+    ensures from { from ≤ result }
     ensures before { result ≤ end }
     ensures covers { All (Covers first.now second.now matrix.now) (slice_range (edges first.now) result end) }
 {
     match around {
-        Some(around) if !is_in(around, first.segments()[end - 1].end()) => {
-            left_to_raise(first, second, around, end, matrix)
+        Some(around)
+            if ends_chain(first, known, from, end)
+                && !is_in(around, first.segments()[end - 1].end()) => {
+            left_outside(first, second, around, from, end, matrix)
         }
         _ => end,
     }
 }
 
-/// The envelope of the second geometry, unless it has many times as many edges as the first: a walk along these would take longer
-/// than what passing over edges saves.
-fn envelope_if_small(first: &Valid, second: &Valid) -> Option<Envelope>
+/// The envelope of the second geometry, if the first one's edges are several chains, unless the second has many times as many
+/// edges as the first: a walk along these would take longer than what passing over chains saves.
+pub(crate) fn envelope_for_chains(first: &Valid, second: &Valid) -> Option<Envelope>
     ensures { IfSome result (λ e. envelope second.now ≡ Some e) }
 {
-    if first.segments().len() < second.segments().len() / MANY_TIMES {
+    let count = first.segments().len();
+    if count < second.segments().len() / MANY_TIMES || count == 0 {
+        return None;
+    }
+    if first.boxes().chain_start(0, count - 1) == 0 {
         return None;
     }
     second.envelope()
 }
 
-/// Raises cells by the edges of the first geometry, from the last one back, until no further one can raise a cell.
+/// Raises cells by the edges of the first geometry between two places, none of which shares a point with an edge of the second:
+/// from the last one back, until no further one can raise a cell.
+pub(crate) fn raise_run_apart(
+    first: &Valid,
+    second: &Valid,
+    around: &Option<Envelope>,
+    from: usize,
+    end: usize,
+    matrix: &mut MatrixCells,
+)
+    requires valid { IsValid second.now }
+    requires lengths { All HasLength (edges first.now) }
+    requires ordered { from ≤ end }
+    requires within { end ≤ length (edges first.now) }
+    requires apart { edges_share (slice_range (edges first.now) from end) (edges second.now) ≡ false }
+    requires ends { ShowsEnds first.now second.now matrix.old }
+    requires around { IfSome around.now (λ e. envelope second.now ≡ Some e) }
+    ensures grows { Grows first.now second.now matrix.old matrix.new }
+    ensures covers { All (Covers first.now second.now matrix.new) (slice_range (edges first.now) from end) }
+{
+    let mut known = None;
+    let mut left = end;
+    while left > from {
+        if is_full_off(first, second, matrix) {
+            return;
+        }
+        left = left_beside(first, second, around, &known, from, left, matrix);
+        if left == from {
+            return;
+        }
+        left -= 1;
+        let edge = &first.segments()[left];
+        let part = raise_edge_apart(first, second, edge, &known, matrix);
+        let (next, start) = start_in_part(first, second, part, from, left, matrix);
+        left = next;
+        known = Some(start);
+    }
+}
+
+/// Raises cells by all edges of the first geometry, none of which shares a point with an edge of the second.
 fn raise_edges_apart(first: &Valid, second: &Valid, matrix: &mut MatrixCells)
     requires valid { IsValid second.now }
     requires lengths { All HasLength (edges first.now) }
@@ -143,21 +277,8 @@ fn raise_edges_apart(first: &Valid, second: &Valid, matrix: &mut MatrixCells)
     ensures grows { Grows first.now second.now matrix.old matrix.new }
     ensures covers { All (Covers first.now second.now matrix.new) (edges first.now) }
 {
-    let around = envelope_if_small(first, second);
-    let mut known = None;
-    let mut left = first.segments().len();
-    while left > 0 {
-        if is_full_off(first, second, matrix) {
-            return;
-        }
-        left = left_beside(first, second, &around, left, matrix);
-        if left == 0 {
-            return;
-        }
-        left -= 1;
-        let edge = &first.segments()[left];
-        known = Some(raise_edge_apart(first, second, edge, &known, matrix));
-    }
+    let around = envelope_for_chains(first, second);
+    raise_run_apart(first, second, &around, 0, first.segments().len(), matrix);
 }
 
 /// The cells of the matrix of two valid geometries of which no edge shares a point with an edge of the other (06-103r4,

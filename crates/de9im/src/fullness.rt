@@ -43,7 +43,7 @@ fn shows_edges_in(matrix: &MatrixCells, kind: Kind, part: Location) -> bool
 
 /// Whether the matrix shows all that edges of a geometry of this kind can show in this part of the other, off the other's edges:
 /// themselves and, on their sides, the exterior and the interior.
-fn is_full_in(matrix: &MatrixCells, kind: Kind, part: Location) -> bool
+pub(crate) fn is_full_in(matrix: &MatrixCells, kind: Kind, part: Location) -> bool
     ensures { result ≡ true → ShowsAllOff kind part matrix.now }
 {
     shows_edges_in(matrix, kind, part)

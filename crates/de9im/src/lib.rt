@@ -21,6 +21,7 @@ mod point_and_area;
 mod points_and_area;
 mod predicate;
 mod relating;
+mod same_edges;
 mod text;
 mod work;
 

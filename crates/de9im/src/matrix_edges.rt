@@ -1,7 +1,7 @@
 //! Raises the cells of a matrix by the edges of a geometry.
 
-ghost use Rattle.std.specs.Prelude.{◌≡◌, true, Some, All, Contains, OnOk, pos, ◌≤ℤ◌};
-ghost use Rattle.geometry_model.specs.Geometries.{kind, edges};
+ghost use Rattle.std.specs.Prelude.{◌≡◌, ◌≤◌, true, false, Some, IfSome, All, Contains, OnOk, length, slice_range, pos, ◌≤ℤ◌};
+ghost use Rattle.geometry_model.specs.Geometries.{Edge, kind, edges};
 ghost use Rattle.geometry_model.specs.Locations.{locate};
 ghost use Rattle.geometry_model.specs.Dimensions.{cell};
 ghost use Rattle.geometry_model.specs.Envelopes.{envelope};
@@ -13,15 +13,18 @@ ghost use Rattle.geometry_model.specs.Pieces.{stretches};
 ghost use Rattle.fraction.specs.Ranges.{meeting_limit};
 ghost use Rattle.matrix_laws.specs.Gaps.{IsGap, SharesNoStretch, of_own_edges};
 ghost use Rattle.matrix_laws.specs.Covering.{IsHeld, ShowsEnds, ShowsGap};
+ghost use Rattle.matrix_laws.specs.CoveringLaws.{IsFullOff};
 ghost use Rattle.noding.specs.Merging.{AreMerged};
+ghost use Rattle.edge_boxes.specs.OneLine.{edges_overlap};
 ghost use Rattle.de9im.specs.Raising.{Grows, IsOnBoth, IsReady};
 
 use crate::MatrixCells;
+use crate::apart::{envelope_for_chains, raise_run_apart};
 use crate::fullness::{is_full_along, is_full_off, is_full_off_by, is_full_on, of_own_edges};
 use crate::gap_cells::{Pass, raise_gaps};
 use crate::matrix_positions::raise_point;
 use crate::outside_edges::left_to_raise;
-use crate::outside_positions::envelope_beside;
+use crate::same_edges::{Along, place_of_border};
 use fraction::RatPoint;
 use geometry_model::{Dimension, Kind};
 use noding::{Gaps, MergedEdges};
@@ -35,6 +38,14 @@ const MANY_MEETINGS: usize = 64;
 
 /// It pays once all edges so far have met others as often as there are edges in this part of them: a sixteenth.
 const FAIR_PART: usize = 16;
+
+/// The edges of a geometry with at most this many are looked at singly.
+const FEW_EDGES: usize = 16;
+
+/// So are those of one with at most this many, unless it has this many times as many as the other.
+const SOME_EDGES: usize = 48;
+
+const TIMES: usize = 4;
 
 /// Of an edge with more stops than this it pays to ask whether another shares a stretch with it.
 const MANY_STOPS: usize = 8;
@@ -104,8 +115,8 @@ fn is_apart(second: &Valid, edge: &Segment, stops: &[RatPoint]) -> bool
     stops.len() > MANY_STOPS && shares_no_stretch(second, edge)
 }
 
-/// Raises cells by the gaps between neighbouring stops of an edge of the first geometry, until no further one can raise a cell. If
-/// no edge of the second geometry shares a stretch with the edge, all its gaps lie off that geometry's edges.
+/// Raises cells by the gaps between neighbouring stops of an edge of the first geometry, until no further one can raise a cell.
+/// If no edge of the second geometry shares a stretch with the edge, all its gaps lie off that geometry's edges.
 fn raise_all_gaps(
     first: &Valid,
     second: &Valid,
@@ -248,14 +259,19 @@ fn is_full(pass: Pass, first: &Valid, second: &Valid, matrix: &MatrixCells) -> b
     }
 }
 
-/// Raises cells in a pass by the edges of the first geometry, which is large beside the second, from the last one back, until no
-/// further one can raise a cell. It fails only when memory runs out.
-fn raise_edges_near(
+/// Whether the edges of the first geometry are so few that each is looked at.
+fn has_few_edges(first: &Valid, second: &Valid) -> bool {
+    let count = first.segments().len();
+    count <= FEW_EDGES || count <= SOME_EDGES && count / TIMES < second.segments().len()
+}
+
+/// Raises cells in a pass by the few edges of the first geometry, until no further one can raise a cell. It fails only when
+/// memory runs out.
+fn raise_few_edges(
     alloc: Global,
     pass: Pass,
     first: &Valid,
     second: &Valid,
-    around: &Envelope,
     gaps: &mut Gaps,
     matrix: &mut MatrixCells,
 ) -> Result<(), AllocError>
@@ -264,29 +280,161 @@ fn raise_edges_near(
     requires lengths { All HasLength (edges first.now) }
     requires ends { ShowsEnds first.now second.now matrix.old }
     requires ready { IsReady pass first.now second.now matrix.old }
-    requires around { envelope second.now ≡ Some around.now }
     ensures grows { OnOk result (Grows first.now second.now matrix.old matrix.new) }
     ensures covers { OnOk result (All (Covers first.now second.now matrix.new) (edges first.now)) }
 {
     let mut merged = MergedEdges::new(alloc);
-    let mut left = first.segments().len();
-    while left > 0 {
+    for edge in first.segments() {
         if is_full(pass, first, second, matrix) {
             return Ok(());
         }
-        left = left_to_raise(first, second, around, left, matrix);
-        if left == 0 {
-            return Ok(());
-        }
-        left -= 1;
-        let edge = &first.segments()[left];
         raise_edge(pass, first, second, edge, gaps, &mut merged, matrix)?;
     }
     Ok(())
 }
 
-/// Raises cells by the edges of the first geometry in a pass, until no further one can raise a cell. It fails only when memory
-/// runs out.
+/// The place from which on no edge of the first geometry before a place can raise a cell, by the second one's envelope, if that is
+/// given.
+fn left_around(
+    first: &Valid,
+    second: &Valid,
+    around: &Option<Envelope>,
+    end: usize,
+    matrix: &MatrixCells,
+) -> usize
+    requires second_valid { IsValid second.now }
+    requires within { end ≤ length (edges first.now) }
+    requires ends { ShowsEnds first.now second.now matrix.now }
+    requires around { IfSome around.now (λ e. envelope second.now ≡ Some e) }
+    ensures before { result ≤ end }
+    ensures covers { All (Covers first.now second.now matrix.now) (slice_range (edges first.now) result end) }
+{
+    match around {
+        Some(around) => left_to_raise(first, second, around, end, matrix),
+        None => end,
+    }
+}
+
+/// Raises cells by the edges of the first geometry that share no point with the second one's, from the one before a place back to
+/// the first that shares one. Returns the place after that one, or 0.
+fn raise_up_to_shared(
+    first: &Valid,
+    second: &Valid,
+    around: &Option<Envelope>,
+    end: usize,
+    matrix: &mut MatrixCells,
+) -> usize
+    requires second_valid { IsValid second.now }
+    requires lengths { All HasLength (edges first.now) }
+    requires within { end ≤ length (edges first.now) }
+    requires ends { ShowsEnds first.now second.now matrix.old }
+    requires around { IfSome around.now (λ e. envelope second.now ≡ Some e) }
+    ensures before { result ≤ end }
+    ensures grows { Grows first.now second.now matrix.old matrix.new }
+    ensures covers { All (Covers first.now second.now matrix.new) (slice_range (edges first.now) result end) }
+{
+    let near = left_around(first, second, around, end, matrix);
+    let left = first
+        .boxes()
+        .last_sharing(first.segments(), second.segments(), second.boxes(), near);
+    raise_run_apart(first, second, around, left, near, matrix);
+    left
+}
+
+/// The place from which on no edge of the first geometry before a place shares a stretch with one of the second.
+fn left_overlapping(first: &Valid, second: &Valid, end: usize) -> usize
+    requires within { end ≤ length (edges first.now) }
+    ensures before { result ≤ end }
+    ensures none { edges_overlap (slice_range (edges first.now) result end) (edges second.now) ≡ false }
+{
+    first
+        .boxes()
+        .last_overlapping(first.segments(), second.segments(), second.boxes(), end)
+}
+
+/// Whether no edge of the first geometry that shares no stretch with one of the second's can raise a cell any more: the matrix shows
+/// all that gaps can show off the second geometry's edges, and that both meet. It isn't looked for in the second pass, which ends
+/// once the matrix shows so much.
+fn is_full_but_for_stretches(
+    pass: Pass,
+    first: &Valid,
+    second: &Valid,
+    matrix: &MatrixCells,
+) -> bool
+    ensures off { result ≡ true → (e : Edge) → IsFullOff first.now second.now matrix.now e }
+    ensures meeting { result ≡ true → at_most Zero
+        (cell matrix.now (of_own_edges (kind first.now)) (of_own_edges (kind second.now))) ≡ true }
+{
+    match pass {
+        Pass::First => is_full_off(first, second, matrix) && shows_meeting(first, second, matrix),
+        Pass::Second => false,
+    }
+}
+
+/// Raises cells by edges of the first geometry before a place at which a pass needs no look at each singly. Returns the place after
+/// the next edge that needs one, or 0: one that shares a stretch with an edge of the second geometry, if only those can raise a
+/// cell; else one that shares a point. After an edge that shares several points, as along a border, the next one is taken to share
+/// one too.
+fn raise_passed_over(
+    pass: Pass,
+    first: &Valid,
+    second: &Valid,
+    around: &Option<Envelope>,
+    is_along: bool,
+    end: usize,
+    matrix: &mut MatrixCells,
+) -> usize
+    requires first_valid { IsValid first.now }
+    requires second_valid { IsValid second.now }
+    requires lengths { All HasLength (edges first.now) }
+    requires within { end ≤ length (edges first.now) }
+    requires ends { ShowsEnds first.now second.now matrix.old }
+    requires around { IfSome around.now (λ e. envelope second.now ≡ Some e) }
+    ensures before { result ≤ end }
+    ensures grows { Grows first.now second.now matrix.old matrix.new }
+    ensures covers { All (Covers first.now second.now matrix.new) (slice_range (edges first.now) result end) }
+{
+    if is_full_but_for_stretches(pass, first, second, matrix) {
+        return left_overlapping(first, second, end);
+    }
+    if is_along {
+        return end;
+    }
+    raise_up_to_shared(first, second, around, end, matrix)
+}
+
+/// Raises cells by an edge of the first geometry in a pass, and returns how it lies along the second one's edges, where the edge
+/// before it lay in a way. It fails only when memory runs out.
+fn raise_edge_along(
+    pass: Pass,
+    first: &Valid,
+    second: &Valid,
+    edge: &Segment,
+    along: Along,
+    gaps: &mut Gaps,
+    merged: &mut MergedEdges,
+    matrix: &mut MatrixCells,
+) -> Result<Along, AllocError>
+    requires first_valid { IsValid first.now }
+    requires second_valid { IsValid second.now }
+    requires own { Contains (edges first.now) edge.now }
+    requires length { HasLength edge.now }
+    requires ends { ShowsEnds first.now second.now matrix.old }
+    requires ready { IsReady pass first.now second.now matrix.old }
+    requires merged { AreMerged (edges second.now) merged.old }
+    ensures grows { OnOk result (Grows first.now second.now matrix.old matrix.new) }
+    ensures covers { OnOk result (Covers first.now second.now matrix.new edge.now) }
+    ensures merged { OnOk result (AreMerged (edges second.now) merged.new) }
+{
+    if let Some(place) = place_of_border(pass, first, second, edge, along, matrix) {
+        return Ok(Along::Border(Some(place)));
+    }
+    raise_edge(pass, first, second, edge, gaps, merged, matrix)?;
+    Ok(Along::by(gaps))
+}
+
+/// Raises cells by the edges of the first geometry in a pass, from the last one back, until no further one can raise a cell. It
+/// fails only when memory runs out.
 pub(crate) fn raise_edges(
     alloc: Global,
     pass: Pass,
@@ -303,15 +451,24 @@ pub(crate) fn raise_edges(
     ensures grows { OnOk result (Grows first.now second.now matrix.old matrix.new) }
     ensures covers { OnOk result (All (Covers first.now second.now matrix.new) (edges first.now)) }
 {
-    if let Some(around) = envelope_beside(first.segments().len(), second) {
-        return raise_edges_near(alloc, pass, first, second, &around, gaps, matrix);
+    if has_few_edges(first, second) {
+        return raise_few_edges(alloc, pass, first, second, gaps, matrix);
     }
+    let around = envelope_for_chains(first, second);
     let mut merged = MergedEdges::new(alloc);
-    for edge in first.segments() {
+    let mut along = Along::at_first(&around);
+    let mut left = first.segments().len();
+    while left > 0 {
         if is_full(pass, first, second, matrix) {
             return Ok(());
         }
-        raise_edge(pass, first, second, edge, gaps, &mut merged, matrix)?;
+        left = raise_passed_over(pass, first, second, &around, along.leads_on(), left, matrix);
+        if left == 0 {
+            return Ok(());
+        }
+        left -= 1;
+        let edge = &first.segments()[left];
+        along = raise_edge_along(pass, first, second, edge, along, gaps, &mut merged, matrix)?;
     }
     Ok(())
 }

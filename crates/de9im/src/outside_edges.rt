@@ -1,4 +1,4 @@
-//! Which edges of a large geometry beside a small one can raise a cell of their matrix: those outside its envelope are passed over.
+//! Which edges of a geometry can raise a cell of the matrix: those outside the other one's envelope are passed over.
 
 ghost use Rattle.std.specs.Prelude.{◌≡◌, ◌≤◌, true, length, slice_range, All, Some};
 ghost use Rattle.geometry_model.specs.Geometries.{edges};

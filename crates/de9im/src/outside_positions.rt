@@ -14,13 +14,13 @@ use geometry_model::{Dimension, Location};
 use rtree::{Envelope, Enveloped};
 use validity::Valid;
 
-/// A geometry is large beside another if it has more edges, listed positions or lines than this.
+/// A geometry is large beside another if it has more listed positions or lines than this.
 const FEW: usize = 16;
 
 /// And at least this many times as many as the other has edges and listed positions.
 const TIMES: usize = 4;
 
-/// The envelope of the second geometry, if the first one has so many edges, listed positions or lines that it is large beside it.
+/// The envelope of the second geometry, if the first one has so many listed positions or lines that it is large beside it.
 pub(crate) fn envelope_beside(count: usize, second: &Valid) -> Option<Envelope>
     ensures around { IfSome result (λ around. envelope second.now ≡ Some around) }
     ensures valid { IsValid second.now }

@@ -13,6 +13,8 @@ pub mod Far
 pub mod TestSteps
 pub mod SharedPoints
 pub mod Near
+pub mod OverlapFacts
+pub mod Breaks
 pub mod Runs
 pub mod OverlappingBoxes
 pub mod BareEdges

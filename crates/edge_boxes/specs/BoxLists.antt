@@ -2,6 +2,7 @@
 use Rattle.std.specs.Prelude.{◌≡◌, ◌⊎◌, ℕ, zero, suc, ◌-◌, ◌≤◌, List, ◌++◌, length, drop, Option, Some, None, slice_get}
 use Rattle.geometry_model.specs.Geometries.{Edge}
 use Rattle.edge_boxes.specs.EdgeRuns.{SumsUp}
+use Rattle.edge_boxes.specs.Chains.{AreBreaks}
 use Rattle.edge_boxes.specs.declared.kept_runs.Run.{Run}
 use Rattle.edge_boxes.specs.declared.boxes.EdgeBox.{EdgeBox}
 use Rattle.edge_boxes.specs.declared.boxes.EdgeBoxes.{EdgeBoxes}
@@ -34,6 +35,7 @@ pub record IsBoxAt (edges : List Edge) (boxes : List EdgeBox) (place : ℕ) (b :
 abbrev pub AreBoxes : List EdgeBox → List Edge → Type 0
 AreBoxes boxes edges = (place : ℕ) (b : EdgeBox) → slice_get boxes place ≡ Some b → IsBoxAt edges boxes place b
 
--- the boxes are those of the edges
-abbrev pub BoxesOf : EdgeBoxes → List Edge → Type 0
-BoxesOf s edges = AreBoxes s.boxes.items edges
+-- the boxes are those of the edges, and so are the breaks
+pub record BoxesOf (s : EdgeBoxes) (edges : List Edge) : Type 0 where
+  pub boxes : AreBoxes s.boxes.items edges
+  pub breaks : AreBreaks s.breaks.items edges

@@ -10,6 +10,7 @@ pub mod LineCrossings
 pub mod EdgeTests
 pub mod OneLine
 pub mod NearEdges
+pub mod Chains
 pub mod RingEdges
 pub mod RunLaws
 pub mod NearRings

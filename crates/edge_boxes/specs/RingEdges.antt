@@ -4,11 +4,16 @@ use Rattle.std.specs.List.{list_any, enumerate_from}
 use Rattle.geometry_model.specs.Points.{Position, point_at}
 use Rattle.geometry_model.specs.Geometries.{Edge}
 use Rattle.geometry_model.specs.Crossings.{odd, strictly_above}
+use Rattle.edge_boxes.specs.EdgeTests.{EndsPassing}
 use Rattle.geometry_model.specs.FirstFaults.{share_point, clash, any_pair}
 
 -- an edge of the one run and one of the other share a point (06-103r4, 6.1.11.1 and 6.1.14)
 abbrev pub edges_share : List Edge → List Edge → Bool
 edges_share r s = list_any (λ e. list_any (share_point e) s) r
+
+-- the edge before this place shares a point with one of the others
+abbrev pub EndsSharing : List Edge → List Edge → ℕ → Type 0
+EndsSharing others = EndsPassing (λ e. list_any (share_point e) others)
 
 -- an odd number of the edges lie strictly above the position (06-103r4, 6.1.11.1: inside)
 abbrev pub is_odd_above : List Edge → Position → Bool

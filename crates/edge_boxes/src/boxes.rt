@@ -17,8 +17,9 @@ ghost use Rattle.edge_boxes.specs.BoxCells.{IsCellOf};
 ghost use Rattle.edge_boxes.specs.EdgeCrossings.{AreCrossings, on_any};
 ghost use Rattle.edge_boxes.specs.BoxLists.{AreBoxes, BoxesOf, covered};
 ghost use Rattle.edge_boxes.specs.Sharings.{places_sharing};
-ghost use Rattle.edge_boxes.specs.OneLine.{overlap_on_one_line};
-ghost use Rattle.edge_boxes.specs.RingEdges.{edges_share};
+ghost use Rattle.edge_boxes.specs.OneLine.{overlap_on_one_line, edges_overlap, EndsOverlapping};
+ghost use Rattle.edge_boxes.specs.RingEdges.{edges_share, EndsSharing};
+ghost use Rattle.edge_boxes.specs.Chains.{IsChain};
 ghost use Rattle.edge_boxes.specs.NearEdges.{is_near, EndsNear};
 ghost use Rattle.edge_boxes.specs.Walks.{IsStep};
 
@@ -26,11 +27,13 @@ use crate::bare_edges::of_bare_edges;
 use crate::bounds::Bounds;
 use crate::building::boxes_over;
 use crate::cells::Cell;
+use crate::chains::{breaks_of, chain_start_among};
 use crate::kept_runs::Run;
 use crate::lines::is_one_on_line_among;
 use crate::near_envelopes::last_near_among;
+use crate::overlaps::last_overlapping_among;
 use crate::point_crossings::{Crossings, none, of_edges, said};
-use crate::shared_points::share_among;
+use crate::shared_points::{last_sharing_among, share_among};
 use crate::sharing_edges::{Asked, push_asked};
 use fraction::RatPoint;
 use orient::Segment;
@@ -52,6 +55,8 @@ pub(crate) struct EdgeBox {
 #[derive(Drop)]
 pub struct EdgeBoxes {
     boxes: Vec<EdgeBox>,
+    /// The places of the edges that don't start where the edge before them ends.
+    breaks: Vec<usize>,
 }
 
 impl EdgeBoxes {
@@ -61,7 +66,8 @@ impl EdgeBoxes {
         ensures { IfOk result (λ boxes. BoxesOf boxes edges.now) }
     {
         let boxes = boxes_over(alloc, edges)?;
-        Ok(EdgeBoxes { boxes })
+        let breaks = breaks_of(alloc, edges)?;
+        Ok(EdgeBoxes { boxes, breaks })
     }
 
     /// How a point lies to the edges. The boxes are those of the edges.
@@ -124,6 +130,71 @@ impl EdgeBoxes {
             &Bounds::of_envelope(around),
             end,
         )
+    }
+
+    /// The place after the last edge, before a place, that shares a point with one of another list (06-103r4, 6.1.15:
+    /// intersection of point sets). It is 0 if there is none. No edge from there to the place shares a point with the others.
+    /// The boxes are those of the edges, and the other boxes those of the others. It passes over boxes that are far from the
+    /// other list's, and takes no memory.
+    pub fn last_sharing(
+        &self,
+        edges: &[Segment],
+        others: &[Segment],
+        other_boxes: &EdgeBoxes,
+        end: usize,
+    ) -> usize
+        requires boxes { BoxesOf self.now edges.now }
+        requires others { BoxesOf other_boxes.now others.now }
+        requires end { end ≤ length edges.now }
+        ensures before { result ≤ end }
+        ensures apart { edges_share (slice_range edges.now result end) others.now ≡ false }
+        ensures shares { 0 < result → EndsSharing others.now edges.now result }
+    {
+        last_sharing_among(
+            self.boxes.as_slice(),
+            edges,
+            other_boxes.boxes.as_slice(),
+            others,
+            end,
+        )
+    }
+
+    /// The place after the last edge, before a place, that is on one line with one of another list and shares more than a
+    /// common end with it. It is 0 if there is none. No edge from there to the place shares a stretch with one of the others
+    /// (06-103r4, 6.1.15.2: intersection). The boxes are those of the edges, and the other boxes those of the others. It passes
+    /// over boxes that are far from the other list's, and takes no memory.
+    pub fn last_overlapping(
+        &self,
+        edges: &[Segment],
+        others: &[Segment],
+        other_boxes: &EdgeBoxes,
+        end: usize,
+    ) -> usize
+        requires boxes { BoxesOf self.now edges.now }
+        requires others { BoxesOf other_boxes.now others.now }
+        requires end { end ≤ length edges.now }
+        ensures before { result ≤ end }
+        ensures none { edges_overlap (slice_range edges.now result end) others.now ≡ false }
+        ensures last { 0 < result → EndsOverlapping others.now edges.now result }
+    {
+        last_overlapping_among(
+            self.boxes.as_slice(),
+            edges,
+            other_boxes.boxes.as_slice(),
+            others,
+            end,
+        )
+    }
+
+    /// The first place, from one on, from which on the edges up to that at another place are a chain: each starts where the one
+    /// before it ends.
+    pub fn chain_start(&self, from: usize, place: usize) -> usize
+        requires { from ≤ place }
+        ensures from { from ≤ result }
+        ensures before { result ≤ place }
+        ensures chain { (edges : List Edge) → BoxesOf self.now edges → IsChain edges result place }
+    {
+        chain_start_among(self.breaks.as_slice(), from, place)
     }
 
     /// Replaces what the vector holds by the places, from this one on, of the edges that share a point with an edge, ascending.

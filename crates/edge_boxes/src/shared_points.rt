@@ -1,16 +1,17 @@
 //! Whether edges of two lists share a point.
 
-ghost use Rattle.std.specs.Prelude.{◌≡◌, true, length};
+ghost use Rattle.std.specs.Prelude.{◌≡◌, ◌≤◌, ◌<◌, false, length, slice_range};
 ghost use Rattle.std.specs.List.{list_any};
 ghost use Rattle.geometry_model.specs.FirstFaults as spec;
 ghost use Rattle.edge_boxes.specs.RunLaws.{box_of};
 ghost use Rattle.edge_boxes.specs.BoxLists.{AreBoxes};
-ghost use Rattle.edge_boxes.specs.RingEdges.{edges_share};
+ghost use Rattle.edge_boxes.specs.RingEdges.{edges_share, EndsSharing};
 
 use crate::bounds::Bounds;
 use crate::boxes::EdgeBox;
 use crate::edge_tests::{EdgeTest, is_any_among};
 use crate::kept_runs::Run;
+use crate::last_edges::last_passing_among;
 use crate::lines::is_far;
 use crate::near_envelopes::last_near_among;
 use crate::share_point;
@@ -86,4 +87,26 @@ pub(crate) fn share_among(
         edges: others,
     };
     is_any_among(boxes, edges, &test)
+}
+
+/// The place after the last edge, before a place, that shares a point with one of the others, or 0.
+pub(crate) fn last_sharing_among(
+    boxes: &[EdgeBox],
+    edges: &[Segment],
+    other_boxes: &[EdgeBox],
+    others: &[Segment],
+    end: usize,
+) -> usize
+    requires boxes { AreBoxes boxes.now edges.now }
+    requires others { AreBoxes other_boxes.now others.now }
+    requires end { end ≤ length edges.now }
+    ensures before { result ≤ end }
+    ensures apart { edges_share (slice_range edges.now result end) others.now ≡ false }
+    ensures shares { 0 < result → EndsSharing others.now edges.now result }
+{
+    let test = ShareWithOne {
+        boxes: other_boxes,
+        edges: others,
+    };
+    last_passing_among(boxes, edges, end, &test)
 }

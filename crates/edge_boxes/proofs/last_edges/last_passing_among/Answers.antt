@@ -1,10 +1,9 @@
 use Rattle.std.proofs.Common.{arith}
-use Rattle.edge_boxes.specs.NearEdges.{is_near}
 use Rattle.edge_boxes.proofs.Near.{none_in_both}
-use Rattle.edge_boxes.proofs.near_envelopes.last_near_among.Goals as goal
+use Rattle.edge_boxes.proofs.last_edges.last_passing_among.Goals as goal
 
 pub loop-place-preserved : goal.loop-place-preserved
-loop-place-preserved c =
+loop-place-preserved g c =
     let s = c.step_back-next.ensures in
     let within = c.loop-place.invariant.within in
     let before = c.loop-place.invariant.before in
@@ -13,6 +12,7 @@ loop-place-preserved c =
     record {
       within = omega (arith, within, earlier);
       before = omega (arith, before, back);
-      outside = none_in_both (is_near c.args.bounds.now) c.args.edges.now c.step_back-next.result.1 c.loop-place.left c.args.end back before s.outside c.loop-place.invariant.outside;
-      near = s.near;
+      none = none_in_both (g.T.EdgeTest.test c.args.test.now) c.args.edges.now c.step_back-next.result.1 c.loop-place.left
+          c.args.end back before s.none c.loop-place.invariant.none;
+      last = s.last;
     }
