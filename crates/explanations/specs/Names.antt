@@ -30,7 +30,7 @@ pub record IsNearest (word : List ℕ) (names : List (Bor (List ℕ))) (place : 
 abbrev pub AreFar : List ℕ → List (Bor (List ℕ)) → Type 0
 AreFar word names = (k : ℕ) (other : Bor (List ℕ)) → slice_get names k ≡ Some other → IsNear word other.now → ⊥
 
--- what is found: the place of the nearest name; or none, where no name is near or the word has too many bytes
+-- what is found: the place of the nearest name, where the word doesn't have too many bytes; or none, where it has, or no name is near
 abbrev pub IsFound : List ℕ → List (Bor (List ℕ)) → Option ℕ → Type 0
-IsFound word names (Some place) = IsNearest word names place
+IsFound word names (Some place) = (length word ≤ word_limit) × IsNearest word names place
 IsFound word names None = length word ≤ word_limit → AreFar word names
