@@ -411,6 +411,7 @@ fn raise_edge_along(
     second: &Valid,
     edge: &Segment,
     along: Along,
+    has_passed: bool,
     gaps: &mut Gaps,
     merged: &mut MergedEdges,
     matrix: &mut MatrixCells,
@@ -430,7 +431,7 @@ fn raise_edge_along(
         return Ok(Along::Border(Some(place)));
     }
     raise_edge(pass, first, second, edge, gaps, merged, matrix)?;
-    Ok(Along::by(gaps))
+    Ok(Along::by(gaps, has_passed))
 }
 
 /// Raises cells by the edges of the first geometry in a pass, from the last one back, until no further one can raise a cell. It
@@ -462,13 +463,25 @@ pub(crate) fn raise_edges(
         if is_full(pass, first, second, matrix) {
             return Ok(());
         }
+        let end = left;
         left = raise_passed_over(pass, first, second, &around, along.leads_on(), left, matrix);
         if left == 0 {
             return Ok(());
         }
+        let has_passed = left < end;
         left -= 1;
         let edge = &first.segments()[left];
-        along = raise_edge_along(pass, first, second, edge, along, gaps, &mut merged, matrix)?;
+        along = raise_edge_along(
+            pass,
+            first,
+            second,
+            edge,
+            along,
+            has_passed,
+            gaps,
+            &mut merged,
+            matrix,
+        )?;
     }
     Ok(())
 }

@@ -83,7 +83,7 @@ fn place_of_same(second: &Valid, edge: &Segment, last: Option<usize>) -> Option<
 pub(crate) enum Along {
     /// It shares at most one point with them, or none was looked at.
     Nothing,
-    /// It shares several points with them.
+    /// It shares several points with them, or one, as the edge before it does.
     Edges,
     /// It shares its two ends with them and no cut between: one of them may have the same ends, perhaps that beside this place.
     Border(Option<usize>),
@@ -99,10 +99,11 @@ impl Along {
         }
     }
 
-    /// How the edge lies whose gaps these are.
-    pub(crate) fn by(gaps: &Gaps) -> Along {
+    /// How the edge lies whose gaps these are. If no edge before it was passed over, one point that it shares is as good as several.
+    pub(crate) fn by(gaps: &Gaps, has_passed: bool) -> Along {
         match gaps.shared().len() {
-            0 | 1 => Along::Nothing,
+            0 => Along::Nothing,
+            1 if has_passed => Along::Nothing,
             2 if gaps.stops().len() == 2 => Along::Border(None),
             _ => Along::Edges,
         }
