@@ -237,18 +237,13 @@ fn unequal_sentence(
     left: &Compared,
     right: &Compared,
 ) -> Result<Vec<u8>, AllocError> {
-    let mut sentence = joined(
-        alloc,
-        &[
-            left.written.as_slice(),
-            b" is a ",
-            kind_word(left.kind).as_bytes(),
-            b", and ",
-            right.written.as_slice(),
-            b" a ",
-            kind_word(right.kind).as_bytes(),
-        ],
-    )?;
+    let mut sentence = Vec::from_slice(alloc, left.written.as_slice())?;
+    sentence.extend_from_slice(b" is a ")?;
+    sentence.extend_from_slice(kind_word(left.kind).as_bytes())?;
+    sentence.extend_from_slice(b", and ")?;
+    sentence.extend_from_slice(right.written.as_slice())?;
+    sentence.extend_from_slice(b" a ")?;
+    sentence.extend_from_slice(kind_word(right.kind).as_bytes())?;
     if push_value(&mut sentence, left)? || push_value(&mut sentence, right)? {
         return Ok(sentence);
     }
