@@ -237,29 +237,32 @@ fn unequal_sentence(
     left: &Compared,
     right: &Compared,
 ) -> Result<Vec<u8>, AllocError> {
-    let mut sentence = joined(
-        alloc,
-        &[
-            left.written.as_slice(),
-            b" is a ",
-            kind_word(left.kind).as_bytes(),
-            b", and ",
-            right.written.as_slice(),
-            b" a ",
-            kind_word(right.kind).as_bytes(),
-        ],
-    )?;
-    for side in [left, right] {
-        let value = side.literal.as_slice();
-        if !value.is_empty() && value.iter().all(|byte| byte.is_ascii_digit()) {
-            let quote: &[u8] = if side.kind == Kind::Number { b"'" } else { b"" };
-            let advice = joined(alloc, &[b": write ", quote, value, quote])?;
-            sentence.extend_from_slice(advice.as_slice())?;
-            return Ok(sentence);
-        }
+    let mut sentence = Vec::from_slice(alloc, left.written.as_slice())?;
+    sentence.extend_from_slice(b" is a ")?;
+    sentence.extend_from_slice(kind_word(left.kind).as_bytes())?;
+    sentence.extend_from_slice(b", and ")?;
+    sentence.extend_from_slice(right.written.as_slice())?;
+    sentence.extend_from_slice(b" a ")?;
+    sentence.extend_from_slice(kind_word(right.kind).as_bytes())?;
+    if push_value(&mut sentence, left)? || push_value(&mut sentence, right)? {
+        return Ok(sentence);
     }
     sentence.extend_from_slice(b": numbers are compared with numbers, and texts with texts")?;
     Ok(sentence)
+}
+
+/// Adds how a number is to be written that the query has as the other of a number and a text, and returns whether it does.
+fn push_value(sentence: &mut Vec<u8>, side: &Compared) -> Result<bool, AllocError> {
+    let value = side.literal.as_slice();
+    if value.is_empty() || !value.iter().all(|byte| byte.is_ascii_digit()) {
+        return Ok(false);
+    }
+    let quote: &[u8] = if side.kind == Kind::Number { b"'" } else { b"" };
+    sentence.extend_from_slice(b": write ")?;
+    sentence.extend_from_slice(quote)?;
+    sentence.extend_from_slice(value)?;
+    sentence.extend_from_slice(quote)?;
+    Ok(true)
 }
 
 /// The place of the next sign that compares, from a place on; past the list, if there is none.
