@@ -134,7 +134,8 @@ class Outputs(unittest.TestCase):
             ran = subprocess.run(words, cwd=sweeps.tables(), stdin=subprocess.DEVNULL, capture_output=True)
             well = sweeps.whole(name)
             is_lost = "1" in closed and well.status == 0
-            err = well.err + sweeps.WRITE_FAILED if is_lost else well.err
+            # What --why adds comes after the answer, and so not where that is lost.
+            err = sweeps.WRITE_FAILED if is_lost else well.err
             with self.subTest(name=name, closed=closed):
                 self.assertEqual(ran.returncode, 6 if is_lost else well.status)
                 self.assertEqual(ran.stdout, b"" if "1" in closed else well.out)

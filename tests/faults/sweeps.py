@@ -293,8 +293,8 @@ def is_allowed(fault, ran, well, reads_again=False):
         is_lost = fault.times != 1 and (well.status, ran.status) == (0, UNREADABLE)
         return (is_done or is_lost) and beginning_of(ran.err, well.err)
     if fault.call == "write":
-        line = well.err + WRITE_FAILED if well.status == 0 else WRITE_FAILED
-        is_line = beginning_of(ran.err, line) if fault.times != 1 else ran.err == line
+        # What --why adds comes after the answer, and so not where that is lost.
+        is_line = beginning_of(ran.err, WRITE_FAILED) if fault.times != 1 else ran.err == WRITE_FAILED
         return ran.status == UNREADABLE and is_line
     return (ran.out, ran.err, ran.status) == (b"", line_of(fault, ran.path), UNREADABLE)
 

@@ -332,6 +332,7 @@ fn serve_check<R: Read + Drop, F: FnMut(File<'_>) -> Option<R>, S: Sink, E: Sink
 }
 
 /// Writes what explains the end of a run, if that is asked for and the end is a fault of the query, or one of a table whose reason is found.
+#[inline(never)]
 fn explain_run<R: Read + Drop, F: FnMut(File<'_>) -> Option<R>, M: Sink>(
     alloc: Global,
     paths: &Paths<'_>,
@@ -360,6 +361,7 @@ fn explain_run<R: Read + Drop, F: FnMut(File<'_>) -> Option<R>, M: Sink>(
 
 /// Writes what explains the end of a check, if that is asked for: a table's fault, if its reason is found; and if there is no fault, which
 /// fields hold a line end.
+#[inline(never)]
 fn explain_check<R: Read + Drop, F: FnMut(File<'_>) -> Option<R>, M: Sink>(
     alloc: Global,
     paths: &Paths<'_>,

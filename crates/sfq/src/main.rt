@@ -14,6 +14,7 @@ use command_line::{Misuse, Order, order, read_words, texts_of};
 use engine::{
     Failure, File, explain_order, failed, failed_words, flushed, note_order, serve_observed,
 };
+use memchr::memrchr;
 use std::alloc::Global;
 use std::env;
 use std::io::{BufWriter, Stderr};
@@ -48,7 +49,7 @@ fn main(rt: HostRuntime) -> ExitCode {
     }
     let mut explained = explaining(&rt, &progress);
     let _ = put_all(&mut explained, said.bytes());
-    let _ = put_all(&mut explained, more.bytes());
+    let _ = put_all(&mut explained, whole_lines(more.bytes()));
     if is_explained(status) && said.bytes().is_empty() && more.bytes().is_empty() {
         explain(&rt, &progress, &order, status);
     }
@@ -89,7 +90,20 @@ fn serve<'p, S: Sink, E: Sink>(
     Served { status, said, more }
 }
 
+/// The whole lines of a text: a line for whose end memory ran out is left out.
+fn whole_lines(text: &[u8]) -> &[u8] {
+    let end = match memrchr(b'\n', text) {
+        Some(last) => last.wrapping_add(1),
+        None => 0,
+    };
+    match text.get(..end) {
+        Some(lines) => lines,
+        None => text,
+    }
+}
+
 /// Writes what explains the fault of an order, if it asks for that. Files are opened once more.
+#[inline(never)]
 fn explain<'p>(rt: &HostRuntime, progress: &'p Progress<'p>, order: &Order, status: u8) {
     let mut err = explaining(rt, progress);
     let mut again = explaining(rt, progress);
@@ -98,6 +112,7 @@ fn explain<'p>(rt: &HostRuntime, progress: &'p Progress<'p>, order: &Order, stat
 }
 
 /// Writes notes on the query of an order that is done, if it asks for that. Files are opened once more; of one that can't be, nothing is said.
+#[inline(never)]
 fn note<'p>(rt: &HostRuntime, progress: &'p Progress<'p>, order: &Order) {
     let mut err = explaining(rt, progress);
     let opener = |file: File<'_>| opened_quietly(rt, progress, file);

@@ -22,6 +22,7 @@ pub fn opened<'p>(
 
 /// The reader of a file that is opened once more, to explain a fault. If it can't be opened, or is a folder, or nothing that gives the same
 /// bytes again, that is written, and the result is None. Where the folder that should have it isn't there, that is written instead.
+#[inline(never)]
 pub fn opened_again<'p, E: Sink>(
     rt: &HostRuntime,
     progress: &'p Progress<'p>,
@@ -41,6 +42,7 @@ pub fn opened_again<'p, E: Sink>(
 }
 
 /// The same, but nothing is written.
+#[inline(never)]
 pub fn opened_quietly<'p>(
     rt: &HostRuntime,
     progress: &'p Progress<'p>,
@@ -59,6 +61,7 @@ fn unopened(alloc: Global, path: &str, words: &str) -> Result<Vec<u8>, AllocErro
 }
 
 /// The folder that should have the file at a path, where it isn't there or isn't a folder, and what is said of it.
+#[inline(never)]
 fn missing_folder<'a>(rt: &HostRuntime, path: &'a str) -> Option<(&'a str, &'static str)> {
     let (folder, _) = path.rsplit_once('/')?;
     if folder.is_empty() {
