@@ -94,13 +94,13 @@ abbrev pub ShowsIn : Pass → Geometry → Geometry → Matrix → Edge → Poin
 ShowsIn First a b m e y = ShowsAt a b m e y
 ShowsIn Second a b m e y = IsOffEdges b y → ShowsOff a m e (mostly b y)
 
--- the same, by some point within it
+-- the matrix shows what a pass looks at of a gap, by some point within it
 pub record ShowsGapIn (pass : Pass) (a b : Geometry) (m : Matrix) (e : Edge) (p q : Point) : Type 0 where
   pub sample : Point
   pub between : IsBetween e p q sample
   pub shows : ShowsIn pass a b m e sample
 
--- the same of each gap of the edge, whichever point of the edge is within it
+-- the matrix shows what a pass looks at of each gap of the edge, whichever point of the edge is within it
 abbrev pub ShowsAllAlong : Pass → Geometry → Geometry → Matrix → Edge → Type 0
 ShowsAllAlong pass a b m e = (y : Point) → IsPoint y → on e y ≡ true → ShowsIn pass a b m e y
 
@@ -122,6 +122,6 @@ pub record LiesOff (b : Geometry) (l : Location) (at : Position) : Type 0 where
   pub off : IsOffEdges b (point_at at)
   pub part : l ≡ mostly b (point_at at)
 
--- the edge at this place starts so
+-- the edge at this place starts off the geometry's edges, in this part of it
 abbrev pub StartsOff : Geometry → Location → List Edge → ℕ → Type 0
 StartsOff b l es place = (e : Edge) → e ≡ get_or es place e → LiesOff b l e.start

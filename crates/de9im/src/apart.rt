@@ -124,7 +124,7 @@ fn left_of_chain(
     place
 }
 
-/// The same place, and where the edge there starts.
+/// The place that `left_of_chain` finds, and where the edge there starts.
 fn start_in_part(
     first: &Valid,
     second: &Valid,
@@ -185,7 +185,8 @@ fn left_outside(
     left.max(from)
 }
 
-/// The same place, which is looked for only where a chain ends outside the envelope.
+/// The place that `left_outside` finds, if the edge before the end is the last of a chain and ends outside the envelope; else the
+/// end. Within a chain the boxes aren't searched.
 fn left_beside(
     first: &Valid,
     second: &Valid,

@@ -66,7 +66,8 @@ pub(crate) fn is_full_off(first: &Valid, second: &Valid, matrix: &MatrixCells) -
         && (second.kind() != Kind::Area || is_full_in(matrix, first.kind(), Location::Interior))
 }
 
-/// The same of the gaps of one edge: an upright one has no sides to show.
+/// Whether the matrix shows all that gaps of one edge of the first geometry can show off the edges of the second. An upright edge
+/// has no sides to show.
 pub(crate) fn is_full_off_by(
     first: &Valid,
     second: &Valid,

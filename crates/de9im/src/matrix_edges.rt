@@ -39,12 +39,13 @@ const MANY_MEETINGS: usize = 64;
 /// It pays once all edges so far have met others as often as there are edges in this part of them: a sixteenth.
 const FAIR_PART: usize = 16;
 
-/// The edges of a geometry with at most this many are looked at singly.
+/// Of a geometry with at most this many edges each is looked at.
 const FEW_EDGES: usize = 16;
 
-/// So are those of one with at most this many, unless it has this many times as many as the other.
+/// Of a geometry with at most this many edges each is looked at, unless they are `TIMES` as many as the other's.
 const SOME_EDGES: usize = 48;
 
+/// How many times as many edges as the other a geometry has, if those that need no look are searched for.
 const TIMES: usize = 4;
 
 /// Of an edge with more stops than this it pays to ask whether another shares a stretch with it.
@@ -403,8 +404,8 @@ fn raise_passed_over(
     raise_up_to_shared(first, second, around, end, matrix)
 }
 
-/// Raises cells by an edge of the first geometry in a pass, and returns how it lies along the second one's edges, where the edge
-/// before it lay in a way. It fails only when memory runs out.
+/// Raises cells by an edge of the first geometry in a pass, and returns how it lies along the second one's edges. How the edge
+/// looked at before it lies there is given. It fails only when memory runs out.
 fn raise_edge_along(
     pass: Pass,
     first: &Valid,

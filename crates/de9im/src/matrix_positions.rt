@@ -28,8 +28,9 @@ pub(crate) fn raise_point(first: &Valid, second: &Valid, p: &RatPoint, matrix: &
     matrix.raise(locate(first, p), locate(second, p), Dimension::Zero);
 }
 
-/// The same for a position that lies in this part of the first geometry: it is located in the second one alone. It passes over one
-/// outside the second's envelope, if that is given, once the matrix shows where such positions lie.
+/// Raises the cell of the two parts in which a position lies to a point (06-103r4, 6.1.15.2). In which part of the first geometry
+/// it lies is known; it is located in the second one alone. A position outside the second one's envelope, if that is given, is
+/// passed over once the matrix shows where such positions lie.
 fn raise_position(
     second: &Valid,
     around: &Option<Envelope>,

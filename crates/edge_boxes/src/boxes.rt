@@ -19,7 +19,7 @@ ghost use Rattle.edge_boxes.specs.BoxLists.{AreBoxes, BoxesOf, covered};
 ghost use Rattle.edge_boxes.specs.Sharings.{places_sharing};
 ghost use Rattle.edge_boxes.specs.OneLine.{overlap_on_one_line, edges_overlap, EndsOverlapping};
 ghost use Rattle.edge_boxes.specs.RingEdges.{edges_share, EndsSharing};
-ghost use Rattle.edge_boxes.specs.Chains.{IsChain};
+ghost use Rattle.edge_boxes.specs.Chains.{IsBreak, IsChain};
 ghost use Rattle.edge_boxes.specs.NearEdges.{is_near, EndsNear};
 ghost use Rattle.edge_boxes.specs.Walks.{IsStep};
 
@@ -187,12 +187,13 @@ impl EdgeBoxes {
     }
 
     /// The first place, from one on, from which on the edges up to that at another place are a chain: each starts where the one
-    /// before it ends.
+    /// before it ends. It is the place that was asked from, or one whose edge doesn't start where the one before it ends.
     pub fn chain_start(&self, from: usize, place: usize) -> usize
         requires { from ≤ place }
         ensures from { from ≤ result }
         ensures before { result ≤ place }
         ensures chain { (edges : List Edge) → BoxesOf self.now edges → IsChain edges result place }
+        ensures first { (edges : List Edge) → BoxesOf self.now edges → from < result → IsBreak edges result }
     {
         chain_start_among(self.breaks.as_slice(), from, place)
     }

@@ -1,8 +1,8 @@
 //! Chains of edges: each edge but the last ends where the next one starts.
 
-ghost use Rattle.std.specs.Prelude.{◌≤◌, List, IfOk};
+ghost use Rattle.std.specs.Prelude.{◌<◌, ◌≤◌, List, IfOk};
 ghost use Rattle.geometry_model.specs.Geometries.{Edge};
-ghost use Rattle.edge_boxes.specs.Chains.{AreBreaks, IsChain};
+ghost use Rattle.edge_boxes.specs.Chains.{AreBreaks, IsBreak, IsChain};
 
 use orient::Segment;
 use std::alloc::{AllocError, Global};
@@ -26,6 +26,7 @@ pub(crate) fn chain_start_among(breaks: &[usize], from: usize, place: usize) -> 
     ensures from { from ≤ result }
     ensures before { result ≤ place }
     ensures chain { (edges : List Edge) → AreBreaks breaks.now edges → IsChain edges result place }
+    ensures first { (edges : List Edge) → AreBreaks breaks.now edges → from < result → IsBreak edges result }
 {
     let after = breaks.partition_point(|at| *at <= place);
     if after == 0 {

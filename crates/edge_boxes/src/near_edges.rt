@@ -84,7 +84,8 @@ pub fn is_not_simple(alloc: Global, edges: &[Segment]) -> Result<bool, AllocErro
     is_not_simple_by(alloc, edges, &boxes)
 }
 
-/// The same, where the boxes over the edges are given (06-103r4, 6.1.7: a LinearRing is simple).
+/// Whether a ring of these edges touches, crosses or covers itself, by the boxes over the edges (06-103r4, 6.1.7: a LinearRing is
+/// simple). It fails only when memory runs out.
 pub fn is_not_simple_by(
     alloc: Global,
     edges: &[Segment],

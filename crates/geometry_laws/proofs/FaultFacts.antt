@@ -13,12 +13,11 @@ use Rattle.geometry_model.specs.Validity.{is_short, ShareOther, Clash, IsNotSimp
 use Rattle.geometry_model.specs.FirstFaults.{share_point, share_other, clash, any_pair, is_not_simple, rings_share, is_not_closed, elements_share, test_of, test_of_both, ring_of, has_fault}
 use Rattle.geometry_model.specs.declared.validity_faults.ValidityFault.{ValidityFault}
 use Rattle.geometry_model.specs.declared.validity_faults.ValidityFault.TheVariants.{TooFewPoints, RingNotClosed, RingNotSimple, RingsMeet, HoleOutside, HolesNested, ElementsMeet, ElementInside}
-use Rattle.basics.proofs.Tests.{equal_yes}
 use Rattle.basics.proofs.Orders.{one_above, gap_none}
 use Rattle.geometry_laws.specs.FaultLaws.{FaultIsDecided, AreClosed}
 use Rattle.geometry_laws.proofs.SharedPoints.{shared_point_is_decided, start_on, end_on, at_both}
 use Rattle.geometry_laws.proofs.ElementFacts.{or_true, some_from, some_yes, ring_from, ring_yes, later_ring, greater_number}
-use Rattle.geometry_laws.proofs.OtherPoints.{other_point_is_decided, same_from, same_yes}
+use Rattle.geometry_laws.proofs.OtherPoints.{other_point_is_decided, same_from, same_self, same_yes}
 
 -- ---- the test of one list, and of two
 -- a test of a list passes exactly where the list is there and passes it
@@ -46,9 +45,6 @@ closed_is (p ∷ ps) = (
   (λ h e. true≢false (sym h ∙ ap not (same_self (last_after p ps) p e))),
   (λ other. ap not (false_from_ne_true (same_position (last_after p ps) p) (λ e. other (same_from (last_after p ps) p e)))),
 )
-  where
-    same_self : (a b : Position) → a ≡ b → same_position a b ≡ true
-    same_self a b e = and_from (int_eq a.x b.x) (int_eq a.y b.y) (equal_yes a.x b.x (ap (λ (q : Position). q.x) e)) (equal_yes a.y b.y (ap (λ (q : Position). q.y) e))
 
 -- ---- elements of a list that pass, with their numbers
 abbrev Found : (ℕ × Edge → Bool) → ℕ → List Edge → Type 0

@@ -144,7 +144,12 @@ beyond u v w p hp h1 h2 other = go (at_most_or_less (weight u v (point_at w)) (s
 pub same_from : (q c : Position) → same_position q c ≡ true → q ≡ c
 same_from q c e = let parts = and_parts (int_eq q.x c.x) (int_eq q.y c.y) e in λ i. record { x = equal_from q.x c.x parts.0 i; y = equal_from q.y c.y parts.1 i }
 
--- and positions that are one point pass it
+-- positions that are equal pass it
+pub same_self : (q c : Position) → q ≡ c → same_position q c ≡ true
+same_self q c e = and_from (int_eq q.x c.x) (int_eq q.y c.y) (equal_yes q.x c.x (ap (λ (p : Position). p.x) e))
+    (equal_yes q.y c.y (ap (λ (p : Position). p.y) e))
+
+-- positions that are one point pass it
 pub same_yes : (q c : Position) → same_point (point_at q) (point_at c) ≡ true → same_position q c ≡ true
 same_yes q c e = and_from (int_eq q.x c.x) (int_eq q.y c.y) (equal_yes q.x c.x (drop q.x c.x (same_x (point_at q) (point_at c) e))) (equal_yes q.y c.y (drop q.y c.y (same_y (point_at q) (point_at c) e)))
   where

@@ -9,10 +9,8 @@ use Rattle.geometry_model.specs.Validity.{HasFault, IsNotClosed, inside, inside_
 use Rattle.geometry_model.specs.declared.validity_faults.ValidityFault.TheVariants.{RingNotClosed}
 use Rattle.geometry_model.specs.declared.shapes.Kind.TheVariants as kinds
 use Rattle.std.specs.Ordering.{int_eq}
-use Rattle.std.proofs.lemmas.Bool.{and_from}
-use Rattle.basics.proofs.Tests.{equal_yes}
 use Rattle.basics.proofs.Numbers.{one_less}
-use Rattle.geometry_laws.proofs.OtherPoints.{same_from}
+use Rattle.geometry_laws.proofs.OtherPoints.{same_from, same_self}
 
 -- ---- no part is empty but an empty LINESTRING
 
@@ -40,9 +38,6 @@ isnt_closed (p ∷ ps) first last e f other = let start : p ≡ first = cc in λ
 
 pub equal_ends : (first last : Position) (b : Bool) → b ≡ same_position first last → b ≡ true → first ≡ last
 equal_ends first last b e t = same_from first last (sym e ∙ t)
-
-same_self : (a b : Position) → a ≡ b → same_position a b ≡ true
-same_self a b s = and_from (int_eq a.x b.x) (int_eq a.y b.y) (equal_yes a.x b.x (ap (λ (q : Position). q.x) s)) (equal_yes a.y b.y (ap (λ (q : Position). q.y) s))
 
 pub closed_none : (g : Geometry) (n : ℕ) (ring ps : List Position) (first last : Position) (b : Bool) → slice_get (rings g) n ≡ Some ring → ps ≡ ring → Some first ≡ slice_get ps 0 → Some last ≡ slice_get ps (length ps - 1) → b ≡ same_position first last → b ≡ true → HasFault g (RingNotClosed n) → ⊥
 closed_none g n ring ps first last b at same first_at last_at test passes f =
