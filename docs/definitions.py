@@ -210,9 +210,11 @@ TILES = [
        " DatabaseIsWhole TilesGiveRows CountsOfTilesAddUp SortedTileIsTile HasMarks TileIsKeyed"),
       ("table_laws", "StretchLaws", "blocks_of IsStretched IsOverBlocks BlocksGiveRows MergedBlocksAreMeant CountsOfBlocksAddUp")]),
     ("How the grid is cut",
-     "`Cells::cut` cuts a box at the median of its sample, again and again.",
+     "`Sampler` keeps corners of the geometries in a column, evenly over the rows. `Cells::cut` cuts a box at the median of its sample, again"
+     " and again.",
      [("tiles", "Lines", "+coordinate low_part high_part whole"),
-      ("tiles", "Cuts", "HasBothSides LiesWithin")]),
+      ("tiles", "Cuts", "HasBothSides LiesWithin"),
+      ("tiles", "Samples", "corner_in_field corner_of")]),
     ("What is checked and written",
      "Records are those of a reader. A tile has those that are copied to a cell, a stretch the next ones.",
      [("tiles", "Checks", "counted"),

@@ -33,7 +33,8 @@ REACHED = {
     "web": "sfq_web/specs/HandedFiles sfq_web/specs/Servings sfq_web/specs/Pieces engine/specs/Commands text_commands/specs/Pairs",
     "others": "geometry_model/specs/TextRefusals table_model/specs/QueryRefusals table_model/specs/SchemaRefusals"
     " table_model/specs/BindingRules table_model/specs/QueryRules witnesses/specs/FirstPlaces library_calls/specs/ArrayLaws"
-    " sfq_tables/specs/SteppedAnswers tiles/specs/Cuts tiles/specs/Faults tiles/specs/Lines tiles/specs/Passes",
+    " sfq_tables/specs/SteppedAnswers tiles/specs/Cuts tiles/specs/Faults tiles/specs/Lines tiles/specs/Passes"
+    " tiles/specs/Samples",
 }
 # The sources whose clauses begin a chain, and types that are in their models.
 SOURCES = {

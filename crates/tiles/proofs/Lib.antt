@@ -12,6 +12,8 @@ pub mod FaultLemmas
 pub mod PlaceLemmas
 pub mod ReadBack
 pub mod RowLemmas
+pub mod SampleLemmas
+pub mod SamplerLemmas
 pub mod StretchLemmas
 pub mod TextLemmas
 pub mod CheckedLoads

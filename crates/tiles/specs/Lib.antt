@@ -8,6 +8,7 @@ pub mod Copies
 pub mod Faults
 pub mod RecordLines
 pub mod ReadBack
+pub mod Samples
 pub mod StretchTexts
 pub mod Stretches
 pub mod Texts

@@ -1,5 +1,11 @@
 //! A sample of the least corners of the geometries in a column.
 
+ghost use Rattle.std.specs.Prelude.{◌≡◌, ◌⊎◌, ◌<◌, ◌≤◌, ◌*◌, ◌^◌, ◌∷◌, ◌++◌, [], List, OnOk, length};
+ghost use Rattle.geometry_model.specs.Points.{Position};
+ghost use Rattle.fraction.specs.Ranges.{IsOnGrid};
+ghost use Rattle.std.specs.List.{All};
+ghost use Rattle.tiles.specs.Samples.{IsFirstOfEach, IsSampleOf, Samples, corner_in_row};
+
 use crate::watching::RowWatcher;
 use feature_table::Geometry;
 use fraction::GridPoint;
@@ -11,20 +17,26 @@ use table_model::values::Value;
 /// The most corners that are kept.
 const SAMPLE_LIMIT: usize = 16_384;
 
+/// How often a stride of one can be doubled.
+const MOST_DOUBLINGS: u32 = 63;
+
 /// Keeps the least corners of the envelopes in a column, evenly over the rows: of each so many rows with an envelope the first.
 #[derive(Drop)]
 pub struct Sampler {
     column: usize,
     // Of how many rows one is kept.
     stride: usize,
-    // How many rows with an envelope came since the last one that was kept.
+    // How many rows with an envelope are left out before the next one that is kept.
     since: usize,
     corners: Vec<GridPoint>,
 }
 
 impl Sampler {
     /// A sampler of this column that has seen nothing.
-    pub fn new(alloc: Global, column: usize) -> Sampler {
+    pub fn new(alloc: Global, column: usize) -> Sampler
+        ensures column { result.column ≡ column }
+        ensures sample { IsSampleOf [] result }
+    {
         Sampler {
             column,
             stride: 1,
@@ -34,13 +46,19 @@ impl Sampler {
     }
 
     /// Of how many rows with an envelope one is kept: a power of two.
-    pub fn stride(&self) -> usize {
+    pub fn stride(&self) -> usize
+        ensures { result ≡ self.now.stride }
+    {
         self.stride
     }
 
-    /// Leaves out corners until one of at least so many rows is kept.
-    pub fn thin_to(&mut self, stride: usize) {
-        for _ in 0..usize::BITS {
+    /// Leaves out corners until one of at least so many rows is kept, or of 2^63. It is for a sampler that has seen all of its rows.
+    pub fn thin_to(&mut self, stride: usize)
+        ensures sample { (all : List Position) → Samples all self.old → Samples all self.new }
+        ensures reach { 1 ≤ self.old.stride → (stride ≤ self.new.stride) ⊎ (2 ^ 63 ≤ self.new.stride) }
+        ensures least { (self.new.stride ≡ self.old.stride) ⊎ (self.new.stride < 2 * stride) }
+    {
+        for turn in 0..MOST_DOUBLINGS {
             if self.stride >= stride {
                 return;
             }
@@ -49,12 +67,17 @@ impl Sampler {
     }
 
     /// Lends the corners that it kept.
-    pub fn corners(&self) -> &[GridPoint] {
+    pub fn corners(&self) -> &[GridPoint]
+        ensures { result.now ≡ self.now.corners.items }
+    {
         self.corners.as_slice()
     }
 
     /// Keeps a corner, or not.
-    fn take(&mut self, corner: GridPoint) -> Result<(), AllocError> {
+    fn take(&mut self, corner: GridPoint) -> Result<(), AllocError>
+        ensures column { self.new.column ≡ self.old.column }
+        ensures sample { (all : List Position) → IsSampleOf all self.old → OnOk result (IsSampleOf (all ++ corner ∷ []) self.new) }
+    {
         if self.since > 0 {
             self.since -= 1;
             return Ok(());
@@ -67,19 +90,32 @@ impl Sampler {
         Ok(())
     }
 
-    /// Leaves out each second corner.
-    fn thin(&mut self) {
+    /// Leaves out each second corner, unless the stride can't be doubled.
+    fn thin(&mut self)
+        ensures column { self.new.column ≡ self.old.column }
+        ensures since { self.new.since ≡ self.old.since }
+        ensures doubled { (2 ^ 63 ≤ self.old.stride) ⊎ (self.new.stride ≡ 2 * self.old.stride) }
+        ensures halved { (2 ^ 63 ≤ self.old.stride) ⊎ IsFirstOfEach 2 self.old.corners.items self.new.corners.items }
+        ensures same { 2 ^ 63 ≤ self.old.stride → self.new ≡ self.old }
+    {
+        let Some(stride) = self.stride.checked_mul(2) else {
+            return;
+        };
         let kept = self.corners.len().div_ceil(2);
         for place in 0..kept {
             self.corners[place] = self.corners[2 * place];
         }
         self.corners.truncate(kept);
-        self.stride = self.stride.saturating_mul(2);
+        self.stride = stride;
     }
 }
 
 impl RowWatcher for Sampler {
-    fn saw(&mut self, row: &[Value<Geometry>]) -> Result<(), AllocError> {
+    fn saw(&mut self, row: &[Value<Geometry>]) -> Result<(), AllocError>
+        ensures column { self.new.column ≡ self.old.column }
+        ensures sample { (all : List Position) → All IsOnGrid (corner_in_row self.old.column row.now) → IsSampleOf all self.old
+            → OnOk result (IsSampleOf (all ++ corner_in_row self.old.column row.now) self.new) }
+    {
         let Some(Value::Geometry(geometry)) = items::at(row, self.column) else {
             return Ok(());
         };
