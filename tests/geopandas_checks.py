@@ -20,7 +20,7 @@ from shapely.geometry import GeometryCollection, LineString, MultiPoint, MultiPo
 
 import sfq
 import sfq.geopandas
-from sfq import _grid, _library, _wkb
+from sfq import _frames, _grid, _library, _wkb
 
 # The predicates that GeoPandas joins by. It has `covered_by` too, which fails in version 0.12 over rtree.
 SHARED = ("intersects", "within", "contains", "overlaps", "crosses", "touches", "covers", "contains_properly")
@@ -302,20 +302,68 @@ class Grids(unittest.TestCase):
             sfq.geopandas.sjoin(frame([Polygon(ring)]), frame([Point(1, 1)]))
 
 
-    @unittest.skipIf(hasattr(shapely, "to_wkb"), "shapely is of a later version")
-    def test_as_later_versions_of_shapely_write_geometries(self):
-        """They write a whole array, and None for what is missing."""
+@unittest.skipIf(hasattr(shapely, "to_wkb"), "shapely is of a later version")
+class LaterShapely(unittest.TestCase):
+    """What is asked of shapely from version 2 on, which takes whole arrays, by functions of the same names."""
 
-        def to_wkb(geometry, hex=False, output_dimension=3, byte_order=-1, include_srid=False, flavor="extended"):
-            self.assertEqual((hex, include_srid, flavor), (False, False, "extended"))
-            writer = geos.WKBWriter(geos.lgeos, big_endian=byte_order == 0, output_dimension=output_dimension)
-            return numpy.array([None if it is None else writer.write(it) for it in geometry], dtype=object)
+    TYPES = ["Point", "LineString", "LinearRing", "Polygon", "MultiPoint", "MultiLineString", "MultiPolygon", "GeometryCollection"]
 
+    def setUp(self):
+        for it in (self.to_wkb, self.get_type_id, self.get_coordinate_dimension, self.get_coordinates):
+            patched = mock.patch.object(shapely, it.__name__, it, create=True)
+            patched.start()
+            self.addCleanup(patched.stop)
+
+    def to_wkb(self, geometry, hex=False, output_dimension=3, byte_order=-1, include_srid=False, flavor="extended"):
+        """None for a missing geometry."""
+        self.assertEqual((hex, include_srid, flavor), (False, False, "extended"))
+        writer = geos.WKBWriter(geos.lgeos, big_endian=byte_order == 0, output_dimension=output_dimension)
+        return numpy.array([None if it is None else writer.write(it) for it in geometry], dtype=object)
+
+    def get_type_id(self, geometry):
+        return numpy.array([-1 if it is None else self.TYPES.index(it.type) for it in geometry])
+
+    def get_coordinate_dimension(self, geometry):
+        return numpy.array([-1 if it is None else 3 if it.has_z else 2 for it in geometry])
+
+    def get_coordinates(self, geometry):
+        """Nothing for an empty point."""
+        return numpy.array([[it.x, it.y] for it in geometry if not it.is_empty], dtype=float).reshape(-1, 2)
+
+    def test_missing_geometries_and_heights(self):
         left, right = frame([Point(1, 2, 3), None, Point(9, 9)]), frame([box(0, 0, 4, 4)])
-        with mock.patch.object(shapely, "to_wkb", to_wkb, create=True):
-            self.assertEqual(pairs(sfq.geopandas.sjoin(left, right, flat=True)), [(0, 0)])
-            with self.assertRaisesRegex(sfq.geopandas.RefusedError, "row 0: W1: POINT Z"):
-                sfq.geopandas.sjoin(left, right)
+        self.assertEqual(pairs(sfq.geopandas.sjoin(left, right, flat=True)), [(0, 0)])
+        with self.assertRaisesRegex(sfq.geopandas.RefusedError, "row 0: W1: POINT Z"):
+            sfq.geopandas.sjoin(left, right)
+
+    def both(self, shapes, flat=False):
+        """Returns shapes as they are taken, and as well-known binary that shapely writes one by one."""
+        given = numpy.empty(len(shapes), dtype=object)
+        for place, shape in enumerate(shapes):
+            given[place] = shape
+        written = [it or b"" for it in shapely.to_wkb(given, byte_order=1, output_dimension=2 if flat else 3)]
+        return _frames.binaries(given, flat), _library.Binaries(written)
+
+    def test_points_are_taken_as_one_array(self):
+        infinite, none = math.inf, math.nan
+        for positions, flat in (
+            ([], False), ([(1, 2)], False), ([(0.25, -3.5), (7, 1e9), (-8.125, 2.5), (1e300, 0)], False), ([(1, 2), (infinite, 0)], False),
+            ([(none, 1), (2, -infinite), (3, 4)], False), ([(1, 2, 3), (4.5, 5)], True),
+        ):
+            with self.subTest(positions=positions, flat=flat):
+                packed, each = self.both([Point(it) for it in positions], flat)
+                self.assertIs(type(packed), _frames.Points)
+                self.assertEqual([packed[it] for it in range(len(packed))], list(each.each))
+                self.assertEqual(repr(packed.extent()), repr(each.extent()))
+                for grid in (None, _grid.Grid("0.5").in_parts()):
+                    one, other = _library.KeptMany(packed, grid), _library.KeptMany(each, grid)
+                    for field in ("statuses", "faults", "shift"):
+                        self.assertEqual(bytes(getattr(one, field)), bytes(getattr(other, field)), field)
+
+    def test_other_geometries_are_taken_one_by_one(self):
+        for given in ([Point(1, 2), None], [Point(1, 2), Point()], [Point(1, 2, 3)], [Point(1, 2), LineString([(0, 0), (1, 1)])]):
+            packed, each = self.both(given)
+            self.assertEqual((type(packed), packed.each), (_library.Binaries, each.each))
 
 
 class Rows(unittest.TestCase):

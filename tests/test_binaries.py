@@ -213,7 +213,7 @@ class Rounding(engine_rows.WithLibrary):
             pairs = list(zip(self.numbers(chance, grid.x, 3_000), self.numbers(chance, grid.y, 3_000)))
             shift = _grid.Shift()
             wanted = grid.rounded([it for pair in pairs for it in pair], shift, merges=False)
-            kept = _library.KeptMany([point(*it) for it in pairs], grid.in_parts())
+            kept = _library.KeptMany(_library.Binaries([point(*it) for it in pairs]), grid.in_parts())
             self.assertEqual(set(kept.statuses), {_library.OK})
             texts = [self.text(kept, at) for at in range(kept.count)]
             self.assertEqual(texts, ["POINT(%d %d)" % it for it in wanted], (step, origin))
@@ -235,14 +235,14 @@ class Rounding(engine_rows.WithLibrary):
             many(4, *[point(1, 1)] * 10_001), many(5, *(head(2) + it for it in rings)), many(6, *(many(3, it) for it in rings)),
             many(6, *(many(3, it) for it in rings[:1_000])), many(3, *rings),
         ]
-        kept = _library.KeptMany(given, None)
+        kept = _library.KeptMany(_library.Binaries(given), None)
         found = ["valid" if not status else kept.fault(at).place for at, status in enumerate(kept.statuses)]
         self.assertEqual(found, ["valid", "W4", "valid", "W4", "W4", "W4", "valid", "W4"])
 
     def test_more_than_one_call_takes(self):
         """Values are read, and pairs found, in several calls."""
         count = _library.AT_ONCE + 5
-        kept = _library.KeptMany([point(it, 0) if it % 7 else b"" for it in range(count)], None)
+        kept = _library.KeptMany(_library.Binaries([point(it, 0) if it % 7 else b"" for it in range(count)]), None)
         self.assertEqual([kept.statuses[it] for it in (0, 1, count - 1)], [_library.NONE, _library.OK, _library.OK])
         found = []
         for room, pairs in _library.joined(_library.RELATIONS.index("equals"), kept, kept):

@@ -32,6 +32,9 @@ class GeoPandas(engine_rows.WithLibrary):
     def test_grids(self):
         self.check("Grids")
 
+    def test_later_versions_of_shapely(self):
+        self.check("LaterShapely")
+
     def test_rows(self):
         self.check("Rows")
 

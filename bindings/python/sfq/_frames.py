@@ -23,6 +23,8 @@ NAMED = 3
 # A position in a line that says what shows something, a coordinate as n or n/d.
 POSITION = re.compile(r"(-?\d+(?:/\d+)?) (-?\d+(?:/\d+)?)")
 UNITS = _grid.Grid("1")
+# A point in well-known binary, least byte first (06-103r4, 8.2).
+POINT = numpy.dtype([("order", "u1"), ("kind", "<u4"), ("position", "<f8", 2)])
 
 Step = Union[str, float, None]
 Origin = Optional[Sequence[Union[str, float]]]
@@ -63,16 +65,54 @@ class Options(NamedTuple):
 # ---- columns ----
 
 
-def binaries(shapes: Any, flat: bool) -> list[bytes]:
+class Points(_library.Binaries):
+    """Points that each have a position, in well-known binary."""
+
+    def __init__(self, positions: Any) -> None:
+        self.points = numpy.empty(len(positions), dtype=POINT)
+        self.points["order"], self.points["kind"], self.points["position"] = 1, 1, positions
+        self.lengths = numpy.full(len(positions), POINT.itemsize, dtype=numpy.uintp)
+
+    def __len__(self) -> int:
+        return len(self.points)
+
+    def __getitem__(self, place: int) -> bytes:
+        return bytes(self.points[place].tobytes())
+
+    def part(self, first: int, end: int) -> tuple[Any, Any]:
+        return self.points[first:].ctypes.data, self.lengths[first:].ctypes.data
+
+    def extent(self) -> Optional[tuple[float, float, float, float]]:
+        positions = self.points["position"]
+        if not len(positions) or not numpy.isfinite(positions).all():
+            return super().extent()
+        (left, low), (right, high) = positions.min(axis=0), positions.max(axis=0)
+        return float(left), float(right), float(low), float(high)
+
+
+def positions_of(shapes: Any, flat: bool) -> Any:
+    """Returns the positions of shapely's geometries, where each is a point with one; None where one isn't, or has more than an x and a y
+    that isn't to be dropped.
+    """
+    if not (shapely.get_type_id(shapes) == 0).all() or not (flat or (shapely.get_coordinate_dimension(shapes) == 2).all()):
+        return None
+    found = shapely.get_coordinates(shapes)
+    return found if len(found) == len(shapes) else None
+
+
+def binaries(shapes: Any, flat: bool) -> _library.Binaries:
     """Returns the well-known binary of shapely's geometries, least byte first, and no bytes for a missing one."""
     if hasattr(shapely, "to_wkb"):
+        positions = positions_of(shapes, flat)
+        if positions is not None:
+            return Points(positions)
         dimensions = {"output_dimension": 2} if flat else {}
-        return [it or b"" for it in shapely.to_wkb(shapes, byte_order=1, **dimensions)]
+        return _library.Binaries([it or b"" for it in shapely.to_wkb(shapes, byte_order=1, **dimensions)])
     from shapely import geos
 
     writer = geos.WKBWriter(geos.lgeos, big_endian=False, output_dimension=2 if flat else 3)
     found = [b"" if it is None else writer.write(it) for it in shapes]
-    return [it if it != NOTHING else empty(shape) for it, shape in zip(found, shapes)]
+    return _library.Binaries([it if it != NOTHING else empty(shape) for it, shape in zip(found, shapes)])
 
 
 def empty(shape: Any) -> bytes:
@@ -191,7 +231,7 @@ def need_known(options: Options) -> None:
 
 def extent_of(columns: Sequence[Column]) -> Optional[_proposing.Extent]:
     """Returns the extent of columns, None where they have no position."""
-    found = (_library.extent(it.binaries) for it in columns)
+    found = (it.binaries.extent() for it in columns)
     return _proposing.joined(_proposing.Extent(*it) if it else None for it in found)
 
 

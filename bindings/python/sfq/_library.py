@@ -138,8 +138,8 @@ def declare(found: ctypes.CDLL) -> ctypes.CDLL:
 def declare_many(found: ctypes.CDLL) -> ctypes.CDLL:
     """Declares the calls over many geometries. Arrays are pointers to their first item."""
     many, count, number = ctypes.c_void_p, ctypes.c_size_t, ctypes.c_uint32
-    found.sfq_read_binaries.argtypes = [ctypes.POINTER(CGrid), ctypes.c_char_p, many, count, many, many, many, many, many]
-    found.sfq_binaries_extent.argtypes = [ctypes.c_char_p, many, count, ctypes.c_double * 4]
+    found.sfq_read_binaries.argtypes = [ctypes.POINTER(CGrid), ctypes.c_void_p, many, count, many, many, many, many, many]
+    found.sfq_binaries_extent.argtypes = [ctypes.c_void_p, many, count, ctypes.c_double * 4]
     found.sfq_free_many.argtypes, found.sfq_free_many.restype = [many, count], None
     found.sfq_holds_many.argtypes = [number, many, many, count, many, many]
     found.sfq_index_geometries.argtypes = [many, count, ctypes.POINTER(CIndex)]
@@ -461,6 +461,33 @@ class KeptIndex(Held):
         return int(library().sfq_index_search(index, window, self.room, len(self.room), ctypes.byref(found)))
 
 
+class Binaries:
+    """Geometries in well-known binary, in their order: no bytes for one that is missing."""
+
+    def __init__(self, each: Sequence[bytes]) -> None:
+        self.each = each
+
+    def __len__(self) -> int:
+        return len(self.each)
+
+    def __getitem__(self, place: int) -> bytes:
+        return self.each[place]
+
+    def part(self, first: int, end: int) -> tuple[Any, Any]:
+        """Returns those from one place to before another as the library takes them: their bytes in a row, and the length of each."""
+        each = self.each[first:end]
+        return b"".join(each), (ctypes.c_size_t * len(each))(*map(len, each))
+
+    def extent(self) -> Optional[tuple[float, float, float, float]]:
+        """Returns the least x, the greatest x, the least y and the greatest y of their positions, None where there are none."""
+        found, (data, lengths) = (ctypes.c_double * 4)(), self.part(0, len(self))
+        status = library().sfq_binaries_extent(data, lengths, len(self), found)
+        if status == NONE:
+            return None
+        need_ok(status)
+        return found[0], found[1], found[2], found[3]
+
+
 class KeptMany:
     """What the library keeps of geometries in well-known binary, in their order: nothing of one that has no bytes or is refused.
 
@@ -470,21 +497,21 @@ class KeptMany:
 
     __slots__ = ("count", "geometries", "statuses", "faults", "shift", "_index")
 
-    def __init__(self, binaries: Sequence[bytes], grid: Optional[tuple[int, int, int, int]]) -> None:
+    def __init__(self, binaries: Binaries, grid: Optional[tuple[int, int, int, int]]) -> None:
         self.count, self._index, self.shift = 0, CIndex(), CShift()
         library()
         self.count = len(binaries)
         self.geometries, self.statuses = (CGeometry * self.count)(), (ctypes.c_uint32 * self.count)()
         self.faults, of_grid = (CFault * self.count)(), ctypes.byref(CGrid(*grid)) if grid else None
         for at in range(0, self.count, AT_ONCE):
-            self._read(binaries[at:at + AT_ONCE], at, of_grid)
+            self._read(binaries, at, min(at + AT_ONCE, self.count), of_grid)
 
-    def _read(self, binaries: Sequence[bytes], at: int, grid: Any) -> None:
-        lengths, done = (ctypes.c_size_t * len(binaries))(*map(len, binaries)), ctypes.c_size_t()
+    def _read(self, binaries: Binaries, at: int, end: int, grid: Any) -> None:
+        (data, lengths), done = binaries.part(at, end), ctypes.c_size_t()
         arrays: tuple[Any, ...] = (self.geometries, self.statuses, self.faults)
         places = (ctypes.addressof(it) + at * ctypes.sizeof(it._type_) for it in arrays)
         need_ok(library().sfq_read_binaries(
-            grid, b"".join(binaries), lengths, len(binaries), *places, ctypes.addressof(self.shift), ctypes.addressof(done)
+            grid, data, lengths, end - at, *places, ctypes.addressof(self.shift), ctypes.addressof(done)
         ))
 
     def __del__(self) -> None:
@@ -505,16 +532,6 @@ class KeptMany:
         if self._index.kept is None:
             need_ok(library().sfq_index_geometries(self.geometries, self.count, ctypes.byref(self._index)))
         return self._index
-
-
-def extent(binaries: Sequence[bytes]) -> Optional[tuple[float, float, float, float]]:
-    """Returns the least x, the greatest x, the least y and the greatest y of geometries in well-known binary, None where there are none."""
-    found, lengths = (ctypes.c_double * 4)(), (ctypes.c_size_t * len(binaries))(*map(len, binaries))
-    status = library().sfq_binaries_extent(b"".join(binaries), lengths, len(binaries), found)
-    if status == NONE:
-        return None
-    need_ok(status)
-    return found[0], found[1], found[2], found[3]
 
 
 def joined(relation: int, first: KeptMany, second: KeptMany) -> Iterator[tuple[Any, int]]:

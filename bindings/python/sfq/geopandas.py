@@ -65,8 +65,14 @@ class Index:
 def with_index(frame: Any, index: Index) -> Any:
     """Returns a frame with the same data whose spatial index is this one."""
     found = frame.copy(deep=False)
-    found.__class__ = type("Indexed", (type(frame),), {"sindex": index})
+    found.__class__ = type("Indexed", (type(frame),), {"sindex": index, "plain": type(frame)})
     return found
+
+
+def without_index(frame: Any) -> Any:
+    """Returns a frame that GeoPandas made of one with an index, as a frame of the class that this one had."""
+    frame.__class__ = getattr(type(frame), "plain", type(frame))
+    return frame
 
 
 def sjoin(
@@ -90,10 +96,10 @@ def sjoin(
     sides = taken({"left": series, "right": series if right_df is left_df else right_df.geometry}, options)
     refuse(sides, options, 3)
     said, left, right = report(sides, options, 3), sides["left"], sides["right"]
-    found = geopandas.sjoin(
+    found = without_index(geopandas.sjoin(
         with_index(left_df, Index(left, right, predicate)), with_index(right_df, Index(right, left, predicate)), how=how,
         predicate=predicate, lsuffix=lsuffix, rsuffix=rsuffix, **words,
-    )
+    ))
     found.attrs["sfq"] = said
     return found
 
