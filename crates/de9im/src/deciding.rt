@@ -1,5 +1,6 @@
-//! Whether a predicate holds of two geometries. Intersects and Disjoint are known at the first point that both are found to share,
-//! Within, Contains and Equals at a position of one in the other's exterior, and of a point and an area each by where the point lies.
+//! Whether a predicate holds of two geometries. Where envelopes of small ones don't meet, these settle it, but for some patterns.
+//! Intersects and Disjoint are known at the first point that both are found to share, Within, Contains and Equals at a position of
+//! one in the other's exterior, and of a point and an area each by where the point lies.
 
 ghost use Rattle.std.specs.Prelude.{◌≡◌, ◌≢◌, ◌↔◌, All, IfOk, IsTrue, OnOk, OnErr, IfSome, Some, Contains, take, true, false};
 ghost use Rattle.basics.specs.Counts.{one_more};
@@ -7,7 +8,7 @@ ghost use Rattle.geometry_model.specs.Dimensions.{IsMatrix};
 ghost use Rattle.geometry_model.specs.Envelopes.{envelope, meets};
 ghost use Rattle.geometry_model.specs.Geometries.{edges};
 ghost use Rattle.geometry_model.specs.declared.point_sets.Location.TheVariants.{Exterior};
-ghost use Rattle.de9im.specs.Deciding.{GeometriesShare, HasPointOutside, IsDecided, StartsInside, where_shared};
+ghost use Rattle.de9im.specs.Deciding.{GeometriesShare, HasPointOutside, IsDecided, StartsInside, where_far, where_shared};
 
 use crate::apart::{are_apart, find_apart};
 use crate::meeting::SpatialPredicate;
@@ -37,6 +38,29 @@ fn where_shared(predicate: Predicate) -> Option<bool>
         | Predicate::Contains
         | Predicate::Overlaps
         | Predicate::Relate(_) => None,
+    }
+}
+
+/// Whether the predicate holds of every two geometries whose envelopes don't meet; None where that depends on the geometries.
+fn where_far(predicate: Predicate) -> Option<bool>
+    ensures { result ≡ where_far predicate }
+{
+    match predicate {
+        Predicate::Disjoint => Some(true),
+        Predicate::Equals
+        | Predicate::Intersects
+        | Predicate::Touches
+        | Predicate::Crosses
+        | Predicate::Within
+        | Predicate::Contains
+        | Predicate::Overlaps => Some(false),
+        Predicate::Relate(_) => {
+            if predicate.forces_meeting() {
+                Some(false)
+            } else {
+                None
+            }
+        }
     }
 }
 
@@ -91,18 +115,57 @@ fn decide_by_edges(predicate: Predicate, shared: bool, first: &Valid, second: &V
     shared
 }
 
-/// Of two geometries with at most this many edges each the envelopes are looked at.
+/// Of two geometries with at most this many edges and listed points each the envelopes are looked at.
 const FEW: usize = 16;
+
+/// Where Disjoint is asked, geometries of up to this many have their envelopes looked at: most pairs that a query asks of are far
+/// from each other, since no index leaves these out.
+const FEW_WHERE_DISJOINT: usize = 64;
 
 /// How many positions of a geometry are tried.
 const TRIED: usize = 8;
 
-/// Whether two small geometries have envelopes that don't meet. If it returns false, that may be so as well.
-fn are_far(first: &Valid, second: &Valid) -> bool
+/// Up to how many edges and listed points the envelopes of two geometries are looked at, where a predicate is asked of them.
+fn most_walked(predicate: Predicate) -> usize {
+    match predicate {
+        Predicate::Disjoint => FEW_WHERE_DISJOINT,
+        Predicate::Equals
+        | Predicate::Intersects
+        | Predicate::Touches
+        | Predicate::Crosses
+        | Predicate::Within
+        | Predicate::Contains
+        | Predicate::Overlaps
+        | Predicate::Relate(_) => FEW,
+    }
+}
+
+/// Whether a geometry has at most so many edges and so many listed points: then a walk along it for its envelope is short.
+fn has_at_most(geometry: &Valid, most: usize) -> bool {
+    geometry.segments().len() <= most && geometry.geometry().listed().len() <= most
+}
+
+/// Whether two geometries that are small enough have envelopes that don't meet. If it returns false, that may be so as well.
+fn are_far(first: &Valid, second: &Valid, most: usize) -> bool
     ensures { result ≡ true → meets (envelope first.now) (envelope second.now) ≡ false }
 {
-    let is_small = first.segments().len() <= FEW && second.segments().len() <= FEW;
-    is_small && !meets(first.envelope(), second.envelope())
+    has_at_most(first, most)
+        && has_at_most(second, most)
+        && !meets(first.envelope(), second.envelope())
+}
+
+/// Whether a predicate holds of two geometries that are small enough, if their envelopes don't meet and that settles it.
+fn answer_where_far(predicate: Predicate, first: &Valid, second: &Valid) -> Option<bool>
+    ensures { IfSome result (IsDecided predicate first.now second.now) }
+{
+    let _first = first.geometry();
+    let _second = second.geometry();
+    if let Some(known) = where_far(predicate) {
+        if are_far(first, second, most_walked(predicate)) {
+            return Some(known);
+        }
+    }
+    None
 }
 
 /// Whether a part is the exterior.
@@ -161,14 +224,9 @@ fn is_refuted(predicate: Predicate, first: &Valid, second: &Valid) -> bool
 }
 
 /// Whether a predicate holds of two lines or areas, if that is known without their matrix.
-fn answer_at_once(predicate: Predicate, first: &Valid, second: &Valid) -> Option<bool>
+fn answer_by_positions(predicate: Predicate, first: &Valid, second: &Valid) -> Option<bool>
     ensures { IfSome result (IsDecided predicate first.now second.now) }
 {
-    let _first = first.geometry();
-    let _second = second.geometry();
-    if predicate.forces_meeting() && are_far(first, second) {
-        return Some(false);
-    }
     if let Some(shared) = where_shared(predicate) {
         return Some(decide_by_edges(predicate, shared, first, second));
     }
@@ -176,6 +234,22 @@ fn answer_at_once(predicate: Predicate, first: &Valid, second: &Valid) -> Option
         return Some(false);
     }
     None
+}
+
+/// Whether a predicate holds of two geometries, if that is known without their matrix.
+fn answer_at_once(predicate: Predicate, first: &Valid, second: &Valid) -> Option<bool>
+    ensures { IfSome result (IsDecided predicate first.now second.now) }
+{
+    if let Some(known) = decide_by_part(predicate, first, second) {
+        return Some(known);
+    }
+    if let Some(known) = answer_where_far(predicate, first, second) {
+        return Some(known);
+    }
+    if first.kind() == Kind::Point || second.kind() == Kind::Point {
+        return None;
+    }
+    answer_by_positions(predicate, first, second)
 }
 
 /// Whether a predicate holds of two geometries. It fails only when memory runs out.
@@ -187,11 +261,7 @@ fn answer(
 ) -> Result<bool, AllocError>
     ensures { IfOk result (IsDecided predicate first.now second.now) }
 {
-    if first.kind() == Kind::Point || second.kind() == Kind::Point {
-        if let Some(known) = decide_by_part(predicate, first, second) {
-            return Ok(known);
-        }
-    } else if let Some(known) = answer_at_once(predicate, first, second) {
+    if let Some(known) = answer_at_once(predicate, first, second) {
         return Ok(known);
     }
     let cells = find_matrix(alloc, first, second)?;
