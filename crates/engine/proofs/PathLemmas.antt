@@ -1,16 +1,18 @@
 -- What a command does with an opener of files, it does with the opener of paths that this one calls: each state of the first has one of the
 -- second under it, and each call a call.
-use Rattle.std.proofs.Common.{◌≡◌, inl, ℕ, List, [], ◌∷◌, Option, None, Some, Result, Ok, Err, refl, ap}
+use Rattle.std.proofs.Common.{true, false, ◌≡◌, inl, inr, ℕ, Bool, List, [], ◌∷◌, Option, None, Some, Result, Ok, Err, refl, ap}
 use Rattle.std.specs.Prelude.{codes}
 use Rattle.std.specs.String.{string_bytes}
 use denote.Ref.{Bor}
 use Rattle.command_line.specs.declared.known_commands.Order.{Order}
 use Rattle.command_line.specs.declared.known_commands.Order.TheVariants as orders
-use Rattle.engine.specs.Commands.{AfterSchema, CheckEnds, ChecksTables, EndsUnread, ExplainsCheck, ExplainsFile, ExplainsRun, ChecksFiles, RunsQuery, Opens, OpensTables, OverFiles, OverTables, RunEnds, RunsFiles, RunsTables, ServesAlone, ServesOrder, table_path, table_paths}
+use Rattle.engine.specs.Commands.{AfterSchema, CheckEnds, ChecksFiles, ChecksTables, EndsUnread, ExplainsCheck, ExplainsFile, ExplainsLoad, ExplainsRun, ExplainsTable, LooksAgain, MayOpen, Notes, NotesTables, Opens, OpensTables, OverFiles, OverTables, RunEnds, RunsFiles, RunsQuery, RunsTables, SaysOfRun, SaysOfTables, SaysQuote, ServesAlone, ServesOrder, table_names, table_path, table_paths}
 use Rattle.failures.specs.declared.failure.Failure.{Failure}
 use Rattle.failures.specs.declared.failure.Failure.TheVariants as f
+use Rattle.record_reasons.specs.declared.line_ends.LineEnd.{LineEnd}
 use Rattle.table_model.specs.Loading.{Record}
 use Rattle.table_model.specs.SpatialTables.{SpatialSchema}
+use Rattle.table_model.specs.declared.faults.LoadFault.{LoadFault}
 use Rattle.failures.specs.Ends.{End}
 use Rattle.text_commands.specs.Ends.{Serves, Then}
 use Rattle.text_commands.specs.Files.{Opening, Role, path_of}
@@ -148,68 +150,223 @@ module _ {F G R : Type 0} (files : Opening G R) (paths : Opening F R) (under : G
         (less o.file) (more o.next) o.rest;
   }
 
-  -- ---- commands, of which nothing is explained
+  -- ---- explanations
 
-  module _ {S M : Type 0} (remaining : R → Option (List ℕ)) (taken : S → Option (List ℕ)) (failures : S → ℕ) (old new : S)
-      (mtaken : M → Option (List ℕ)) (mfailures : M → ℕ) (mold mnew : M) where
+  module _ {E : Type 0} (remaining : R → Option (List ℕ)) (taken : E → Option (List ℕ)) (failures : E → ℕ)
+      (directory : List ℕ) where
+    explains-table : (before : G) (definitions : SpatialSchema) (name : List ℕ) (fault : LoadFault) (explanation : List ℕ)
+        → ExplainsTable files remaining before directory definitions name fault explanation
+        → ExplainsTable paths remaining (under before) directory definitions name fault explanation
+    explains-table before definitions name fault explanation e = record {
+      place = e.place;
+      named = e.named;
+      table = e.table;
+      there = e.there;
+      reader = e.reader;
+      middle = under e.middle;
+      opened = called role.Table (λ lent. refl) before (table_path directory name) (Some e.reader) e.middle e.opened;
+      line = e.line;
+      says = e.says;
+      again = e.again;
+      after = under e.after;
+      reopened = called role.Table (λ lent. refl) e.middle (table_path directory name) (Some e.again) e.after e.reopened;
+      left = e.left;
+      text = e.text;
+      front = e.front;
+      explains = e.explains;
+    }
+
+    may-open : (name : List ℕ) (before after : G) → MayOpen files directory name before after
+        → MayOpen paths directory name (under before) (under after)
+    may-open name before after (inl same) = inl (ap under same)
+    may-open name before after (inr by) =
+        inr (by.0, called role.Table (λ lent. refl) before (table_path directory name) by.0 after by.1)
+
+    looks-again : (name : List ℕ) (before after : G) (looked : Result (Option LineEnd) LoadFault)
+        → LooksAgain files remaining directory name before after looked → LooksAgain paths remaining directory name
+        (under before) (under after) looked
+    looks-again name before after (Ok found) l =
+        (l.0, called role.Table (λ lent. refl) before (table_path directory name) (Some l.0) after l.1, l.2)
+    looks-again name before after (Err fault) l = (l.0, may-open name before after l.1)
+
+    says-quote : (name : List ℕ) (number : ℕ) (before after : G) (old new : E)
+        → SaysQuote files remaining taken failures directory name number before after old new
+        → SaysQuote paths remaining taken failures directory name number (under before) (under after) old new
+    says-quote name number before after old new (inl nothing) = inl (may-open name before after nothing.0, nothing.1)
+    says-quote name number before after old new (inr s) =
+        inr (record {
+          reader = s.reader;
+          opened = called role.Table (λ lent. refl) before (table_path directory name) (Some s.reader) after s.opened;
+          left = s.left;
+          text = s.text;
+          front = s.front;
+          note = s.note;
+          notes = s.notes;
+          written = s.written;
+        })
+
+    notes-more : (name : List ℕ) (looked : Result (Option LineEnd) LoadFault) (before after : G) (old new : E)
+        → Notes files remaining taken failures directory name looked before after old new
+        → Notes paths remaining taken failures directory name looked (under before) (under after) old new
+    notes-more name (Ok (Some at_field)) before after old new n =
+        (n.0, n.1, says-quote name at_field.number before after n.0 new n.2)
+    notes-more name (Ok None) before after old new n = (ap under n.0, n.1)
+    notes-more name (Err fault) before after old new n = (ap under n.0, n.1)
+
+    explains-load : (old new : E) (before : G) (definitions : SpatialSchema) (name : List ℕ) (fault : LoadFault)
+        → ExplainsLoad files remaining taken failures old new before directory definitions name fault
+        → ExplainsLoad paths remaining taken failures old new (under before) directory definitions name fault
+    explains-load old new before definitions name fault e = record {
+      explanation = e.explanation;
+      explains = explains-table before definitions name fault e.explanation e.explains;
+      written = e.written;
+    }
+
+    notes-tables : (names : List (List ℕ)) (before after : G) (old new : E)
+        → NotesTables files remaining taken failures directory names before after old new
+        → NotesTables paths remaining taken failures directory names (under before) (under after) old new
+    notes-tables [] before after old new noted = (ap under noted.0, noted.1)
+    notes-tables (name ∷ names) before after old new noted =
+        let n = noted.2 in (
+          under noted.0,
+          noted.1,
+          record {
+            looked = n.looked;
+            middle = under n.middle;
+            looks = looks-again name before n.middle n.looked n.looks;
+            notes = notes-more name n.looked n.middle noted.0 old noted.1 n.notes;
+          },
+          notes-tables names noted.0 after noted.1 new noted.3,
+        )
+
+    says-of-run : (old new : E) (loaded : G) (query : List ℕ) (definitions : SpatialSchema) (end : End)
+        → SaysOfRun files remaining taken failures old new loaded directory query definitions end
+        → SaysOfRun paths remaining taken failures old new (under loaded) directory query definitions end
+    says-of-run old new loaded query definitions (Ok done) said = absurd said
+    says-of-run old new loaded query definitions (Err (f.Query fault)) said = said
+    says-of-run old new loaded query definitions (Err (f.Load name fault)) said =
+        explains-load old new loaded definitions name.now fault said
+    says-of-run old new loaded query definitions (Err (f.Unreadable name)) said = absurd said
+    says-of-run old new loaded query definitions (Err f.OutOfMemory) said = absurd said
+    says-of-run old new loaded query definitions (Err (f.Schema fault)) said = absurd said
+    says-of-run old new loaded query definitions (Err f.SchemaUnreadable) said = absurd said
+    says-of-run old new loaded query definitions (Err (f.Refused word fault)) said = absurd said
+    says-of-run old new loaded query definitions (Err f.PairsRefused) said = absurd said
+    says-of-run old new loaded query definitions (Err f.UnknownCode) said = absurd said
+    says-of-run old new loaded query definitions (Err f.WriteFailed) said = absurd said
+
+    explains-run : (old new : E) (loaded : G) (why : Bool) (query : List ℕ) (definitions : SpatialSchema) (end : End)
+        → ExplainsRun files remaining taken failures old new loaded directory why query definitions end
+        → ExplainsRun paths remaining taken failures old new (under loaded) directory why query definitions end
+    explains-run old new loaded false query definitions end nothing = nothing
+    explains-run old new loaded true query definitions end (inl nothing) = inl nothing
+    explains-run old new loaded true query definitions end (inr said) =
+        inr (says-of-run old new loaded query definitions end said)
+
+    says-of-tables : (old new : E) (loaded : G) (definitions : SpatialSchema) (failure : Failure)
+        → SaysOfTables files remaining taken failures old new loaded directory definitions failure
+        → SaysOfTables paths remaining taken failures old new (under loaded) directory definitions failure
+    says-of-tables old new loaded definitions (f.Query fault) said = absurd said
+    says-of-tables old new loaded definitions (f.Load name fault) said =
+        explains-load old new loaded definitions name.now fault said
+    says-of-tables old new loaded definitions (f.Unreadable name) said = absurd said
+    says-of-tables old new loaded definitions f.OutOfMemory said = absurd said
+    says-of-tables old new loaded definitions (f.Schema fault) said = absurd said
+    says-of-tables old new loaded definitions f.SchemaUnreadable said = absurd said
+    says-of-tables old new loaded definitions (f.Refused word fault) said = absurd said
+    says-of-tables old new loaded definitions f.PairsRefused said = absurd said
+    says-of-tables old new loaded definitions f.UnknownCode said = absurd said
+    says-of-tables old new loaded definitions f.WriteFailed said = absurd said
+
+    explains-check : (old new : E) (loaded : G) (why : Bool) (definitions : SpatialSchema) (end : End)
+        → ExplainsCheck files remaining taken failures old new loaded directory why definitions end
+        → ExplainsCheck paths remaining taken failures old new (under loaded) directory why definitions end
+    explains-check old new loaded false definitions end nothing = nothing
+    explains-check old new loaded true definitions (Ok done) notes = (
+      under notes.0,
+      notes-tables (table_names definitions) loaded notes.0 old new notes.1,
+    )
+    explains-check old new loaded true definitions (Err failure) (inl nothing) = inl nothing
+    explains-check old new loaded true definitions (Err failure) (inr said) =
+        inr (says-of-tables old new loaded definitions failure said)
+
+  -- ---- commands
+
+  -- what one sink has of explanations after a command is had of another too
+  record Carries {M N : Type 0} (remaining : R → Option (List ℕ)) (mtaken : M → Option (List ℕ)) (mfailures : M → ℕ)
+      (mold mnew : M) (ntaken : N → Option (List ℕ)) (nfailures : N → ℕ) (nold nnew : N) (why : Bool) : Type 0 where
+    same : mnew ≡ mold → nnew ≡ nold
+    unread : (file : Option R) (failure : Failure) → ExplainsFile mtaken mfailures mold mnew why remaining file failure
+        → ExplainsFile ntaken nfailures nold nnew why remaining file failure
+    run : (after : G) (directory query : List ℕ) (definitions : SpatialSchema) (end : End)
+        → ExplainsRun files remaining mtaken mfailures mold mnew after directory why query definitions end
+        → ExplainsRun paths remaining ntaken nfailures nold nnew (under after) directory why query definitions end
+    check : (after : G) (directory : List ℕ) (definitions : SpatialSchema) (end : End)
+        → ExplainsCheck files remaining mtaken mfailures mold mnew after directory why definitions end
+        → ExplainsCheck paths remaining ntaken nfailures nold nnew (under after) directory why definitions end
+
+  module _ {S M N : Type 0} (remaining : R → Option (List ℕ)) (taken : S → Option (List ℕ)) (failures : S → ℕ) (old new : S)
+      (mtaken : M → Option (List ℕ)) (mfailures : M → ℕ) (mold mnew : M) (ntaken : N → Option (List ℕ)) (nfailures : N → ℕ)
+      (nold nnew : N) (why : Bool)
+      (carries : Carries remaining mtaken mfailures mold mnew ntaken nfailures nold nnew why) where
     -- a schema's file that isn't read
-    no-schema : (file : Option R) (failure : Failure) → EndsUnread files remaining taken failures old new mtaken mfailures mold
-        mnew file failure
-        → EndsUnread paths remaining taken failures old new (λ none. None) (λ none. 0) (tt {0}) (tt {0}) file failure
-    no-schema file failure unread = (unread.0, inl refl)
+    ends-unread : (file : Option R) (failure : Failure)
+        → EndsUnread files remaining taken failures old new mtaken mfailures mold mnew why file failure
+        → EndsUnread paths remaining taken failures old new ntaken nfailures nold nnew why file failure
+    ends-unread file failure ends = (ends.0, carries.unread file failure ends.1)
 
     checks-files : (opener : G) (schema directory : List ℕ) (end : End)
-        → ChecksFiles files remaining taken failures old new mtaken mfailures mold mnew opener schema directory end
-        → ChecksFiles paths remaining taken failures old new (λ none. None) (λ none. 0) (tt {0}) (tt {0})
-        (under opener) schema directory end
+        → ChecksFiles files remaining taken failures old new mtaken mfailures mold mnew why opener schema directory end
+        → ChecksFiles paths remaining taken failures old new ntaken nfailures nold nnew why (under opener) schema directory end
     checks-files opener schema directory end =
         over-files remaining opener schema
         (λ next definitions ending. (after : G) × ChecksTables files remaining taken failures old new next after directory
         definitions ending
-        × ExplainsCheck files remaining mtaken mfailures mold mnew after directory definitions ending)
+        × ExplainsCheck files remaining mtaken mfailures mold mnew after directory why definitions ending)
         (λ next definitions ending. (after : F) × ChecksTables paths remaining taken failures old new next after directory
         definitions ending
-        × ExplainsCheck paths remaining (λ none. None) (λ none. 0) (tt {0}) (tt {0}) after directory definitions ending)
-        end (EndsUnread files remaining taken failures old new mtaken mfailures mold mnew)
-        (EndsUnread paths remaining taken failures old new (λ none. None) (λ none. 0) (tt {0}) (tt {0})) no-schema
+        × ExplainsCheck paths remaining ntaken nfailures nold nnew after directory why definitions ending)
+        end (EndsUnread files remaining taken failures old new mtaken mfailures mold mnew why)
+        (EndsUnread paths remaining taken failures old new ntaken nfailures nold nnew why) ends-unread
         (λ next definitions checks. (
           under checks.0,
           over-tables remaining next checks.0 directory definitions
               (CheckEnds definitions (taken old) (taken new) (failures old) (failures new)) end (new ≡ old) checks.1,
-          inl refl,
+          carries.check checks.0 directory definitions end checks.2,
         ))
 
     runs-files : (opener : G) (schema directory query : List ℕ) (end : End)
-        → RunsFiles files remaining taken failures old new mtaken mfailures mold mnew opener schema directory query end
-        → RunsFiles paths remaining taken failures old new (λ none. None) (λ none. 0) (tt {0}) (tt {0})
-        (under opener) schema directory query end
+        → RunsFiles files remaining taken failures old new mtaken mfailures mold mnew why opener schema directory query end
+        → RunsFiles paths remaining taken failures old new ntaken nfailures nold nnew why (under opener) schema directory query
+        end
     runs-files opener schema directory query end =
         over-files remaining opener schema
         (λ next definitions ending. (after : G) × RunsTables files remaining taken failures old new next after directory query
         definitions ending
-        × ExplainsRun files remaining mtaken mfailures mold mnew after directory query definitions ending)
+        × ExplainsRun files remaining mtaken mfailures mold mnew after directory why query definitions ending)
         (λ next definitions ending. (after : F) × RunsTables paths remaining taken failures old new next after directory query
         definitions ending
-        × ExplainsRun paths remaining (λ none. None) (λ none. 0) (tt {0}) (tt {0}) after directory query definitions ending)
-        end (EndsUnread files remaining taken failures old new mtaken mfailures mold mnew)
-        (EndsUnread paths remaining taken failures old new (λ none. None) (λ none. 0) (tt {0}) (tt {0})) no-schema
+        × ExplainsRun paths remaining ntaken nfailures nold nnew after directory why query definitions ending)
+        end (EndsUnread files remaining taken failures old new mtaken mfailures mold mnew why)
+        (EndsUnread paths remaining taken failures old new ntaken nfailures nold nnew why) ends-unread
         (λ next definitions runs. (
           under runs.0,
           over-tables remaining next runs.0 directory definitions
               (RunEnds definitions query (taken old) (taken new) (failures old) (failures new)) end (new ≡ old) runs.1,
-          inl refl,
+          carries.run runs.0 directory query definitions end runs.2,
         ))
 
     runs-query : (opener : G) (schema directory word : List ℕ) (end : End)
-        → RunsQuery files remaining taken failures old new mtaken mfailures mold mnew opener schema directory word end
-        → RunsQuery paths remaining taken failures old new (λ none. None) (λ none. 0) (tt {0}) (tt {0})
-        (under opener) schema directory word end
+        → RunsQuery files remaining taken failures old new mtaken mfailures mold mnew why opener schema directory word end
+        → RunsQuery paths remaining taken failures old new ntaken nfailures nold nnew why (under opener) schema directory word
+        end
     runs-query opener schema directory word end =
         over-word role.Query (λ lent. refl) (ReadsQuery remaining) opener word
-        (λ next query. RunsFiles files remaining taken failures old new mtaken mfailures mold mnew next schema directory query)
-        (λ next query. RunsFiles paths remaining taken failures old new (λ none. None) (λ none. 0) (tt {0})
-        (tt {0}) next schema directory query) end
-        ((new ≡ old) × (mnew ≡ mold)) ((new ≡ old) × (tt {0} ≡ tt {0})) (λ nothing. (nothing.0, refl))
+        (λ next query. RunsFiles files remaining taken failures old new mtaken mfailures mold mnew why next schema directory
+        query)
+        (λ next query. RunsFiles paths remaining taken failures old new ntaken nfailures nold nnew why next schema directory
+        query) end
+        ((new ≡ old) × (mnew ≡ mold)) ((new ≡ old) × (nnew ≡ nold)) (λ nothing. (nothing.0, carries.same nothing.1))
         (λ next query. runs-files next schema directory query end)
 
     relates-file : (opener : G) (path : List ℕ) (end : End)
@@ -217,64 +374,91 @@ module _ {F G R : Type 0} (files : Opening G R) (paths : Opening F R) (under : G
         → RelatesFile paths remaining taken failures old new (under opener) path end
     relates-file opener path end r = (r.0, under r.1, called role.Pairs (λ lent. refl) opener path r.0 r.1 r.2, r.3)
 
-  -- ---- orders
+    -- ---- orders
 
-  module _ {E S M : Type 0} (remaining : R → Option (List ℕ)) (etaken : E → Option (List ℕ)) (efailures : E → ℕ)
-      (taken : S → Option (List ℕ)) (failures : S → ℕ) (old new : S) (mtaken : M → Option (List ℕ)) (mfailures : M → ℕ)
-      (mold mnew : M) where
-    serves-order : (opener : G) (order : Order) (status : ℕ) (before after : E)
-        → ServesOrder files remaining etaken efailures taken failures old new mtaken mfailures mold mnew opener order status
+    serves-order : {E : Type 0} (etaken : E → Option (List ℕ)) (efailures : E → ℕ) (opener : G) (order : Order) (status : ℕ)
+        (before after : E)
+        → ServesOrder files remaining etaken efailures taken failures old new mtaken mfailures mold mnew why opener order status
         before after
-        → ServesAlone paths remaining etaken efailures taken failures old new (under opener) order status before after
-    serves-order opener (orders.Run schema directory query why) status before after served =
+        → ServesOrder paths remaining etaken efailures taken failures old new ntaken nfailures nold nnew why (under opener) order
+        status before after
+    serves-order etaken efailures opener (orders.Run schema directory query asks) status before after served =
         serves-more etaken efailures _ _ status before after
-        (runs-query remaining taken failures old new mtaken mfailures mold mnew opener (string_bytes schema)
-        (string_bytes directory) (string_bytes query))
-        served
-    serves-order opener (orders.Check schema directory why) status before after served =
+        (runs-query opener (string_bytes schema) (string_bytes directory) (string_bytes query)) served
+    serves-order etaken efailures opener (orders.Check schema directory asks) status before after served =
         serves-more etaken efailures _ _ status before after
-        (checks-files remaining taken failures old new mtaken mfailures mold mnew opener (string_bytes schema)
-        (string_bytes directory)) served
-    serves-order opener (orders.Relate first second why) status before after served = (
+        (checks-files opener (string_bytes schema) (string_bytes directory)) served
+    serves-order etaken efailures opener (orders.Relate first second asks) status before after served = (
       serves-more etaken efailures _ _ status before after
           (over-texts remaining (λ one other end. RelateEnds one other end (taken old) (taken new) (failures old) (failures new))
           (new ≡ old) opener (string_bytes first) (string_bytes second)) served.0,
-      refl,
+      carries.same served.1,
     )
-    serves-order opener (orders.Why first (Some second) why) status before after served = (
+    serves-order etaken efailures opener (orders.Why first (Some second) asks) status before after served = (
       serves-more etaken efailures _ _ status before after
           (over-texts remaining (ShowsCells taken failures old new) (new ≡ old) opener (string_bytes first) (string_bytes second))
           served.0,
-      refl,
+      carries.same served.1,
     )
-    serves-order opener (orders.Why first None why) status before after served = (
+    serves-order etaken efailures opener (orders.Why first None asks) status before after served = (
       serves-more etaken efailures _ _ status before after
           (λ end. over-word role.Geometry (λ lent. refl) (ReadsGeometry remaining (codes "first")) opener (string_bytes first)
           (λ next text ending. ShowsVerdict taken failures old new text ending)
           (λ next text ending. ShowsVerdict taken failures old new text ending) end (new ≡ old) (new ≡ old) (λ nothing. nothing)
           (λ next text shows. shows)) served.0,
-      refl,
+      carries.same served.1,
     )
-    serves-order opener (orders.Pairs path why) status before after served = (
-      serves-more etaken efailures _ _ status before after
-          (relates-file remaining taken failures old new mtaken mfailures mold mnew opener (string_bytes path)) served.0,
-      refl,
+    serves-order etaken efailures opener (orders.Pairs path asks) status before after served = (
+      serves-more etaken efailures _ _ status before after (relates-file opener (string_bytes path)) served.0,
+      carries.same served.1,
     )
-    serves-order opener (orders.Fault code) status before after served = (served.0, refl)
+    serves-order etaken efailures opener (orders.Fault code) status before after served =
+        (served.0, carries.same served.1)
 
 -- what an order does with the opener of files, whose members are found first
 pub by-paths : {F G R E S M : Type 0} {files : Opening G R} (paths : Opening F R) (remaining : R → Option (List ℕ))
     (etaken : E → Option (List ℕ)) (efailures : E → ℕ)
     (taken : S → Option (List ℕ)) (failures : S → ℕ) (old new : S)
+    (mtaken : M → Option (List ℕ)) (mfailures : M → ℕ) (mold mnew : M) (why : Bool) (opener : G) (order : Order) (status : ℕ)
+    (before after : E)
+    → ServesOrder files remaining etaken efailures taken failures old new mtaken mfailures mold mnew why opener order status
+    before after → (under : G → F)
+    → ((kind : Role) → ((lent : Bor (List ℕ)) → path_of (kind lent) ≡ lent.now)
+    → (state : G) (path : List ℕ) (reader : Option R) (next : G)
+    → files kind state path reader next → paths kind (under state) path reader (under next))
+    → ServesOrder paths remaining etaken efailures taken failures old new mtaken mfailures mold mnew why (under opener) order
+    status before after
+by-paths {files = files} paths remaining etaken efailures taken failures old new mtaken mfailures mold mnew why opener order
+    status before after served under called =
+    serves-order files paths under called remaining taken failures old new mtaken mfailures mold mnew mtaken mfailures mold mnew
+    why
+    (record {
+      same = λ same. same;
+      unread = λ file failure said. said;
+      run = λ loaded directory. explains-run files paths under called remaining mtaken mfailures directory mold mnew loaded why;
+      check = λ loaded directory.
+          explains-check files paths under called remaining mtaken mfailures directory mold mnew loaded why;
+    }) etaken efailures opener order status before after served
+
+-- and where no explanation is asked for
+pub by-paths-alone : {F G R E S M : Type 0} {files : Opening G R} (paths : Opening F R) (remaining : R → Option (List ℕ))
+    (etaken : E → Option (List ℕ)) (efailures : E → ℕ)
+    (taken : S → Option (List ℕ)) (failures : S → ℕ) (old new : S)
     (mtaken : M → Option (List ℕ)) (mfailures : M → ℕ) (mold mnew : M) (opener : G) (order : Order) (status : ℕ)
     (before after : E)
-    → ServesOrder files remaining etaken efailures taken failures old new mtaken mfailures mold mnew opener order status before
-    after → (under : G → F)
+    → ServesOrder files remaining etaken efailures taken failures old new mtaken mfailures mold mnew false opener order status
+    before after → (under : G → F)
     → ((kind : Role) → ((lent : Bor (List ℕ)) → path_of (kind lent) ≡ lent.now)
     → (state : G) (path : List ℕ) (reader : Option R) (next : G)
     → files kind state path reader next → paths kind (under state) path reader (under next))
     → ServesAlone paths remaining etaken efailures taken failures old new (under opener) order status before after
-by-paths {files = files} paths remaining etaken efailures taken failures old new mtaken mfailures mold mnew opener order status
-    before after served under called =
-    serves-order files paths under called remaining etaken efailures taken failures old new mtaken mfailures mold mnew opener
-    order status before after served
+by-paths-alone {files = files} paths remaining etaken efailures taken failures old new mtaken mfailures mold mnew opener order
+    status before after served under called =
+    serves-order files paths under called remaining taken failures old new mtaken mfailures mold mnew (λ none. None) (λ none. 0)
+    (tt {0}) (tt {0}) false
+    (record {
+      same = λ same. refl;
+      unread = λ file failure said. refl;
+      run = λ loaded directory query definitions end said. refl;
+      check = λ loaded directory definitions end said. refl;
+    }) etaken efailures opener order status before after served

@@ -1,5 +1,5 @@
 -- What each command means: the texts of the outcomes, the files that are opened, and the ends that there may be.
-use Rattle.std.specs.Prelude.{◌≡◌, ◌++◌, ◌<◌, ◌⊎◌, ⊤, ℕ, true, List, [], ◌∷◌, codes, decimal, length, map, take, slice_get, IfSome, Option, Some, None, Result, Ok, Err}
+use Rattle.std.specs.Prelude.{◌≡◌, ◌++◌, ◌<◌, ◌⊎◌, ⊤, ℕ, Bool, true, false, List, [], ◌∷◌, codes, decimal, length, map, take, slice_get, IfSome, Option, Some, None, Result, Ok, Err}
 use denote.Ref.{Bor}
 use Rattle.command_line.specs.declared.known_commands.Order.{Order}
 use Rattle.command_line.specs.declared.known_commands.Order.TheVariants as orders
@@ -190,20 +190,26 @@ module _ {M : Type 0} (taken : M → Option (List ℕ)) (failures : M → ℕ) (
   ExplainsAt text place =
       (explanation : List ℕ) × IsExplanation text place explanation × Writes (taken old) (taken new) (failures old) (failures new) explanation
 
-  -- the same, or nothing
+  -- either what explains a fault at this place of a text was written, or a beginning of it, or memory ran out and nothing was written
   abbrev pub MayExplainAt : List ℕ → Option ℕ → Type 0
   MayExplainAt text place = (new ≡ old) ⊎ ExplainsAt text place
 
-  -- nothing is written, or what explains a failure that is a fault of the text of a schema
+  -- what is written of a failure of reading the text of a schema, if that is asked for: what explains a fault of the text, unless memory ran out
   abbrev pub MayExplainSchema : List ℕ → Failure → Type 0
   MayExplainSchema text failure = (new ≡ old) ⊎ ((fault : SchemaFault) × (failure ≡ f.Schema fault) × ExplainsAt text (schema_place fault))
 
-  -- the same of a schema's file: as much of it is read as a schema may have, and a byte more
-  abbrev pub ExplainsFile : {R : Type 0} → (R → Option (List ℕ)) → Option R → Failure → Type 0
-  ExplainsFile {R} remaining file failure =
+  -- what is written of a failure of reading a schema's file, if that is asked for: what explains a fault of its text, unless memory ran out; as much
+  -- of the file is read as a schema may have, and a byte more
+  abbrev pub MayExplainFile : {R : Type 0} → (R → Option (List ℕ)) → Option R → Failure → Type 0
+  MayExplainFile {R} remaining file failure =
       (new ≡ old)
       ⊎ ((reader : R) × (text : List ℕ) × (fault : SchemaFault) × (file ≡ Some reader)
       × IfSome (remaining reader) (λ bytes. text ≡ take SCHEMA_BYTES bytes) × (failure ≡ f.Schema fault) × ExplainsAt text (schema_place fault))
+
+  -- what is written of a failure of reading a schema's file: nothing, if that isn't asked for
+  abbrev pub ExplainsFile : Bool → {R : Type 0} → (R → Option (List ℕ)) → Option R → Failure → Type 0
+  ExplainsFile false remaining file failure = new ≡ old
+  ExplainsFile true remaining file failure = MayExplainFile remaining file failure
 
 -- the table at this place has this name, in any ASCII case, as no other table of its schema has
 abbrev pub IsNamed : SpatialSchema → List ℕ → ℕ → Type 0
@@ -241,7 +247,8 @@ pub record ExplainsLoad {F R E : Type 0} (opens : Opening F R) (remaining : R �
   pub explains : ExplainsTable opens remaining before directory definitions name fault explanation
   pub written : Writes (taken old) (taken new) (failures old) (failures new) explanation
 
--- the same, or nothing
+-- either what explains a table's fault was written, or a beginning of it; or nothing was, where the reason isn't found, the file can't be opened or
+-- read again, or memory ran out
 abbrev pub MayExplainLoad : {F R E : Type 0} → Opening F R → (R → Option (List ℕ)) → (E → Option (List ℕ)) → (E → ℕ) → E → E
     → F → List ℕ → SpatialSchema → List ℕ → LoadFault → Type 0
 MayExplainLoad opens remaining taken failures old new before directory definitions name fault =
@@ -273,7 +280,8 @@ module _ {F R E : Type 0} (opens : Opening F R) (remaining : R → Option (List 
     pub notes : IsTableNote text number note
     pub written : Writes (taken old) (taken new) (failures old) (failures new) note
 
-  -- the same, or nothing, where the file can't be opened or memory ran out
+  -- either the place where the quote of a record's field opens was written, or a beginning of it, or nothing; nothing also where the table's file
+  -- can't be opened, or memory ran out
   abbrev pub SaysQuote : List ℕ → ℕ → F → F → E → E → Type 0
   SaysQuote name number before after old new =
       (MayOpen opens directory name before after × (new ≡ old)) ⊎ ShowsQuote name number before after old new
@@ -303,44 +311,50 @@ module _ {F R E : Type 0} (opens : Opening F R) (remaining : R → Option (List 
 -- the sink of explanations, before and after a command that leaves the opener in this state
 module _ {F R M : Type 0} (opens : Opening F R) (remaining : R → Option (List ℕ)) (taken : M → Option (List ℕ)) (failures : M → ℕ) (old new : M)
     (loaded : F) (directory : List ℕ) where
-  -- what explains a run that ends so: the fault of its query or of a table
+  -- what explains a failure of a run: the fault of its query or of a table
   abbrev pub SaysOfRun : List ℕ → SpatialSchema → End → Type 0
   SaysOfRun query definitions (Err (f.Query fault)) = ExplainsAt taken failures old new query (query_place fault)
   SaysOfRun query definitions (Err (f.Load name fault)) =
       ExplainsLoad opens remaining taken failures old new loaded directory definitions name.now fault
   SaysOfRun query definitions _ = ⊥
 
-  -- the same, or nothing
-  abbrev pub ExplainsRun : List ℕ → SpatialSchema → End → Type 0
-  ExplainsRun query definitions end = (new ≡ old) ⊎ SaysOfRun query definitions end
+  -- what is written of a run that ends so: nothing, if that isn't asked for; else what explains its failure, or nothing, where there is no failure
+  -- that is explained, or as for a table's fault, or memory ran out
+  abbrev pub ExplainsRun : Bool → List ℕ → SpatialSchema → End → Type 0
+  ExplainsRun false query definitions end = new ≡ old
+  ExplainsRun true query definitions end = (new ≡ old) ⊎ SaysOfRun query definitions end
 
-  -- what is written of a check that ends so: what explains the fault of a table, or notes where there is none
+  -- what explains a failure of a check: the fault of a table
+  abbrev pub SaysOfTables : SpatialSchema → Failure → Type 0
+  SaysOfTables definitions (f.Load name fault) = ExplainsLoad opens remaining taken failures old new loaded directory definitions name.now fault
+  SaysOfTables definitions _ = ⊥
+
+  -- what is written of a check that ends so, if that is asked for: all notes on its tables, if it is done; else what explains its failure, or nothing
   abbrev pub SaysOfCheck : SpatialSchema → End → Type 0
   SaysOfCheck definitions (Ok done) =
       (after : F) × NotesTables opens remaining taken failures directory (table_names definitions) loaded after old new
-  SaysOfCheck definitions (Err (f.Load name fault)) =
-      ExplainsLoad opens remaining taken failures old new loaded directory definitions name.now fault
-  SaysOfCheck definitions (Err _) = ⊥
+  SaysOfCheck definitions (Err failure) = (new ≡ old) ⊎ SaysOfTables definitions failure
 
-  -- the same, or nothing
-  abbrev pub ExplainsCheck : SpatialSchema → End → Type 0
-  ExplainsCheck definitions end = (new ≡ old) ⊎ SaysOfCheck definitions end
+  -- what is written of a check that ends so: nothing, if that isn't asked for
+  abbrev pub ExplainsCheck : Bool → SpatialSchema → End → Type 0
+  ExplainsCheck false definitions end = new ≡ old
+  ExplainsCheck true definitions end = SaysOfCheck definitions end
 
 -- ---- commands with their explanations
 
--- the sink of the answer and that of explanations, before and after a command
+-- the sink of the answer and that of explanations, before and after a command, and whether explanations are asked for
 module _ {F R S M : Type 0} (opens : Opening F R) (remaining : R → Option (List ℕ)) (taken : S → Option (List ℕ)) (failures : S → ℕ) (old new : S)
-    (mtaken : M → Option (List ℕ)) (mfailures : M → ℕ) (mold mnew : M) where
-  -- the schema's file isn't read: no answer is written, and perhaps what explains the fault of its text
+    (mtaken : M → Option (List ℕ)) (mfailures : M → ℕ) (mold mnew : M) (why : Bool) where
+  -- the schema's file isn't read: no answer is written, but perhaps what explains the fault of its text
   abbrev pub EndsUnread : Option R → Failure → Type 0
-  EndsUnread file failure = (new ≡ old) × ExplainsFile mtaken mfailures mold mnew remaining file failure
+  EndsUnread file failure = (new ≡ old) × ExplainsFile mtaken mfailures mold mnew why remaining file failure
 
   -- running a query over a schema's file and those of its tables ends so
   abbrev pub RunsFiles : F → List ℕ → List ℕ → List ℕ → End → Type 0
   RunsFiles opener schema directory query end =
       OverFiles opens remaining opener schema
       (λ next definitions ending. (after : F) × RunsTables opens remaining taken failures old new next after directory query definitions ending
-      × ExplainsRun opens remaining mtaken mfailures mold mnew after directory query definitions ending)
+      × ExplainsRun opens remaining mtaken mfailures mold mnew after directory why query definitions ending)
       end EndsUnread
 
   -- and running the query that a word gives, whose text is got first
@@ -354,7 +368,7 @@ module _ {F R S M : Type 0} (opens : Opening F R) (remaining : R → Option (Lis
   ChecksFiles opener schema directory end =
       OverFiles opens remaining opener schema
       (λ next definitions ending. (after : F) × ChecksTables opens remaining taken failures old new next after directory definitions ending
-      × ExplainsCheck opens remaining mtaken mfailures mold mnew after directory definitions ending)
+      × ExplainsCheck opens remaining mtaken mfailures mold mnew after directory why definitions ending)
       end EndsUnread
 
 -- ---- orders
@@ -364,26 +378,26 @@ abbrev pub ServesTexts : {E M : Type 0} → (E → Option (List ℕ)) → (E →
 ServesTexts taken failures mold mnew Ends status before after = Serves taken failures Ends status before after × (mnew ≡ mold)
 
 module _ {F R E S M : Type 0} (opens : Opening F R) (remaining : R → Option (List ℕ)) (etaken : E → Option (List ℕ)) (efailures : E → ℕ)
-    (taken : S → Option (List ℕ)) (failures : S → ℕ) (old new : S) (mtaken : M → Option (List ℕ)) (mfailures : M → ℕ) (mold mnew : M) where
-  -- doing what an order says
+    (taken : S → Option (List ℕ)) (failures : S → ℕ) (old new : S) (mtaken : M → Option (List ℕ)) (mfailures : M → ℕ) (mold mnew : M) (why : Bool) where
+  -- doing what an order says, and explaining it, if that is asked for
   abbrev pub ServesOrder : F → Order → ℕ → E → E → Type 0
-  ServesOrder opener (orders.Run schema directory query why) status before after =
-      Serves etaken efailures (RunsQuery opens remaining taken failures old new mtaken mfailures mold mnew opener (string_bytes schema) (string_bytes directory) (string_bytes query)) status before after
-  ServesOrder opener (orders.Check schema directory why) status before after =
-      Serves etaken efailures (ChecksFiles opens remaining taken failures old new mtaken mfailures mold mnew opener (string_bytes schema) (string_bytes directory)) status before after
-  ServesOrder opener (orders.Relate first second why) status before after =
+  ServesOrder opener (orders.Run schema directory query asks) status before after =
+      Serves etaken efailures (RunsQuery opens remaining taken failures old new mtaken mfailures mold mnew why opener (string_bytes schema) (string_bytes directory) (string_bytes query)) status before after
+  ServesOrder opener (orders.Check schema directory asks) status before after =
+      Serves etaken efailures (ChecksFiles opens remaining taken failures old new mtaken mfailures mold mnew why opener (string_bytes schema) (string_bytes directory)) status before after
+  ServesOrder opener (orders.Relate first second asks) status before after =
       ServesTexts etaken efailures mold mnew (RelatesWords opens remaining taken failures old new opener (string_bytes first) (string_bytes second)) status before after
-  ServesOrder opener (orders.Why first (Some second) why) status before after =
+  ServesOrder opener (orders.Why first (Some second) asks) status before after =
       ServesTexts etaken efailures mold mnew (ExplainsCells opens remaining taken failures old new opener (string_bytes first) (string_bytes second)) status before after
-  ServesOrder opener (orders.Why first None why) status before after =
+  ServesOrder opener (orders.Why first None asks) status before after =
       ServesTexts etaken efailures mold mnew (ExplainsValidity opens remaining taken failures old new opener (string_bytes first)) status before after
-  ServesOrder opener (orders.Pairs file why) status before after =
+  ServesOrder opener (orders.Pairs file asks) status before after =
       ServesTexts etaken efailures mold mnew (RelatesFile opens remaining taken failures old new opener (string_bytes file)) status before after
   ServesOrder opener (orders.Fault words) status before after =
       ServesTexts etaken efailures mold mnew (ExplainsFault taken failures old new (map string_bytes words.items)) status before after
 
--- the same with no sink of explanations
+-- doing what an order says, with no explanation and no sink for one
 abbrev pub ServesAlone : {F R E S : Type 0} → Opening F R → (R → Option (List ℕ)) → (E → Option (List ℕ)) → (E → ℕ)
     → (S → Option (List ℕ)) → (S → ℕ) → S → S → F → Order → ℕ → E → E → Type 0
 ServesAlone opens remaining etaken efailures taken failures old new =
-    ServesOrder opens remaining etaken efailures taken failures old new (λ none. None) (λ none. 0) (tt {0}) (tt {0})
+    ServesOrder opens remaining etaken efailures taken failures old new (λ none. None) (λ none. 0) (tt {0}) (tt {0}) false

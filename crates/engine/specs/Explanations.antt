@@ -20,7 +20,7 @@ module _ {E : Type 0} (taken : E → Option (List ℕ)) (failures : E → ℕ) w
   abbrev pub SaysOf : List ℕ → List ℕ → E → E → Type 0
   SaysOf path words old new = (line : List ℕ) × SaysOfFile path words line × Adds taken failures old new line
 
-  -- the same of the file that a query's word names, which isn't UTF-8
+  -- a line that says that the file which a query's word names isn't UTF-8 was written, or a beginning of it
   abbrev pub SaysEncoding : List ℕ → E → E → Type 0
   SaysEncoding word old new = (path : List ℕ) × (file_named word ≡ Some path) × SaysOf path not_utf8 old new
 
@@ -34,7 +34,8 @@ module _ {F R E : Type 0} (opens : Opening F R) (remaining : R → Option (List 
     pub are : AreNotes text notes
     pub written : Adds taken failures old new notes
 
-  -- the same, or nothing
+  -- either notes on the query that a word gives were written, or a beginning of them; or nothing was, where a file can't be opened or read again, or
+  -- memory ran out
   abbrev pub MayNote : List ℕ → E → E → Type 0
   MayNote word old new = (new ≡ old) ⊎ NotesQuery word old new
 

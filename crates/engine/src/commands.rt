@@ -5,7 +5,7 @@ ghost use Rattle.command_line.specs.Orders.{asks_why};
 ghost use Rattle.std.specs.Fn.{CalledAt, TakesAt};
 ghost use Rattle.std.specs.String.{string_bytes};
 ghost use Rattle.std.specs.Io.KnownBytes.{Appends};
-ghost use Rattle.engine.specs.Commands.{ChecksFiles, ChecksTables, ExplainsCheck, ExplainsFile, ExplainsRun, ExplainsTable, IsFaultOf, IsNamed, IsUnread, LooksAgain, MayExplainAt, MayExplainLoad, MayExplainSchema, NotesTable, NotesTables, Opens, OpensTables, ReadsSchema, RunsFiles, RunsQuery, RunsTables, SaysQuote, SaysReason, ServesAlone, ServesOrder, check_text, table_names, table_paths};
+ghost use Rattle.engine.specs.Commands.{ChecksFiles, ChecksTables, ExplainsCheck, ExplainsRun, ExplainsTable, IsFaultOf, IsNamed, IsUnread, LooksAgain, MayExplainAt, MayExplainFile, MayExplainLoad, MayExplainSchema, NotesTable, NotesTables, Opens, OpensTables, ReadsSchema, RunsFiles, RunsQuery, RunsTables, SaysQuote, SaysReason, ServesAlone, ServesOrder, check_text, table_names, table_paths};
 ghost use Rattle.engine.specs.Commands as spec;
 ghost use Rattle.explanations.specs.Faults.{query_place};
 ghost use Rattle.explanations.specs.Tables.{IsTableExplanation};
@@ -41,7 +41,7 @@ use text_commands::{
 /// The type of the index of each geometry column under a query with two references, which may search it for each row.
 type ColumnIndex = CurveTree;
 
-/// The same under a query with a single reference, and in a check: one search at most.
+/// The type of the index of each geometry column under a query with a single reference, and in a check: it is searched once at most.
 pub(crate) type RowIndex = RowTree;
 
 /// How many bytes of a schema's file are read: one more than a schema may have.
@@ -99,7 +99,7 @@ pub fn serve_observed<
 ) -> u8
     requires { F.IsAlwaysCallable opener }
     ensures serves { ServesOrder (OpensFile F.FnMut) R.remaining E.taken E.failures S.taken S.failures
-        out.old out.new M.taken M.failures more.old more.new opener order.now result err.old err.new }
+        out.old out.new M.taken M.failures more.old more.new (asks_why order.now) opener order.now result err.old err.new }
     ensures unasked { asks_why order.now ≡ false → more.new ≡ more.old }
 {
     serve_order(
@@ -134,7 +134,7 @@ fn serve_order<
 ) -> u8
     requires { F.IsAlwaysCallable opener }
     ensures serves { ServesOrder (OpensFile F.FnMut) R.remaining E.taken E.failures S.taken S.failures
-        out.old out.new M.taken M.failures more.old more.new opener order.now result err.old err.new }
+        out.old out.new M.taken M.failures more.old more.new why opener order.now result err.old err.new }
     ensures unasked { why ≡ false → more.new ≡ more.old }
 {
     match order {
@@ -216,7 +216,7 @@ fn serve_query<
     requires { F.IsAlwaysCallable opener }
     ensures serves { Serves E.taken E.failures
         (RunsQuery (OpensFile F.FnMut) R.remaining S.taken S.failures out.old out.new M.taken M.failures more.old more.new
-        opener paths.now.schema.now paths.now.directory.now word.now)
+        paths.now.why opener paths.now.schema.now paths.now.directory.now word.now)
         result err.old err.new }
     ensures unasked { paths.now.why ≡ false → more.new ≡ more.old }
 {
@@ -258,7 +258,7 @@ fn serve_run<
     requires { F.IsAlwaysCallable opener }
     ensures serves { Serves E.taken E.failures
         (RunsFiles (OpensFile F.FnMut) R.remaining S.taken S.failures out.old out.new M.taken M.failures more.old more.new
-        opener paths.now.schema.now paths.now.directory.now query.now)
+        paths.now.why opener paths.now.schema.now paths.now.directory.now query.now)
         result err.old err.new }
     ensures unasked { paths.now.why ≡ false → more.new ≡ more.old }
 {
@@ -318,7 +318,7 @@ fn serve_check<R: Read + Drop, F: FnMut(File<'_>) -> Option<R>, S: Sink, E: Sink
     requires { F.IsAlwaysCallable opener }
     ensures serves { Serves E.taken E.failures
         (ChecksFiles (OpensFile F.FnMut) R.remaining S.taken S.failures out.old out.new M.taken M.failures more.old more.new
-        opener paths.now.schema.now paths.now.directory.now)
+        paths.now.why opener paths.now.schema.now paths.now.directory.now)
         result err.old err.new }
     ensures unasked { paths.now.why ≡ false → more.new ≡ more.old }
 {
@@ -344,7 +344,7 @@ fn explain_run<R: Read + Drop, F: FnMut(File<'_>) -> Option<R>, M: Sink>(
 )
     requires { F.IsAlwaysCallable opener }
     ensures explains { ExplainsRun (OpensFile F.FnMut) R.remaining M.taken M.failures more.old more.new opener
-        paths.now.directory.now query.now schema.now end.now }
+        paths.now.directory.now paths.now.why query.now schema.now end.now }
     ensures unasked { paths.now.why ≡ false → more.new ≡ more.old }
 {
     if !paths.why {
@@ -372,7 +372,7 @@ fn explain_check<R: Read + Drop, F: FnMut(File<'_>) -> Option<R>, M: Sink>(
 )
     requires { F.IsAlwaysCallable opener }
     ensures explains { ExplainsCheck (OpensFile F.FnMut) R.remaining M.taken M.failures more.old more.new opener
-        paths.now.directory.now schema.now end.now }
+        paths.now.directory.now paths.now.why schema.now end.now }
     ensures unasked { paths.now.why ≡ false → more.new ≡ more.old }
 {
     if !paths.why {
@@ -797,7 +797,7 @@ fn schema_in<R: Read + Drop, M: Sink>(
 ) -> Result<Schema, Failure<'static>>
     ensures reads { ReadsSchema R.remaining file result }
     ensures quiet { OnOk result (more.new ≡ more.old) }
-    ensures explains { IfErr result (ExplainsFile M.taken M.failures more.old more.new R.remaining file) }
+    ensures explains { IfErr result (MayExplainFile M.taken M.failures more.old more.new R.remaining file) }
     ensures unasked { why ≡ false → more.new ≡ more.old }
 {
     let Some(file) = file else {

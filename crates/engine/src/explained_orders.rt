@@ -47,7 +47,7 @@ pub fn explain_order<R: Read + Drop, F: FnMut(File<'_>) -> Option<R>, E: Sink>(
     }
 }
 
-/// The same of an order that asks why.
+/// Writes what explains the fault of an order that asks why and has ended with a status.
 fn explain_asked<R: Read + Drop, F: FnMut(File<'_>) -> Option<R>, E: Sink>(
     alloc: Global,
     order: &Order,
@@ -129,7 +129,8 @@ fn open_words<R: Read + Drop, F: FnMut(File<'_>) -> Option<R>>(
     }
 }
 
-/// The same of the text that the one word of `why` gives.
+/// Explains the first fault of the text that the one word of `why` gives, after a command that has ended with a status. Where the text isn't
+/// there, its file is opened once more, so that the opener says why.
 fn explain_one<R: Read + Drop, F: FnMut(File<'_>) -> Option<R>, E: Sink>(
     alloc: Global,
     word: &str,
@@ -169,7 +170,7 @@ pub fn note_order<R: Read + Drop, F: FnMut(File<'_>) -> Option<R>, E: Sink>(
     }
 }
 
-/// The same of an order that asks why.
+/// Writes notes on the query of an order that asks why and is done.
 fn note_asked<R: Read + Drop, F: FnMut(File<'_>) -> Option<R>, E: Sink>(
     alloc: Global,
     order: &Order,

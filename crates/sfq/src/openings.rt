@@ -41,7 +41,7 @@ pub fn opened_again<'p, E: Sink>(
     }
 }
 
-/// The same, but nothing is written.
+/// The reader of a file that is opened once more, for notes on a query. If there is none, nothing is said of that.
 #[inline(never)]
 pub fn opened_quietly<'p>(
     rt: &HostRuntime,

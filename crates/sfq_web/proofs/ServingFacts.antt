@@ -1,5 +1,5 @@
 -- What came of words, by what came of the order that they are; and files that are handed in.
-use Rattle.std.proofs.Common.{◌≡◌, ◌∙◌, ◌+◌, ◌++◌, ◌<◌, ◌≤◌, [], ◌∷◌, Bool, Bor, Err, IfOk, IfSome, List, None, Ok, Option, Result, Some, String, ap, append_assoc, append-nil, drop, false, get_or, length, map, option_map, refl, string_bytes, subst, sym, ℕ}
+use Rattle.std.proofs.Common.{◌≡◌, ◌⊎◌, inl, inr, ◌∙◌, ◌+◌, ◌++◌, ◌<◌, ◌≤◌, [], ◌∷◌, Bool, Bor, Err, IfOk, IfSome, List, None, Ok, Option, Result, Some, String, ap, append_assoc, append-nil, drop, false, get_or, length, map, option_map, refl, string_bytes, subst, sym, ℕ}
 use Rattle.std.proofs.lemmas.List.{at_drop_all, at_drop_more, map_push}
 use Rattle.std.specs.Option.{option_and_then}
 use Rattle.clap.specs.Words.{HasKind, fault_of}
@@ -9,6 +9,7 @@ use Rattle.command_line.specs.declared.known_commands.Order.{Order}
 use Rattle.command_line.specs.declared.misuse.Misuse.{Misuse}
 use Rattle.library_calls.specs.Explained.{HandsOut}
 use Rattle.streams.specs.MemorySinks.{memory_bytes}
+use Rattle.streams.specs.declared.memory.MemorySink.{MemorySink}
 use Rattle.text_commands.specs.Files.{path_of}
 use Rattle.text_commands.specs.declared.files.File.{File}
 use Rattle.sfq_web.specs.HandedFiles.{Handed, IsNotHanded, OpensAs, OpensBy, bytes_in, file_at, is_standard, opened_text, text_at}
@@ -31,6 +32,12 @@ is_served words asks order asked files (Ok (served.Misused w)) orders same done 
 is_served words asks order asked files (Ok (served.Missing missed)) orders same done =
     ((order, orders, subst (λ it. FailsOrder it files) same done.0), done.1)
 is_served words asks order asked files (Err e) orders same done = done
+
+-- what was said is nothing, or is kept as it is
+pub same_bytes : {said more : MemorySink} → (memory_bytes said ≡ []) ⊎ (more ≡ said)
+    → (memory_bytes said ≡ []) ⊎ (memory_bytes more ≡ memory_bytes said)
+same_bytes (inl nothing) = inl nothing
+same_bytes (inr same) = inr (ap memory_bytes same)
 
 -- the words are no order
 pub is_misused : {E : Type 0} (words : List (List ℕ)) (asks : Bool) (misuse : Misuse) (files : Handed) (result : Result Served E)

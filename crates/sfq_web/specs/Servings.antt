@@ -9,7 +9,7 @@ use Rattle.command_line.specs.Misuses.{status_of}
 use Rattle.command_line.specs.Orders.{Orders, asks_why, with_why}
 use Rattle.command_line.specs.declared.known_commands.Order.{Order}
 use Rattle.command_line.specs.declared.misuse.Misuse.{Misuse}
-use Rattle.engine.specs.Commands.{ServesAlone}
+use Rattle.engine.specs.Commands.{ServesOrder}
 use Rattle.failures.specs.Failures.{failure_status}
 use Rattle.failures.specs.declared.failure.Failure.TheVariants as f
 use Rattle.library_calls.specs.Explained.{HandsOut}
@@ -43,32 +43,40 @@ known_in reader = Some (bytes_in reader)
 abbrev pub known_bytes : MemorySink → Option (List ℕ)
 known_bytes sink = Some (memory_bytes sink)
 
--- doing what an order says over the files that are handed in, by sinks over memory
-abbrev pub ServesHanded : MemorySink → MemorySink → Handed → Order → ℕ → MemorySink → MemorySink → Type 0
-ServesHanded = ServesAlone OpensHanded known_in known_bytes memory_failures known_bytes memory_failures
+-- doing what an order says over the files that are handed in, and explaining it if the order asks why, by sinks over memory: of the answer, of
+-- explanations, and of the line of a failure, each before and after
+abbrev pub ServesHanded : MemorySink → MemorySink → MemorySink → MemorySink → Handed → Order → ℕ → MemorySink → MemorySink → Type 0
+ServesHanded old new mold mnew files order =
+    ServesOrder OpensHanded known_in known_bytes memory_failures known_bytes memory_failures old new known_bytes memory_failures mold mnew
+    (asks_why order) files order
 
 -- an order, which is made to ask why where a caller does
 abbrev pub asking : Bool → Order → Order
 asking asks order = if asks then with_why order else order
 
--- doing an order over the files gives this status; its sinks had nothing before, and are these then
-pub record EndsOrder (order : Order) (files : Handed) (status : ℕ) (out err : MemorySink) : Type 0 where
+-- doing an order over the files gives this status; its sinks of the answer, of the line of a failure and of explanations had nothing before, and are
+-- these then
+pub record EndsOrder (order : Order) (files : Handed) (status : ℕ) (out err said : MemorySink) : Type 0 where
   pub old_out : MemorySink
   pub old_err : MemorySink
+  pub old_said : MemorySink
   pub no_out : memory_bytes old_out ≡ []
   pub no_err : memory_bytes old_err ≡ []
-  pub serves : ServesHanded old_out out files order status old_err err
+  pub no_said : memory_bytes old_said ≡ []
+  pub serves : ServesHanded old_out out old_said said files order status old_err err
 
--- doing an order over the files has written these texts to standard output and standard error, whole, and gives this status; what explains a
--- fault is nothing where the order doesn't ask why
+-- doing an order over the files has written these texts to standard output and standard error, whole, and gives this status; what explains its end
+-- is what was written of that, unless that is nothing, and is nothing where the order doesn't ask why
 pub record DoesOrder (order : Order) (files : Handed) (status : ℕ) (out err more : List ℕ) : Type 0 where
   pub new_out : MemorySink
   pub new_err : MemorySink
-  pub ends : EndsOrder order files status new_out new_err
+  pub new_said : MemorySink
+  pub ends : EndsOrder order files status new_out new_err new_said
   pub out_is : out ≡ memory_bytes new_out
   pub err_is : err ≡ memory_bytes new_err
   pub whole_out : memory_failures new_out ≡ 0
   pub whole_err : memory_failures new_err ≡ 0
+  pub explained : (memory_bytes new_said ≡ []) ⊎ (more ≡ memory_bytes new_said)
   pub unasked : asks_why order ≡ false → more ≡ []
 
 -- the status of a command that can't open or read a file
@@ -77,7 +85,7 @@ unread_status = failure_status f.SchemaUnreadable
 
 -- doing an order over the files ends with that status
 abbrev pub FailsOrder : Order → Handed → Type 0
-FailsOrder order files = (out err : MemorySink) × EndsOrder order files unread_status out err
+FailsOrder order files = (out err said : MemorySink) × EndsOrder order files unread_status out err said
 
 -- the words are an order, which asks why where the caller does, and it was done
 abbrev pub ServesWords : List (List ℕ) → Bool → Handed → ℕ → List ℕ → List ℕ → List ℕ → Type 0

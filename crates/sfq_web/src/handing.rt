@@ -143,7 +143,7 @@ impl<'f> Handing<'f> {
         reader
     }
 
-    /// The same, but nothing is said.
+    /// The reader of a file that is opened once more, for notes on a query. If there is none, nothing is said of that.
     pub(crate) fn open_quietly(&self, file: File<'_>) -> Option<HandedReader<'f>> {
         let (reader, _) = self.opened_again(file);
         reader

@@ -1,6 +1,6 @@
 //! Does what the words of a command line order, over files that are handed in.
 
-ghost use Rattle.std.specs.Prelude.{◌≡◌, ◌++◌, [], false, IfOk, OnOk, map};
+ghost use Rattle.std.specs.Prelude.{◌≡◌, ◌⊎◌, ◌++◌, [], false, IfOk, OnOk, map};
 ghost use Rattle.command_line.specs.Orders.{asks_why};
 ghost use Rattle.sfq_web.specs.HandedFiles.{OpensAs};
 ghost use Rattle.sfq_web.specs.Servings.{IsDone, IsMisusedAs, IsServed, ServesHanded, asking, handed};
@@ -92,7 +92,8 @@ fn serve_asked(alloc: Global, order: Order, handing: &mut Handing<'_>) -> Result
     }))
 }
 
-/// Does what an order says, and returns its status. The files are opened among those that are handed in.
+/// Does what an order says, and returns its status. To `more` it writes what explains a fault of the schema, of a table or of the query, or
+/// notes on a check, if the order asks why. The files are opened among those that are handed in.
 fn serve_handed(
     alloc: Global,
     order: &Order,
@@ -101,7 +102,7 @@ fn serve_handed(
     err: &mut MemorySink,
     more: &mut MemorySink,
 ) -> u8
-    ensures serves { ServesHanded out.old out.new (handed handing.old) order.now result err.old err.new }
+    ensures serves { ServesHanded out.old out.new more.old more.new (handed handing.old) order.now result err.old err.new }
     ensures unasked { asks_why order.now ≡ false → more.new ≡ more.old }
 {
     let opener = |file: File<'_>|
@@ -119,9 +120,10 @@ fn explained(
     handing: &Handing<'_>,
     mut said: MemorySink,
 ) -> Result<MemorySink, AllocError>
-    ensures { IfOk result (λ more. asks_why order.now ≡ false → more ≡ said) }
+    ensures kept { IfOk result (λ more. (memory_bytes said ≡ []) ⊎ (more ≡ said)) }
+    ensures unasked { IfOk result (λ more. asks_why order.now ≡ false → more ≡ said) }
 {
-    if !order.asks_why() || status == OUT_OF_MEMORY || !said.bytes().is_empty() {
+    if !said.bytes().is_empty() || !order.asks_why() || status == OUT_OF_MEMORY {
         return Ok(said);
     }
     let mut more = MemorySink::new(alloc);

@@ -1,6 +1,7 @@
 -- Each exit: the schema isn't read, or the command over it ends so, and its end is explained or not.
 use Rattle.std.proofs.Common.{Err, Ok, refl, subst}
 use Rattle.engine.specs.Commands.{ExplainsCheck}
+use Rattle.engine.proofs.ExplanationLemmas.{asked-of-file}
 use Rattle.text_commands.specs.Files.{OpensFile}
 use Rattle.engine.proofs.commands.serve_check.Goals as goal
 
@@ -13,7 +14,14 @@ returns-in-Err-clause-serves g c = record {
     opened = record { shown = c.args.paths.now.schema; shows = refl; called = c.opener.ensures };
     schema = Err c.in-Err.failure;
     read = c.in-Err.ensures.reads;
-    rest = (refl, (refl, c.in-Err.ensures.explains));
+    rest = (
+      refl,
+      (
+        refl,
+        asked-of-file g.R.Read.remaining g.M.Sink.taken g.M.Sink.failures c.args.more.now c.schema_in.new.more c.opener.result
+            c.in-Err.failure c.args.paths.now.why c.schema_in.ensures.unasked c.in-Err.ensures.explains,
+      ),
+    );
   };
   returned = c.failed.ensures.status;
   reported = c.failed.ensures.line;
@@ -33,7 +41,7 @@ returns-clause-serves g c = record {
       c.check_over-end.ensures.checks,
       subst (λ old. ExplainsCheck (OpensFile g.F.FnMut) g.R.Read.remaining g.M.Sink.taken g.M.Sink.failures old
           c.explain_check.new.more
-          c.check_over-end.new.opener c.args.paths.now.directory.now c.in-Ok.schema c.check_over-end.result)
+          c.check_over-end.new.opener c.args.paths.now.directory.now c.args.paths.now.why c.in-Ok.schema c.check_over-end.result)
           c.in-Ok.ensures.quiet c.explain_check.ensures.explains,
     );
   };

@@ -18,7 +18,8 @@ returns-in-Relate-clause-serves g c =
     let Serves : Order → Type 0 = λ order.
     ServesOrder (OpensFile g.F.FnMut) g.R.Read.remaining g.E.Sink.taken g.E.Sink.failures g.S.Sink.taken g.S.Sink.failures
     c.args.out.now new.out
-    g.M.Sink.taken g.M.Sink.failures c.args.more.now c.args.more.now c.args.opener order status c.args.err.now new.err in
+    g.M.Sink.taken g.M.Sink.failures c.args.more.now c.args.more.now c.args.why c.args.opener order status c.args.err.now
+    new.err in
     let Ends : List ℕ → List ℕ → Type 0 = λ first second. ServesTexts g.E.Sink.taken g.E.Sink.failures c.args.more.now c.args.more.now
     (words first second) status c.args.err.now new.err in
     subst Serves (sym c.in-Relate.is)
@@ -35,7 +36,8 @@ returns-in-Some-clause-serves g c =
     let Serves : Order → Type 0 = λ order.
     ServesOrder (OpensFile g.F.FnMut) g.R.Read.remaining g.E.Sink.taken g.E.Sink.failures g.S.Sink.taken g.S.Sink.failures
     c.args.out.now new.out
-    g.M.Sink.taken g.M.Sink.failures c.args.more.now c.args.more.now c.args.opener order status c.args.err.now new.err in
+    g.M.Sink.taken g.M.Sink.failures c.args.more.now c.args.more.now c.args.why c.args.opener order status c.args.err.now
+    new.err in
     let Ends : List ℕ → List ℕ → Type 0 = λ first second. ServesTexts g.E.Sink.taken g.E.Sink.failures c.args.more.now c.args.more.now
     (words first second) status c.args.err.now new.err in
     subst Serves (sym c.in-Why.is)
@@ -50,7 +52,7 @@ returns-in-Fault-clause-serves g c =
     let status = c.serve_fault.result in
     let Serves : Order → Type 0 = λ order.
     ServesOrder (OpensFile g.F.FnMut) g.R.Read.remaining g.E.Sink.taken g.E.Sink.failures g.S.Sink.taken g.S.Sink.failures
-    c.args.out.now new.out g.M.Sink.taken g.M.Sink.failures c.args.more.now c.args.more.now c.args.opener order status
+    c.args.out.now new.out g.M.Sink.taken g.M.Sink.failures c.args.more.now c.args.more.now c.args.why c.args.opener order status
     c.args.err.now new.err in
     subst Serves (sym c.in-Fault.is)
     (subst

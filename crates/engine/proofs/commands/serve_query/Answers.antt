@@ -28,8 +28,9 @@ returns-clause-serves g c =
         given = c.in-Ok.ensures.text;
         rest = subst
             (λ query. RunsFiles (OpensFile g.F.FnMut) g.R.Read.remaining g.S.Sink.taken g.S.Sink.failures c.args.out.now
-            c.serve_run.new.out g.M.Sink.taken g.M.Sink.failures c.args.more.now c.serve_run.new.more c.query_text.new.opener
-            paths.schema.now paths.directory.now query c.serve_run.ensures.serves.end) c.as_str.ensures.value
+            c.serve_run.new.out g.M.Sink.taken g.M.Sink.failures c.args.more.now c.serve_run.new.more paths.why
+            c.query_text.new.opener paths.schema.now paths.directory.now query c.serve_run.ensures.serves.end)
+            c.as_str.ensures.value
             c.serve_run.ensures.serves.ends;
       };
       returned = c.serve_run.ensures.serves.returned;
