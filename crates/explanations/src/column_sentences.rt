@@ -4,7 +4,6 @@ ghost use Rattle.std.specs.Prelude.{◌≡◌, IfOk};
 ghost use Rattle.explanations.specs.Faults.{query_place};
 ghost use Rattle.explanations.specs.Marks.{IsExplanation};
 
-use crate::expected::compares;
 use crate::named_tables::{
     Column, Named, arguments, column_at, column_named, found_column, function_at, named_tables,
 };
@@ -14,9 +13,10 @@ use crate::query_explanations::{
     Names, ambiguous_column, place_of, proposed, push_names, query_sentence,
 };
 use crate::query_sentences::token_at;
+use crate::query_words::Role;
 use crate::said_lines::explained;
-use crate::token_lists::{back, kind_of, written};
-use sql_text::lex::{lex, same_kind};
+use crate::token_lists::{back, compares, kind_of, written};
+use sql_text::lex::lex;
 use sql_text::{ColumnDef, ColumnType, Schema, TableDef};
 use std::alloc::{AllocError, Global};
 use table_model::faults::QueryFault;
@@ -164,9 +164,9 @@ fn argument_sentence(
     Ok(None)
 }
 
-/// What a function takes, by its place in the list: the first nine relate two geometries.
-fn taken(function: usize) -> &'static str {
-    if function < 9 {
+/// What a function takes.
+fn taken(function: Role) -> &'static str {
+    if function.relates() {
         " takes geometries"
     } else {
         " takes a geometry"
@@ -417,7 +417,7 @@ fn compared_column<'t>(tokens: &[Token<'t>], place: usize) -> Option<Column<'t>>
         return None;
     }
     let name = written(tokens, back(place, 2));
-    let is_full = same_kind(kind_of(tokens, back(place, 3)), TokenKind::Point);
+    let is_full = kind_of(tokens, back(place, 3)) == TokenKind::Point;
     let table = if is_full {
         written(tokens, back(place, 4))
     } else {

@@ -9,11 +9,10 @@ use crate::named_tables::{
     Named, arguments, byte_of, column_at, found_column, function_at, named_tables, type_at,
 };
 use crate::parts::{first, is, joined, shown};
-use crate::query_words::OWN_FUNCTIONS;
-use crate::token_lists::{back, kind_of, written};
+use crate::token_lists::{back, compares, is_order, kind_of, operand_start, written};
 use itoa::Buffer;
 use sql_text::Schema;
-use sql_text::lex::{lex, same_kind};
+use sql_text::lex::lex;
 use std::alloc::{AllocError, Global};
 use table_model::tokens::{Token, TokenKind};
 
@@ -131,8 +130,8 @@ fn note_at(
         return note_of(byte_of(tokens, place), sentence);
     }
     if let Some(function) = function_at(tokens, place)
-        && function < 10
-        && let Some(sentence) = never_sentence(alloc, tokens, place, tables, function)?
+        && function.is_condition()
+        && let Some(sentence) = never_sentence(alloc, tokens, place, tables)?
     {
         return note_of(byte_of(tokens, place), sentence);
     }
@@ -144,7 +143,10 @@ fn note_at(
     }
     if compares(kind_of(tokens, place)) && is_null_beside(tokens, place) {
         let sentence = joined(alloc, &[null_words(kind_of(tokens, place)).as_bytes()])?;
-        return note_of(byte_of(tokens, operand_before(tokens, place)), sentence);
+        return note_of(
+            byte_of(tokens, operand_start(tokens, back(place, 1))),
+            sentence,
+        );
     }
     Ok(None)
 }
@@ -168,7 +170,7 @@ fn alias_sentence(
     let Some(words) = join_words(alias) else {
         return Ok(None);
     };
-    if !same_kind(kind_of(tokens, next), TokenKind::Join) {
+    if kind_of(tokens, next) != TokenKind::Join {
         return Ok(None);
     }
     for table in tables {
@@ -247,14 +249,14 @@ fn are_joined(tokens: &[Token<'_>], tables: &[Named<'_, '_>]) -> bool {
     let mut right = false;
     for place in 0..tokens.len() {
         let kind = tokens[place].kind;
-        let begins = same_kind(kind, TokenKind::Where) || same_kind(kind, TokenKind::On);
+        let begins = kind == TokenKind::Where || kind == TokenKind::On;
         inside = inside || begins;
-        if begins || same_kind(kind, TokenKind::And) || same_kind(kind, TokenKind::Or) {
+        if begins || kind == TokenKind::And || kind == TokenKind::Or {
             left = false;
             right = false;
         }
         if inside
-            && !same_kind(kind_of(tokens, back(place, 1)), TokenKind::Point)
+            && kind_of(tokens, back(place, 1)) != TokenKind::Point
             && let Some(column) = column_at(tokens, place)
             && let Some((table, _)) = found_column(tables, column)
         {
@@ -276,7 +278,6 @@ fn never_sentence(
     tokens: &[Token<'_>],
     place: usize,
     tables: &[Named<'_, '_>],
-    function: usize,
 ) -> Result<Option<Vec<u8>>, AllocError> {
     let (left, right) = arguments(tokens, place);
     let Some(left) = type_at(tokens, left, tables) else {
@@ -285,10 +286,11 @@ fn never_sentence(
     let Some(right) = type_at(tokens, right, tables) else {
         return Ok(None);
     };
-    if !never_holds(function, left, right) {
+    let predicate = written(tokens, place);
+    if !never_holds(predicate, left, right) {
         return Ok(None);
     }
-    let name = shown(alloc, written(tokens, place))?;
+    let name = shown(alloc, predicate)?;
     Ok(Some(joined(
         alloc,
         &[
@@ -312,21 +314,19 @@ fn dimension(name: &[u8]) -> u8 {
     }
 }
 
-/// Whether a predicate, by its place in the list of functions, never holds of two geometries of these types.
-fn never_holds(function: usize, left: &[u8], right: &[u8]) -> bool {
+/// Whether a predicate of this name never holds of two geometries of these types.
+fn never_holds(predicate: &[u8], left: &[u8], right: &[u8]) -> bool {
     let (one, two) = (dimension(left), dimension(right));
     let has_point = is(left, "POINT") || is(right, "POINT");
-    if function >= 14 {
-        false
-    } else if is(OWN_FUNCTIONS[function], "ST_Touches") {
+    if is(predicate, "ST_Touches") {
         one == 0 && two == 0
-    } else if is(OWN_FUNCTIONS[function], "ST_Crosses") {
+    } else if is(predicate, "ST_Crosses") {
         has_point || (one == two && one != 1)
-    } else if is(OWN_FUNCTIONS[function], "ST_Overlaps") {
+    } else if is(predicate, "ST_Overlaps") {
         has_point || one != two
-    } else if is(OWN_FUNCTIONS[function], "ST_Contains") {
+    } else if is(predicate, "ST_Contains") {
         one < two
-    } else if is(OWN_FUNCTIONS[function], "ST_Within") {
+    } else if is(predicate, "ST_Within") {
         one > two
     } else {
         false
@@ -335,28 +335,13 @@ fn never_holds(function: usize, left: &[u8], right: &[u8]) -> bool {
 
 // ---- comparisons
 
-/// Whether a token compares by order.
-fn is_order(kind: TokenKind) -> bool {
-    same_kind(kind, TokenKind::Less)
-        || same_kind(kind, TokenKind::LessOrEqual)
-        || same_kind(kind, TokenKind::Greater)
-        || same_kind(kind, TokenKind::GreaterOrEqual)
-}
-
-/// Whether a token compares.
-fn compares(kind: TokenKind) -> bool {
-    is_order(kind) || same_kind(kind, TokenKind::Equal) || same_kind(kind, TokenKind::NotEqual)
-}
-
 /// The place of a string of digits beside the sign at a place.
 fn digits_beside(tokens: &[Token<'_>], place: usize) -> Option<usize> {
     let next = place.saturating_add(1);
     let before = back(place, 1);
-    if same_kind(kind_of(tokens, next), TokenKind::Text) && is_number(written(tokens, next)) {
+    if kind_of(tokens, next) == TokenKind::Text && is_number(written(tokens, next)) {
         Some(next)
-    } else if same_kind(kind_of(tokens, before), TokenKind::Text)
-        && is_number(written(tokens, before))
-    {
+    } else if kind_of(tokens, before) == TokenKind::Text && is_number(written(tokens, before)) {
         Some(before)
     } else {
         None
@@ -404,49 +389,15 @@ fn order_words(text: &[u8]) -> Option<&'static str> {
 
 /// Whether NULL is beside the sign at a place.
 fn is_null_beside(tokens: &[Token<'_>], place: usize) -> bool {
-    same_kind(kind_of(tokens, place.saturating_add(1)), TokenKind::Null)
-        || same_kind(kind_of(tokens, back(place, 1)), TokenKind::Null)
+    kind_of(tokens, place.saturating_add(1)) == TokenKind::Null
+        || kind_of(tokens, back(place, 1)) == TokenKind::Null
 }
 
 /// What is said of a comparison with NULL.
 fn null_words(kind: TokenKind) -> &'static str {
-    if same_kind(kind, TokenKind::NotEqual) {
+    if kind == TokenKind::NotEqual {
         "a comparison with NULL never holds: write IS NOT NULL"
     } else {
         "a comparison with NULL never holds: write IS NULL"
     }
-}
-
-/// The place of the first token of the operand before the sign at a place.
-fn operand_before(tokens: &[Token<'_>], place: usize) -> usize {
-    let before = back(place, 1);
-    if same_kind(kind_of(tokens, before), TokenKind::RightParenthesis) {
-        return call_before(tokens, before);
-    }
-    if same_kind(kind_of(tokens, back(place, 2)), TokenKind::Point)
-        || same_kind(kind_of(tokens, back(place, 2)), TokenKind::Minus)
-    {
-        if same_kind(kind_of(tokens, back(place, 2)), TokenKind::Minus) {
-            return back(place, 2);
-        }
-        return back(place, 3);
-    }
-    before
-}
-
-/// The place of the word of the call that ends at a place.
-fn call_before(tokens: &[Token<'_>], place: usize) -> usize {
-    let mut depth: usize = 0;
-    for count in 1..place.saturating_add(1) {
-        let kind = kind_of(tokens, back(place, count));
-        if same_kind(kind, TokenKind::RightParenthesis) {
-            depth = depth.saturating_add(1);
-        } else if same_kind(kind, TokenKind::LeftParenthesis) {
-            if depth == 0 {
-                return back(place, count.saturating_add(1));
-            }
-            depth = depth.saturating_sub(1);
-        }
-    }
-    place
 }

@@ -3,7 +3,7 @@
 ghost use Rattle.std.specs.Prelude.{◌≡◌, ◌<◌, length, IfSome, slice_get, Some};
 ghost use Rattle.table_model.specs.declared.tokens.Token.{Token};
 
-use crate::expected::{Expected, enclosing, expected_at, opening};
+use crate::expected::{Expected, expected_at};
 use crate::geometry_sentences::TYPES;
 use crate::nearest_names::nearest;
 use crate::parts::{
@@ -12,10 +12,11 @@ use crate::parts::{
 };
 use crate::query_explanations::Names;
 use crate::query_words::{
-    CLAUSES, FUNCTIONS, OWN_FUNCTIONS, STATEMENTS, SYMBOLS, TOKENS, own_words, to_come,
+    CLAUSES, FUNCTIONS, OWN_FUNCTIONS, Role, STATEMENTS, SYMBOLS, TOKENS, own_words, role_of,
+    to_come,
 };
-use crate::token_lists::{back, kind_of, written};
-use sql_text::lex::{lex, same_kind};
+use crate::token_lists::{back, enclosing, kind_of, opening, written};
+use sql_text::lex::lex;
 use std::alloc::{AllocError, Global};
 use table_model::tokens::{Token, TokenKind};
 
@@ -66,7 +67,7 @@ fn tokens_around<'t>(tokens: &[Token<'t>], place: usize) -> Around<'t> {
         next_kind: kind_of(tokens, next),
         later: written(tokens, place.saturating_add(2)),
         is_joined: are_joined(tokens, before, place),
-        is_enclosed: opening(tokens, place) < tokens.len(),
+        is_enclosed: opening(tokens, place).is_some(),
     }
 }
 
@@ -94,7 +95,7 @@ pub(crate) fn syntax_sentence(
         return joined(alloc, &[b"this isn't in the grammar of queries"]);
     };
     let near = tokens_around(tokens, place);
-    if same_kind(near.kind, TokenKind::End) {
+    if near.kind == TokenKind::End {
         return end_sentence(alloc, text, &near);
     }
     if let Some((found, sentence)) = listed(&near, names) {
@@ -122,7 +123,7 @@ pub(crate) fn syntax_sentence(
 
 /// The sentence of a query that ends too early.
 fn end_sentence(alloc: Global, text: &[u8], near: &Around<'_>) -> Result<Vec<u8>, AllocError> {
-    if near.before.is_empty() && same_kind(near.before_kind, TokenKind::End) {
+    if near.before.is_empty() && near.before_kind == TokenKind::End {
         return joined(alloc, &[b"the query is empty: it begins with SELECT"]);
     }
     let is_truth = is_one_of(near.before, "TRUE FALSE");
@@ -167,7 +168,7 @@ fn comment_words(text: &[u8]) -> &'static str {
 
 /// The word of a clause that others have, and what to do instead: before the place, where it was taken as a name, or at it.
 fn listed<'t>(near: &Around<'t>, names: &Names<'_>) -> Option<(&'t [u8], &'static str)> {
-    if same_kind(near.before_kind, TokenKind::Word)
+    if near.before_kind == TokenKind::Word
         && !names.has(near.before)
         && let Some(sentence) = said_of(near.before, &CLAUSES)
     {
@@ -177,7 +178,7 @@ fn listed<'t>(near: &Around<'t>, names: &Names<'_>) -> Option<(&'t [u8], &'stati
         || near.expected == Expected::IsNot
         || near.expected == Expected::CountStar
         || near.expected == Expected::Number;
-    if has_own || same_kind(near.kind, TokenKind::Text) {
+    if has_own || near.kind == TokenKind::Text {
         return None;
     }
     if is(near.here, "NOT")
@@ -196,7 +197,7 @@ fn said_at(near: &Around<'_>) -> Option<&'static str> {
     if let Some(sentence) = said_of_signs(near) {
         return Some(sentence);
     }
-    let here: &[u8] = if same_kind(near.kind, TokenKind::Text) {
+    let here: &[u8] = if near.kind == TokenKind::Text {
         b"'"
     } else {
         near.here
@@ -298,7 +299,7 @@ fn is_function(near: &Around<'_>) -> bool {
         || near.expected == Expected::Condition
         || near.expected == Expected::Value
         || near.expected == Expected::Argument;
-    is_place && same_kind(near.kind, TokenKind::Word) && is(near.next, "(")
+    is_place && near.kind == TokenKind::Word && is(near.next, "(")
 }
 
 /// The sentence of a function that can't be there.
@@ -318,8 +319,8 @@ fn function_sentence(alloc: Global, near: &Around<'_>) -> Result<Vec<u8>, AllocE
     if let Some(sentence) = said_of(prefixed.as_slice(), &FUNCTIONS) {
         return worded(alloc, "", near.here, sentence);
     }
-    if let Some(place) = place_in(&OWN_FUNCTIONS, near.here) {
-        return worded(alloc, "", near.here, misplaced(place));
+    if let Some(role) = role_of(near.here) {
+        return worded(alloc, "", near.here, misplaced(role));
     }
     let close = match place_in(&OWN_FUNCTIONS, prefixed.as_slice()) {
         Some(place) => Some(place),
@@ -343,9 +344,9 @@ fn function_sentence(alloc: Global, near: &Around<'_>) -> Result<Vec<u8>, AllocE
     }
 }
 
-/// What is said of a function of the language in the wrong place, by its place in the list: the first ten are conditions.
-fn misplaced(place: usize) -> &'static str {
-    if place < 10 {
+/// What is said of a function of the language in the wrong place.
+fn misplaced(role: Role) -> &'static str {
+    if role.is_condition() {
         " is a condition: write it after WHERE or ON, or where one is to come"
     } else {
         " can't be here: a condition compares it with a value"
@@ -354,36 +355,30 @@ fn misplaced(place: usize) -> &'static str {
 
 /// What is said of a function of the language with too few or too many arguments, after its name.
 fn call_sentence<'t>(tokens: &[Token<'t>], place: usize) -> Option<(&'t [u8], &'static str)> {
-    let (called, commas) = enclosing(tokens, place);
+    let (called, commas) = enclosing(tokens, place)?;
     let function = written(tokens, called);
-    let number = place_in(&OWN_FUNCTIONS, function)?;
-    let here = kind_of(tokens, place);
-    let ends = same_kind(here, TokenKind::RightParenthesis);
-    let goes_on = same_kind(here, TokenKind::Comma);
-    if number < 8 && ends && commas == 0 {
-        Some((function, " takes two geometries, with a comma between them"))
-    } else if number < 8 && goes_on && commas >= 1 {
-        Some((function, " takes two geometries: leave the rest out"))
-    } else if number == 8 && (ends || (commas == 2 && !goes_on)) {
-        Some((
-            function,
-            " takes two geometries and a pattern, as 'T*F**F***'",
-        ))
-    } else if 9 <= number && number < 12 && goes_on {
-        Some((function, " takes one geometry: leave the rest out"))
-    } else if number == 12 && goes_on {
-        Some((function, " takes one text: reference systems aren't taken"))
-    } else {
-        None
-    }
+    let role = role_of(function)?;
+    let ends = kind_of(tokens, place) == TokenKind::RightParenthesis;
+    let goes_on = kind_of(tokens, place) == TokenKind::Comma;
+    let words = match role {
+        Role::Relation if ends && commas == 0 => " takes two geometries, with a comma between them",
+        Role::Relation if goes_on && commas >= 1 => " takes two geometries: leave the rest out",
+        Role::Pattern if ends || (commas == 2 && !goes_on) => {
+            " takes two geometries and a pattern, as 'T*F**F***'"
+        }
+        Role::Test | Role::Value if goes_on => " takes one geometry: leave the rest out",
+        Role::Geometry if goes_on => " takes one text: reference systems aren't taken",
+        _ => return None,
+    };
+    Some((function, words))
 }
 
 // ---- numbers
 
 /// The sentence of what is joined to a number, or comes before a text, and isn't one here.
 fn number_sentence(alloc: Global, near: &Around<'_>) -> Result<Option<Vec<u8>>, AllocError> {
-    let is_number = same_kind(near.before_kind, TokenKind::Integer);
-    let goes_on = same_kind(near.next_kind, TokenKind::Integer);
+    let is_number = near.before_kind == TokenKind::Integer;
+    let goes_on = near.next_kind == TokenKind::Integer;
     let whole: &[u8] = if is_number { near.before } else { b"" };
     if is_number && goes_on && is(near.here, "-") && is_date(near) {
         let sentence = b"a date is a text: write it in single quotes, as '2026-01-31'";
@@ -396,7 +391,7 @@ fn number_sentence(alloc: Global, near: &Around<'_>) -> Result<Option<Vec<u8>>, 
         let after = " isn't whole: numbers are whole here; sfq-import brings data to a grid";
         return joined_number(alloc, whole, near.here, behind, after);
     }
-    if !is_number || !near.is_joined || !same_kind(near.kind, TokenKind::Word) {
+    if !is_number || !near.is_joined || near.kind != TokenKind::Word {
         return Ok(None);
     }
     let after = if has_exponent(near.here) {
@@ -437,14 +432,14 @@ fn other_sentence(
     near: &Around<'_>,
     names: &Names<'_>,
 ) -> Result<Vec<u8>, AllocError> {
-    if same_kind(near.kind, TokenKind::Text) {
+    if near.kind == TokenKind::Text {
         return text_sentence(alloc, near, names);
     }
     if is_one_of(near.here, "+ - *") && is_value_before(near.expected) {
         let sentence = " isn't there: values are taken as they are, without arithmetic";
         return worded(alloc, "", near.here, sentence);
     }
-    if same_kind(near.before_kind, TokenKind::Word)
+    if near.before_kind == TokenKind::Word
         && is_table_before(near.expected)
         && let Some(word) = misspelt(alloc, near.before, Expected::AfterFirst)?
     {
@@ -504,7 +499,7 @@ fn text_sentence(
     let is_behind = near.expected == Expected::AfterComparison
         || near.expected == Expected::Comparison
         || near.expected == Expected::Grouped;
-    if is_behind && same_kind(near.before_kind, TokenKind::Word) && !names.has(near.before) {
+    if is_behind && near.before_kind == TokenKind::Word && !names.has(near.before) {
         let sentence = " can't be before a text: write the text alone";
         return worded(alloc, "", near.before, sentence);
     }

@@ -2,6 +2,7 @@
 //! other engines have, and symbols that aren't in the language.
 
 use crate::expected::Expected;
+use crate::parts::{is, is_one_of, place_in};
 
 /// What can come at a place that isn't one of those that `TOKENS` has for every token, as a sentence says it.
 pub(crate) fn to_come(expected: Expected) -> &'static str {
@@ -444,7 +445,7 @@ pub(crate) const FUNCTIONS: [(&str, &str); 22] = [
     ),
 ];
 
-/// The functions of the language. The first nine relate two geometries, and the first ten are conditions.
+/// The functions of the language.
 pub(crate) const OWN_FUNCTIONS: [&[u8]; 14] = [
     b"ST_Equals",
     b"ST_Disjoint",
@@ -461,6 +462,52 @@ pub(crate) const OWN_FUNCTIONS: [&[u8]; 14] = [
     b"ST_GeomFromText",
     b"COUNT",
 ];
+
+/// What a function of the language takes and gives.
+#[derive(Clone, Copy, PartialEq, Eq)]
+pub(crate) enum Role {
+    /// A condition on two geometries, and one that takes a pattern too.
+    Relation,
+    Pattern,
+    /// A condition on one geometry.
+    Test,
+    /// A number or a text of one geometry.
+    Value,
+    /// A geometry of a text.
+    Geometry,
+    /// The number of rows.
+    Count,
+}
+
+impl Role {
+    /// Whether the function takes two geometries.
+    pub(crate) fn relates(self) -> bool {
+        matches!(self, Role::Relation | Role::Pattern)
+    }
+
+    /// Whether the function is a condition.
+    pub(crate) fn is_condition(self) -> bool {
+        self.relates() || self == Role::Test
+    }
+}
+
+/// The role of the function of this name, in any ASCII case, if the language has it. Those without a word of their own here are relations.
+pub(crate) fn role_of(name: &[u8]) -> Option<Role> {
+    place_in(&OWN_FUNCTIONS, name)?;
+    Some(if is(name, "ST_Relate") {
+        Role::Pattern
+    } else if is(name, "ST_IsEmpty") {
+        Role::Test
+    } else if is_one_of(name, "ST_AsText ST_Dimension") {
+        Role::Value
+    } else if is(name, "ST_GeomFromText") {
+        Role::Geometry
+    } else if is(name, "COUNT") {
+        Role::Count
+    } else {
+        Role::Relation
+    })
+}
 
 /// What texts begin with where no token of the language does, and what is said of it.
 pub(crate) const SYMBOLS: [(&[u8], &str); 26] = [

@@ -14,7 +14,7 @@ use crate::query_explanations::Names;
 use crate::query_sentences::{byte_sentence, token_at};
 use crate::said_lines::explained;
 use crate::token_lists::{back, kind_of, written};
-use sql_text::lex::{lex, same_kind};
+use sql_text::lex::lex;
 use std::alloc::{AllocError, Global};
 use table_model::faults::SchemaFault;
 use table_model::tokens::{Token, TokenKind};
@@ -267,9 +267,9 @@ fn expected_at(tokens: &[Token<'_>], place: usize) -> Expected {
 fn part_start(tokens: &[Token<'_>], place: usize) -> usize {
     for count in 1..place.saturating_add(1) {
         let kind = kind_of(tokens, back(place, count));
-        if same_kind(kind, TokenKind::LeftParenthesis)
-            || same_kind(kind, TokenKind::Comma)
-            || same_kind(kind, TokenKind::Semicolon)
+        if kind == TokenKind::LeftParenthesis
+            || kind == TokenKind::Comma
+            || kind == TokenKind::Semicolon
         {
             return back(place, count).saturating_add(1);
         }
@@ -280,7 +280,7 @@ fn part_start(tokens: &[Token<'_>], place: usize) -> usize {
 /// Whether the part that begins at a place is a column.
 fn is_inside(tokens: &[Token<'_>], start: usize) -> bool {
     let before = kind_of(tokens, back(start, 1));
-    same_kind(before, TokenKind::LeftParenthesis) || same_kind(before, TokenKind::Comma)
+    before == TokenKind::LeftParenthesis || before == TokenKind::Comma
 }
 
 /// What is said of a token that is none of those that can come.
