@@ -8,7 +8,8 @@ use crate::marks::marked;
 use crate::named_tables::{
     Named, arguments, byte_of, column_at, found_column, function_at, named_tables, type_at,
 };
-use crate::parts::{first, is, joined, shown};
+use crate::parts::{Said, first, is, said_of, say};
+use crate::sentences::ALIASES;
 use crate::token_lists::{back, compares, is_order, kind_of, operand_start, written};
 use itoa::Buffer;
 use sql_text::Schema;
@@ -44,12 +45,7 @@ pub fn query_notes(
 }
 
 /// These lines, and those of a note behind them.
-fn with_note(
-    alloc: Global,
-    text: &[u8],
-    before: Vec<u8>,
-    note: Option<Note>,
-) -> Result<Vec<u8>, AllocError>
+fn with_note(alloc: Global, text: &[u8], before: Vec<u8>, note: Option<Note>) -> Said
     ensures { IfOk result (λ notes. AddsNote text.now before.items notes.items) }
 {
     let more = noted(alloc, text, note)?;
@@ -59,7 +55,7 @@ fn with_note(
 }
 
 /// The lines of a note; none, if there is none.
-fn noted(alloc: Global, text: &[u8], note: Option<Note>) -> Result<Vec<u8>, AllocError>
+fn noted(alloc: Global, text: &[u8], note: Option<Note>) -> Said
     ensures { IfOk result (λ lines. IsNote text.now lines.items) }
 {
     match note {
@@ -69,12 +65,7 @@ fn noted(alloc: Global, text: &[u8], note: Option<Note>) -> Result<Vec<u8>, Allo
 }
 
 /// The two lines that show a place, and the line of a note.
-fn lines_of_note(
-    alloc: Global,
-    text: &[u8],
-    at: usize,
-    sentence: &[u8],
-) -> Result<Vec<u8>, AllocError>
+fn lines_of_note(alloc: Global, text: &[u8], at: usize, sentence: &[u8]) -> Said
     ensures { IfOk result (λ lines. IsNoteAt text.now at lines.items) }
 {
     let mut lines = marked(alloc, text, at)?;
@@ -84,7 +75,7 @@ fn lines_of_note(
 }
 
 /// The line of a note.
-fn note_line(alloc: Global, sentence: &[u8]) -> Result<Vec<u8>, AllocError>
+fn note_line(alloc: Global, sentence: &[u8]) -> Said
     ensures { IfOk result (λ line. line.items ≡ spec.noted sentence.now) }
 {
     let mut line = Vec::from_slice(alloc, b"sfq: note: ")?;
@@ -142,7 +133,7 @@ fn note_at(
         return note_of(byte_of(tokens, text), sentence);
     }
     if compares(kind_of(tokens, place)) && is_null_beside(tokens, place) {
-        let sentence = joined(alloc, &[null_words(kind_of(tokens, place)).as_bytes()])?;
+        let sentence = say(alloc, null_words(kind_of(tokens, place)), &[])?;
         return note_of(
             byte_of(tokens, operand_start(tokens, back(place, 1))),
             sentence,
@@ -166,40 +157,18 @@ fn alias_sentence(
     tables: &[Named<'_, '_>],
 ) -> Result<Option<Vec<u8>>, AllocError> {
     let alias = written(tokens, place);
-    let next = place.saturating_add(1);
-    let Some(words) = join_words(alias) else {
-        return Ok(None);
-    };
-    if kind_of(tokens, next) != TokenKind::Join {
+    if kind_of(tokens, place.saturating_add(1)) != TokenKind::Join {
         return Ok(None);
     }
+    let Some(form) = said_of(alias, &ALIASES) else {
+        return Ok(None);
+    };
     for table in tables {
         if table.alias == Some(place) {
-            let alias = shown(alloc, alias)?;
-            let name = shown(alloc, table.table)?;
-            return Ok(Some(joined(
-                alloc,
-                &[
-                    alias.as_slice(),
-                    b" is an alias of ",
-                    name.as_slice(),
-                    words.as_bytes(),
-                ],
-            )?));
+            return Ok(Some(say(alloc, form, &[alias, table.table])?));
         }
     }
     Ok(None)
-}
-
-/// What is said of an alias that is a word of JOIN elsewhere.
-fn join_words(alias: &[u8]) -> Option<&'static str> {
-    if is(alias, "LEFT") || is(alias, "RIGHT") || is(alias, "FULL") || is(alias, "OUTER") {
-        Some(" here: JOIN gives the rows that have a partner")
-    } else if is(alias, "NATURAL") {
-        Some(" here: the rows are those for which ON holds")
-    } else {
-        None
-    }
 }
 
 // ---- pairs
@@ -223,23 +192,13 @@ fn pairs_sentence(
     if many.saturating_mul(more) <= PAIRS {
         return Ok(None);
     }
-    let first = shown(alloc, left.name)?;
-    let second = shown(alloc, right.name)?;
-    let mut number = Buffer::new();
-    let mut other = Buffer::new();
-    Ok(Some(joined(
-        alloc,
-        &[
-            b"no condition joins ",
-            first.as_slice(),
-            b" and ",
-            second.as_slice(),
-            b": each of ",
-            number.format(many).as_bytes(),
-            b" rows meets each of ",
-            other.format(more).as_bytes(),
-        ],
-    )?))
+    let (mut first, mut second) = (Buffer::new(), Buffer::new());
+    let (many, more) = (
+        first.format(many).as_bytes(),
+        second.format(more).as_bytes(),
+    );
+    let form = "no condition joins {} and {}: each of {=} rows meets each of {=}";
+    Ok(Some(say(alloc, form, &[left.name, right.name, many, more])?))
 }
 
 /// Whether one comparison or predicate has columns of both tables: it is between two words of conditions.
@@ -290,17 +249,10 @@ fn never_sentence(
     if !never_holds(predicate, left, right) {
         return Ok(None);
     }
-    let name = shown(alloc, predicate)?;
-    Ok(Some(joined(
-        alloc,
-        &[
-            name.as_slice(),
-            b" never holds of a ",
-            left,
-            b" and a ",
-            right,
-        ],
-    )?))
+    let mut sentence = say(alloc, "{} never holds of a ", &[predicate])?;
+    let types = say(alloc, "{=} and a {=}", &[left, right])?;
+    sentence.extend_from_slice(types.as_slice())?;
+    Ok(Some(sentence))
 }
 
 /// The dimension of the geometries of a type.
@@ -354,36 +306,20 @@ fn is_number(text: &[u8]) -> bool {
 }
 
 /// The sentence of a text of digits that is compared by order, with a number that comes elsewhere than its value does.
-fn text_sentence(alloc: Global, text: &[u8]) -> Result<Vec<u8>, AllocError> {
-    let name = shown(alloc, text)?;
-    let mut sentence = joined(
-        alloc,
-        &[
-            b"'",
-            name.as_slice(),
-            b"' is a text, and texts are compared byte by byte",
-        ],
-    )?;
-    let Some(words) = order_words(text) else {
-        return Ok(sentence);
-    };
-    sentence.extend_from_slice(words.as_bytes())?;
-    sentence.extend_from_slice(name.as_slice())?;
-    sentence.extend_from_slice(b"'")?;
-    Ok(sentence)
+fn text_sentence(alloc: Global, text: &[u8]) -> Said {
+    say(alloc, order_words(text), &[text, text])
 }
 
-/// Which number comes elsewhere than its value does, beside a text of digits.
-fn order_words(text: &[u8]) -> Option<&'static str> {
+/// What is said of a text of digits, with a number that comes elsewhere than its value does, if there is a short one.
+fn order_words(text: &[u8]) -> &'static str {
     let begins = first(text);
-    if begins == b'0' || text.len() > 18 {
-        None
-    } else if text.len() > 1 && begins < b'9' {
-        Some(": '9' comes after '")
-    } else if text.len() == 1 && begins > b'1' {
-        Some(": '10' comes before '")
+    let is_plain = begins != b'0' && text.len() <= 18;
+    if is_plain && text.len() > 1 && begins < b'9' {
+        "'{}' is a text, and texts are compared byte by byte: '9' comes after '{}'"
+    } else if is_plain && text.len() == 1 && begins > b'1' {
+        "'{}' is a text, and texts are compared byte by byte: '10' comes before '{}'"
     } else {
-        None
+        "'{}' is a text, and texts are compared byte by byte"
     }
 }
 
