@@ -85,11 +85,10 @@ class Cases(unittest.TestCase):
         cases = wrong_cases.all_cases()
         texts = [it.decode(errors="replace") for case in cases for it in case.files.values() if it]
         asked = "\n".join([*(it for case in cases for it in case.words), *texts])
-        for name, tables, least in (("query_words", 3, 100), ("geometry_sentences", 1, 10), ("schema_explanations", 4, 50)):
-            found = re.findall(r"^(?:pub\(crate\) )?const \w+: \[\(&str, &str\); \d+\] = \[\n(.*?)^\];", source(name), re.M | re.S)
-            words = " ".join(re.findall(r'\(\s*"([\w ]+)",', "".join(found))).split()
-            self.assertTrue(len(found) >= tables and len(words) >= least, (name, words))
-            self.assertEqual([it for it in words if not re.search(rf"\b{it}\b", asked, re.I)], [], name)
+        found = re.findall(r"^pub\(crate\) const \w+: \[&str; \d+\] = \[\n(.*?)^\];", source("sentences"), re.M | re.S)
+        words = " ".join(re.findall(r'^    "([\w ]+) => ', "".join(found), re.M)).split()
+        self.assertTrue(len(found) >= 9 and len(words) >= 170, (len(found), words))
+        self.assertEqual([it for it in words if not re.search(rf"\b{it}\b", asked, re.I)], [])
 
     def test_what_can_come_is_said_of_two_texts(self):
         """The phrases for what can come at a place, and the sentences of single tokens, each of which a case has."""
@@ -97,10 +96,10 @@ class Cases(unittest.TestCase):
         phrases = re.findall(r'"([^"]+ (?:is|are) to come)"', source("query_words"))
         self.assertGreaterEqual(len(phrases), 20)
         self.assertEqual([it for it in phrases if sum(it in line for line in said) < 2], [])
-        text = source("query_words")
-        rows = text[text.index("const THIRD") : text.index("const CHANGES")]
-        sentences = [it for it in re.findall(r'"([^"\n]+)"', rows) if " " in it and re.search("[a-z]{2}", it)]
-        self.assertGreaterEqual(len(sentences), 30)
+        text = source("sentences")
+        rows = text[text.index("fn tokens_at") : text.index("const STATEMENTS")]
+        sentences = re.findall(r'"[^"\n]* => ([^"\n]+)"', rows)
+        self.assertGreaterEqual(len(sentences), 40)
         self.assertEqual([it for it in sentences if f"sfq: {it}" not in said], [])
 
     def test_there_are_enough(self):

@@ -179,7 +179,7 @@ LISTS = [
     Place("crates/geometry_model/specs/TextReading.antt", r"^typed at name", r'codes "(\w+)"\) then .*pure \((\w+) ', list(SHAPES.items())),
     Place("crates/explanations/src/geometry_sentences.rt", r"^pub\(crate\) const TYPES", r'b"(\w+)"', SHAPE_WORDS, r"\n\];"),
     Place("crates/explanations/src/query_words.rt", r"^pub\(crate\) const OWN_FUNCTIONS", r'b"(\w+)"', [*FUNCTIONS, "COUNT"], r"\n\];", True),
-    Place("crates/explanations/src/schema_explanations.rt", r"isn't a type here: there are ", r"\b([A-Z]{3,})\b", COLUMN_WORDS, r'"', True),
+    Place("crates/explanations/src/sentences.rt", r"isn't a type here: there are ", r"\b([A-Z]{3,})\b", COLUMN_WORDS, r'"', True),
     Place("crates/explanations/src/schema_explanations.rt", r"^const TYPES", r'b"(\w+)"', COLUMN_WORDS, r"\n\];", True),
     Place("crates/record_reasons/specs/ReasonTexts.antt", r"^type_word", r'shapes\.(\w+) = codes "(\w+)"', TYPED),
     Place("crates/sfq_tiles/specs/SchemaTexts.antt", r"^shape_text", r'shapes\.(\w+)\) = codes "(\w+)"', TYPED),

@@ -4,19 +4,18 @@ ghost use Rattle.std.specs.Prelude.{◌≡◌, IfOk};
 ghost use Rattle.explanations.specs.Faults.{query_place};
 ghost use Rattle.explanations.specs.Marks.{IsExplanation};
 
-use crate::expected::compares;
 use crate::named_tables::{
     Column, Named, arguments, column_at, column_named, found_column, function_at, named_tables,
 };
 use crate::nearest_names::nearest;
-use crate::parts::{is, joined, place_in, shown, worded};
-use crate::query_explanations::{
-    Names, ambiguous_column, place_of, proposed, push_names, query_sentence,
-};
+use crate::parts::{Said, is, place_in, say, say_both, shown};
+use crate::query_explanations::{Names, place_of, proposed, push_names, query_sentence};
 use crate::query_sentences::token_at;
+use crate::query_words::Role;
 use crate::said_lines::explained;
-use crate::token_lists::{back, kind_of, written};
-use sql_text::lex::{lex, same_kind};
+use crate::sentences::query_form;
+use crate::token_lists::{back, compares, kind_of, written};
+use sql_text::lex::lex;
 use sql_text::{ColumnDef, ColumnType, Schema, TableDef};
 use std::alloc::{AllocError, Global};
 use table_model::faults::QueryFault;
@@ -36,12 +35,7 @@ pub fn query_explained_over(
 }
 
 /// The sentence of a fault of a query over the tables of a schema: by those of FROM, or by the names of the schema.
-fn sentence_over(
-    alloc: Global,
-    text: &[u8],
-    fault: QueryFault,
-    schema: &Schema,
-) -> Result<Vec<u8>, AllocError> {
+fn sentence_over(alloc: Global, text: &[u8], fault: QueryFault, schema: &Schema) -> Said {
     let list = lex(alloc, text, true)?;
     let tokens = list.as_slice();
     let named = named_tables(alloc, tokens, schema)?;
@@ -124,7 +118,8 @@ fn column_sentence(
         QueryFault::UnknownColumn(_) => lacking_sentence(alloc, tokens, place, tables, names),
         QueryFault::AmbiguousColumn(_) if !tables.is_empty() => {
             let name = written(tokens, place);
-            Ok(Some(ambiguous_column(alloc, name, tables[0].name)?))
+            let parts: [&[u8]; 3] = [name, tables[0].name, name];
+            Ok(Some(say(alloc, query_form(fault), &parts)?))
         }
         _ => Ok(None),
     }
@@ -146,38 +141,31 @@ fn argument_sentence(
     for argument in [first, second] {
         if let Some(column) = column_at(tokens, argument)
             && let Some((_, found)) = found_column(tables, column)
-            && let Some(kind) = plain_kind(found)
+            && let Some(form) = plain_form(found)
         {
             let name = full_name(alloc, column)?;
-            let called = shown(alloc, written(tokens, place))?;
-            return Ok(Some(joined(
-                alloc,
-                &[
-                    name.as_slice(),
-                    kind.as_bytes(),
-                    called.as_slice(),
-                    taken(function).as_bytes(),
-                ],
-            )?));
+            let mut sentence = say_both(alloc, form, name.as_slice(), written(tokens, place))?;
+            sentence.extend_from_slice(taken(function).as_bytes())?;
+            return Ok(Some(sentence));
         }
     }
     Ok(None)
 }
 
-/// What a function takes, by its place in the list: the first nine relate two geometries.
-fn taken(function: usize) -> &'static str {
-    if function < 9 {
+/// What a function takes.
+fn taken(function: Role) -> &'static str {
+    if function.relates() {
         " takes geometries"
     } else {
         " takes a geometry"
     }
 }
 
-/// What is said of the type of a column that isn't of geometries.
-fn plain_kind(column: &ColumnDef) -> Option<&'static str> {
+/// What is said of the type of a column that isn't of geometries, and of a function.
+fn plain_form(column: &ColumnDef) -> Option<&'static str> {
     match &column.column_type {
-        ColumnType::Integer => Some(" is a number, and "),
-        ColumnType::Text => Some(" is a text, and "),
+        ColumnType::Integer => Some("{=} is a number, and {}"),
+        ColumnType::Text => Some("{=} is a text, and {}"),
         ColumnType::Geometry(_) => None,
     }
 }
@@ -224,26 +212,22 @@ fn comparison_sentence(
     };
     for side in [&left, &right] {
         if side.kind == Kind::Geometry {
-            let sentence = " is a geometry: geometries are compared by ST_Equals";
-            return Ok(Some(worded(alloc, "", side.written.as_slice(), sentence)?));
+            let sentence = "{} is a geometry: geometries are compared by ST_Equals";
+            return Ok(Some(say(alloc, sentence, &[side.written.as_slice()])?));
         }
     }
     Ok(Some(unequal_sentence(alloc, &left, &right)?))
 }
 
 /// The sentence of a number and a text.
-fn unequal_sentence(
-    alloc: Global,
-    left: &Compared,
-    right: &Compared,
-) -> Result<Vec<u8>, AllocError> {
-    let mut sentence = Vec::from_slice(alloc, left.written.as_slice())?;
-    sentence.extend_from_slice(b" is a ")?;
-    sentence.extend_from_slice(kind_word(left.kind).as_bytes())?;
-    sentence.extend_from_slice(b", and ")?;
-    sentence.extend_from_slice(right.written.as_slice())?;
-    sentence.extend_from_slice(b" a ")?;
-    sentence.extend_from_slice(kind_word(right.kind).as_bytes())?;
+fn unequal_sentence(alloc: Global, left: &Compared, right: &Compared) -> Said {
+    let (one, two) = (
+        kind_word(left.kind).as_bytes(),
+        kind_word(right.kind).as_bytes(),
+    );
+    let mut sentence = say_both(alloc, "{=} is a {=}, and ", left.written.as_slice(), one)?;
+    let other = say_both(alloc, "{=} a {=}", right.written.as_slice(), two)?;
+    sentence.extend_from_slice(other.as_slice())?;
     if push_value(&mut sentence, left)? || push_value(&mut sentence, right)? {
         return Ok(sentence);
     }
@@ -284,8 +268,8 @@ fn compared_at(
 ) -> Result<Option<Compared>, AllocError> {
     let text = written(tokens, place);
     match kind_of(tokens, place) {
-        TokenKind::Integer => literal(alloc, text, Kind::Number, ""),
-        TokenKind::Text => literal(alloc, text, Kind::Text, "'"),
+        TokenKind::Integer => literal(alloc, text, Kind::Number, "{}"),
+        TokenKind::Text => literal(alloc, text, Kind::Text, "'{}'"),
         _ => {
             let (name, kind) = match column_at(tokens, place) {
                 Some(column) => (full_name(alloc, column)?, kind_of_column(tables, column)),
@@ -308,10 +292,10 @@ fn literal(
     alloc: Global,
     text: &[u8],
     kind: Kind,
-    quote: &str,
+    form: &str,
 ) -> Result<Option<Compared>, AllocError> {
     Ok(Some(Compared {
-        written: worded(alloc, quote, text, quote)?,
+        written: say(alloc, form, &[text])?,
         kind,
         literal: Vec::from_slice(alloc, text)?,
     }))
@@ -339,13 +323,11 @@ fn kind_of_function(name: &[u8]) -> Option<Kind> {
 }
 
 /// A column as the query writes it.
-fn full_name(alloc: Global, column: Column<'_>) -> Result<Vec<u8>, AllocError> {
-    let name = shown(alloc, column.name)?;
+fn full_name(alloc: Global, column: Column<'_>) -> Said {
     if column.table.is_empty() {
-        return Ok(name);
+        return shown(alloc, column.name);
     }
-    let table = shown(alloc, column.table)?;
-    joined(alloc, &[table.as_slice(), b".", name.as_slice()])
+    say(alloc, "{}.{}", &[column.table, column.name])
 }
 
 // ---- names
@@ -395,17 +377,8 @@ fn text_hint(
     if !is_text || nearest(alloc, word, names.columns)?.is_some() {
         return Ok(None);
     }
-    let name = shown(alloc, word)?;
-    Ok(Some(joined(
-        alloc,
-        &[
-            b"there is no column ",
-            name.as_slice(),
-            b": a text is in single quotes, as '",
-            name.as_slice(),
-            b"'",
-        ],
-    )?))
+    let form = "there is no column {}: a text is in single quotes, as '{}'";
+    Ok(Some(say(alloc, form, &[word, word])?))
 }
 
 /// The column with which the word at a place is compared.
@@ -417,7 +390,7 @@ fn compared_column<'t>(tokens: &[Token<'t>], place: usize) -> Option<Column<'t>>
         return None;
     }
     let name = written(tokens, back(place, 2));
-    let is_full = same_kind(kind_of(tokens, back(place, 3)), TokenKind::Point);
+    let is_full = kind_of(tokens, back(place, 3)) == TokenKind::Point;
     let table = if is_full {
         written(tokens, back(place, 4))
     } else {
@@ -427,36 +400,20 @@ fn compared_column<'t>(tokens: &[Token<'t>], place: usize) -> Option<Column<'t>>
 }
 
 /// The sentence of a table that FROM doesn't have under this name.
-fn table_sentence(
-    alloc: Global,
-    column: Column<'_>,
-    tables: &[Named<'_, '_>],
-) -> Result<Vec<u8>, AllocError> {
-    let called = shown(alloc, column.table)?;
+fn table_sentence(alloc: Global, column: Column<'_>, tables: &[Named<'_, '_>]) -> Said {
     let mut names: Vec<&[u8]> = Vec::new(alloc);
     for table in tables {
         if column.table.eq_ignore_ascii_case(table.table) {
-            let alias = shown(alloc, table.name)?;
-            let name = shown(alloc, column.name)?;
-            return joined(
+            let form = "{} is called {} here: write {}.{}";
+            return say(
                 alloc,
-                &[
-                    called.as_slice(),
-                    b" is called ",
-                    alias.as_slice(),
-                    b" here: write ",
-                    alias.as_slice(),
-                    b".",
-                    name.as_slice(),
-                ],
+                form,
+                &[column.table, table.name, table.name, column.name],
             );
         }
         names.push(table.name)?;
     }
-    let mut sentence = joined(
-        alloc,
-        &[b"FROM has no table ", called.as_slice(), b": it has "],
-    )?;
+    let mut sentence = say(alloc, "FROM has no table {}: it has ", &[column.table])?;
     push_names(&mut sentence, names.as_slice())?;
     Ok(sentence)
 }
@@ -467,32 +424,16 @@ fn lacking_words(
     column: Column<'_>,
     table: &TableDef,
     other: Option<&[u8]>,
-) -> Result<Vec<u8>, AllocError> {
-    let called = shown(alloc, column.table)?;
-    let name = shown(alloc, column.name)?;
+) -> Said {
     if let Some(other) = other {
-        let there = shown(alloc, other)?;
-        return joined(
-            alloc,
-            &[
-                called.as_slice(),
-                b" has no column ",
-                name.as_slice(),
-                b": ",
-                there.as_slice(),
-                b" has it",
-            ],
-        );
+        let parts: [&[u8]; 3] = [column.table, column.name, other];
+        return say(alloc, "{} has no column {}: {} has it", &parts);
     }
     let mut names: Vec<&[u8]> = Vec::new(alloc);
     for column in table.columns.as_slice() {
         names.push(column.name.bytes())?;
     }
     let close = nearest(alloc, column.name, names.as_slice())?;
-    proposed(
-        alloc,
-        &[called.as_slice(), b" has no column ", name.as_slice()],
-        close,
-        names.as_slice(),
-    )
+    let sentence = say(alloc, "{} has no column {}", &[column.table, column.name])?;
+    proposed(sentence, close, names.as_slice())
 }

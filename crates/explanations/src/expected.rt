@@ -1,9 +1,9 @@
 //! What can come at a place of a query, by the tokens before it, which begin a query (the grammar: `table_model`).
 
-use crate::parts::{is, place_in};
-use crate::query_words::OWN_FUNCTIONS;
-use crate::token_lists::{back, kind_of, written};
-use sql_text::lex::same_kind;
+use crate::query_words::{Role, role_of};
+use crate::token_lists::{
+    back, called_by, compares, enclosing, kind_of, opening, operand_start, written,
+};
 use table_model::tokens::{Token, TokenKind};
 
 /// What can come at a place of a query.
@@ -91,7 +91,7 @@ pub(crate) fn expected_at(tokens: &[Token<'_>], place: usize) -> Expected {
 
 /// What follows a NOT.
 fn after_not(tokens: &[Token<'_>], place: usize) -> Expected {
-    if same_kind(kind_of(tokens, back(place, 1)), TokenKind::Is) {
+    if kind_of(tokens, back(place, 1)) == TokenKind::Is {
         Expected::IsNot
     } else {
         Expected::Condition
@@ -100,82 +100,39 @@ fn after_not(tokens: &[Token<'_>], place: usize) -> Expected {
 
 /// What follows a `*`.
 fn after_star(tokens: &[Token<'_>], place: usize) -> Expected {
-    if same_kind(kind_of(tokens, back(place, 1)), TokenKind::LeftParenthesis) {
+    if kind_of(tokens, back(place, 1)) == TokenKind::LeftParenthesis {
         Expected::Close
     } else {
         Expected::AfterStar
     }
 }
 
-/// The place of the function whose parenthesis is open before a place, and how many commas are between them; past every list, if none is.
-pub(crate) fn enclosing(tokens: &[Token<'_>], place: usize) -> (usize, usize) {
-    let mut depth: usize = 0;
-    let mut commas: usize = 0;
-    for count in 1..place.saturating_add(1) {
-        let at = back(place, count);
-        let kind = kind_of(tokens, at);
-        if same_kind(kind, TokenKind::RightParenthesis) {
-            depth = depth.saturating_add(1);
-        } else if same_kind(kind, TokenKind::Comma) && depth == 0 {
-            commas = commas.saturating_add(1);
-        } else if same_kind(kind, TokenKind::LeftParenthesis) {
-            if depth == 0 {
-                return (called_by(tokens, at), commas);
-            }
-            depth = depth.saturating_sub(1);
-        }
-    }
-    (usize::MAX, 0)
-}
-
-/// The place of the word before a parenthesis; past every list, if none is there.
-fn called_by(tokens: &[Token<'_>], place: usize) -> usize {
-    if same_kind(kind_of(tokens, back(place, 1)), TokenKind::Word) {
-        back(place, 1)
-    } else {
-        usize::MAX
-    }
-}
-
-/// The place of the parenthesis that the one at a place closes; past every list, if there is none.
-pub(crate) fn opening(tokens: &[Token<'_>], place: usize) -> usize {
-    let mut depth: usize = 0;
-    for count in 1..place.saturating_add(1) {
-        let at = back(place, count);
-        if same_kind(kind_of(tokens, at), TokenKind::RightParenthesis) {
-            depth = depth.saturating_add(1);
-        } else if same_kind(kind_of(tokens, at), TokenKind::LeftParenthesis) {
-            if depth == 0 {
-                return at;
-            }
-            depth = depth.saturating_sub(1);
-        }
-    }
-    usize::MAX
-}
-
 /// The clause that a place is in: the last of the words that begin one.
 fn clause(tokens: &[Token<'_>], place: usize) -> TokenKind {
     for count in 1..place.saturating_add(1) {
-        let kind = kind_of(tokens, back(place, count));
-        if same_kind(kind, TokenKind::Select)
-            || same_kind(kind, TokenKind::From)
-            || same_kind(kind, TokenKind::On)
-            || same_kind(kind, TokenKind::Where)
-            || same_kind(kind, TokenKind::Limit)
-        {
-            return kind;
+        match kind_of(tokens, back(place, count)) {
+            TokenKind::Select => return TokenKind::Select,
+            TokenKind::From => return TokenKind::From,
+            TokenKind::On => return TokenKind::On,
+            TokenKind::Where => return TokenKind::Where,
+            TokenKind::Limit => return TokenKind::Limit,
+            _ => {}
         }
     }
     TokenKind::End
 }
 
+/// The role of the function whose call ends with the parenthesis at a place.
+fn role_ended(tokens: &[Token<'_>], place: usize) -> Option<Role> {
+    let called = called_by(tokens, opening(tokens, place)?)?;
+    role_of(written(tokens, called))
+}
+
 /// What follows a comma.
 fn after_comma(tokens: &[Token<'_>], place: usize) -> Expected {
-    let (called, _) = enclosing(tokens, place);
-    if !same_kind(kind_of(tokens, called), TokenKind::End) {
+    if enclosing(tokens, place).is_some() {
         Expected::Argument
-    } else if same_kind(clause(tokens, place), TokenKind::Select) {
+    } else if clause(tokens, place) == TokenKind::Select {
         Expected::Item
     } else {
         Expected::Table
@@ -184,53 +141,45 @@ fn after_comma(tokens: &[Token<'_>], place: usize) -> Expected {
 
 /// What follows an opening parenthesis.
 fn after_opening(tokens: &[Token<'_>], place: usize) -> Expected {
-    let called = written(tokens, called_by(tokens, place));
-    if called.is_empty() {
-        Expected::Condition
-    } else if is(called, "COUNT") {
-        Expected::CountStar
-    } else if is(called, "ST_GeomFromText") {
-        Expected::String
-    } else if same_kind(clause(tokens, place), TokenKind::Select) {
-        Expected::ItemArgument
-    } else {
-        Expected::Argument
+    let Some(called) = called_by(tokens, place) else {
+        return Expected::Condition;
+    };
+    match role_of(written(tokens, called)) {
+        Some(Role::Count) => Expected::CountStar,
+        Some(Role::Geometry) => Expected::String,
+        _ if clause(tokens, place) == TokenKind::Select => Expected::ItemArgument,
+        _ => Expected::Argument,
     }
 }
 
 /// What follows a closing parenthesis.
 fn after_closing(tokens: &[Token<'_>], place: usize) -> Expected {
-    let called = called_by(tokens, opening(tokens, place));
-    match place_in(&OWN_FUNCTIONS, written(tokens, called)) {
-        Some(13) => Expected::AfterCount,
-        Some(12) => after_argument(tokens, place),
-        Some(10) | Some(11) => after_operand(tokens, place),
-        Some(_) if !same_kind(clause(tokens, place), TokenKind::Select) => {
-            after_condition(tokens, place, Expected::AfterPredicate)
-        }
-        Some(_) => Expected::AfterItem,
-        None => after_condition(tokens, place, Expected::AfterPredicate),
+    match role_ended(tokens, place) {
+        Some(Role::Count) => Expected::AfterCount,
+        Some(Role::Geometry) => after_argument(tokens, place),
+        Some(Role::Value) => after_operand(tokens, place),
+        Some(_) if clause(tokens, place) == TokenKind::Select => Expected::AfterItem,
+        _ => after_condition(tokens, place, Expected::AfterPredicate),
     }
 }
 
 /// What follows an argument that ends at a place.
 fn after_argument(tokens: &[Token<'_>], place: usize) -> Expected {
-    let (called, commas) = enclosing(tokens, place.saturating_add(1));
-    match place_in(&OWN_FUNCTIONS, written(tokens, called)) {
-        Some(function) if function < 9 && commas == 0 => Expected::Comma,
-        Some(8) if commas == 1 => Expected::Comma,
+    let Some((called, commas)) = enclosing(tokens, place.saturating_add(1)) else {
+        return Expected::Close;
+    };
+    match role_of(written(tokens, called)) {
+        Some(role) if role.relates() && commas == 0 => Expected::Comma,
+        Some(Role::Pattern) if commas == 1 => Expected::Comma,
         _ => Expected::Close,
     }
 }
 
 /// What follows a condition that ends at a place.
 fn after_condition(tokens: &[Token<'_>], place: usize, outside: Expected) -> Expected {
-    if !same_kind(
-        kind_of(tokens, opening(tokens, place.saturating_add(1))),
-        TokenKind::End,
-    ) {
+    if opening(tokens, place.saturating_add(1)).is_some() {
         Expected::Grouped
-    } else if same_kind(clause(tokens, place), TokenKind::On) {
+    } else if clause(tokens, place) == TokenKind::On {
         Expected::AfterOn
     } else {
         outside
@@ -239,16 +188,15 @@ fn after_condition(tokens: &[Token<'_>], place: usize, outside: Expected) -> Exp
 
 /// What follows a word.
 fn after_word(tokens: &[Token<'_>], place: usize) -> Expected {
-    let (called, _) = enclosing(tokens, place);
     if place == 0 {
         Expected::Explained
-    } else if place == 1 && !same_kind(kind_of(tokens, 0), TokenKind::Select) {
+    } else if place == 1 && kind_of(tokens, 0) != TokenKind::Select {
         Expected::Analyzed
-    } else if !same_kind(kind_of(tokens, called), TokenKind::End) {
+    } else if enclosing(tokens, place).is_some() {
         after_argument(tokens, place)
-    } else if same_kind(clause(tokens, place), TokenKind::Select) {
+    } else if clause(tokens, place) == TokenKind::Select {
         Expected::AfterItem
-    } else if same_kind(clause(tokens, place), TokenKind::From) {
+    } else if clause(tokens, place) == TokenKind::From {
         after_table(tokens, place)
     } else {
         after_operand(tokens, place)
@@ -259,7 +207,7 @@ fn after_word(tokens: &[Token<'_>], place: usize) -> Expected {
 fn after_table(tokens: &[Token<'_>], place: usize) -> Expected {
     for count in 1..4 {
         let at = back(place, count);
-        let is_crossed = same_kind(kind_of(tokens, back(at, 1)), TokenKind::Cross);
+        let is_crossed = kind_of(tokens, back(at, 1)) == TokenKind::Cross;
         match kind_of(tokens, at) {
             TokenKind::From => return Expected::AfterFirst,
             TokenKind::Comma => return Expected::AfterSecond,
@@ -271,43 +219,18 @@ fn after_table(tokens: &[Token<'_>], place: usize) -> Expected {
     Expected::AfterFirst
 }
 
-/// The place of the first token of the value that ends at a place.
-fn operand_start(tokens: &[Token<'_>], place: usize) -> usize {
-    let before = kind_of(tokens, back(place, 1));
-    if same_kind(kind_of(tokens, place), TokenKind::RightParenthesis) {
-        back(opening(tokens, place), 1)
-    } else if same_kind(before, TokenKind::Point) {
-        back(place, 2)
-    } else if same_kind(before, TokenKind::Plus) || same_kind(before, TokenKind::Minus) {
-        back(place, 1)
-    } else {
-        place
-    }
-}
-
-/// Whether a token compares.
-pub(crate) fn compares(kind: TokenKind) -> bool {
-    same_kind(kind, TokenKind::Equal)
-        || same_kind(kind, TokenKind::NotEqual)
-        || same_kind(kind, TokenKind::Less)
-        || same_kind(kind, TokenKind::LessOrEqual)
-        || same_kind(kind, TokenKind::Greater)
-        || same_kind(kind, TokenKind::GreaterOrEqual)
-}
-
 /// What follows a value that ends at a place: a number of LIMIT, an argument, or a side of a comparison.
 fn after_operand(tokens: &[Token<'_>], place: usize) -> Expected {
-    let (called, _) = enclosing(tokens, place.saturating_add(1));
     let before = kind_of(tokens, back(operand_start(tokens, place), 1));
-    if same_kind(clause(tokens, place), TokenKind::Limit) {
+    if clause(tokens, place) == TokenKind::Limit {
         Expected::End
-    } else if same_kind(clause(tokens, place), TokenKind::Select) {
+    } else if clause(tokens, place) == TokenKind::Select {
         Expected::AfterItem
-    } else if !same_kind(kind_of(tokens, called), TokenKind::End) {
+    } else if enclosing(tokens, place.saturating_add(1)).is_some() {
         Expected::Close
     } else if compares(before) {
         after_condition(tokens, place, Expected::AfterComparison)
-    } else if same_kind(before, TokenKind::Is) || same_kind(before, TokenKind::Not) {
+    } else if before == TokenKind::Is || before == TokenKind::Not {
         after_null(tokens, place)
     } else {
         Expected::Comparison
@@ -318,7 +241,7 @@ fn after_operand(tokens: &[Token<'_>], place: usize) -> Expected {
 fn after_null(tokens: &[Token<'_>], place: usize) -> Expected {
     let before = kind_of(tokens, back(place, 1));
     let second = kind_of(tokens, back(place, 2));
-    if same_kind(before, TokenKind::Is) || same_kind(second, TokenKind::Is) {
+    if before == TokenKind::Is || second == TokenKind::Is {
         after_condition(tokens, place, Expected::AfterPredicate)
     } else {
         Expected::Comparison
@@ -328,10 +251,9 @@ fn after_null(tokens: &[Token<'_>], place: usize) -> Expected {
 /// What follows a sign of a comparison.
 fn after_sign(tokens: &[Token<'_>], place: usize) -> Expected {
     let before = back(place, 1);
-    let called = called_by(tokens, opening(tokens, before));
-    let is_closing = same_kind(kind_of(tokens, before), TokenKind::RightParenthesis);
-    match place_in(&OWN_FUNCTIONS, written(tokens, called)) {
-        Some(function) if is_closing && function < 10 => Expected::Truth,
+    let is_closing = kind_of(tokens, before) == TokenKind::RightParenthesis;
+    match role_ended(tokens, before) {
+        Some(role) if is_closing && role.is_condition() => Expected::Truth,
         _ => Expected::Value,
     }
 }

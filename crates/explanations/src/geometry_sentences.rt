@@ -2,11 +2,12 @@
 
 use crate::nearest_names::nearest;
 use crate::parts::{
-    before, character, first, front, is, is_one_of, joined, last, number, place_in, rest, said_of,
-    shown, trimmed, trimmed_back, word, worded, worded_with,
+    Said, before, character, first, front, is, is_one_of, joined, last, number, place_in, rest,
+    said_of, say, trimmed, trimmed_back, word,
 };
+use crate::sentences::GEOMETRY_TYPES;
 use geometry_model::{TextFault, ValidityFault};
-use std::alloc::{AllocError, Global};
+use std::alloc::Global;
 
 /// The types of geometries.
 pub(crate) const TYPES: [&[u8]; 6] = [
@@ -18,72 +19,35 @@ pub(crate) const TYPES: [&[u8]; 6] = [
     b"MULTIPOLYGON",
 ];
 
-/// Words that others begin a geometry with, with blanks between them, and what is said after the word.
-const OTHER_TYPES: [(&str, &str); 10] = [
-    (
-        "GEOMETRYCOLLECTION",
-        " isn't taken: relate its parts one by one",
-    ),
-    (
-        "CIRCULARSTRING COMPOUNDCURVE CURVEPOLYGON MULTICURVE",
-        " isn't taken: curves aren't; write lines for them",
-    ),
-    (
-        "MULTISURFACE TIN POLYHEDRALSURFACE",
-        " isn't taken: write MULTIPOLYGON",
-    ),
-    ("TRIANGLE", " isn't taken: write POLYGON"),
-    ("LINEARRING", " isn't taken: write LINESTRING"),
-    ("LINE", " isn't a type: write LINESTRING"),
-    (
-        "BOX ENVELOPE",
-        " isn't taken: write POLYGON, and its four corners",
-    ),
-    ("NULL", " isn't a geometry: leave the field empty for NULL"),
-    (
-        "EMPTY",
-        " comes after a type: write POINT EMPTY for a point that isn't there",
-    ),
-    ("SRID EPSG", " isn't a type: write the geometry alone"),
-];
-
 /// The sentence of a fault of a geometry's text.
-pub(crate) fn text_sentence(
-    alloc: Global,
-    text: &[u8],
-    fault: TextFault,
-) -> Result<Vec<u8>, AllocError> {
+pub(crate) fn text_sentence(alloc: Global, text: &[u8], fault: TextFault) -> Said {
     match fault {
         TextFault::Syntax(place) => syntax_sentence(alloc, text, place),
         TextFault::OffGrid(place) => fraction_sentence(alloc, rest(text, place)),
         TextFault::OutOfRange(place) => range_sentence(alloc, rest(text, place)),
-        TextFault::TooLong => joined(alloc, &[size_sentence(text).as_bytes()]),
+        TextFault::TooLong => say(alloc, size_sentence(text), &[]),
     }
 }
 
 /// The sentence of a number that isn't whole.
-fn fraction_sentence(alloc: Global, text: &[u8]) -> Result<Vec<u8>, AllocError> {
+fn fraction_sentence(alloc: Global, text: &[u8]) -> Said {
     let found = number(text);
     let words = if found.contains(&b'e') || found.contains(&b'E') {
-        " has an exponent: write all its digits"
+        "{} has an exponent: write all its digits"
     } else {
-        " isn't whole: scale or round the coordinates; sfq-import does"
+        "{} isn't whole: scale or round the coordinates; sfq-import does"
     };
-    worded(alloc, "", found, words)
+    say(alloc, words, &[found])
 }
 
-/// What is said of a number that is too large, by its sign.
-fn range_words(text: &[u8]) -> &'static str {
-    if first(text) == b'-' {
-        " is past -10000000: sfq-import moves and scales coordinates to a grid"
+/// The sentence of a number that is too large, by its sign.
+fn range_sentence(alloc: Global, text: &[u8]) -> Said {
+    let form = if first(text) == b'-' {
+        "{} is past -10000000: sfq-import moves and scales coordinates to a grid"
     } else {
-        " is past 10000000: sfq-import moves and scales coordinates to a grid"
-    }
-}
-
-/// The sentence of a number that is too large.
-fn range_sentence(alloc: Global, text: &[u8]) -> Result<Vec<u8>, AllocError> {
-    worded(alloc, "", number(text), range_words(text))
+        "{} is past 10000000: sfq-import moves and scales coordinates to a grid"
+    };
+    say(alloc, form, &[number(text)])
 }
 
 /// The sentence of a geometry that is too large: commas are between positions.
@@ -102,31 +66,23 @@ fn size_sentence(text: &[u8]) -> &'static str {
 }
 
 /// The sentence of a text that isn't well-known text.
-fn syntax_sentence(alloc: Global, text: &[u8], place: usize) -> Result<Vec<u8>, AllocError> {
+fn syntax_sentence(alloc: Global, text: &[u8], place: usize) -> Said {
     let written = trimmed(text);
     if let Some(sentence) = other_form(written) {
-        return joined(alloc, &[sentence.as_bytes()]);
+        return say(alloc, sentence, &[]);
     }
     if is(front(written, 5), "SRID=") {
-        let found = shown(alloc, before(written, b';'))?;
-        return joined(
-            alloc,
-            &[found.as_slice(), b"; isn't taken: write the geometry alone"],
-        );
+        let found = before(written, b';');
+        return say(alloc, "{}; isn't taken: write the geometry alone", &[found]);
     }
     let name = word(written);
     if place_in(&TYPES, name).is_none() {
         return type_sentence(alloc, name);
     }
-    if is_blank(rest(text, place)) {
-        return joined(alloc, &[end_sentence(front(text, place)).as_bytes()]);
+    if trimmed(rest(text, place)).is_empty() {
+        return say(alloc, end_sentence(front(text, place)), &[]);
     }
     place_sentence(alloc, name, front(text, place), rest(text, place))
-}
-
-/// Whether a text is white space.
-fn is_blank(text: &[u8]) -> bool {
-    trimmed(text).is_empty()
 }
 
 /// The sentence of a text in another form.
@@ -165,27 +121,23 @@ fn is_hex(byte: &u8) -> bool {
 }
 
 /// The sentence of a word that is no type.
-fn type_sentence(alloc: Global, name: &[u8]) -> Result<Vec<u8>, AllocError> {
-    if let Some(sentence) = said_of(name, &OTHER_TYPES) {
-        return worded(alloc, "", name, sentence);
-    }
-    if let Some(sentence) = ending_of(name) {
-        return worded(alloc, "", name, sentence);
+fn type_sentence(alloc: Global, name: &[u8]) -> Said {
+    if let Some(form) = said_of(name, &GEOMETRY_TYPES).or(ending_of(name)) {
+        return say(alloc, form, &[name]);
     }
     match nearest(alloc, name, &TYPES)? {
-        Some(place) if place < 6 => worded_with(
-            alloc,
-            "",
-            name,
-            " isn't a type: did you mean ",
-            TYPES[place],
-        ),
-        _ => worded(
-            alloc,
-            "",
-            name,
-            " isn't a type: there are POINT, MULTIPOINT, LINESTRING, MULTILINESTRING, POLYGON, MULTIPOLYGON",
-        ),
+        Some(place) if place < 6 => {
+            say(
+                alloc,
+                "{} isn't a type: did you mean {=}?",
+                &[name, TYPES[place]],
+            )
+        }
+        _ => {
+            let form =
+                "{} isn't a type: there are POINT, MULTIPOINT, LINESTRING, MULTILINESTRING, POLYGON, MULTIPOLYGON";
+            say(alloc, form, &[name])
+        }
     }
 }
 
@@ -206,15 +158,10 @@ fn ending_of(name: &[u8]) -> Option<&'static str> {
 }
 
 /// What is said of heights.
-const HEIGHTS: &str = ": heights aren't taken; leave Z and the third numbers out";
+const HEIGHTS: &str = "{}: heights aren't taken; leave Z and the third numbers out";
 
 /// What is said of measures.
-const MEASURES: &str = ": measures aren't taken; leave M and the third numbers out";
-
-/// What is said of heights or measures.
-fn dimension_words(is_height: bool) -> &'static str {
-    if is_height { HEIGHTS } else { MEASURES }
-}
+const MEASURES: &str = "{}: measures aren't taken; leave M and the third numbers out";
 
 /// How many numbers come after the last parenthesis or comma.
 fn numbers(text: &[u8]) -> usize {
@@ -267,27 +214,23 @@ fn end_sentence(text: &[u8]) -> &'static str {
 }
 
 /// The sentence of what is at a place, in the text of a geometry of a type.
-fn place_sentence(
-    alloc: Global,
-    name: &[u8],
-    text: &[u8],
-    found: &[u8],
-) -> Result<Vec<u8>, AllocError> {
+fn place_sentence(alloc: Global, name: &[u8], text: &[u8], found: &[u8]) -> Said {
     let at = word(found);
     let is_front = trimmed_back(trimmed(text)).len() <= name.len();
     if is_front && is_one_of(at, "Z M ZM") {
         let kind = joined(alloc, &[name, b" ", at])?;
-        return worded(alloc, "", kind.as_slice(), dimension_words(!is(at, "M")));
+        let form = if is(at, "M") { MEASURES } else { HEIGHTS };
+        return say(alloc, form, &[kind.as_slice()]);
     }
     if is_front {
-        return worded(alloc, "( or EMPTY is to come after ", name, "");
+        return say(alloc, "( or EMPTY is to come after {}", &[name]);
     }
     if opened(text) == 0 {
         return after_sentence(alloc, found);
     }
     if is(at, "EMPTY") {
-        let before = "an element isn't EMPTY: leave it out, or write ";
-        return worded(alloc, before, name, " EMPTY for none");
+        let form = "an element isn't EMPTY: leave it out, or write {} EMPTY for none";
+        return say(alloc, form, &[name]);
     }
     let behind = last(trimmed_back(text));
     if behind == b'(' || behind == b',' {
@@ -296,23 +239,18 @@ fn place_sentence(
     if behind != b')' {
         return second_sentence(alloc, name, text, found);
     }
-    unexpected(alloc, "a comma or ) is to come, and not ", found)
-}
-
-/// The sentence of a character where something else is to come.
-fn unexpected(alloc: Global, before: &str, found: &[u8]) -> Result<Vec<u8>, AllocError> {
-    worded(alloc, before, character(found), "")
+    let form = "a comma or ) is to come, and not {}";
+    say(alloc, form, &[character(found)])
 }
 
 /// The sentence of what comes after a geometry.
-fn after_sentence(alloc: Global, found: &[u8]) -> Result<Vec<u8>, AllocError> {
+fn after_sentence(alloc: Global, found: &[u8]) -> Said {
     if first(found).is_ascii_alphanumeric() {
-        return joined(
-            alloc,
-            &[b"the geometry ends before this: write one in a word"],
-        );
+        let form = "the geometry ends before this: write one in a word";
+        return say(alloc, form, &[]);
     }
-    unexpected(alloc, "the geometry ends before this ", found)
+    let form = "the geometry ends before this {}";
+    say(alloc, form, &[character(found)])
 }
 
 /// Whether a byte begins a number.
@@ -332,113 +270,80 @@ fn depth(name: &[u8]) -> usize {
 }
 
 /// The sentence where a number or a parenthesis is to come, behind `(` or a comma.
-fn missing_sentence(
-    alloc: Global,
-    name: &[u8],
-    text: &[u8],
-    found: &[u8],
-) -> Result<Vec<u8>, AllocError> {
+fn missing_sentence(alloc: Global, name: &[u8], text: &[u8], found: &[u8]) -> Said {
     let byte = first(found);
     let behind = last(trimmed_back(text));
     let is_outside = opened(text) < depth(name);
     if byte == b')' && behind == b'(' {
-        return worded(
-            alloc,
-            "a number is to come here: write ",
-            name,
-            " EMPTY for one without positions",
-        );
+        let form = "a number is to come here: write {} EMPTY for one without positions";
+        return say(alloc, form, &[name]);
     }
     if is_outside && begins_number(byte) {
-        return worded(
-            alloc,
-            part_words(name, true),
-            name,
-            " has parentheses of its own",
-        );
+        return say(alloc, part_words(name, true), &[name]);
     }
     if byte == b'(' {
-        return worded(
-            alloc,
-            part_words(name, false),
-            name,
-            " has one pair of parentheses",
-        );
+        return say(alloc, part_words(name, false), &[name]);
     }
     if byte == b')' || byte == b',' && behind == b',' {
-        return joined(alloc, &[comma_words(is_outside).as_bytes()]);
+        let form = if is_outside {
+            "( is to come after the comma"
+        } else {
+            "a number is to come after the comma"
+        };
+        return say(alloc, form, &[]);
     }
     if byte == b',' {
-        return unexpected(alloc, "a number is to come here, and not ", found);
+        let form = "a number is to come here, and not {}";
+        return say(alloc, form, &[character(found)]);
     }
     number_sentence(alloc, found)
-}
-
-/// What is to come after a comma, outside a list of positions or in one.
-fn comma_words(is_outside: bool) -> &'static str {
-    if is_outside {
-        "( is to come after the comma"
-    } else {
-        "a number is to come after the comma"
-    }
 }
 
 /// The words of what a geometry of a type has in parentheses, where one is to come or a number.
 fn part_words(name: &[u8], opens: bool) -> &'static str {
     let is_line = is(name, "MULTILINESTRING");
     if opens && is(name, "POLYGON") {
-        "( is to come here: each ring of a "
+        "( is to come here: each ring of a {} has parentheses of its own"
     } else if opens && is(name, "MULTIPOLYGON") {
-        "( is to come here: each polygon of a "
+        "( is to come here: each polygon of a {} has parentheses of its own"
     } else if opens && is_line {
-        "( is to come here: each line of a "
+        "( is to come here: each line of a {} has parentheses of its own"
     } else if opens {
-        "( is to come here: each point of a "
+        "( is to come here: each point of a {} has parentheses of its own"
     } else if is_line {
-        "a number is to come here: a line of a "
+        "a number is to come here: a line of a {} has one pair of parentheses"
     } else if depth(name) > 1 {
-        "a number is to come here: a ring of a "
+        "a number is to come here: a ring of a {} has one pair of parentheses"
     } else {
-        "a number is to come here: a "
+        "a number is to come here: a {} has one pair of parentheses"
     }
 }
 
 /// The sentence of what begins no number where one is to come.
-fn number_sentence(alloc: Global, found: &[u8]) -> Result<Vec<u8>, AllocError> {
-    let words = " isn't a number: coordinates are whole numbers";
+fn number_sentence(alloc: Global, found: &[u8]) -> Said {
     if begins_number(first(found)) {
-        return worded(
-            alloc,
-            "",
-            number(found),
-            " isn't a number: coordinates are whole numbers, with one sign or none",
-        );
+        let form = "{} isn't a number: coordinates are whole numbers, with one sign or none";
+        return say(alloc, form, &[number(found)]);
     }
-    if word(found).is_empty() {
-        return worded(alloc, "", character(found), words);
-    }
-    worded(alloc, "", word(found), words)
+    let part = if word(found).is_empty() {
+        character(found)
+    } else {
+        word(found)
+    };
+    let form = "{} isn't a number: coordinates are whole numbers";
+    say(alloc, form, &[part])
 }
 
 /// The sentence within a position, or after it.
-fn second_sentence(
-    alloc: Global,
-    name: &[u8],
-    text: &[u8],
-    found: &[u8],
-) -> Result<Vec<u8>, AllocError> {
+fn second_sentence(alloc: Global, name: &[u8], text: &[u8], found: &[u8]) -> Said {
     let at = first(found);
     let is_joined = last(text).is_ascii_digit();
     if is_joined && (at.is_ascii_alphabetic() || at == b'_') {
         return joined_sentence(alloc, text, found);
     }
     if is_joined && at >= 128 {
-        return worded(
-            alloc,
-            "",
-            character(found),
-            " isn't in a number: coordinates are whole numbers",
-        );
+        let form = "{} isn't in a number: coordinates are whole numbers";
+        return say(alloc, form, &[character(found)]);
     }
     if numbers(text) >= 2 {
         return third_sentence(alloc, name, text, found);
@@ -452,14 +357,14 @@ fn second_sentence(
     } else {
         return number_sentence(alloc, found);
     };
-    joined(alloc, &[sentence.as_bytes()])
+    say(alloc, sentence, &[])
 }
 
 /// The sentence of letters behind the digits of a number.
-fn joined_sentence(alloc: Global, text: &[u8], found: &[u8]) -> Result<Vec<u8>, AllocError> {
+fn joined_sentence(alloc: Global, text: &[u8], found: &[u8]) -> Said {
     let behind = first(rest(found, 1));
     if is(front(found, 1), "E") && (behind.is_ascii_digit() || behind == b'-' || behind == b'+') {
-        return joined(alloc, &[b"a number has no exponent: write all its digits"]);
+        return say(alloc, "a number has no exponent: write all its digits", &[]);
     }
     let mut whole = text;
     for at in 0..text.len() {
@@ -468,21 +373,12 @@ fn joined_sentence(alloc: Global, text: &[u8], found: &[u8]) -> Result<Vec<u8>, 
         }
     }
     let number = joined(alloc, &[whole, word(found)])?;
-    worded(
-        alloc,
-        "",
-        number.as_slice(),
-        " isn't a number: write it in digits, 0 to 9",
-    )
+    let form = "{} isn't a number: write it in digits, 0 to 9";
+    say(alloc, form, &[number.as_slice()])
 }
 
 /// The sentence after the two numbers of a position.
-fn third_sentence(
-    alloc: Global,
-    name: &[u8],
-    text: &[u8],
-    found: &[u8],
-) -> Result<Vec<u8>, AllocError> {
+fn third_sentence(alloc: Global, name: &[u8], text: &[u8], found: &[u8]) -> Said {
     let at = first(found);
     let sentence = if begins_number(at) {
         third_words(name, found)
@@ -491,11 +387,12 @@ fn third_sentence(
     } else if at == b',' {
         ") is to come: each point of a MULTIPOINT has parentheses of its own, or none"
     } else if is(name, "POINT") || opened(text) > depth(name) {
-        return unexpected(alloc, ") is to come, and not ", found);
+        return say(alloc, ") is to come, and not {}", &[character(found)]);
     } else {
-        return unexpected(alloc, "a comma or ) is to come, and not ", found);
+        let form = "a comma or ) is to come, and not {}";
+        return say(alloc, form, &[character(found)]);
     };
-    joined(alloc, &[sentence.as_bytes()])
+    say(alloc, sentence, &[])
 }
 
 /// What is said of further numbers in a position: of one it is a height, and of more a comma is missing.

@@ -18,6 +18,7 @@ mod query_words;
 mod record_parts;
 mod said_lines;
 mod schema_explanations;
+mod sentences;
 mod table_explanations;
 mod table_fronts;
 mod table_sentences;

@@ -2,10 +2,9 @@
 
 use crate::geometry_sentences::TYPES;
 use crate::parts::{place_in, trimmed, word};
-use crate::query_words::OWN_FUNCTIONS;
-use crate::token_lists::{kind_of, written};
+use crate::query_words::{Role, role_of};
+use crate::token_lists::{called_by, kind_of, written};
 use geometry_model::GeometryType;
-use sql_text::lex::same_kind;
 use sql_text::{ColumnDef, ColumnType, Schema, TableDef};
 use std::alloc::{AllocError, Global};
 use table_model::tokens::{Token, TokenKind};
@@ -35,12 +34,12 @@ pub(crate) fn named_tables<'t, 's>(
     let mut inside = false;
     for place in 0..tokens.len() {
         let kind = tokens[place].kind;
-        let is_from = same_kind(kind, TokenKind::From);
+        let is_from = kind == TokenKind::From;
         inside = is_from || (inside && !ends_from(kind));
         let next = place.saturating_add(1);
         if inside
-            && (is_from || same_kind(kind, TokenKind::Comma) || same_kind(kind, TokenKind::Join))
-            && same_kind(kind_of(tokens, next), TokenKind::Word)
+            && (is_from || kind == TokenKind::Comma || kind == TokenKind::Join)
+            && kind_of(tokens, next) == TokenKind::Word
             && let Some(named) = named_at(tokens, next, schema)
         {
             tables.push(named)?;
@@ -51,9 +50,7 @@ pub(crate) fn named_tables<'t, 's>(
 
 /// Whether a token ends the tables of FROM.
 fn ends_from(kind: TokenKind) -> bool {
-    same_kind(kind, TokenKind::Where)
-        || same_kind(kind, TokenKind::On)
-        || same_kind(kind, TokenKind::Limit)
+    kind == TokenKind::Where || kind == TokenKind::On || kind == TokenKind::Limit
 }
 
 /// The table that the token at a place names.
@@ -65,9 +62,9 @@ fn named_at<'t, 's>(
     let table = written(tokens, place);
     let (found, definition) = table_of(schema, table)?;
     let next = place.saturating_add(1);
-    let has_as = same_kind(kind_of(tokens, next), TokenKind::As);
+    let has_as = kind_of(tokens, next) == TokenKind::As;
     let alias = if has_as { next.saturating_add(1) } else { next };
-    let is_called = same_kind(kind_of(tokens, alias), TokenKind::Word);
+    let is_called = kind_of(tokens, alias) == TokenKind::Word;
     Some(Named {
         table,
         at: byte_of(tokens, place),
@@ -125,12 +122,12 @@ pub(crate) struct Column<'t> {
 pub(crate) fn column_at<'t>(tokens: &[Token<'t>], place: usize) -> Option<Column<'t>> {
     let next = place.saturating_add(1);
     let after = place.saturating_add(2);
-    if !same_kind(kind_of(tokens, place), TokenKind::Word)
-        || same_kind(kind_of(tokens, next), TokenKind::LeftParenthesis)
+    if kind_of(tokens, place) != TokenKind::Word
+        || kind_of(tokens, next) == TokenKind::LeftParenthesis
     {
         return None;
     }
-    if same_kind(kind_of(tokens, next), TokenKind::Point) {
+    if kind_of(tokens, next) == TokenKind::Point {
         return Some(Column {
             table: written(tokens, place),
             name: written(tokens, after),
@@ -162,14 +159,14 @@ pub(crate) fn arguments(tokens: &[Token<'_>], place: usize) -> (usize, usize) {
     let mut depth: usize = 0;
     for at in first..tokens.len() {
         let kind = tokens[at].kind;
-        if same_kind(kind, TokenKind::LeftParenthesis) {
+        if kind == TokenKind::LeftParenthesis {
             depth = depth.saturating_add(1);
-        } else if same_kind(kind, TokenKind::RightParenthesis) {
+        } else if kind == TokenKind::RightParenthesis {
             if depth == 0 {
                 return (first, usize::MAX);
             }
             depth = depth.saturating_sub(1);
-        } else if same_kind(kind, TokenKind::Comma) && depth == 0 {
+        } else if kind == TokenKind::Comma && depth == 0 {
             return (first, at.saturating_add(1));
         }
     }
@@ -214,13 +211,11 @@ fn type_of(column: &ColumnDef) -> Option<&'static [u8]> {
     }
 }
 
-/// The place of the function that the token at a place calls, in the list of the language's.
-pub(crate) fn function_at(tokens: &[Token<'_>], place: usize) -> Option<usize> {
+/// The role of the function that the token at a place calls, if it calls one of the language's.
+pub(crate) fn function_at(tokens: &[Token<'_>], place: usize) -> Option<Role> {
     let next = place.saturating_add(1);
-    if same_kind(kind_of(tokens, place), TokenKind::Word)
-        && same_kind(kind_of(tokens, next), TokenKind::LeftParenthesis)
-    {
-        return place_in(&OWN_FUNCTIONS, written(tokens, place));
+    if kind_of(tokens, next) == TokenKind::LeftParenthesis {
+        return role_of(written(tokens, called_by(tokens, next)?));
     }
     None
 }

@@ -8,12 +8,12 @@ use crate::marks::marked;
 use crate::named_tables::{
     Named, arguments, byte_of, column_at, found_column, function_at, named_tables, type_at,
 };
-use crate::parts::{first, is, joined, shown};
-use crate::query_words::OWN_FUNCTIONS;
-use crate::token_lists::{back, kind_of, written};
+use crate::parts::{Said, first, is, said_of, say};
+use crate::sentences::ALIASES;
+use crate::token_lists::{back, compares, is_order, kind_of, operand_start, written};
 use itoa::Buffer;
 use sql_text::Schema;
-use sql_text::lex::{lex, same_kind};
+use sql_text::lex::lex;
 use std::alloc::{AllocError, Global};
 use table_model::tokens::{Token, TokenKind};
 
@@ -45,12 +45,7 @@ pub fn query_notes(
 }
 
 /// These lines, and those of a note behind them.
-fn with_note(
-    alloc: Global,
-    text: &[u8],
-    before: Vec<u8>,
-    note: Option<Note>,
-) -> Result<Vec<u8>, AllocError>
+fn with_note(alloc: Global, text: &[u8], before: Vec<u8>, note: Option<Note>) -> Said
     ensures { IfOk result (λ notes. AddsNote text.now before.items notes.items) }
 {
     let more = noted(alloc, text, note)?;
@@ -60,7 +55,7 @@ fn with_note(
 }
 
 /// The lines of a note; none, if there is none.
-fn noted(alloc: Global, text: &[u8], note: Option<Note>) -> Result<Vec<u8>, AllocError>
+fn noted(alloc: Global, text: &[u8], note: Option<Note>) -> Said
     ensures { IfOk result (λ lines. IsNote text.now lines.items) }
 {
     match note {
@@ -70,12 +65,7 @@ fn noted(alloc: Global, text: &[u8], note: Option<Note>) -> Result<Vec<u8>, Allo
 }
 
 /// The two lines that show a place, and the line of a note.
-fn lines_of_note(
-    alloc: Global,
-    text: &[u8],
-    at: usize,
-    sentence: &[u8],
-) -> Result<Vec<u8>, AllocError>
+fn lines_of_note(alloc: Global, text: &[u8], at: usize, sentence: &[u8]) -> Said
     ensures { IfOk result (λ lines. IsNoteAt text.now at lines.items) }
 {
     let mut lines = marked(alloc, text, at)?;
@@ -85,7 +75,7 @@ fn lines_of_note(
 }
 
 /// The line of a note.
-fn note_line(alloc: Global, sentence: &[u8]) -> Result<Vec<u8>, AllocError>
+fn note_line(alloc: Global, sentence: &[u8]) -> Said
     ensures { IfOk result (λ line. line.items ≡ spec.noted sentence.now) }
 {
     let mut line = Vec::from_slice(alloc, b"sfq: note: ")?;
@@ -131,8 +121,8 @@ fn note_at(
         return note_of(byte_of(tokens, place), sentence);
     }
     if let Some(function) = function_at(tokens, place)
-        && function < 10
-        && let Some(sentence) = never_sentence(alloc, tokens, place, tables, function)?
+        && function.is_condition()
+        && let Some(sentence) = never_sentence(alloc, tokens, place, tables)?
     {
         return note_of(byte_of(tokens, place), sentence);
     }
@@ -143,8 +133,11 @@ fn note_at(
         return note_of(byte_of(tokens, text), sentence);
     }
     if compares(kind_of(tokens, place)) && is_null_beside(tokens, place) {
-        let sentence = joined(alloc, &[null_words(kind_of(tokens, place)).as_bytes()])?;
-        return note_of(byte_of(tokens, operand_before(tokens, place)), sentence);
+        let sentence = say(alloc, null_words(kind_of(tokens, place)), &[])?;
+        return note_of(
+            byte_of(tokens, operand_start(tokens, back(place, 1))),
+            sentence,
+        );
     }
     Ok(None)
 }
@@ -164,40 +157,18 @@ fn alias_sentence(
     tables: &[Named<'_, '_>],
 ) -> Result<Option<Vec<u8>>, AllocError> {
     let alias = written(tokens, place);
-    let next = place.saturating_add(1);
-    let Some(words) = join_words(alias) else {
-        return Ok(None);
-    };
-    if !same_kind(kind_of(tokens, next), TokenKind::Join) {
+    if kind_of(tokens, place.saturating_add(1)) != TokenKind::Join {
         return Ok(None);
     }
+    let Some(form) = said_of(alias, &ALIASES) else {
+        return Ok(None);
+    };
     for table in tables {
         if table.alias == Some(place) {
-            let alias = shown(alloc, alias)?;
-            let name = shown(alloc, table.table)?;
-            return Ok(Some(joined(
-                alloc,
-                &[
-                    alias.as_slice(),
-                    b" is an alias of ",
-                    name.as_slice(),
-                    words.as_bytes(),
-                ],
-            )?));
+            return Ok(Some(say(alloc, form, &[alias, table.table])?));
         }
     }
     Ok(None)
-}
-
-/// What is said of an alias that is a word of JOIN elsewhere.
-fn join_words(alias: &[u8]) -> Option<&'static str> {
-    if is(alias, "LEFT") || is(alias, "RIGHT") || is(alias, "FULL") || is(alias, "OUTER") {
-        Some(" here: JOIN gives the rows that have a partner")
-    } else if is(alias, "NATURAL") {
-        Some(" here: the rows are those for which ON holds")
-    } else {
-        None
-    }
 }
 
 // ---- pairs
@@ -221,23 +192,13 @@ fn pairs_sentence(
     if many.saturating_mul(more) <= PAIRS {
         return Ok(None);
     }
-    let first = shown(alloc, left.name)?;
-    let second = shown(alloc, right.name)?;
-    let mut number = Buffer::new();
-    let mut other = Buffer::new();
-    Ok(Some(joined(
-        alloc,
-        &[
-            b"no condition joins ",
-            first.as_slice(),
-            b" and ",
-            second.as_slice(),
-            b": each of ",
-            number.format(many).as_bytes(),
-            b" rows meets each of ",
-            other.format(more).as_bytes(),
-        ],
-    )?))
+    let (mut first, mut second) = (Buffer::new(), Buffer::new());
+    let (many, more) = (
+        first.format(many).as_bytes(),
+        second.format(more).as_bytes(),
+    );
+    let form = "no condition joins {} and {}: each of {=} rows meets each of {=}";
+    Ok(Some(say(alloc, form, &[left.name, right.name, many, more])?))
 }
 
 /// Whether one comparison or predicate has columns of both tables: it is between two words of conditions.
@@ -247,14 +208,14 @@ fn are_joined(tokens: &[Token<'_>], tables: &[Named<'_, '_>]) -> bool {
     let mut right = false;
     for place in 0..tokens.len() {
         let kind = tokens[place].kind;
-        let begins = same_kind(kind, TokenKind::Where) || same_kind(kind, TokenKind::On);
+        let begins = kind == TokenKind::Where || kind == TokenKind::On;
         inside = inside || begins;
-        if begins || same_kind(kind, TokenKind::And) || same_kind(kind, TokenKind::Or) {
+        if begins || kind == TokenKind::And || kind == TokenKind::Or {
             left = false;
             right = false;
         }
         if inside
-            && !same_kind(kind_of(tokens, back(place, 1)), TokenKind::Point)
+            && kind_of(tokens, back(place, 1)) != TokenKind::Point
             && let Some(column) = column_at(tokens, place)
             && let Some((table, _)) = found_column(tables, column)
         {
@@ -276,7 +237,6 @@ fn never_sentence(
     tokens: &[Token<'_>],
     place: usize,
     tables: &[Named<'_, '_>],
-    function: usize,
 ) -> Result<Option<Vec<u8>>, AllocError> {
     let (left, right) = arguments(tokens, place);
     let Some(left) = type_at(tokens, left, tables) else {
@@ -285,20 +245,14 @@ fn never_sentence(
     let Some(right) = type_at(tokens, right, tables) else {
         return Ok(None);
     };
-    if !never_holds(function, left, right) {
+    let predicate = written(tokens, place);
+    if !never_holds(predicate, left, right) {
         return Ok(None);
     }
-    let name = shown(alloc, written(tokens, place))?;
-    Ok(Some(joined(
-        alloc,
-        &[
-            name.as_slice(),
-            b" never holds of a ",
-            left,
-            b" and a ",
-            right,
-        ],
-    )?))
+    let mut sentence = say(alloc, "{} never holds of a ", &[predicate])?;
+    let types = say(alloc, "{=} and a {=}", &[left, right])?;
+    sentence.extend_from_slice(types.as_slice())?;
+    Ok(Some(sentence))
 }
 
 /// The dimension of the geometries of a type.
@@ -312,21 +266,19 @@ fn dimension(name: &[u8]) -> u8 {
     }
 }
 
-/// Whether a predicate, by its place in the list of functions, never holds of two geometries of these types.
-fn never_holds(function: usize, left: &[u8], right: &[u8]) -> bool {
+/// Whether a predicate of this name never holds of two geometries of these types.
+fn never_holds(predicate: &[u8], left: &[u8], right: &[u8]) -> bool {
     let (one, two) = (dimension(left), dimension(right));
     let has_point = is(left, "POINT") || is(right, "POINT");
-    if function >= 14 {
-        false
-    } else if is(OWN_FUNCTIONS[function], "ST_Touches") {
+    if is(predicate, "ST_Touches") {
         one == 0 && two == 0
-    } else if is(OWN_FUNCTIONS[function], "ST_Crosses") {
+    } else if is(predicate, "ST_Crosses") {
         has_point || (one == two && one != 1)
-    } else if is(OWN_FUNCTIONS[function], "ST_Overlaps") {
+    } else if is(predicate, "ST_Overlaps") {
         has_point || one != two
-    } else if is(OWN_FUNCTIONS[function], "ST_Contains") {
+    } else if is(predicate, "ST_Contains") {
         one < two
-    } else if is(OWN_FUNCTIONS[function], "ST_Within") {
+    } else if is(predicate, "ST_Within") {
         one > two
     } else {
         false
@@ -335,28 +287,13 @@ fn never_holds(function: usize, left: &[u8], right: &[u8]) -> bool {
 
 // ---- comparisons
 
-/// Whether a token compares by order.
-fn is_order(kind: TokenKind) -> bool {
-    same_kind(kind, TokenKind::Less)
-        || same_kind(kind, TokenKind::LessOrEqual)
-        || same_kind(kind, TokenKind::Greater)
-        || same_kind(kind, TokenKind::GreaterOrEqual)
-}
-
-/// Whether a token compares.
-fn compares(kind: TokenKind) -> bool {
-    is_order(kind) || same_kind(kind, TokenKind::Equal) || same_kind(kind, TokenKind::NotEqual)
-}
-
 /// The place of a string of digits beside the sign at a place.
 fn digits_beside(tokens: &[Token<'_>], place: usize) -> Option<usize> {
     let next = place.saturating_add(1);
     let before = back(place, 1);
-    if same_kind(kind_of(tokens, next), TokenKind::Text) && is_number(written(tokens, next)) {
+    if kind_of(tokens, next) == TokenKind::Text && is_number(written(tokens, next)) {
         Some(next)
-    } else if same_kind(kind_of(tokens, before), TokenKind::Text)
-        && is_number(written(tokens, before))
-    {
+    } else if kind_of(tokens, before) == TokenKind::Text && is_number(written(tokens, before)) {
         Some(before)
     } else {
         None
@@ -369,84 +306,34 @@ fn is_number(text: &[u8]) -> bool {
 }
 
 /// The sentence of a text of digits that is compared by order, with a number that comes elsewhere than its value does.
-fn text_sentence(alloc: Global, text: &[u8]) -> Result<Vec<u8>, AllocError> {
-    let name = shown(alloc, text)?;
-    let mut sentence = joined(
-        alloc,
-        &[
-            b"'",
-            name.as_slice(),
-            b"' is a text, and texts are compared byte by byte",
-        ],
-    )?;
-    let Some(words) = order_words(text) else {
-        return Ok(sentence);
-    };
-    sentence.extend_from_slice(words.as_bytes())?;
-    sentence.extend_from_slice(name.as_slice())?;
-    sentence.extend_from_slice(b"'")?;
-    Ok(sentence)
+fn text_sentence(alloc: Global, text: &[u8]) -> Said {
+    say(alloc, order_words(text), &[text, text])
 }
 
-/// Which number comes elsewhere than its value does, beside a text of digits.
-fn order_words(text: &[u8]) -> Option<&'static str> {
+/// What is said of a text of digits, with a number that comes elsewhere than its value does, if there is a short one.
+fn order_words(text: &[u8]) -> &'static str {
     let begins = first(text);
-    if begins == b'0' || text.len() > 18 {
-        None
-    } else if text.len() > 1 && begins < b'9' {
-        Some(": '9' comes after '")
-    } else if text.len() == 1 && begins > b'1' {
-        Some(": '10' comes before '")
+    let is_plain = begins != b'0' && text.len() <= 18;
+    if is_plain && text.len() > 1 && begins < b'9' {
+        "'{}' is a text, and texts are compared byte by byte: '9' comes after '{}'"
+    } else if is_plain && text.len() == 1 && begins > b'1' {
+        "'{}' is a text, and texts are compared byte by byte: '10' comes before '{}'"
     } else {
-        None
+        "'{}' is a text, and texts are compared byte by byte"
     }
 }
 
 /// Whether NULL is beside the sign at a place.
 fn is_null_beside(tokens: &[Token<'_>], place: usize) -> bool {
-    same_kind(kind_of(tokens, place.saturating_add(1)), TokenKind::Null)
-        || same_kind(kind_of(tokens, back(place, 1)), TokenKind::Null)
+    kind_of(tokens, place.saturating_add(1)) == TokenKind::Null
+        || kind_of(tokens, back(place, 1)) == TokenKind::Null
 }
 
 /// What is said of a comparison with NULL.
 fn null_words(kind: TokenKind) -> &'static str {
-    if same_kind(kind, TokenKind::NotEqual) {
+    if kind == TokenKind::NotEqual {
         "a comparison with NULL never holds: write IS NOT NULL"
     } else {
         "a comparison with NULL never holds: write IS NULL"
     }
-}
-
-/// The place of the first token of the operand before the sign at a place.
-fn operand_before(tokens: &[Token<'_>], place: usize) -> usize {
-    let before = back(place, 1);
-    if same_kind(kind_of(tokens, before), TokenKind::RightParenthesis) {
-        return call_before(tokens, before);
-    }
-    if same_kind(kind_of(tokens, back(place, 2)), TokenKind::Point)
-        || same_kind(kind_of(tokens, back(place, 2)), TokenKind::Minus)
-    {
-        if same_kind(kind_of(tokens, back(place, 2)), TokenKind::Minus) {
-            return back(place, 2);
-        }
-        return back(place, 3);
-    }
-    before
-}
-
-/// The place of the word of the call that ends at a place.
-fn call_before(tokens: &[Token<'_>], place: usize) -> usize {
-    let mut depth: usize = 0;
-    for count in 1..place.saturating_add(1) {
-        let kind = kind_of(tokens, back(place, count));
-        if same_kind(kind, TokenKind::RightParenthesis) {
-            depth = depth.saturating_add(1);
-        } else if same_kind(kind, TokenKind::LeftParenthesis) {
-            if depth == 0 {
-                return back(place, count.saturating_add(1));
-            }
-            depth = depth.saturating_sub(1);
-        }
-    }
-    place
 }

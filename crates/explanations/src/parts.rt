@@ -3,6 +3,9 @@
 use crate::lines::{is_white, trimmed_end};
 use std::alloc::{AllocError, Global};
 
+/// A text that is made; at Err memory ran out.
+pub(crate) type Said = Result<Vec<u8>, AllocError>;
+
 /// The most bytes of a part that a sentence shows.
 const SHOWN_BYTES: usize = 40;
 
@@ -140,18 +143,41 @@ pub(crate) fn is_one_of(text: &[u8], words: &str) -> bool {
     text.eq_ignore_ascii_case(rest(words, from))
 }
 
-/// The sentence of the first row that has this word, in any ASCII case.
-pub(crate) fn said_of(text: &[u8], rows: &[(&str, &'static str)]) -> Option<&'static str> {
+/// The sentence of the first row that has this word, in any ASCII case, or has none: a row is words, ` => ` and a sentence.
+pub(crate) fn said_of(text: &[u8], rows: &[&'static str]) -> Option<&'static str> {
     for row in rows {
-        if is_one_of(text, row.0) {
-            return Some(row.1);
+        let (words, sentence) = row.split_once(" => ")?;
+        if words.is_empty() || is_one_of(text, words) {
+            return Some(sentence);
         }
     }
     None
 }
 
+/// A sentence with these parts in it: at each `{}` the next one as a sentence shows it, and at each `{=}` the next one as it is.
+pub(crate) fn say(alloc: Global, form: &str, parts: &[&[u8]]) -> Said {
+    let mut text = Vec::new(alloc);
+    let mut left = form.as_bytes();
+    for part in parts {
+        let words = before(left, b'{');
+        let mark = rest(left, words.len());
+        text.extend_from_slice(words)?;
+        if first(rest(mark, 1)) == b'=' {
+            text.extend_from_slice(part)?;
+            left = rest(mark, 3);
+        } else if first(mark) == b'{' {
+            push_part(&mut text, part)?;
+            left = rest(mark, 2);
+        } else {
+            return Ok(text);
+        }
+    }
+    text.extend_from_slice(left)?;
+    Ok(text)
+}
+
 /// The parts of a sentence, one after another.
-pub(crate) fn joined(alloc: Global, parts: &[&[u8]]) -> Result<Vec<u8>, AllocError> {
+pub(crate) fn joined(alloc: Global, parts: &[&[u8]]) -> Said {
     let mut text = Vec::new(alloc);
     for part in parts {
         text.extend_from_slice(part)?;
@@ -159,45 +185,29 @@ pub(crate) fn joined(alloc: Global, parts: &[&[u8]]) -> Result<Vec<u8>, AllocErr
     Ok(text)
 }
 
+/// A sentence with two parts of different texts in it.
+pub(crate) fn say_both<'x>(alloc: Global, form: &str, one: &'x [u8], two: &'x [u8]) -> Said {
+    say(alloc, form, &[one, two])
+}
+
 /// A part of a text as a sentence shows it: its first 40 bytes, and two dots if it has more; each that isn't printable ASCII, and isn't of
 /// a character of UTF-8, as a question mark.
-pub(crate) fn shown(alloc: Global, part: &[u8]) -> Result<Vec<u8>, AllocError> {
+pub(crate) fn shown(alloc: Global, part: &[u8]) -> Said {
     let mut text = Vec::new(alloc);
-    let utf8 = std::str::from_utf8(front(part, SHOWN_BYTES.min(part.len()))).is_ok();
-    for byte in front(part, SHOWN_BYTES.min(part.len())) {
+    push_part(&mut text, part)?;
+    Ok(text)
+}
+
+/// Adds a part of a text as a sentence shows it.
+fn push_part(text: &mut Vec<u8>, part: &[u8]) -> Result<(), AllocError> {
+    let front = front(part, SHOWN_BYTES);
+    let utf8 = std::str::from_utf8(front).is_ok();
+    for byte in front {
         let is_plain = (32 <= *byte && *byte < 127) || (utf8 && 128 <= *byte);
         text.push(if is_plain { *byte } else { b'?' })?;
     }
     if part.len() > SHOWN_BYTES {
         text.extend_from_slice(b"..")?;
     }
-    Ok(text)
-}
-
-/// A part of a text between words, as a sentence shows it.
-pub(crate) fn worded(
-    alloc: Global,
-    before: &str,
-    part: &[u8],
-    after: &str,
-) -> Result<Vec<u8>, AllocError> {
-    let mut text = Vec::from_slice(alloc, before.as_bytes())?;
-    let part = shown(alloc, part)?;
-    text.extend_from_slice(part.as_slice())?;
-    text.extend_from_slice(after.as_bytes())?;
-    Ok(text)
-}
-
-/// The same, with a name that is proposed in its place.
-pub(crate) fn worded_with(
-    alloc: Global,
-    before: &str,
-    part: &[u8],
-    between: &str,
-    name: &[u8],
-) -> Result<Vec<u8>, AllocError> {
-    let mut text = worded(alloc, before, part, between)?;
-    text.extend_from_slice(name)?;
-    text.extend_from_slice(b"?")?;
-    Ok(text)
+    Ok(())
 }

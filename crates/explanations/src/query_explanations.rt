@@ -4,15 +4,15 @@ ghost use Rattle.std.specs.Prelude.{◌≡◌, IfOk};
 ghost use Rattle.explanations.specs.Faults.{query_place};
 ghost use Rattle.explanations.specs.Marks.{IsExplanation};
 
-use crate::geometry_sentences::{advice, text_sentence};
 use crate::nearest_names::nearest;
 use crate::parts::{
-    before, character, front, is, is_one_of, joined, last, last_word, place_in, rest, shown,
-    trimmed_back, word, worded,
+    Said, before, character, front, is, is_one_of, last, last_word, place_in, rest, say,
+    trimmed_back, word,
 };
 use crate::query_sentences::{byte_sentence, syntax_sentence};
 use crate::said_lines::explained;
-use geometry_model::GeometryFault;
+use crate::sentences::query_form;
+use crate::text_explanations::geometry_said;
 use std::alloc::{AllocError, Global};
 use table_model::faults::QueryFault;
 
@@ -26,6 +26,12 @@ pub struct Names<'n> {
 }
 
 impl Names<'_> {
+    /// No names.
+    pub(crate) const NONE: Names<'static> = Names {
+        tables: &[],
+        columns: &[],
+    };
+
     /// Whether a table or a column has this name, in any ASCII case.
     pub(crate) fn has(&self, name: &[u8]) -> bool {
         place_in(self.tables, name).is_some() || place_in(self.columns, name).is_some()
@@ -71,44 +77,41 @@ pub(crate) fn query_sentence(
     text: &[u8],
     fault: QueryFault,
     names: &Names<'_>,
-) -> Result<Vec<u8>, AllocError> {
+) -> Said {
+    let form = query_form(fault);
     match fault {
         QueryFault::Lex(at) => byte_sentence(alloc, text, at, names),
         QueryFault::Syntax(at) => syntax_sentence(alloc, text, at, names),
-        QueryFault::UnknownTable(at) => unknown_table(alloc, word(rest(text, at)), names),
-        QueryFault::SameName(at) => same_name(alloc, word(rest(text, at))),
+        QueryFault::UnknownTable(at) => unknown(alloc, form, word(rest(text, at)), names.tables),
+        QueryFault::SameName(at) => say(alloc, form, &[word(rest(text, at))]),
         QueryFault::UnknownColumn(at) => unknown_name(alloc, text, at, names),
-        QueryFault::AmbiguousColumn(at) => ambiguous_column(alloc, word(rest(text, at)), b"a"),
-        QueryFault::TypeMismatch(_) => joined(
-            alloc,
-            &[
-                b"the types don't fit: numbers are compared with numbers, texts with texts in single quotes, and shapes by ST_Equals",
-            ],
-        ),
-        QueryFault::BadGeometry(at, fault) => geometry_sentence(alloc, rest(text, at), fault),
-        QueryFault::BadPattern(at) => pattern_sentence(alloc, rest(text, at)),
-        QueryFault::TooDeep(_) => joined(
-            alloc,
-            &[
-                b"this ( or NOT is the 65th level: 64 are taken; leave out those that change nothing",
-            ],
-        ),
-        QueryFault::TooLong => joined(alloc, &[b"the query has more than 65536 bytes: shorten it"]),
+        QueryFault::AmbiguousColumn(at) => {
+            let name = word(rest(text, at));
+            say(alloc, form, &[name, b"a", name])
+        }
+        QueryFault::BadGeometry(at, fault) => geometry_said(alloc, string_at(text, at), fault),
+        QueryFault::BadPattern(at) => pattern_sentence(alloc, string_at(text, at)),
         QueryFault::NumberTooBig(at) => {
-            let found = shown(alloc, word(rest(text, at)))?;
-            let what = greatness(front(text, at));
-            joined(alloc, &[found.as_slice(), what.as_bytes()])
+            say(alloc, greatness(front(text, at)), &[word(rest(text, at))])
         }
         QueryFault::OutOfMemory => Err(AllocError),
+        QueryFault::TypeMismatch(_) | QueryFault::TooDeep(_) | QueryFault::TooLong => {
+            say(alloc, form, &[])
+        }
     }
+}
+
+/// What is between the quotes of the string at a place, up to its first quote.
+fn string_at(text: &[u8], at: usize) -> &[u8] {
+    before(rest(text, at.saturating_add(1)), b'\'')
 }
 
 /// What is said of a number that is too large, after this text.
 fn greatness(text: &[u8]) -> &'static str {
     if is(last_word(text), "LIMIT") {
-        " is past 64 bits: leave LIMIT out for all rows"
+        "{} is past 64 bits: leave LIMIT out for all rows"
     } else {
-        " is past 64 bits: no field is as large"
+        "{} is past 64 bits: no field is as large"
     }
 }
 
@@ -118,26 +121,15 @@ fn is_compared(text: &[u8], at: usize) -> bool {
     before == b'=' || before == b'<' || before == b'>'
 }
 
-/// The sentence of a table that isn't in the schema.
-fn unknown_table(alloc: Global, found: &[u8], names: &Names<'_>) -> Result<Vec<u8>, AllocError> {
-    let there = shown(alloc, found)?;
-    let close = nearest(alloc, found, names.tables)?;
-    proposed(
-        alloc,
-        &[b"there is no table ", there.as_slice()],
-        close,
-        names.tables,
-    )
+/// The sentence of a name that none of a list is, in a form that says so.
+fn unknown(alloc: Global, form: &str, name: &[u8], names: &[&[u8]]) -> Said {
+    let close = nearest(alloc, name, names)?;
+    proposed(say(alloc, form, &[name])?, close, names)
 }
 
 /// A sentence that proposes a name of a list, or lists the names.
-pub(crate) fn proposed(
-    alloc: Global,
-    parts: &[&[u8]],
-    close: Option<usize>,
-    names: &[&[u8]],
-) -> Result<Vec<u8>, AllocError> {
-    let mut sentence = joined(alloc, parts)?;
+pub(crate) fn proposed(front: Vec<u8>, close: Option<usize>, names: &[&[u8]]) -> Said {
+    let mut sentence = front;
     match close {
         Some(place) if place < names.len() => {
             sentence.extend_from_slice(b": did you mean ")?;
@@ -169,82 +161,24 @@ pub(crate) fn push_names(sentence: &mut Vec<u8>, names: &[&[u8]]) -> Result<(), 
     Ok(())
 }
 
-/// The sentence of two tables of the same name.
-fn same_name(alloc: Global, found: &[u8]) -> Result<Vec<u8>, AllocError> {
-    let name = shown(alloc, found)?;
-    joined(
-        alloc,
-        &[
-            b"both tables have the name ",
-            name.as_slice(),
-            b" here: give each an alias, as in FROM t a, t b",
-        ],
-    )
-}
-
 /// The sentence of a name that no column has: of a truth, or of a name.
-fn unknown_name(
-    alloc: Global,
-    text: &[u8],
-    at: usize,
-    names: &Names<'_>,
-) -> Result<Vec<u8>, AllocError> {
+fn unknown_name(alloc: Global, text: &[u8], at: usize, names: &Names<'_>) -> Said {
     let name = word(rest(text, at));
     if is_one_of(name, "TRUE FALSE") {
-        return worded(alloc, "", name, truth_words(name, is_compared(text, at)));
+        return say(alloc, truth_words(name, is_compared(text, at)), &[name]);
     }
-    let there = shown(alloc, name)?;
-    let close = nearest(alloc, name, names.columns)?;
-    proposed(
-        alloc,
-        &[b"there is no column ", there.as_slice()],
-        close,
-        names.columns,
-    )
+    let form = query_form(QueryFault::UnknownColumn(at));
+    unknown(alloc, form, name, names.columns)
 }
 
 /// What is said of a truth, with which something is compared or not.
 fn truth_words(name: &[u8], is_compared: bool) -> &'static str {
     if !is_compared {
-        " isn't there: write the condition alone, and NOT turns it around"
+        "{} isn't there: write the condition alone, and NOT turns it around"
     } else if is(name, "TRUE") {
-        " isn't there: write 1"
+        "{} isn't there: write 1"
     } else {
-        " isn't there: write 0"
-    }
-}
-
-/// The sentence of a column that both tables have, with the name of one of them.
-pub(crate) fn ambiguous_column(
-    alloc: Global,
-    found: &[u8],
-    table: &[u8],
-) -> Result<Vec<u8>, AllocError> {
-    let name = shown(alloc, found)?;
-    let called = shown(alloc, table)?;
-    joined(
-        alloc,
-        &[
-            b"both tables have a column ",
-            name.as_slice(),
-            b": write its table and a point before it, as ",
-            called.as_slice(),
-            b".",
-            name.as_slice(),
-        ],
-    )
-}
-
-/// The sentence of a geometry that is refused, in the string that begins a text.
-fn geometry_sentence(
-    alloc: Global,
-    found: &[u8],
-    fault: GeometryFault,
-) -> Result<Vec<u8>, AllocError> {
-    let text = before(rest(found, 1), b'\'');
-    match fault {
-        GeometryFault::Text(fault) => text_sentence(alloc, text, fault),
-        GeometryFault::Invalid(fault) => joined(alloc, &[advice(fault, text).as_bytes()]),
+        "{} isn't there: write 0"
     }
 }
 
@@ -253,29 +187,18 @@ fn is_in_pattern(byte: u8) -> bool {
     byte == b'T' || byte == b'F' || byte == b'*' || byte == b'0' || byte == b'1' || byte == b'2'
 }
 
-/// The sentence of a pattern that isn't one, in the string that begins a text.
-fn pattern_sentence(alloc: Global, found: &[u8]) -> Result<Vec<u8>, AllocError> {
-    let pattern = before(rest(found, 1), b'\'');
+/// The sentence of a pattern that isn't one.
+fn pattern_sentence(alloc: Global, pattern: &[u8]) -> Said {
     if pattern.len() != 9 {
-        return joined(
-            alloc,
-            &[b"a pattern has nine characters: write nine, each T, F, *, 0, 1 or 2"],
-        );
+        let form = "a pattern has nine characters: write nine, each T, F, *, 0, 1 or 2";
+        return say(alloc, form, &[]);
     }
     for (place, byte) in pattern.iter().enumerate() {
         if !is_in_pattern(*byte) {
-            let wrong = shown(alloc, character(rest(pattern, place)))?;
-            return joined(
-                alloc,
-                &[
-                    wrong.as_slice(),
-                    b" isn't a character of a pattern: write T, F, *, 0, 1 or 2",
-                ],
-            );
+            let form = "{} isn't a character of a pattern: write T, F, *, 0, 1 or 2";
+            return say(alloc, form, &[character(rest(pattern, place))]);
         }
     }
-    joined(
-        alloc,
-        &[b"a pattern has nine characters, each T, F, *, 0, 1 or 2"],
-    )
+    let form = "a pattern has nine characters, each T, F, *, 0, 1 or 2";
+    say(alloc, form, &[])
 }

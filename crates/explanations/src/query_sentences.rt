@@ -3,19 +3,18 @@
 ghost use Rattle.std.specs.Prelude.{◌≡◌, ◌<◌, length, IfSome, slice_get, Some};
 ghost use Rattle.table_model.specs.declared.tokens.Token.{Token};
 
-use crate::expected::{Expected, enclosing, expected_at, opening};
+use crate::expected::{Expected, expected_at};
 use crate::geometry_sentences::TYPES;
 use crate::nearest_names::nearest;
 use crate::parts::{
-    before, character, first, front, is, is_one_of, joined, place_in, rest, said_of, shown,
-    trimmed, trimmed_back, word, worded, worded_with,
+    Said, before, character, first, front, is, is_one_of, joined, place_in, rest, said_of, say,
+    say_both, trimmed, trimmed_back, word,
 };
 use crate::query_explanations::Names;
-use crate::query_words::{
-    CLAUSES, FUNCTIONS, OWN_FUNCTIONS, STATEMENTS, SYMBOLS, TOKENS, own_words, to_come,
-};
-use crate::token_lists::{back, kind_of, written};
-use sql_text::lex::{lex, same_kind};
+use crate::query_words::{OWN_FUNCTIONS, Role, own_words, role_of, to_come};
+use crate::sentences::{CLAUSES, FUNCTIONS, STATEMENTS, SYMBOLS, tokens_at};
+use crate::token_lists::{back, compares, enclosing, kind_of, opening, written};
+use sql_text::lex::lex;
 use std::alloc::{AllocError, Global};
 use table_model::tokens::{Token, TokenKind};
 
@@ -66,7 +65,7 @@ fn tokens_around<'t>(tokens: &[Token<'t>], place: usize) -> Around<'t> {
         next_kind: kind_of(tokens, next),
         later: written(tokens, place.saturating_add(2)),
         is_joined: are_joined(tokens, before, place),
-        is_enclosed: opening(tokens, place) < tokens.len(),
+        is_enclosed: opening(tokens, place).is_some(),
     }
 }
 
@@ -82,35 +81,30 @@ fn are_joined(tokens: &[Token<'_>], first: usize, second: usize) -> bool {
 }
 
 /// The sentence of a token that can't be there.
-pub(crate) fn syntax_sentence(
-    alloc: Global,
-    text: &[u8],
-    at: usize,
-    names: &Names<'_>,
-) -> Result<Vec<u8>, AllocError> {
+pub(crate) fn syntax_sentence(alloc: Global, text: &[u8], at: usize, names: &Names<'_>) -> Said {
     let list = lex(alloc, text, true)?;
     let tokens = list.as_slice();
     let Some(place) = token_at(tokens, at) else {
-        return joined(alloc, &[b"this isn't in the grammar of queries"]);
+        return say(alloc, "this isn't in the grammar of queries", &[]);
     };
     let near = tokens_around(tokens, place);
-    if same_kind(near.kind, TokenKind::End) {
+    if near.kind == TokenKind::End {
         return end_sentence(alloc, text, &near);
     }
     if let Some((found, sentence)) = listed(&near, names) {
-        return worded(alloc, "", found, sentence);
+        return say(alloc, sentence, &[found]);
     }
     if let Some(sentence) = number_sentence(alloc, &near)? {
         return Ok(sentence);
     }
     if let Some(sentence) = said_at(&near) {
-        return joined(alloc, &[sentence.as_bytes()]);
+        return say(alloc, sentence, &[]);
     }
     if begins_statement(near.expected) {
         return statement_sentence(alloc, &near);
     }
     if let Some((function, sentence)) = call_sentence(tokens, place) {
-        return worded(alloc, "", function, sentence);
+        return say(alloc, sentence, &[function]);
     }
     if is_function(&near) {
         return function_sentence(alloc, &near);
@@ -121,14 +115,14 @@ pub(crate) fn syntax_sentence(
 // ---- ends
 
 /// The sentence of a query that ends too early.
-fn end_sentence(alloc: Global, text: &[u8], near: &Around<'_>) -> Result<Vec<u8>, AllocError> {
-    if near.before.is_empty() && same_kind(near.before_kind, TokenKind::End) {
-        return joined(alloc, &[b"the query is empty: it begins with SELECT"]);
+fn end_sentence(alloc: Global, text: &[u8], near: &Around<'_>) -> Said {
+    if near.before.is_empty() && near.before_kind == TokenKind::End {
+        return say(alloc, "the query is empty: it begins with SELECT", &[]);
     }
     let is_truth = is_one_of(near.before, "TRUE FALSE");
     if is_truth && near.expected == Expected::Comparison {
-        let sentence = " isn't there: leave it out, with the AND or WHERE before it";
-        return worded(alloc, "", near.before, sentence);
+        let sentence = "{} isn't there: leave it out, with the AND or WHERE before it";
+        return say(alloc, sentence, &[near.before]);
     }
     let phrase = match near.expected {
         Expected::Grouped | Expected::Close | Expected::Comma => {
@@ -136,14 +130,8 @@ fn end_sentence(alloc: Global, text: &[u8], near: &Around<'_>) -> Result<Vec<u8>
         }
         expected => to_come(expected),
     };
-    joined(
-        alloc,
-        &[
-            b"the query ends where ",
-            phrase.as_bytes(),
-            comment_words(text).as_bytes(),
-        ],
-    )
+    let parts: [&[u8]; 2] = [phrase.as_bytes(), comment_words(text).as_bytes()];
+    say(alloc, "the query ends where {=}{=}", &parts)
 }
 
 /// What is said of a comment at a text's end, which may be two signs.
@@ -167,17 +155,17 @@ fn comment_words(text: &[u8]) -> &'static str {
 
 /// The word of a clause that others have, and what to do instead: before the place, where it was taken as a name, or at it.
 fn listed<'t>(near: &Around<'t>, names: &Names<'_>) -> Option<(&'t [u8], &'static str)> {
-    if same_kind(near.before_kind, TokenKind::Word)
+    if near.before_kind == TokenKind::Word
         && !names.has(near.before)
         && let Some(sentence) = said_of(near.before, &CLAUSES)
     {
         return Some((near.before, sentence));
     }
-    let has_own = near.expected == Expected::Is
-        || near.expected == Expected::IsNot
-        || near.expected == Expected::CountStar
-        || near.expected == Expected::Number;
-    if has_own || same_kind(near.kind, TokenKind::Text) {
+    let has_own = matches!(
+        near.expected,
+        Expected::Is | Expected::IsNot | Expected::CountStar | Expected::Number
+    );
+    if has_own || near.kind == TokenKind::Text {
         return None;
     }
     if is(near.here, "NOT")
@@ -185,10 +173,7 @@ fn listed<'t>(near: &Around<'t>, names: &Names<'_>) -> Option<(&'t [u8], &'stati
     {
         return Some((near.next, sentence));
     }
-    match said_of(near.here, &CLAUSES) {
-        Some(sentence) => Some((near.here, sentence)),
-        None => None,
-    }
+    Some((near.here, said_of(near.here, &CLAUSES)?))
 }
 
 /// What is said of a token where something else can come.
@@ -196,17 +181,12 @@ fn said_at(near: &Around<'_>) -> Option<&'static str> {
     if let Some(sentence) = said_of_signs(near) {
         return Some(sentence);
     }
-    let here: &[u8] = if same_kind(near.kind, TokenKind::Text) {
+    let here: &[u8] = if near.kind == TokenKind::Text {
         b"'"
     } else {
         near.here
     };
-    for row in &TOKENS {
-        if row.0 == near.expected && (row.1.is_empty() || is_one_of(here, row.1)) {
-            return Some(row.2);
-        }
-    }
-    None
+    said_of(here, tokens_at(near.expected))
 }
 
 /// What is said of tokens that are something together, or after one that isn't at the place.
@@ -225,6 +205,8 @@ fn said_of_signs(near: &Around<'_>) -> Option<&'static str> {
         Some("COUNT takes * alone: write COUNT(*), with WHERE and IS NOT NULL if that is meant")
     } else if near.expected == Expected::Value {
         said_of_comparison(near)
+    } else if near.expected == Expected::AfterComparison && compares(near.kind) {
+        Some("a condition compares two values: write AND between two comparisons")
     } else if is(here, ">") && is(near.before, "-") && is(near.second, "<") {
         Some("<-> isn't there: no function measures a shape")
     } else {
@@ -249,28 +231,28 @@ fn said_of_comparison(near: &Around<'_>) -> Option<&'static str> {
 
 /// Whether SELECT can come at a place.
 fn begins_statement(expected: Expected) -> bool {
-    expected == Expected::Statement
-        || expected == Expected::Explained
-        || expected == Expected::Analyzed
+    matches!(
+        expected,
+        Expected::Statement | Expected::Explained | Expected::Analyzed
+    )
 }
 
 /// The sentence of a statement that isn't a query.
-fn statement_sentence(alloc: Global, near: &Around<'_>) -> Result<Vec<u8>, AllocError> {
+fn statement_sentence(alloc: Global, near: &Around<'_>) -> Said {
     if let Some(sentence) = said_of(near.here, &STATEMENTS) {
-        return worded(alloc, "", near.here, sentence);
+        return say(alloc, sentence, &[near.here]);
     }
     if let Some(word) = misspelt(alloc, near.here, near.expected)? {
-        return joined(alloc, &[b"did you mean ", word, b"?"]);
+        return say(alloc, "did you mean {=}?", &[word]);
     }
     if near.expected == Expected::Statement && !is(near.here, "EXPLAIN") {
-        return joined(
-            alloc,
-            &[b"a query begins with SELECT, or EXPLAIN before it"],
-        );
+        let form = "a query begins with SELECT, or EXPLAIN before it";
+        return say(alloc, form, &[]);
     }
-    joined(
+    say(
         alloc,
-        &[b"only ANALYZE may come between EXPLAIN and SELECT"],
+        "only ANALYZE may come between EXPLAIN and SELECT",
+        &[],
     )
 }
 
@@ -293,116 +275,101 @@ fn misspelt(
 
 /// Whether a function is at a place, where a value, a condition or an argument can come.
 fn is_function(near: &Around<'_>) -> bool {
-    let is_place = near.expected == Expected::FirstItem
-        || near.expected == Expected::Item
-        || near.expected == Expected::Condition
-        || near.expected == Expected::Value
-        || near.expected == Expected::Argument;
-    is_place && same_kind(near.kind, TokenKind::Word) && is(near.next, "(")
+    let is_call = near.kind == TokenKind::Word && is(near.next, "(");
+    match near.expected {
+        Expected::FirstItem | Expected::Item | Expected::Condition => is_call,
+        Expected::Value | Expected::Argument => is_call,
+        _ => false,
+    }
 }
 
 /// The sentence of a function that can't be there.
-fn function_sentence(alloc: Global, near: &Around<'_>) -> Result<Vec<u8>, AllocError> {
-    let prefixed = worded(alloc, "ST_", near.here, "")?;
+fn function_sentence(alloc: Global, near: &Around<'_>) -> Said {
+    let prefixed = say(alloc, "ST_{}", &[near.here])?;
     if let Some(sentence) = said_of(near.here, &FUNCTIONS) {
-        return worded(alloc, "", near.here, sentence);
+        return say(alloc, sentence, &[near.here]);
     }
     if place_in(&TYPES, near.here).is_some() {
-        return worded(
-            alloc,
-            "a geometry in a query is a text: write ST_GeomFromText('",
-            near.here,
-            "(..)')",
-        );
+        let form = "a geometry in a query is a text: write ST_GeomFromText('{}(..)')";
+        return say(alloc, form, &[near.here]);
     }
     if let Some(sentence) = said_of(prefixed.as_slice(), &FUNCTIONS) {
-        return worded(alloc, "", near.here, sentence);
+        return say(alloc, sentence, &[near.here]);
     }
-    if let Some(place) = place_in(&OWN_FUNCTIONS, near.here) {
-        return worded(alloc, "", near.here, misplaced(place));
+    if let Some(role) = role_of(near.here) {
+        return say(alloc, misplaced(role), &[near.here]);
     }
     let close = match place_in(&OWN_FUNCTIONS, prefixed.as_slice()) {
         Some(place) => Some(place),
         None => nearest(alloc, near.here, &OWN_FUNCTIONS)?,
     };
-    let there = "there is no function ";
     match close {
-        Some(place) if place < 14 => worded_with(
-            alloc,
-            there,
-            near.here,
-            ": did you mean ",
-            OWN_FUNCTIONS[place],
-        ),
-        _ => worded(
-            alloc,
-            there,
-            near.here,
-            ": the manual, man sfq, lists those that are there",
-        ),
+        Some(place) if place < 14 => {
+            let form = "there is no function {}: did you mean {=}?";
+            say(alloc, form, &[near.here, OWN_FUNCTIONS[place]])
+        }
+        _ => {
+            let form = "there is no function {}: the manual, man sfq, lists those that are there";
+            say(alloc, form, &[near.here])
+        }
     }
 }
 
-/// What is said of a function of the language in the wrong place, by its place in the list: the first ten are conditions.
-fn misplaced(place: usize) -> &'static str {
-    if place < 10 {
-        " is a condition: write it after WHERE or ON, or where one is to come"
+/// What is said of a function of the language in the wrong place.
+fn misplaced(role: Role) -> &'static str {
+    if role.is_condition() {
+        "{} is a condition: write it after WHERE or ON, or where one is to come"
     } else {
-        " can't be here: a condition compares it with a value"
+        "{} can't be here: a condition compares it with a value"
     }
 }
 
 /// What is said of a function of the language with too few or too many arguments, after its name.
 fn call_sentence<'t>(tokens: &[Token<'t>], place: usize) -> Option<(&'t [u8], &'static str)> {
-    let (called, commas) = enclosing(tokens, place);
+    let (called, commas) = enclosing(tokens, place)?;
     let function = written(tokens, called);
-    let number = place_in(&OWN_FUNCTIONS, function)?;
-    let here = kind_of(tokens, place);
-    let ends = same_kind(here, TokenKind::RightParenthesis);
-    let goes_on = same_kind(here, TokenKind::Comma);
-    if number < 8 && ends && commas == 0 {
-        Some((function, " takes two geometries, with a comma between them"))
-    } else if number < 8 && goes_on && commas >= 1 {
-        Some((function, " takes two geometries: leave the rest out"))
-    } else if number == 8 && (ends || (commas == 2 && !goes_on)) {
-        Some((
-            function,
-            " takes two geometries and a pattern, as 'T*F**F***'",
-        ))
-    } else if 9 <= number && number < 12 && goes_on {
-        Some((function, " takes one geometry: leave the rest out"))
-    } else if number == 12 && goes_on {
-        Some((function, " takes one text: reference systems aren't taken"))
-    } else {
-        None
-    }
+    let role = role_of(function)?;
+    let ends = kind_of(tokens, place) == TokenKind::RightParenthesis;
+    let goes_on = kind_of(tokens, place) == TokenKind::Comma;
+    let words = match role {
+        Role::Relation if ends && commas == 0 =>
+            "{} takes two geometries, with a comma between them",
+        Role::Relation if goes_on && commas >= 1 => "{} takes two geometries: leave the rest out",
+        Role::Pattern if ends || (commas == 2 && !goes_on) => {
+            "{} takes two geometries and a pattern, as 'T*F**F***'"
+        }
+        Role::Test | Role::Value if goes_on => "{} takes one geometry: leave the rest out",
+        Role::Geometry if goes_on => "{} takes one text: reference systems aren't taken",
+        _ => return None,
+    };
+    Some((function, words))
 }
 
 // ---- numbers
 
 /// The sentence of what is joined to a number, or comes before a text, and isn't one here.
 fn number_sentence(alloc: Global, near: &Around<'_>) -> Result<Option<Vec<u8>>, AllocError> {
-    let is_number = same_kind(near.before_kind, TokenKind::Integer);
-    let goes_on = same_kind(near.next_kind, TokenKind::Integer);
+    let is_number = near.before_kind == TokenKind::Integer;
+    let goes_on = near.next_kind == TokenKind::Integer;
     let whole: &[u8] = if is_number { near.before } else { b"" };
     if is_number && goes_on && is(near.here, "-") && is_date(near) {
-        let sentence = b"a date is a text: write it in single quotes, as '2026-01-31'";
-        return Ok(Some(joined(alloc, &[sentence])?));
+        let sentence = "a date is a text: write it in single quotes, as '2026-01-31'";
+        return Ok(Some(say(alloc, sentence, &[])?));
     }
     let is_comma = is(near.here, ",") && is_number && goes_on && near.is_joined;
     let has_point = is(near.here, ".") && (is_number || goes_on) || is_comma;
     if has_point && near.expected != Expected::End {
         let behind: &[u8] = if goes_on { near.next } else { b"" };
-        let after = " isn't whole: numbers are whole here; sfq-import brings data to a grid";
+        let after = "{} isn't whole: numbers are whole here; sfq-import brings data to a grid";
         return joined_number(alloc, whole, near.here, behind, after);
     }
-    if !is_number || !near.is_joined || !same_kind(near.kind, TokenKind::Word) {
+    if !is_number || !near.is_joined || near.kind != TokenKind::Word {
         return Ok(None);
     }
     let after = if has_exponent(near.here) {
-        " has an exponent: write the whole number"
+        "{} has an exponent: write the whole number"
     } else {
-        " isn't a number here: write it in digits, 0 to 9"
+        "{} isn't a number here: write it in digits, 0 to 9"
     };
     joined_number(alloc, whole, near.here, b"", after)
 }
@@ -416,7 +383,7 @@ fn joined_number(
     after: &str,
 ) -> Result<Option<Vec<u8>>, AllocError> {
     let number = joined(alloc, &[whole, here, behind])?;
-    Ok(Some(worded(alloc, "", number.as_slice(), after)?))
+    Ok(Some(say(alloc, after, &[number.as_slice()])?))
 }
 
 /// Whether a number of four digits, a sign and a number of two are a date's.
@@ -432,47 +399,28 @@ fn has_exponent(here: &[u8]) -> bool {
 // ---- other tokens
 
 /// The sentence of any other token that can't be there.
-fn other_sentence(
-    alloc: Global,
-    near: &Around<'_>,
-    names: &Names<'_>,
-) -> Result<Vec<u8>, AllocError> {
-    if same_kind(near.kind, TokenKind::Text) {
+fn other_sentence(alloc: Global, near: &Around<'_>, names: &Names<'_>) -> Said {
+    if near.kind == TokenKind::Text {
         return text_sentence(alloc, near, names);
     }
     if is_one_of(near.here, "+ - *") && is_value_before(near.expected) {
-        let sentence = " isn't there: values are taken as they are, without arithmetic";
-        return worded(alloc, "", near.here, sentence);
+        let sentence = "{} isn't there: values are taken as they are, without arithmetic";
+        return say(alloc, sentence, &[near.here]);
     }
-    if same_kind(near.before_kind, TokenKind::Word)
+    if near.before_kind == TokenKind::Word
         && is_table_before(near.expected)
         && let Some(word) = misspelt(alloc, near.before, Expected::AfterFirst)?
     {
-        let between = " is taken as an alias here: did you mean ";
-        return worded_with(alloc, "", near.before, between, word);
+        let form = "{} is taken as an alias here: did you mean {=}?";
+        return say_both(alloc, form, near.before, word);
     }
     if !names.has(near.here)
         && let Some(word) = misspelt(alloc, near.here, near.expected)?
     {
-        return joined(alloc, &[b"did you mean ", word, b"?"]);
+        return say(alloc, "did you mean {=}?", &[word]);
     }
-    unexpected(alloc, "", near.here, "", near.expected)
-}
-
-/// The sentence of a token in quotes or none, where something else is to come.
-fn unexpected(
-    alloc: Global,
-    before: &str,
-    here: &[u8],
-    after: &str,
-    expected: Expected,
-) -> Result<Vec<u8>, AllocError> {
-    let found = worded(alloc, before, here, after)?;
-    let phrase = to_come(expected);
-    joined(
-        alloc,
-        &[found.as_slice(), b" can't be here: ", phrase.as_bytes()],
-    )
+    let phrase = to_come(near.expected).as_bytes();
+    say_both(alloc, "{} can't be here: {=}", near.here, phrase)
 }
 
 /// Whether arithmetic would go on at a place.
@@ -493,33 +441,25 @@ fn is_table_before(expected: Expected) -> bool {
 }
 
 /// The sentence of a text that can't be there: it is a name, comes behind a word such as DATE, or is a text.
-fn text_sentence(
-    alloc: Global,
-    near: &Around<'_>,
-    names: &Names<'_>,
-) -> Result<Vec<u8>, AllocError> {
+fn text_sentence(alloc: Global, near: &Around<'_>, names: &Names<'_>) -> Said {
     if names.has(near.here) {
-        return worded(alloc, "names aren't quoted: write ", near.here, "");
+        return say(alloc, "names aren't quoted: write {}", &[near.here]);
     }
     let is_behind = near.expected == Expected::AfterComparison
         || near.expected == Expected::Comparison
         || near.expected == Expected::Grouped;
-    if is_behind && same_kind(near.before_kind, TokenKind::Word) && !names.has(near.before) {
-        let sentence = " can't be before a text: write the text alone";
-        return worded(alloc, "", near.before, sentence);
+    if is_behind && near.before_kind == TokenKind::Word && !names.has(near.before) {
+        let sentence = "{} can't be before a text: write the text alone";
+        return say(alloc, sentence, &[near.before]);
     }
-    unexpected(alloc, "'", near.here, "'", near.expected)
+    let phrase = to_come(near.expected).as_bytes();
+    say_both(alloc, "'{}' can't be here: {=}", near.here, phrase)
 }
 
 // ---- bytes
 
 /// The sentence of a byte that begins no token, or of a string that isn't closed.
-pub(crate) fn byte_sentence(
-    alloc: Global,
-    text: &[u8],
-    at: usize,
-    names: &Names<'_>,
-) -> Result<Vec<u8>, AllocError> {
+pub(crate) fn byte_sentence(alloc: Global, text: &[u8], at: usize, names: &Names<'_>) -> Said {
     let found = rest(text, at);
     let byte = first(found);
     if byte == b'"' {
@@ -528,24 +468,37 @@ pub(crate) fn byte_sentence(
     }
     if byte == b'`' || byte == b'[' {
         let name = word(rest(found, 1));
-        return worded(alloc, "names aren't quoted: write ", name, "");
+        return say(alloc, "names aren't quoted: write {}", &[name]);
     }
     if byte == b'\'' && has_backslash(front(text, at)) {
-        return joined(
-            alloc,
-            &[
-                b"the text that begins here isn't closed: a quote within a text is doubled, and \\ changes nothing",
-            ],
-        );
+        let form =
+            "the text that begins here isn't closed: a quote within a text is doubled, and \\ changes nothing";
+        return say(alloc, form, &[]);
     }
-    for row in &SYMBOLS {
-        if front(found, row.0.len()).eq_ignore_ascii_case(row.0) {
-            return joined(alloc, &[row.1.as_bytes()]);
+    if place_in(&QUOTE_MARKS, front(found, 2)).is_some() {
+        return say(alloc, QUOTES, &[]);
+    }
+    if place_in(&[b"\xef\xbb\xbf"], front(found, 3)).is_some() {
+        return say(alloc, MARKED, &[]);
+    }
+    for length in [2, 1] {
+        let symbol = front(found, length);
+        if let Some(sentence) = said_of(symbol, &SYMBOLS) {
+            return say(alloc, sentence, &[symbol]);
         }
     }
-    let sentence = " isn't in the language: names have letters A to Z, digits and _";
-    worded(alloc, "", character(found), sentence)
+    let sentence = "{} isn't in the language: names have letters A to Z, digits and _";
+    say(alloc, sentence, &[character(found)])
 }
+
+/// How quotes begin in UTF-8 that aren't the plain ones.
+const QUOTE_MARKS: [&[u8]; 4] = [b"\xe2\x80", b"\xc2\xb4", b"\xc2\xab", b"\xc2\xbb"];
+
+/// What is said of such quotes.
+const QUOTES: &str = "a quote of this kind isn't there: texts are in single quotes, '";
+
+/// What is said of a byte order mark.
+const MARKED: &str = "the text begins with a byte order mark: save it without one";
 
 /// Whether a text has a backslash before a quote.
 fn has_backslash(text: &[u8]) -> bool {
@@ -558,28 +511,17 @@ fn has_backslash(text: &[u8]) -> bool {
 }
 
 /// The sentence of what is between double quotes: a name, a number, or a text, which is compared or isn't a name.
-fn quoted_sentence(
-    alloc: Global,
-    text: &[u8],
-    inside: &[u8],
-    names: &Names<'_>,
-) -> Result<Vec<u8>, AllocError> {
+fn quoted_sentence(alloc: Global, text: &[u8], inside: &[u8], names: &Names<'_>) -> Said {
     let behind = trimmed_back(text);
     let is_value = is_one_of(rest(behind, behind.len().saturating_sub(1)), "= < > (");
     if names.has(inside) {
-        worded(alloc, "names aren't quoted: write ", inside, "")
+        say(alloc, "names aren't quoted: write {}", &[inside])
     } else if !inside.is_empty() && inside.iter().all(|byte| byte.is_ascii_digit()) {
-        worded(alloc, "numbers aren't quoted: write ", inside, "")
+        say(alloc, "numbers aren't quoted: write {}", &[inside])
     } else if is_value || word(inside).len() < inside.len() {
-        worded(alloc, "texts are in single quotes: write '", inside, "'")
+        say(alloc, "texts are in single quotes: write '{}'", &[inside])
     } else {
-        let name = shown(alloc, inside)?;
-        let start = "names aren't quoted, and texts are in single quotes: write ";
-        worded_with_text(alloc, start, name.as_slice())
+        let form = "names aren't quoted, and texts are in single quotes: write {} or '{}'";
+        say(alloc, form, &[inside, inside])
     }
-}
-
-/// The sentence that proposes a word as a name or as a text.
-fn worded_with_text(alloc: Global, start: &str, name: &[u8]) -> Result<Vec<u8>, AllocError> {
-    joined(alloc, &[start.as_bytes(), name, b" or '", name, b"'"])
 }

@@ -7,14 +7,17 @@ ghost use Rattle.explanations.specs.Marks.{IsExplanation};
 use crate::lines::is_white;
 use crate::nearest_names::nearest;
 use crate::parts::{
-    before, first, front, is, is_one_of, joined, last, last_word, place_in, rest, said_of, shown,
-    trimmed, trimmed_back, word, worded, worded_with,
+    Said, before, first, front, is, is_one_of, last, last_word, place_in, rest, said_of, say,
+    trimmed, trimmed_back, word,
 };
 use crate::query_explanations::Names;
 use crate::query_sentences::{byte_sentence, token_at};
 use crate::said_lines::explained;
+use crate::sentences::{
+    COLUMN_TYPES, CONSTRAINTS, MARKS, NEAR_TYPE, NO_TYPE, TABLE_WORDS, schema_form,
+};
 use crate::token_lists::{back, kind_of, written};
-use sql_text::lex::{lex, same_kind};
+use sql_text::lex::lex;
 use std::alloc::{AllocError, Global};
 use table_model::faults::SchemaFault;
 use table_model::tokens::{Token, TokenKind};
@@ -60,137 +63,15 @@ const TYPES: [&[u8]; 11] = [
     b"MULTIPOLYGON",
 ];
 
-/// Words of types that other engines have, with blanks between them, and what is said after the word.
-const OTHER_TYPES: [(&str, &str); 10] = [
-    (
-        "VARCHAR CHAR CHARACTER NVARCHAR CLOB STRING UUID JSON JSONB",
-        " isn't a type here: write TEXT, without a length",
-    ),
-    (
-        "REAL FLOAT DOUBLE NUMERIC DECIMAL",
-        " isn't a type here: numbers are whole; sfq-import --scale makes INTEGER of them",
-    ),
-    (
-        "DATE TIME TIMESTAMP DATETIME TIMESTAMPTZ",
-        " isn't a type here: write TEXT; dates as 2026-01-31 are compared in their order",
-    ),
-    (
-        "BOOLEAN BOOL",
-        " isn't a type here: write INTEGER, and 0 or 1 in the table",
-    ),
-    (
-        "SERIAL BIGSERIAL",
-        " isn't a type here: write INTEGER, and the keys in the table",
-    ),
-    (
-        "SMALLINT TINYINT MEDIUMINT INT4 INT8 NUMBER",
-        " isn't a type here: write INTEGER",
-    ),
-    (
-        "BLOB BYTEA",
-        " isn't a type here: keep the bytes elsewhere, and their name in a TEXT column",
-    ),
-    (
-        "GEOGRAPHY",
-        " isn't a type here: coordinates are of a plane; write GEOMETRY",
-    ),
-    (
-        "GEOMETRYCOLLECTION",
-        " isn't a type here: collections aren't taken; keep points, lines and areas in columns of their own",
-    ),
-    (
-        "CIRCULARSTRING COMPOUNDCURVE CURVEPOLYGON CURVE",
-        " isn't a type here: curves aren't taken; write lines for them",
-    ),
-];
-
-/// Words that other engines have behind a type, with blanks between them, and what is said after the word.
-const MARKS: [(&str, &str); 4] = [
-    ("UNSIGNED", " isn't there: write INTEGER alone"),
-    (
-        "UNIQUE DEFAULT AUTOINCREMENT AUTO_INCREMENT CHECK REFERENCES COLLATE GENERATED CONSTRAINT IDENTITY COMMENT",
-        " isn't there: after a type come NOT NULL and PRIMARY KEY alone",
-    ),
-    (
-        "NULL",
-        " isn't there: a column takes NULL unless NOT NULL comes after its type",
-    ),
-    ("SRID", " isn't there: reference systems aren't taken"),
-];
-
-/// Words that other engines have before a table's name and behind its columns, with blanks between them, and what is said after the word.
-const TABLE_WORDS: [(&str, &str); 2] = [
-    (
-        "TEMPORARY TEMP",
-        " isn't there: write CREATE TABLE and the name",
-    ),
-    (
-        "WITHOUT STRICT ENGINE AS",
-        " isn't there: the table ends with ) and ;",
-    ),
-];
-
-/// What is said of indexes.
-const INDEXES: &str =
-    "indexes aren't written: a query makes those that it needs; leave this one out";
-
-/// Words that begin a constraint of a table, or an index, and what to do instead.
-const CONSTRAINTS: [(&str, &str); 9] = [
-    (
-        "PRIMARY",
-        "constraints of a table aren't there: write PRIMARY KEY after the column's type",
-    ),
-    (
-        "FOREIGN",
-        "constraints of a table aren't there: leave FOREIGN KEY out",
-    ),
-    (
-        "UNIQUE",
-        "constraints of a table aren't there: leave UNIQUE out",
-    ),
-    (
-        "CHECK",
-        "constraints of a table aren't there: leave CHECK out",
-    ),
-    (
-        "EXCLUDE",
-        "constraints of a table aren't there: leave EXCLUDE out",
-    ),
-    ("KEY", INDEXES),
-    ("INDEX", INDEXES),
-    ("FULLTEXT", INDEXES),
-    ("SPATIAL", INDEXES),
-];
-
 /// The sentence of a fault of a schema.
-fn schema_sentence(alloc: Global, text: &[u8], fault: SchemaFault) -> Result<Vec<u8>, AllocError> {
+fn schema_sentence(alloc: Global, text: &[u8], fault: SchemaFault) -> Said {
+    let form = schema_form(fault);
     match fault {
         SchemaFault::Syntax(at) => syntax_sentence(alloc, text, at),
-        SchemaFault::DoubleName(at) => {
-            let name = shown(alloc, word(rest(text, at)))?;
-            joined(
-                alloc,
-                &[
-                    b"the name ",
-                    name.as_slice(),
-                    b" is there before: case doesn't count; rename one of the two",
-                ],
-            )
-        }
-        SchemaFault::NoKey(at) => key_sentence(alloc, text, at),
-        SchemaFault::TwoKeys(_) => joined(
-            alloc,
-            &[b"the table has a key before: leave PRIMARY KEY out here"],
-        ),
-        SchemaFault::TooMany(_) => joined(
-            alloc,
-            &[b"a schema takes 16 tables, and a table 32 columns: leave this one out"],
-        ),
-        SchemaFault::TooLong => joined(
-            alloc,
-            &[b"the schema has more than 65536 bytes: comments count too"],
-        ),
+        SchemaFault::DoubleName(at) => say(alloc, form, &[word(rest(text, at))]),
+        SchemaFault::NoKey(at) => say(alloc, form, &[last_table(front(text, at))]),
         SchemaFault::OutOfMemory => Err(AllocError),
+        _ => say(alloc, form, &[]),
     }
 }
 
@@ -204,18 +85,6 @@ fn last_table(text: &[u8]) -> &[u8] {
         }
     }
     word(name)
-}
-
-/// The sentence of a table without a key, which ends at this place.
-fn key_sentence(alloc: Global, text: &[u8], at: usize) -> Result<Vec<u8>, AllocError> {
-    let name = shown(alloc, last_table(front(text, at)))?;
-    joined(
-        alloc,
-        &[
-            name.as_slice(),
-            b" has no key: write PRIMARY KEY after the type of one INTEGER column",
-        ],
-    )
 }
 
 /// What can come at a place of a schema.
@@ -266,12 +135,11 @@ fn expected_at(tokens: &[Token<'_>], place: usize) -> Expected {
 /// The place of the first token of the column or of the table's beginning that a place is in.
 fn part_start(tokens: &[Token<'_>], place: usize) -> usize {
     for count in 1..place.saturating_add(1) {
-        let kind = kind_of(tokens, back(place, count));
-        if same_kind(kind, TokenKind::LeftParenthesis)
-            || same_kind(kind, TokenKind::Comma)
-            || same_kind(kind, TokenKind::Semicolon)
-        {
-            return back(place, count).saturating_add(1);
+        let at = back(place, count);
+        if let TokenKind::LeftParenthesis | TokenKind::Comma | TokenKind::Semicolon = kind_of(
+            tokens, at,
+        ) {
+            return at.saturating_add(1);
         }
     }
     0
@@ -280,7 +148,7 @@ fn part_start(tokens: &[Token<'_>], place: usize) -> usize {
 /// Whether the part that begins at a place is a column.
 fn is_inside(tokens: &[Token<'_>], start: usize) -> bool {
     let before = kind_of(tokens, back(start, 1));
-    same_kind(before, TokenKind::LeftParenthesis) || same_kind(before, TokenKind::Comma)
+    before == TokenKind::LeftParenthesis || before == TokenKind::Comma
 }
 
 /// What is said of a token that is none of those that can come.
@@ -314,7 +182,7 @@ fn end_words(expected: Expected) -> &'static str {
 }
 
 /// The sentence of what can't be there.
-fn syntax_sentence(alloc: Global, text: &[u8], at: usize) -> Result<Vec<u8>, AllocError> {
+fn syntax_sentence(alloc: Global, text: &[u8], at: usize) -> Said {
     let list = lex(alloc, text, false)?;
     let tokens = list.as_slice();
     let place = token_at(tokens, at).unwrap_or(tokens.len());
@@ -322,16 +190,14 @@ fn syntax_sentence(alloc: Global, text: &[u8], at: usize) -> Result<Vec<u8>, All
     let found = rest(text, at);
     let here = word(found);
     if trimmed(found).is_empty() {
-        return joined(alloc, &[end_words(expected).as_bytes()]);
+        return say(alloc, end_words(expected), &[]);
     }
     if here.len() < found.len() && found[here.len()] == 0 {
-        return joined(
-            alloc,
-            &[b"the file has bytes that are 0: is it UTF-16? save it as UTF-8"],
-        );
+        let form = "the file has bytes that are 0: is it UTF-16? save it as UTF-8";
+        return say(alloc, form, &[]);
     }
     if let Some(sentence) = constraint_sentence(front(text, at), found) {
-        return joined(alloc, &[sentence.as_bytes()]);
+        return say(alloc, sentence, &[]);
     }
     if here.is_empty() {
         return symbol_sentence(alloc, text, at, tokens, place);
@@ -339,7 +205,10 @@ fn syntax_sentence(alloc: Global, text: &[u8], at: usize) -> Result<Vec<u8>, All
     match expected {
         Expected::Type => type_sentence(alloc, here),
         Expected::Mark => mark_sentence(alloc, tokens, place, here),
-        _ => word_sentence(alloc, here, expected, written(tokens, back(place, 1))),
+        _ => {
+            let form = word_form(here, expected, written(tokens, back(place, 1)));
+            say(alloc, form, &[here])
+        }
     }
 }
 
@@ -362,103 +231,56 @@ fn constraint_sentence(text: &[u8], found: &[u8]) -> Option<&'static str> {
         && (is_kind
             || (opens
                 && said_of(here, &MARKS).is_none()
-                && said_of(here, &OTHER_TYPES).is_none()))
+                && said_of(here, &COLUMN_TYPES).is_none()))
     {
         return said_of(before, &CONSTRAINTS);
     }
     None
 }
 
-/// The sentence of a word that can't be there, and comes behind another one.
-fn word_sentence(
-    alloc: Global,
-    here: &[u8],
-    expected: Expected,
-    before: &[u8],
-) -> Result<Vec<u8>, AllocError> {
-    let is_table = expected == Expected::Table || expected == Expected::Behind;
-    if is_table && let Some(sentence) = said_of(here, &TABLE_WORDS) {
-        return worded(alloc, "", here, sentence);
+/// What is said of a word that can't be there, and comes behind another one.
+fn word_form(here: &[u8], expected: Expected, before: &[u8]) -> &'static str {
+    match said_of(here, &TABLE_WORDS) {
+        Some(form) if matches!(expected, Expected::Table | Expected::Behind) => form,
+        _ => match expected {
+            Expected::Create | Expected::Table => "{} isn't there: a schema has CREATE TABLE alone",
+            Expected::Name | Expected::Column if first(here).is_ascii_digit() => {
+                "a name begins with a letter or _: write _{}"
+            }
+            Expected::Name | Expected::Column => "{} is a word of the language, and no name",
+            _ if is(before, "IF") => "IF NOT EXISTS isn't there: write CREATE TABLE and the name",
+            _ => to_come(expected),
+        },
     }
-    if expected == Expected::Create || expected == Expected::Table {
-        let sentence = " isn't there: a schema has CREATE TABLE alone";
-        return worded(alloc, "", here, sentence);
-    }
-    if expected == Expected::Name || expected == Expected::Column {
-        if first(here).is_ascii_digit() {
-            return worded(alloc, "a name begins with a letter or _: write _", here, "");
-        }
-        return worded(alloc, "", here, " is a word of the language, and no name");
-    }
-    if is(before, "IF") {
-        return joined(
-            alloc,
-            &[b"IF NOT EXISTS isn't there: write CREATE TABLE and the name"],
-        );
-    }
-    joined(alloc, &[to_come(expected).as_bytes()])
 }
 
 /// The sentence of a word that is no type.
-fn type_sentence(alloc: Global, here: &[u8]) -> Result<Vec<u8>, AllocError> {
-    if let Some(sentence) = said_of(here, &OTHER_TYPES) {
-        return worded(alloc, "", here, sentence);
-    }
-    if let Some(sentence) = said_of(here, &MARKS) {
-        return worded(alloc, "", here, sentence);
+fn type_sentence(alloc: Global, here: &[u8]) -> Said {
+    if let Some(form) = said_of(here, &COLUMN_TYPES).or(said_of(here, &MARKS)) {
+        return say(alloc, form, &[here]);
     }
     let shorter = front(here, here.len().saturating_sub(1));
     if is_one_of(shorter, "POINT POLYGON LINESTRING") {
-        return worded(
-            alloc,
-            "",
-            here,
-            " isn't a type here: heights and measures aren't taken; leave the last letter out",
-        );
+        let form =
+            "{} isn't a type here: heights and measures aren't taken; leave the last letter out";
+        return say(alloc, form, &[here]);
     }
     match nearest(alloc, here, &TYPES)? {
-        Some(place) if place < 11 => worded_with(
-            alloc,
-            "",
-            here,
-            " isn't a type here: did you mean ",
-            TYPES[place],
-        ),
-        _ => worded(
-            alloc,
-            "",
-            here,
-            " isn't a type here: there are INTEGER, INT, BIGINT, TEXT, GEOMETRY, POINT, MULTIPOINT, LINESTRING, MULTILINESTRING, POLYGON, MULTIPOLYGON",
-        ),
+        Some(place) if place < 11 => say(alloc, NEAR_TYPE, &[here, TYPES[place]]),
+        _ => say(alloc, NO_TYPE, &[here]),
     }
 }
 
 /// The sentence of a word behind a type.
-fn mark_sentence(
-    alloc: Global,
-    tokens: &[Token<'_>],
-    place: usize,
-    here: &[u8],
-) -> Result<Vec<u8>, AllocError> {
+fn mark_sentence(alloc: Global, tokens: &[Token<'_>], place: usize, here: &[u8]) -> Said {
     let start = part_start(tokens, place);
     let kind = written(tokens, start.saturating_add(1));
     if is(here, "PRIMARY") && !is_one_of(kind, "INTEGER INT BIGINT") {
-        let name = shown(alloc, written(tokens, start))?;
-        return joined(
-            alloc,
-            &[
-                b"the key is a column of type INTEGER: ",
-                name.as_slice(),
-                b" is a ",
-                kind,
-            ],
-        );
+        let form = "the key is a column of type INTEGER: {} is a {=}";
+        return say(alloc, form, &[written(tokens, start), kind]);
     }
-    if let Some(sentence) = said_of(here, &MARKS) {
-        return worded(alloc, "", here, sentence);
-    }
-    if let Some(sentence) = said_of(here, &OTHER_TYPES) {
-        return worded(alloc, "", here, sentence);
+    if let Some(form) = said_of(here, &MARKS).or(said_of(here, &COLUMN_TYPES)) {
+        return say(alloc, form, &[here]);
     }
     let sentence = if is(here, "PRIMARY") {
         "PRIMARY KEY is there twice: leave one out"
@@ -469,19 +291,20 @@ fn mark_sentence(
     } else {
         "a comma is to come between columns"
     };
-    joined(alloc, &[sentence.as_bytes()])
+    say(alloc, sentence, &[])
 }
 
 /// The sentence of a name in quotes.
-fn quoted_sentence(alloc: Global, found: &[u8], quote: u8) -> Result<Vec<u8>, AllocError> {
+fn quoted_sentence(alloc: Global, found: &[u8], quote: u8) -> Said {
     let name = before(rest(found, 1), quote);
     if word(name).len() < name.len() {
-        return joined(
+        return say(
             alloc,
-            &[b"names aren't quoted, and have letters A to Z, digits and _"],
+            "names aren't quoted, and have letters A to Z, digits and _",
+            &[],
         );
     }
-    worded(alloc, "names aren't quoted: write ", name, "")
+    say(alloc, "names aren't quoted: write {}", &[name])
 }
 
 /// The sentence of a symbol that can't be there.
@@ -491,7 +314,7 @@ fn symbol_sentence(
     at: usize,
     tokens: &[Token<'_>],
     place: usize,
-) -> Result<Vec<u8>, AllocError> {
+) -> Said {
     let found = rest(text, at);
     let byte = first(found);
     let expected = expected_at(tokens, place);
@@ -500,41 +323,33 @@ fn symbol_sentence(
         return quoted_sentence(alloc, found, byte);
     }
     if byte == b'(' && is_one_of(before, "TEXT INTEGER INT BIGINT") {
-        return joined(alloc, &[b"a type has no length here: write it alone"]);
+        return say(alloc, "a type has no length here: write it alone", &[]);
     }
     if byte == b'(' && expected == Expected::Mark && place_in(&TYPES, before).is_some() {
         let kind = written(tokens, place.saturating_add(1));
         let plain = plain_type(kind).unwrap_or(before);
         let kind = plain.to_ascii_uppercase(alloc)?;
-        let start = "a type has no reference system here: write ";
-        return worded(alloc, start, kind.as_slice(), "");
+        let form = "a type has no reference system here: write {}";
+        return say(alloc, form, &[kind.as_slice()]);
     }
-    if byte == b'.' {
-        return joined(
-            alloc,
-            &[b"tables have no schema before their name: write the name alone"],
-        );
+    if let Some(words) = symbol_words(byte, before, expected) {
+        return say(alloc, words, &[]);
     }
-    if byte == b')' && is(before, ",") {
-        return joined(
-            alloc,
-            &[b"a column is to come after the comma: leave the comma out"],
-        );
+    byte_sentence(alloc, text, at, &Names::NONE)
+}
+
+/// What is said of a symbol that can't be there, behind a token.
+fn symbol_words(byte: u8, before: &[u8], expected: Expected) -> Option<&'static str> {
+    match byte {
+        b'.' => Some("tables have no schema before their name: write the name alone"),
+        b')' if is(before, ",") => Some("a column is to come after the comma: leave the comma out"),
+        0xef => None,
+        128..=255 => Some("this letter isn't in the letters of a name: A to Z, digits and _ are"),
+        b'(' | b')' | b',' | b';' | b':' | b'=' if expected != Expected::Create => {
+            Some(to_come(expected))
+        }
+        _ => None,
     }
-    if byte >= 128 && byte != 0xef {
-        return joined(
-            alloc,
-            &[b"this letter isn't in the letters of a name: A to Z, digits and _ are"],
-        );
-    }
-    if is_one_of(front(found, 1), "( ) , ; : =") && expected != Expected::Create {
-        return joined(alloc, &[to_come(expected).as_bytes()]);
-    }
-    let names = Names {
-        tables: &[],
-        columns: &[],
-    };
-    byte_sentence(alloc, text, at, &names)
 }
 
 /// A type, without a Z or an M at its end.

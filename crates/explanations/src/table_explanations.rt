@@ -8,7 +8,7 @@ ghost use Rattle.explanations.specs.Tables as spec;
 use crate::field_places::{after_mark, ends_in_quotes, field_place, long_field, record_end};
 use crate::lines::line_of;
 use crate::marks::shown_place;
-use crate::parts::{first, rest};
+use crate::parts::rest;
 use crate::record_parts::{field_count, field_from, fields_of, name_of, record_at};
 use crate::said_lines::explained;
 use crate::table_fronts::last_record;

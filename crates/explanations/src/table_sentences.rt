@@ -5,7 +5,7 @@ use crate::geometry_sentences::{TYPES, advice, is_binary, opened, text_sentence}
 use crate::marks::{is_plain, push_shown};
 use crate::nearest_names::nearest;
 use crate::parts::{
-    first, front, is, is_one_of, joined, last, place_in, rest, trimmed, trimmed_back, word, worded,
+    Said, first, front, is, is_one_of, last, place_in, rest, say, trimmed, trimmed_back, word,
 };
 use crate::record_parts::{field_count, fields_of, name_of, unquoted};
 use geometry_model::{GeometryFault, TextFault};
@@ -43,11 +43,7 @@ const NOT_NULL: &str =
 const LINE_END: &str = "the field holds a line end: is its quote closed too late?";
 
 /// The sentence of a table's fault; nothing of one that has none.
-pub(crate) fn table_sentence(
-    alloc: Global,
-    fault: LoadFault,
-    near: &Near<'_>,
-) -> Result<Vec<u8>, AllocError> {
+pub(crate) fn table_sentence(alloc: Global, fault: LoadFault, near: &Near<'_>) -> Said {
     match fault {
         LoadFault::MissingColumn => header_sentence(alloc, near),
         LoadFault::UnequalRecord(_) => length_sentence(alloc, near),
@@ -59,7 +55,7 @@ pub(crate) fn table_sentence(
         LoadFault::DoubleHeader
         | LoadFault::NotUtf8(_)
         | LoadFault::NullNotAllowed(_)
-        | LoadFault::TooManyRows => joined(alloc, &[plain_sentence(fault, near).as_bytes()]),
+        | LoadFault::TooManyRows => say(alloc, plain_sentence(fault, near), &[]),
         LoadFault::OutOfMemory => Err(AllocError),
     }
 }
@@ -112,34 +108,14 @@ const FIELDS: usize = 1000;
 const NAME_BYTES: usize = 64;
 
 /// The sentence of a header that lacks a column.
-fn header_sentence(alloc: Global, near: &Near<'_>) -> Result<Vec<u8>, AllocError> {
+fn header_sentence(alloc: Global, near: &Near<'_>) -> Said {
     let header = near.header;
-    if header.is_empty() {
-        return joined(
-            alloc,
-            &[b"the file is empty: its first line names the columns"],
-        );
-    }
-    if header.contains(&0) {
-        return joined(
-            alloc,
-            &[b"the file has bytes that are 0: is it UTF-16? save it as UTF-8"],
-        );
-    }
-    if is(front(header, 4), "sep=") {
-        return joined(
-            alloc,
-            &[b"sep= is a line of Excel's: leave it out; sfq takes commas"],
-        );
-    }
-    if first(header) == b'{' || first(header) == b'[' {
-        return joined(
-            alloc,
-            &[b"this looks like JSON: write CSV; sfq-import reads GeoJSON"],
-        );
+    if let Some(words) = other_file(header) {
+        return say(alloc, words, &[]);
     }
     if let Some(separator) = separator_of(header) {
-        return one_field(alloc, header, separator);
+        let shown = escaped(alloc, header)?;
+        return say(alloc, separator, &[shown.as_slice()]);
     }
     let fields = fields_of(alloc, header, FIELDS)?;
     for field in fields.as_slice() {
@@ -150,6 +126,21 @@ fn header_sentence(alloc: Global, near: &Near<'_>) -> Result<Vec<u8>, AllocError
         }
     }
     name_sentence(alloc, near, fields.as_slice())
+}
+
+/// What is said of a file that is no table, by the line that it begins with.
+fn other_file(header: &[u8]) -> Option<&'static str> {
+    if header.is_empty() {
+        Some("the file is empty: its first line names the columns")
+    } else if header.contains(&0) {
+        Some("the file has bytes that are 0: is it UTF-16? save it as UTF-8")
+    } else if is(front(header, 4), "sep=") {
+        Some("sep= is a line of Excel's: leave it out; sfq takes commas")
+    } else if first(header) == b'{' || first(header) == b'[' {
+        Some("this looks like JSON: write CSV; sfq-import reads GeoJSON")
+    } else {
+        None
+    }
 }
 
 /// Whether a table has a column of this name, in any ASCII case.
@@ -172,43 +163,29 @@ fn separator_of(record: &[u8]) -> Option<&'static str> {
     if field_count(record) > 1 {
         None
     } else if record.contains(&b';') {
-        Some(" is one field: is ; the separator? sfq takes commas")
+        Some("{=} is one field: is ; the separator? sfq takes commas")
     } else if record.contains(&b'\t') {
-        Some(" is one field: is a tab the separator? sfq takes commas")
+        Some("{=} is one field: is a tab the separator? sfq takes commas")
     } else if record.contains(&b'|') {
-        Some(" is one field: is | the separator? sfq takes commas")
+        Some("{=} is one field: is | the separator? sfq takes commas")
     } else {
         None
     }
 }
 
-/// The sentence of a record of one field.
-fn one_field(alloc: Global, record: &[u8], words: &str) -> Result<Vec<u8>, AllocError> {
-    let mut sentence = escaped(alloc, record)?;
-    sentence.extend_from_slice(words.as_bytes())?;
-    Ok(sentence)
-}
-
 /// The sentence of a name with a blank at its beginning or end.
-fn blank_sentence(alloc: Global, name: &[u8]) -> Result<Vec<u8>, AllocError> {
+fn blank_sentence(alloc: Global, name: &[u8]) -> Said {
     let shown = escaped(alloc, name)?;
-    joined(
-        alloc,
-        &[b"'", shown.as_slice(), blank_words(name).as_bytes()],
-    )
-}
-
-/// Where a name has a blank, and what to do.
-fn blank_words(name: &[u8]) -> &'static str {
-    if trimmed(name).len() < name.len() {
-        "' begins with a blank: leave it out"
+    let form = if trimmed(name).len() < name.len() {
+        "'{=}' begins with a blank: leave it out"
     } else {
-        "' ends with a blank: leave it out"
-    }
+        "'{=}' ends with a blank: leave it out"
+    };
+    say(alloc, form, &[shown.as_slice()])
 }
 
 /// The sentence of a header by its names: one is near to the column's, none is a column's, or the column's isn't there.
-fn name_sentence(alloc: Global, near: &Near<'_>, fields: &[&[u8]]) -> Result<Vec<u8>, AllocError> {
+fn name_sentence(alloc: Global, near: &Near<'_>, fields: &[&[u8]]) -> Said {
     let mut others: Vec<&[u8]> = Vec::new(alloc);
     let mut columns: usize = 0;
     for field in fields {
@@ -221,33 +198,16 @@ fn name_sentence(alloc: Global, near: &Near<'_>, fields: &[&[u8]]) -> Result<Vec
     }
     if let Some(name) = near_name(alloc, near, others.as_slice())? {
         let shown = escaped(alloc, name)?;
-        return joined(
-            alloc,
-            &[
-                b"the header has ",
-                shown.as_slice(),
-                b": did you mean that? change the name here or in the schema",
-            ],
-        );
+        let form = "the header has {=}: did you mean that? change the name here or in the schema";
+        return say(alloc, form, &[shown.as_slice()]);
     }
     let names = list_of(alloc, fields)?;
-    joined(
-        alloc,
-        &[
-            b"the header has ",
-            names.as_slice(),
-            names_words(columns).as_bytes(),
-        ],
-    )
-}
-
-/// What is said of a header of which so many names are those of columns.
-fn names_words(columns: usize) -> &'static str {
-    if columns == 0 {
-        ": its first line names the columns"
+    let form = if columns == 0 {
+        "the header has {=}: its first line names the columns"
     } else {
-        ": add the column, or take it out of the schema"
-    }
+        "the header has {=}: add the column, or take it out of the schema"
+    };
+    say(alloc, form, &[names.as_slice()])
 }
 
 /// The name of these that is nearest to that of the column, if one is near.
@@ -273,7 +233,7 @@ fn near_name<'t>(
 const LIST_BYTES: usize = 110;
 
 /// Names with commas between them, and two dots for those that don't fit.
-fn list_of(alloc: Global, fields: &[&[u8]]) -> Result<Vec<u8>, AllocError> {
+fn list_of(alloc: Global, fields: &[&[u8]]) -> Said {
     let mut list: Vec<u8> = Vec::new(alloc);
     for field in fields {
         let name = escaped(alloc, name_of(field))?;
@@ -293,7 +253,7 @@ fn list_of(alloc: Global, fields: &[&[u8]]) -> Result<Vec<u8>, AllocError> {
 const SHOWN_BYTES: usize = 40;
 
 /// A part of a table as a sentence shows it: its first 40 bytes, and two dots if it has more, as the line of the place shows them.
-fn escaped(alloc: Global, part: &[u8]) -> Result<Vec<u8>, AllocError> {
+fn escaped(alloc: Global, part: &[u8]) -> Said {
     let shown = cut(part);
     let mut text = Vec::new(alloc);
     push_shown(&mut text, shown, is_plain(shown))?;
@@ -320,20 +280,17 @@ fn cut(part: &[u8]) -> &[u8] {
 // ---- records
 
 /// The sentence of a record with more or fewer fields than the header.
-fn length_sentence(alloc: Global, near: &Near<'_>) -> Result<Vec<u8>, AllocError> {
+fn length_sentence(alloc: Global, near: &Near<'_>) -> Said {
     let record = near.record;
     let fields = fields_of(alloc, record, FIELDS)?;
     if let Some(text) = open_geometry(record, fields.as_slice()) {
-        return worded(
-            alloc,
-            "a geometry with a comma needs quotes: \"",
-            text,
-            "\"",
-        );
+        let form = "a geometry with a comma needs quotes: \"{}\"";
+        return say(alloc, form, &[text]);
     }
     let more = field_count(record) > field_count(near.header);
     if !more && let Some(separator) = separator_of(record) {
-        return one_field(alloc, record, separator);
+        let shown = escaped(alloc, record)?;
+        return say(alloc, separator, &[shown.as_slice()]);
     }
     let is_one_more = field_count(record) == field_count(near.header).saturating_add(1);
     let sentence = if is_one_more && last(record) == b',' {
@@ -347,7 +304,7 @@ fn length_sentence(alloc: Global, near: &Near<'_>) -> Result<Vec<u8>, AllocError
     } else {
         "write one field for each column of the header; leave it empty for NULL"
     };
-    joined(alloc, &[sentence.as_bytes()])
+    say(alloc, sentence, &[])
 }
 
 /// The text of a geometry that commas cut into fields.
@@ -380,33 +337,25 @@ fn balanced(text: &[u8]) -> &[u8] {
 }
 
 /// The sentence of a key that an earlier record has.
-fn key_sentence(alloc: Global, near: &Near<'_>) -> Result<Vec<u8>, AllocError> {
+fn key_sentence(alloc: Global, near: &Near<'_>) -> Said {
     if near.earlier == 0 {
-        return joined(
-            alloc,
-            &[b"keys are unique: an earlier record has this one; number one of the two anew"],
-        );
+        let form = "keys are unique: an earlier record has this one; number one of the two anew";
+        return say(alloc, form, &[]);
     }
     let mut record = Buffer::new();
     let mut line = Buffer::new();
-    let record = record.format(near.earlier);
-    let line = line.format(near.line);
-    joined(
-        alloc,
-        &[
-            b"keys are unique: record ",
-            record.as_bytes(),
-            b" is on line ",
-            line.as_bytes(),
-            b"; number one of the two anew",
-        ],
-    )
+    let parts: [&[u8]; 2] = [
+        record.format(near.earlier).as_bytes(),
+        line.format(near.line).as_bytes(),
+    ];
+    let form = "keys are unique: record {=} is on line {=}; number one of the two anew";
+    say(alloc, form, &parts)
 }
 
 /// The sentence of a field that is too long, of one too many, or of a record that is too long; nothing, if there is none.
-fn long_sentence(alloc: Global, near: &Near<'_>) -> Result<Vec<u8>, AllocError> {
+fn long_sentence(alloc: Global, near: &Near<'_>) -> Said {
     match near.number {
-        Some(number) => joined(alloc, &[long_words(near.field, number).as_bytes()]),
+        Some(number) => say(alloc, long_words(near.field, number), &[]),
         None => Ok(Vec::new(alloc)),
     }
 }
@@ -427,22 +376,19 @@ fn long_words(field: &[u8], number: usize) -> &'static str {
 // ---- fields
 
 /// The sentence of a field that isn't a whole number.
-fn integer_sentence(alloc: Global, near: &Near<'_>) -> Result<Vec<u8>, AllocError> {
+fn integer_sentence(alloc: Global, near: &Near<'_>) -> Said {
     let value = unquoted(alloc, near.field)?;
     let text = trimmed_back(trimmed(value.as_slice()));
     if is_exponent(text) {
-        return worded(alloc, "", text, " has an exponent: write the whole number");
+        return say(alloc, "{} has an exponent: write the whole number", &[text]);
     }
     if is(text, "true") {
-        return worded(alloc, "write 1 for ", text, "");
+        return say(alloc, "write 1 for {}", &[text]);
     }
     if is(text, "false") {
-        return worded(alloc, "write 0 for ", text, "");
+        return say(alloc, "write 0 for {}", &[text]);
     }
-    joined(
-        alloc,
-        &[integer_words(near, value.as_slice(), text).as_bytes()],
-    )
+    say(alloc, integer_words(near, value.as_slice(), text), &[])
 }
 
 /// What is said of a field that isn't a whole number, without naming it.
@@ -535,17 +481,13 @@ fn is_of_numbers(text: &[u8]) -> bool {
 }
 
 /// The sentence of a field that isn't the text of a valid geometry.
-fn geometry_sentence(
-    alloc: Global,
-    near: &Near<'_>,
-    why: GeometryFault,
-) -> Result<Vec<u8>, AllocError> {
+fn geometry_sentence(alloc: Global, near: &Near<'_>, why: GeometryFault) -> Said {
     let value = unquoted(alloc, near.field)?;
     let text = value.as_slice();
     match why {
-        GeometryFault::Invalid(fault) => joined(alloc, &[advice(fault, text).as_bytes()]),
+        GeometryFault::Invalid(fault) => say(alloc, advice(fault, text), &[]),
         GeometryFault::Text(fault) => match other_form(near, text, fault) {
-            Some(sentence) => joined(alloc, &[sentence.as_bytes()]),
+            Some(sentence) => say(alloc, sentence, &[]),
             None => text_sentence(alloc, text, fault),
         },
     }
@@ -573,13 +515,9 @@ fn other_form(near: &Near<'_>, text: &[u8], fault: TextFault) -> Option<&'static
 }
 
 /// The sentence of a geometry of another type than its column's.
-fn type_sentence(alloc: Global, near: &Near<'_>) -> Result<Vec<u8>, AllocError> {
+fn type_sentence(alloc: Global, near: &Near<'_>) -> Said {
     let value = unquoted(alloc, near.field)?;
     let name = word(trimmed(value.as_slice())).to_ascii_uppercase(alloc)?;
-    worded(
-        alloc,
-        "declare the column ",
-        name.as_slice(),
-        ", or GEOMETRY, which takes every type",
-    )
+    let form = "declare the column {}, or GEOMETRY, which takes every type";
+    say(alloc, form, &[name.as_slice()])
 }
