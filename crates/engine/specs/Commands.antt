@@ -373,9 +373,9 @@ module _ {F R S M : Type 0} (opens : Opening F R) (remaining : R → Option (Lis
 
 -- ---- orders
 
--- a command over texts ends like this, and explains nothing
-abbrev pub ServesTexts : {E M : Type 0} → (E → Option (List ℕ)) → (E → ℕ) → M → M → (End → Type 0) → ℕ → E → E → Type 0
-ServesTexts taken failures mold mnew Ends status before after = Serves taken failures Ends status before after × (mnew ≡ mold)
+-- a command ends like this, and explains nothing
+abbrev pub ServesUnexplained : {E M : Type 0} → (E → Option (List ℕ)) → (E → ℕ) → M → M → (End → Type 0) → ℕ → E → E → Type 0
+ServesUnexplained taken failures mold mnew Ends status before after = Serves taken failures Ends status before after × (mnew ≡ mold)
 
 module _ {F R E S M : Type 0} (opens : Opening F R) (remaining : R → Option (List ℕ)) (etaken : E → Option (List ℕ)) (efailures : E → ℕ)
     (taken : S → Option (List ℕ)) (failures : S → ℕ) (old new : S) (mtaken : M → Option (List ℕ)) (mfailures : M → ℕ) (mold mnew : M) (why : Bool) where
@@ -386,15 +386,15 @@ module _ {F R E S M : Type 0} (opens : Opening F R) (remaining : R → Option (L
   ServesOrder opener (orders.Check schema directory asks) status before after =
       Serves etaken efailures (ChecksFiles opens remaining taken failures old new mtaken mfailures mold mnew why opener (string_bytes schema) (string_bytes directory)) status before after
   ServesOrder opener (orders.Relate first second asks) status before after =
-      ServesTexts etaken efailures mold mnew (RelatesWords opens remaining taken failures old new opener (string_bytes first) (string_bytes second)) status before after
+      Serves etaken efailures (RelatesWords opens remaining taken failures old new mtaken mfailures mold mnew opener (string_bytes first) (string_bytes second)) status before after
   ServesOrder opener (orders.Why first (Some second) asks) status before after =
-      ServesTexts etaken efailures mold mnew (ExplainsCells opens remaining taken failures old new opener (string_bytes first) (string_bytes second)) status before after
+      Serves etaken efailures (ExplainsCells opens remaining taken failures old new mtaken mfailures mold mnew opener (string_bytes first) (string_bytes second)) status before after
   ServesOrder opener (orders.Why first None asks) status before after =
-      ServesTexts etaken efailures mold mnew (ExplainsValidity opens remaining taken failures old new opener (string_bytes first)) status before after
+      Serves etaken efailures (ExplainsValidity opens remaining taken failures old new mtaken mfailures mold mnew opener (string_bytes first)) status before after
   ServesOrder opener (orders.Pairs file asks) status before after =
-      ServesTexts etaken efailures mold mnew (RelatesFile opens remaining taken failures old new opener (string_bytes file)) status before after
+      ServesUnexplained etaken efailures mold mnew (RelatesFile opens remaining taken failures old new opener (string_bytes file)) status before after
   ServesOrder opener (orders.Fault words) status before after =
-      ServesTexts etaken efailures mold mnew (ExplainsFault taken failures old new (map string_bytes words.items)) status before after
+      ServesUnexplained etaken efailures mold mnew (ExplainsFault taken failures old new (map string_bytes words.items)) status before after
 
 -- doing what an order says, with no explanation and no sink for one
 abbrev pub ServesAlone : {F R E S : Type 0} → Opening F R → (R → Option (List ℕ)) → (E → Option (List ℕ)) → (E → ℕ)

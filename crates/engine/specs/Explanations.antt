@@ -1,11 +1,11 @@
 -- What is written after the line of a fault, where more is asked for.
-use Rattle.std.specs.Prelude.{◌≡◌, ◌⊎◌, ℕ, List, Option, Some, None, Ok, codes}
+use Rattle.std.specs.Prelude.{◌≡◌, ◌⊎◌, ℕ, List, Option, Some, Ok, codes}
 use Rattle.std.specs.String.{string_bytes}
 use Rattle.command_line.specs.declared.known_commands.Order.{Order}
 use Rattle.command_line.specs.declared.known_commands.Order.TheVariants as orders
 use Rattle.explanations.specs.Marks.{SaysOfFile}
 use Rattle.explanations.specs.Notes.{AreNotes}
-use Rattle.text_commands.specs.Explanations.{Adds, MayExplainBoth, MayExplainWord}
+use Rattle.text_commands.specs.Explanations.{Adds}
 use Rattle.text_commands.specs.Files.{Opening}
 use Rattle.text_commands.specs.GivenTexts.{Gives, ReadsQuery, file_named}
 use Rattle.text_commands.specs.PairNotes.{MayExplainUnequal, NotesFile}
@@ -53,10 +53,8 @@ module _ {F R E : Type 0} (opens : Opening F R) (remaining : R → Option (List 
   abbrev pub ExplainsOrder : Order → E → E → Type 0
   ExplainsOrder (orders.Run schema directory query why) old new = (new ≡ old) ⊎ SaysEncoding taken failures (string_bytes query) old new
   ExplainsOrder (orders.Check schema directory why) old new = new ≡ old
-  ExplainsOrder (orders.Relate first second why) old new = MayExplainBoth taken failures opens remaining opener (string_bytes first) (string_bytes second) old new
-  ExplainsOrder (orders.Why first (Some second) why) old new =
-      MayExplainBoth taken failures opens remaining opener (string_bytes first) (string_bytes second) old new
-  ExplainsOrder (orders.Why first None why) old new = MayExplainWord taken failures opens remaining opener (string_bytes first) old new
+  ExplainsOrder (orders.Relate first second why) old new = new ≡ old
+  ExplainsOrder (orders.Why first second why) old new = new ≡ old
   ExplainsOrder (orders.Pairs file why) old new =
       NotesFile taken failures opens remaining opener (string_bytes file) old new
       ⊎ MayExplainUnequal taken failures opens remaining opener (string_bytes file) old new

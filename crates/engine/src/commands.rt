@@ -79,8 +79,9 @@ pub fn serve<R: Read + Drop, F: FnMut(&str) -> Option<R>, S: Sink, E: Sink>(
 }
 
 /// Like `serve`, with an opener that learns what each file is. It reports each candidate that a query looks at, and each row that it finds,
-/// to an observer. If the order asks why, it writes to `more` what explains a fault of the schema, of a table or of the query, and after a
-/// check that is done a line for each table that has a field with a line end. A caller shows that behind the answer and the line of the fault.
+/// to an observer. If the order asks why, it writes to `more` what explains a fault of the schema, of a table, of the query or of a geometry's
+/// text, and after a check that is done a line for each table that has a field with a line end. A caller shows that behind the answer and the
+/// line of the fault.
 pub fn serve_observed<
     R: Read + Drop,
     F: FnMut(File<'_>) -> Option<R>,
@@ -173,13 +174,15 @@ fn serve_order<
             serve_check(alloc, &paths, opener, out, err, more)
         }
         Order::Relate { first, second, .. } => {
-            serve_relate(alloc, first.as_str(), second.as_str(), opener, out, err)
+            let (first, second) = (first.as_str(), second.as_str());
+            serve_relate(alloc, why, first, second, opener, out, err, more)
         }
         Order::Why { first, second, .. } => match second {
             Some(second) => {
-                serve_witnesses(alloc, first.as_str(), second.as_str(), opener, out, err)
+                let (first, second) = (first.as_str(), second.as_str());
+                serve_witnesses(alloc, why, first, second, opener, out, err, more)
             }
-            None => serve_verdict(alloc, first.as_str(), opener, out, err),
+            None => serve_verdict(alloc, why, first.as_str(), opener, out, err, more),
         },
         Order::Pairs { file, .. } => serve_pairs(alloc, file.as_str(), opener, out, err),
         Order::Fault { words } => serve_fault(alloc, words.as_slice(), out, err),

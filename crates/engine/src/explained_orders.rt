@@ -4,7 +4,6 @@ ghost use Rattle.std.specs.Prelude.{◌≡◌, ◌⊎◌, false};
 ghost use Rattle.command_line.specs.Orders.{asks_why};
 ghost use Rattle.engine.specs.Explanations.{ExplainsOrder, MayNote, NotesOrder, SaysEncoding, SaysOf, not_utf8};
 ghost use Rattle.std.specs.String.{string_bytes};
-ghost use Rattle.text_commands.specs.Explanations.{MayExplainBoth, MayExplainWord};
 ghost use Rattle.text_commands.specs.Files.{OpensFile};
 ghost use Rattle.text_commands.specs.PairNotes.{MayExplainUnequal, NotesFile};
 
@@ -17,9 +16,7 @@ use sql_text::read_query;
 use std::alloc::{AllocError, Global};
 use std::io::Read;
 use streams::{Sink, put_all};
-use text_commands::{
-    File, explain_pairs, explain_unequal, explain_word, explain_words, geometry_text, query_text,
-};
+use text_commands::{File, explain_pairs, explain_unequal, geometry_text, query_text};
 
 /// The status of a command that can't open or read a file.
 const UNREAD: u8 = 6;
@@ -27,9 +24,9 @@ const UNREAD: u8 = 6;
 /// What is said of a query's file that isn't UTF-8, after its path.
 const NOT_UTF8: &str = " isn't UTF-8: save it as UTF-8";
 
-/// Writes what explains the fault of an order that has ended with a status, after the line of that fault: the line of the text that has it
-/// and what to do. Nothing is written if the order doesn't ask why, if there is no such fault now, if a file can't be opened again, or if
-/// memory runs out. A fault of a schema, a table or a query is explained by `serve_observed`. Of an order that is done, see `note_order`.
+/// Writes what explains the fault of an order that has ended with a status, after the line of that fault, where `serve_observed` doesn't: of
+/// pairs, and of a file that can't be opened or read. Nothing is written if the order doesn't ask why, if there is no such fault now, if a file
+/// can't be opened again, or if memory runs out. Of an order that is done, see `note_order`.
 #[inline(never)]
 pub fn explain_order<R: Read + Drop, F: FnMut(File<'_>) -> Option<R>, E: Sink>(
     alloc: Global,
@@ -75,12 +72,15 @@ fn explain_asked<R: Read + Drop, F: FnMut(File<'_>) -> Option<R>, E: Sink>(
             }
         }
         Order::Relate { first, second, .. } => {
-            explain_both(alloc, first, second, status, opener, err)
+            if status == UNREAD {
+                open_words(alloc, first.as_str(), second.as_str(), opener);
+            }
         }
-        Order::Why { first, second, .. } => match second {
-            Some(second) => explain_both(alloc, first, second, status, opener, err),
-            None => explain_one(alloc, first.as_str(), status, opener, err),
-        },
+        Order::Why { first, second, .. } => {
+            if status == UNREAD {
+                open_given(alloc, first, second, opener);
+            }
+        }
         Order::Pairs { file, .. } => note_pairs(alloc, file.as_str(), status, opener, err),
         Order::Fault { .. } => {}
     }
@@ -94,24 +94,20 @@ struct Places<'a> {
     query: &'a str,
 }
 
-/// Explains the first fault of the texts that two words of `relate` or `why` give, after a command that has ended with a status. Where a text
-/// isn't there, the files are opened once more, so that the opener says why.
-fn explain_both<R: Read + Drop, F: FnMut(File<'_>) -> Option<R>, E: Sink>(
+/// Opens the files of the words of `why` once more, up to the first that gives no text, so that the opener says why.
+fn open_given<R: Read + Drop, F: FnMut(File<'_>) -> Option<R>>(
     alloc: Global,
     first: &String,
-    second: &String,
-    status: u8,
-    opener: F,
-    err: &mut E,
+    second: &Option<String>,
+    mut opener: F,
 )
     requires { F.IsAlwaysCallable opener }
-    ensures { MayExplainBoth E.taken E.failures (OpensFile F.FnMut) R.remaining opener
-        (string_bytes first.now) (string_bytes second.now) err.old err.new }
 {
-    match status {
-        5 => explain_words(alloc, first.as_str(), second.as_str(), opener, err),
-        6 => open_words(alloc, first.as_str(), second.as_str(), opener),
-        _ => {}
+    match second {
+        Some(second) => open_words(alloc, first.as_str(), second.as_str(), opener),
+        None => {
+            let _ = geometry_text(alloc, first.as_str(), "first", &mut opener);
+        }
     }
 }
 
@@ -126,27 +122,6 @@ fn open_words<R: Read + Drop, F: FnMut(File<'_>) -> Option<R>>(
 {
     if geometry_text(alloc, first, "first", &mut opener).is_ok() {
         let _ = geometry_text(alloc, second, "second", &mut opener);
-    }
-}
-
-/// Explains the first fault of the text that the one word of `why` gives, after a command that has ended with a status. Where the text isn't
-/// there, its file is opened once more, so that the opener says why.
-fn explain_one<R: Read + Drop, F: FnMut(File<'_>) -> Option<R>, E: Sink>(
-    alloc: Global,
-    word: &str,
-    status: u8,
-    mut opener: F,
-    err: &mut E,
-)
-    requires { F.IsAlwaysCallable opener }
-    ensures { MayExplainWord E.taken E.failures (OpensFile F.FnMut) R.remaining opener word.now err.old err.new }
-{
-    match status {
-        5 => explain_word(alloc, word, opener, err),
-        6 => {
-            let _ = geometry_text(alloc, word, "first", &mut opener);
-        }
-        _ => {}
     }
 }
 
