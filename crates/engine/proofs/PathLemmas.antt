@@ -15,7 +15,7 @@ use Rattle.table_model.specs.SpatialTables.{SpatialSchema}
 use Rattle.table_model.specs.declared.faults.LoadFault.{LoadFault}
 use Rattle.failures.specs.Ends.{End}
 use Rattle.text_commands.specs.Ends.{Serves, Then}
-use Rattle.text_commands.specs.Explanations.{MayExplainText, MayExplainTexts}
+use Rattle.text_commands.specs.Explanations.{MayExplainEncoding, MayExplainText, MayExplainTexts}
 use Rattle.text_commands.specs.Files.{Opening, Role, path_of}
 use Rattle.text_commands.specs.GivenTexts.{GivesBy, ReadsGeometry, ReadsQuery, file_named}
 use Rattle.text_commands.specs.Reasons.{ShowsCells, ShowsVerdict}
@@ -300,6 +300,8 @@ module _ {F G R : Type 0} (files : Opening G R) (paths : Opening F R) (under : G
     same : mnew ≡ mold → nnew ≡ nold
     unread : (file : Option R) (failure : Failure) → ExplainsFile mtaken mfailures mold mnew why remaining file failure
         → ExplainsFile ntaken nfailures nold nnew why remaining file failure
+    encoding : (word : List ℕ) → MayExplainEncoding mtaken mfailures mold mnew word
+        → MayExplainEncoding ntaken nfailures nold nnew word
     text : (text : List ℕ) (end : End) → MayExplainText mtaken mfailures mold mnew text end
         → MayExplainText ntaken nfailures nold nnew text end
     texts : (first second : List ℕ) (end : End) → MayExplainTexts mtaken mfailures mold mnew first second end
@@ -372,7 +374,9 @@ module _ {F G R : Type 0} (files : Opening G R) (paths : Opening F R) (under : G
         query)
         (λ next query. RunsFiles paths remaining taken failures old new ntaken nfailures nold nnew why next schema directory
         query) end
-        ((new ≡ old) × (mnew ≡ mold)) ((new ≡ old) × (nnew ≡ nold)) (λ nothing. (nothing.0, carries.same nothing.1))
+        ((new ≡ old) × MayExplainEncoding mtaken mfailures mold mnew word)
+        ((new ≡ old) × MayExplainEncoding ntaken nfailures nold nnew word)
+        (λ nothing. (nothing.0, carries.encoding word nothing.1))
         (λ next query. runs-files next schema directory query end)
 
     relates-file : (opener : G) (path : List ℕ) (end : End)
@@ -450,6 +454,7 @@ by-paths {files = files} paths remaining etaken efailures taken failures old new
     (record {
       same = λ same. same;
       unread = λ file failure said. said;
+      encoding = λ word said. said;
       text = λ text end said. said;
       texts = λ first second end said. said;
       run = λ loaded directory. explains-run files paths under called remaining mtaken mfailures directory mold mnew loaded why;
@@ -476,6 +481,7 @@ by-paths-alone {files = files} paths remaining etaken efailures taken failures o
     (record {
       same = λ same. refl;
       unread = λ file failure said. refl;
+      encoding = λ word said. inl refl;
       text = λ text end said. inl refl;
       texts = λ first second end said. inl (inl refl);
       run = λ loaded directory query definitions end said. refl;

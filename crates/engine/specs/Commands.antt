@@ -33,6 +33,7 @@ use Rattle.table_model.specs.declared.faults.LoadFault.{LoadFault}
 use Rattle.table_model.specs.declared.faults.QueryFault.{QueryFault}
 use Rattle.table_model.specs.declared.faults.SchemaFault.{SchemaFault}
 use Rattle.table_model.specs.declared.faults.SchemaFault.TheVariants as s
+use Rattle.text_commands.specs.Explanations.{MayExplainEncoding}
 use Rattle.text_commands.specs.Files.{Opening}
 use Rattle.text_commands.specs.declared.files.File.TheVariants as role
 use Rattle.failures.specs.Ends.{End, Writes}
@@ -357,11 +358,11 @@ module _ {F R S M : Type 0} (opens : Opening F R) (remaining : R → Option (Lis
       × ExplainsRun opens remaining mtaken mfailures mold mnew after directory why query definitions ending)
       end EndsUnread
 
-  -- and running the query that a word gives, whose text is got first
+  -- and running the query that a word gives, whose text is got first; where it isn't, perhaps its file is said not to be UTF-8
   abbrev pub RunsQuery : F → List ℕ → List ℕ → List ℕ → End → Type 0
   RunsQuery opener schema directory word end =
       OverWord (opens role.Query) (ReadsQuery remaining) opener word (λ next query. RunsFiles next schema directory query) end
-      ((new ≡ old) × (mnew ≡ mold))
+      ((new ≡ old) × MayExplainEncoding mtaken mfailures mold mnew word)
 
   -- and counting the rows of its tables
   abbrev pub ChecksFiles : F → List ℕ → List ℕ → End → Type 0

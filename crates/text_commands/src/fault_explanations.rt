@@ -1,17 +1,34 @@
-//! What explains that `relate` or `why` refuses a text, where more is asked for: its place, and what to do.
+//! What explains that a command refuses a text that a word gives, where more is asked for: its place, and what to do.
 
 ghost use Rattle.std.specs.Prelude.{◌≡◌, ◌⊎◌, Err, IfOk, IfSome, false};
-ghost use Rattle.text_commands.specs.Explanations.{Explains, IsFirst, MayExplainText, MayExplainTexts};
+ghost use Rattle.text_commands.specs.Explanations.{Explains, IsFirst, MayExplainText, MayExplainTexts, MaySayOf, not_utf8};
 ghost use Rattle.failures.specs.declared.failure.Failure.TheVariants as f;
 ghost use Rattle.geometry_model.specs.declared.geometry_faults.GeometryFault.TheVariants as g;
 
 use crate::{geometry_of, reason_of_text};
-use explanations::{text_explained, validity_explained};
+use explanations::{file_explained, text_explained, validity_explained};
 use failures::{Failure, GeometryWord};
 use geometry_model::{GeometryFault, TextFault, ValidityFault};
 use std::alloc::{AllocError, Global};
 use streams::{Sink, put_all};
 use witnesses::put_verdict;
+
+/// What is said of a query's file that isn't UTF-8, behind its path.
+const NOT_UTF8: &str = " isn't UTF-8: save it as UTF-8";
+
+/// Writes that the query's file at a path isn't UTF-8, if `why` says so.
+pub(crate) fn explain_encoding<M: Sink>(alloc: Global, why: bool, path: &str, more: &mut M)
+    ensures explains { MaySayOf M.taken M.failures more.old more.new path.now not_utf8 }
+    ensures unasked { why ≡ false → more.new ≡ more.old }
+{
+    if !why {
+        return;
+    }
+    let Ok(line) = file_explained(alloc, path.as_bytes(), NOT_UTF8) else {
+        return;
+    };
+    let _ = put_all(more, line.as_slice());
+}
 
 /// Writes what explains that one of the two texts of a command is refused, if `why` says so and a failure is that: the place and what to do.
 /// Nothing is written if memory runs out.
