@@ -1,4 +1,4 @@
-"""What `--why` opens: of a schema and a query each file once, whether there is a fault or not, so that pipes are explained too."""
+"""What `--why` opens: of a schema, a query and a geometry each file once, whether there is a fault or not, so that pipes are explained too."""
 import os
 import subprocess
 import tempfile
@@ -17,6 +17,21 @@ FAULTS = (
     (SCHEMA, "SELECT nam FROM t", 3, "sfq: Q5 at 7\n", "sfq: there is no column nam"),
     (SCHEMA, "SELECT id FROM t WERE id = 1", 3, "sfq: Q2 at 22\n", "sfq: "),
 )
+# Of each the words, how many files are opened or tried, the line of the fault and its reason.
+UNOPENED = (
+    (["check", "nope.sql", "."], 1, "sfq: schema unreadable\n", "sfq: nope.sql isn't there\n"),
+    (["check", "schema.sql", "nowhere"], 2, "sfq: t unreadable\n", "sfq: nowhere isn't there: it should be a folder\n"),
+    (["check", ".", "."], 1, "sfq: schema unreadable\n", "sfq: . is a folder\n"),
+    (["run", "schema.sql", ".", "@nope.sql"], 1, "sfq: query unreadable\n", "sfq: nope.sql isn't there\n"),
+    (["relate", "POINT(1 2)", "@nope.wkt"], 1, "sfq: second unreadable\n", "sfq: nope.wkt isn't there\n"),
+    (["why", "@query.sql/a.wkt"], 1, "sfq: first unreadable\n", "sfq: query.sql isn't a folder\n"),
+    (["pairs", "nope.csv"], 1, "sfq: pairs unreadable\n", "sfq: nope.csv isn't there\n"),
+)
+
+# A ring that crosses itself, and what explains it; and what explains a coordinate that isn't whole.
+RING = "POLYGON((0 0,4 4,4 0,0 4,0 0))"
+RING_REASON = "sfq: V3 0: 0 0 to 4 4 and 4 0 to 0 4 share 2 2\nsfq: split the ring where it meets itself\n"
+HALF = "1.5 isn't whole: scale or round the coordinates; sfq-import does\n"
 
 
 class Openings(unittest.TestCase):
@@ -58,6 +73,43 @@ class Openings(unittest.TestCase):
         ran = sweeps.run(["check", "--why", "schema.sql", "."], folder=self.folder)
         self.assertEqual((ran.counts["open"], ran.counts["statx"]), (1, 0))
         self.assertIn("sfq: S3 at 26\n", ran.err.decode())
+
+    @needs_build
+    @needs("gcc", "cc")
+    def test_a_geometry_that_is_refused_is_opened_once(self):
+        write(f"{self.folder}/point.wkt", "POINT(1 2)")
+        write(f"{self.folder}/ring.wkt", RING)
+        for command in ("relate", "why"):
+            with self.subTest(command=command):
+                ran = sweeps.run([command, "--why", "@point.wkt", "@ring.wkt"], folder=self.folder)
+                self.assertEqual((ran.counts["open"], ran.counts["statx"]), (2, 0))
+                self.assertEqual(ran.err.decode(), f"sfq: second V3 0\n{RING_REASON}")
+
+    @needs_build
+    @needs("gcc", "cc")
+    def test_a_file_that_cannot_be_opened_is_tried_once(self):
+        for words, tries, line, reason in UNOPENED:
+            with self.subTest(words=words):
+                for switch in ([], ["--why"]):
+                    ran = sweeps.run([words[0], *switch, *words[1:]], folder=self.folder)
+                    self.assertEqual(ran.counts["open"], tries, switch)
+                    self.assertEqual(ran.err.decode(), line + reason * bool(switch))
+
+    @needs_build
+    def test_a_query_from_standard_input_that_is_not_utf8(self):
+        ran = subprocess.run([repository.PROGRAM, "run", "--why", "schema.sql", ".", "@-"], cwd=self.folder, input=b"SELECT \xe4", capture_output=True, timeout=60)
+        self.assertEqual((ran.returncode, ran.stderr), (6, b"sfq: query unreadable\nsfq: - isn't UTF-8: save it as UTF-8\n"))
+
+    @needs_build
+    def test_a_geometry_from_standard_input_or_a_named_pipe(self):
+        self.assertEqual(self.said(["relate", "@-", "POINT(1 2)"], RING), f"sfq: first V3 0\n{RING_REASON}")
+        said = self.said(["why", "@-"], "POINT(1.5 2)")
+        self.assertEqual(said, f"sfq: first W2 at 6\n  1 | POINT(1.5 2)\n    |       ^\nsfq: {HALF}")
+        os.mkfifo(f"{self.folder}/pipe")
+        writer = subprocess.Popen(["sh", "-c", 'printf %s "$1" > "$2"', "sh", RING, f"{self.folder}/pipe"])
+        said = self.said(["why", "POINT(1 2)", "@pipe"], "")
+        writer.wait(timeout=60)
+        self.assertEqual(said, f"sfq: second V3 0\n{RING_REASON}")
 
     @needs_build
     def test_reasons_from_standard_input(self):

@@ -214,9 +214,7 @@ class Streams(unittest.TestCase):
                 self.assertEqual((it.startswith("\x1b[36m"), it.endswith("\x1b[0m"), it.count("\x1b")), (is_coloured, is_coloured, 2 * is_coloured))
 
     @needs_build
-    def test_texts_from_standard_input(self):
-        said = self.run_with_switch(["relate", "@-", "POINT(1 2)"], given="POINT(1 x)", stdout=subprocess.DEVNULL)
-        self.assertEqual(said, "sfq: first W1 at 8\nsfq: - can't be read twice: save it as a file to see more\n")
+    def test_pairs_from_standard_input(self):
         said = self.run_with_switch(["pairs", "-"], given="POINT(1 x),POINT(1 2)\n", stdout=subprocess.DEVNULL)
         self.assertEqual(said, "sfq: - can't be read twice: save it as a file to see more\n")
 
@@ -241,11 +239,11 @@ class Streams(unittest.TestCase):
     @needs_build
     def test_a_named_pipe_is_not_waited_for(self):
         with tempfile.TemporaryDirectory(prefix="sfq-pipe-") as room:
-            os.mkfifo(f"{room}/a.wkt")
-            ours = subprocess.Popen(["sh", "-c", f"printf 'POINT(1 x)' > {room}/a.wkt"])
-            said = self.run_with_switch(["relate", f"@{room}/a.wkt", "POINT(1 2)"], stdout=subprocess.DEVNULL)
+            os.mkfifo(f"{room}/a.csv")
+            ours = subprocess.Popen(["sh", "-c", f"printf 'POINT(1 x),POINT(1 2)\\n' > {room}/a.csv"])
+            said = self.run_with_switch(["pairs", f"{room}/a.csv"], stdout=subprocess.DEVNULL)
             ours.wait(timeout=60)
-        self.assertEqual(said, f"sfq: first W1 at 8\nsfq: {room}/a.wkt can't be read twice: save it as a file to see more\n")
+        self.assertEqual(said, f"sfq: {room}/a.csv can't be read twice: save it as a file to see more\n")
 
     @needs_build
     def test_many_pairs_that_are_refused(self):

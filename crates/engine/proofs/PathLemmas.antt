@@ -15,6 +15,7 @@ use Rattle.table_model.specs.SpatialTables.{SpatialSchema}
 use Rattle.table_model.specs.declared.faults.LoadFault.{LoadFault}
 use Rattle.failures.specs.Ends.{End}
 use Rattle.text_commands.specs.Ends.{Serves, Then}
+use Rattle.text_commands.specs.Explanations.{MayExplainEncoding, MayExplainText, MayExplainTexts}
 use Rattle.text_commands.specs.Files.{Opening, Role, path_of}
 use Rattle.text_commands.specs.GivenTexts.{GivesBy, ReadsGeometry, ReadsQuery, file_named}
 use Rattle.text_commands.specs.Reasons.{ShowsCells, ShowsVerdict}
@@ -73,20 +74,21 @@ module _ {F G R : Type 0} (files : Opening G R) (paths : Opening F R) (under : G
         (more w.next) w.rest;
   }
 
-  over-texts : (remaining : R → Option (List ℕ)) (Over : List ℕ → List ℕ → End → Type 0) (Nothing : Type 0) (opener : G)
-      (first second : List ℕ) (end : End)
+  over-texts : (remaining : R → Option (List ℕ)) (Over Over' : List ℕ → List ℕ → End → Type 0) (Nothing Nothing' : Type 0)
+      (opener : G) (first second : List ℕ) (end : End)
+      → (Nothing → Nothing') → ((one other : List ℕ) → Over one other end → Over' one other end)
       → OverTexts files remaining Over Nothing opener first second end
-      → OverTexts paths remaining Over Nothing (under opener) first second end
-  over-texts remaining Over Nothing opener first second end =
+      → OverTexts paths remaining Over' Nothing' (under opener) first second end
+  over-texts remaining Over Over' Nothing Nothing' opener first second end less more =
       over-word role.Geometry (λ lent. refl) (ReadsGeometry remaining (codes "first")) opener first
       (λ next one ending. OverWord (files role.Geometry) (ReadsGeometry remaining (codes "second")) next second
       (λ after other last. Over one other last) ending Nothing)
       (λ next one ending. OverWord (paths role.Geometry) (ReadsGeometry remaining (codes "second")) next second
-      (λ after other last. Over one other last) ending Nothing)
-      end Nothing Nothing (λ nothing. nothing)
+      (λ after other last. Over' one other last) ending Nothing')
+      end Nothing Nothing' less
       (λ next one. over-word role.Geometry (λ lent. refl) (ReadsGeometry remaining (codes "second")) next second
       (λ after other last. Over one other last)
-      (λ after other last. Over one other last) end Nothing Nothing (λ nothing. nothing) (λ after other over. over))
+      (λ after other last. Over' one other last) end Nothing Nothing' less (λ after. more one))
 
   -- ---- files of tables
 
@@ -298,6 +300,12 @@ module _ {F G R : Type 0} (files : Opening G R) (paths : Opening F R) (under : G
     same : mnew ≡ mold → nnew ≡ nold
     unread : (file : Option R) (failure : Failure) → ExplainsFile mtaken mfailures mold mnew why remaining file failure
         → ExplainsFile ntaken nfailures nold nnew why remaining file failure
+    encoding : (word : List ℕ) → MayExplainEncoding mtaken mfailures mold mnew word
+        → MayExplainEncoding ntaken nfailures nold nnew word
+    text : (text : List ℕ) (end : End) → MayExplainText mtaken mfailures mold mnew text end
+        → MayExplainText ntaken nfailures nold nnew text end
+    texts : (first second : List ℕ) (end : End) → MayExplainTexts mtaken mfailures mold mnew first second end
+        → MayExplainTexts ntaken nfailures nold nnew first second end
     run : (after : G) (directory query : List ℕ) (definitions : SpatialSchema) (end : End)
         → ExplainsRun files remaining mtaken mfailures mold mnew after directory why query definitions end
         → ExplainsRun paths remaining ntaken nfailures nold nnew (under after) directory why query definitions end
@@ -366,7 +374,9 @@ module _ {F G R : Type 0} (files : Opening G R) (paths : Opening F R) (under : G
         query)
         (λ next query. RunsFiles paths remaining taken failures old new ntaken nfailures nold nnew why next schema directory
         query) end
-        ((new ≡ old) × (mnew ≡ mold)) ((new ≡ old) × (nnew ≡ nold)) (λ nothing. (nothing.0, carries.same nothing.1))
+        ((new ≡ old) × MayExplainEncoding mtaken mfailures mold mnew word)
+        ((new ≡ old) × MayExplainEncoding ntaken nfailures nold nnew word)
+        (λ nothing. (nothing.0, carries.encoding word nothing.1))
         (λ next query. runs-files next schema directory query end)
 
     relates-file : (opener : G) (path : List ℕ) (end : End)
@@ -388,26 +398,35 @@ module _ {F G R : Type 0} (files : Opening G R) (paths : Opening F R) (under : G
     serves-order etaken efailures opener (orders.Check schema directory asks) status before after served =
         serves-more etaken efailures _ _ status before after
         (checks-files opener (string_bytes schema) (string_bytes directory)) served
-    serves-order etaken efailures opener (orders.Relate first second asks) status before after served = (
-      serves-more etaken efailures _ _ status before after
-          (over-texts remaining (λ one other end. RelateEnds one other end (taken old) (taken new) (failures old) (failures new))
-          (new ≡ old) opener (string_bytes first) (string_bytes second)) served.0,
-      carries.same served.1,
-    )
-    serves-order etaken efailures opener (orders.Why first (Some second) asks) status before after served = (
-      serves-more etaken efailures _ _ status before after
-          (over-texts remaining (ShowsCells taken failures old new) (new ≡ old) opener (string_bytes first) (string_bytes second))
-          served.0,
-      carries.same served.1,
-    )
-    serves-order etaken efailures opener (orders.Why first None asks) status before after served = (
-      serves-more etaken efailures _ _ status before after
-          (λ end. over-word role.Geometry (λ lent. refl) (ReadsGeometry remaining (codes "first")) opener (string_bytes first)
-          (λ next text ending. ShowsVerdict taken failures old new text ending)
-          (λ next text ending. ShowsVerdict taken failures old new text ending) end (new ≡ old) (new ≡ old) (λ nothing. nothing)
-          (λ next text shows. shows)) served.0,
-      carries.same served.1,
-    )
+    serves-order etaken efailures opener (orders.Relate first second asks) status before after served =
+        serves-more etaken efailures _ _ status before after
+        (λ end. over-texts remaining
+        (λ one other ending. RelateEnds one other ending (taken old) (taken new) (failures old) (failures new)
+        × MayExplainTexts mtaken mfailures mold mnew one other ending)
+        (λ one other ending. RelateEnds one other ending (taken old) (taken new) (failures old) (failures new)
+        × MayExplainTexts ntaken nfailures nold nnew one other ending)
+        ((new ≡ old) × (mnew ≡ mold)) ((new ≡ old) × (nnew ≡ nold)) opener (string_bytes first) (string_bytes second) end
+        (λ nothing. (nothing.0, carries.same nothing.1))
+        (λ one other ends. (ends.0, carries.texts one other end ends.1))) served
+    serves-order etaken efailures opener (orders.Why first (Some second) asks) status before after served =
+        serves-more etaken efailures _ _ status before after
+        (λ end. over-texts remaining
+        (λ one other ending. ShowsCells taken failures old new one other ending
+        × MayExplainTexts mtaken mfailures mold mnew one other ending)
+        (λ one other ending. ShowsCells taken failures old new one other ending
+        × MayExplainTexts ntaken nfailures nold nnew one other ending)
+        ((new ≡ old) × (mnew ≡ mold)) ((new ≡ old) × (nnew ≡ nold)) opener (string_bytes first) (string_bytes second) end
+        (λ nothing. (nothing.0, carries.same nothing.1))
+        (λ one other shows. (shows.0, carries.texts one other end shows.1))) served
+    serves-order etaken efailures opener (orders.Why first None asks) status before after served =
+        serves-more etaken efailures _ _ status before after
+        (λ end. over-word role.Geometry (λ lent. refl) (ReadsGeometry remaining (codes "first")) opener (string_bytes first)
+        (λ next text ending. ShowsVerdict taken failures old new text ending
+        × MayExplainText mtaken mfailures mold mnew text ending)
+        (λ next text ending. ShowsVerdict taken failures old new text ending
+        × MayExplainText ntaken nfailures nold nnew text ending) end
+        ((new ≡ old) × (mnew ≡ mold)) ((new ≡ old) × (nnew ≡ nold)) (λ nothing. (nothing.0, carries.same nothing.1))
+        (λ next text shows. (shows.0, carries.text text end shows.1))) served
     serves-order etaken efailures opener (orders.Pairs path asks) status before after served = (
       serves-more etaken efailures _ _ status before after (relates-file opener (string_bytes path)) served.0,
       carries.same served.1,
@@ -435,6 +454,9 @@ by-paths {files = files} paths remaining etaken efailures taken failures old new
     (record {
       same = λ same. same;
       unread = λ file failure said. said;
+      encoding = λ word said. said;
+      text = λ text end said. said;
+      texts = λ first second end said. said;
       run = λ loaded directory. explains-run files paths under called remaining mtaken mfailures directory mold mnew loaded why;
       check = λ loaded directory.
           explains-check files paths under called remaining mtaken mfailures directory mold mnew loaded why;
@@ -459,6 +481,9 @@ by-paths-alone {files = files} paths remaining etaken efailures taken failures o
     (record {
       same = λ same. refl;
       unread = λ file failure said. refl;
+      encoding = λ word said. inl refl;
+      text = λ text end said. inl refl;
+      texts = λ first second end said. inl (inl refl);
       run = λ loaded directory query definitions end said. refl;
       check = λ loaded directory definitions end said. refl;
     }) etaken efailures opener order status before after served

@@ -33,6 +33,7 @@ use Rattle.table_model.specs.declared.faults.LoadFault.{LoadFault}
 use Rattle.table_model.specs.declared.faults.QueryFault.{QueryFault}
 use Rattle.table_model.specs.declared.faults.SchemaFault.{SchemaFault}
 use Rattle.table_model.specs.declared.faults.SchemaFault.TheVariants as s
+use Rattle.text_commands.specs.Explanations.{MayExplainEncoding}
 use Rattle.text_commands.specs.Files.{Opening}
 use Rattle.text_commands.specs.declared.files.File.TheVariants as role
 use Rattle.failures.specs.Ends.{End, Writes}
@@ -357,11 +358,11 @@ module _ {F R S M : Type 0} (opens : Opening F R) (remaining : R → Option (Lis
       × ExplainsRun opens remaining mtaken mfailures mold mnew after directory why query definitions ending)
       end EndsUnread
 
-  -- and running the query that a word gives, whose text is got first
+  -- and running the query that a word gives, whose text is got first; where it isn't, perhaps its file is said not to be UTF-8
   abbrev pub RunsQuery : F → List ℕ → List ℕ → List ℕ → End → Type 0
   RunsQuery opener schema directory word end =
       OverWord (opens role.Query) (ReadsQuery remaining) opener word (λ next query. RunsFiles next schema directory query) end
-      ((new ≡ old) × (mnew ≡ mold))
+      ((new ≡ old) × MayExplainEncoding mtaken mfailures mold mnew word)
 
   -- and counting the rows of its tables
   abbrev pub ChecksFiles : F → List ℕ → List ℕ → End → Type 0
@@ -373,9 +374,9 @@ module _ {F R S M : Type 0} (opens : Opening F R) (remaining : R → Option (Lis
 
 -- ---- orders
 
--- a command over texts ends like this, and explains nothing
-abbrev pub ServesTexts : {E M : Type 0} → (E → Option (List ℕ)) → (E → ℕ) → M → M → (End → Type 0) → ℕ → E → E → Type 0
-ServesTexts taken failures mold mnew Ends status before after = Serves taken failures Ends status before after × (mnew ≡ mold)
+-- a command ends like this, and explains nothing
+abbrev pub ServesUnexplained : {E M : Type 0} → (E → Option (List ℕ)) → (E → ℕ) → M → M → (End → Type 0) → ℕ → E → E → Type 0
+ServesUnexplained taken failures mold mnew Ends status before after = Serves taken failures Ends status before after × (mnew ≡ mold)
 
 module _ {F R E S M : Type 0} (opens : Opening F R) (remaining : R → Option (List ℕ)) (etaken : E → Option (List ℕ)) (efailures : E → ℕ)
     (taken : S → Option (List ℕ)) (failures : S → ℕ) (old new : S) (mtaken : M → Option (List ℕ)) (mfailures : M → ℕ) (mold mnew : M) (why : Bool) where
@@ -386,15 +387,15 @@ module _ {F R E S M : Type 0} (opens : Opening F R) (remaining : R → Option (L
   ServesOrder opener (orders.Check schema directory asks) status before after =
       Serves etaken efailures (ChecksFiles opens remaining taken failures old new mtaken mfailures mold mnew why opener (string_bytes schema) (string_bytes directory)) status before after
   ServesOrder opener (orders.Relate first second asks) status before after =
-      ServesTexts etaken efailures mold mnew (RelatesWords opens remaining taken failures old new opener (string_bytes first) (string_bytes second)) status before after
+      Serves etaken efailures (RelatesWords opens remaining taken failures old new mtaken mfailures mold mnew opener (string_bytes first) (string_bytes second)) status before after
   ServesOrder opener (orders.Why first (Some second) asks) status before after =
-      ServesTexts etaken efailures mold mnew (ExplainsCells opens remaining taken failures old new opener (string_bytes first) (string_bytes second)) status before after
+      Serves etaken efailures (ExplainsCells opens remaining taken failures old new mtaken mfailures mold mnew opener (string_bytes first) (string_bytes second)) status before after
   ServesOrder opener (orders.Why first None asks) status before after =
-      ServesTexts etaken efailures mold mnew (ExplainsValidity opens remaining taken failures old new opener (string_bytes first)) status before after
+      Serves etaken efailures (ExplainsValidity opens remaining taken failures old new mtaken mfailures mold mnew opener (string_bytes first)) status before after
   ServesOrder opener (orders.Pairs file asks) status before after =
-      ServesTexts etaken efailures mold mnew (RelatesFile opens remaining taken failures old new opener (string_bytes file)) status before after
+      ServesUnexplained etaken efailures mold mnew (RelatesFile opens remaining taken failures old new opener (string_bytes file)) status before after
   ServesOrder opener (orders.Fault words) status before after =
-      ServesTexts etaken efailures mold mnew (ExplainsFault taken failures old new (map string_bytes words.items)) status before after
+      ServesUnexplained etaken efailures mold mnew (ExplainsFault taken failures old new (map string_bytes words.items)) status before after
 
 -- doing what an order says, with no explanation and no sink for one
 abbrev pub ServesAlone : {F R E S : Type 0} → Opening F R → (R → Option (List ℕ)) → (E → Option (List ℕ)) → (E → ℕ)

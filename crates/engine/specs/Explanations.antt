@@ -1,28 +1,14 @@
 -- What is written after the line of a fault, where more is asked for.
-use Rattle.std.specs.Prelude.{◌≡◌, ◌⊎◌, ℕ, List, Option, Some, None, Ok, codes}
+use Rattle.std.specs.Prelude.{◌≡◌, ◌⊎◌, ℕ, List, Option, Ok}
 use Rattle.std.specs.String.{string_bytes}
 use Rattle.command_line.specs.declared.known_commands.Order.{Order}
 use Rattle.command_line.specs.declared.known_commands.Order.TheVariants as orders
-use Rattle.explanations.specs.Marks.{SaysOfFile}
 use Rattle.explanations.specs.Notes.{AreNotes}
-use Rattle.text_commands.specs.Explanations.{Adds, MayExplainBoth, MayExplainWord}
+use Rattle.text_commands.specs.Explanations.{Adds}
 use Rattle.text_commands.specs.Files.{Opening}
-use Rattle.text_commands.specs.GivenTexts.{Gives, ReadsQuery, file_named}
+use Rattle.text_commands.specs.GivenTexts.{Gives, ReadsQuery}
 use Rattle.text_commands.specs.PairNotes.{MayExplainUnequal, NotesFile}
 use Rattle.text_commands.specs.declared.files.File.TheVariants as role
-
--- what is said of a query's file that isn't UTF-8
-abbrev pub not_utf8 : List ℕ
-not_utf8 = codes " isn't UTF-8: save it as UTF-8"
-
-module _ {E : Type 0} (taken : E → Option (List ℕ)) (failures : E → ℕ) where
-  -- a line that says this of the file at a path was written, or a beginning of it
-  abbrev pub SaysOf : List ℕ → List ℕ → E → E → Type 0
-  SaysOf path words old new = (line : List ℕ) × SaysOfFile path words line × Adds taken failures old new line
-
-  -- a line that says that the file which a query's word names isn't UTF-8 was written, or a beginning of it
-  abbrev pub SaysEncoding : List ℕ → E → E → Type 0
-  SaysEncoding word old new = (path : List ℕ) × (file_named word ≡ Some path) × SaysOf path not_utf8 old new
 
 module _ {F R E : Type 0} (opens : Opening F R) (remaining : R → Option (List ℕ)) (taken : E → Option (List ℕ)) (failures : E → ℕ) (opener : F) where
   -- notes on the query that a word gives were written, or a beginning of them; its text is got again
@@ -51,12 +37,10 @@ module _ {F R E : Type 0} (opens : Opening F R) (remaining : R → Option (List 
 module _ {F R E : Type 0} (opens : Opening F R) (remaining : R → Option (List ℕ)) (taken : E → Option (List ℕ)) (failures : E → ℕ) (opener : F) where
   -- what is written after the fault of an order: nothing, or what explains it
   abbrev pub ExplainsOrder : Order → E → E → Type 0
-  ExplainsOrder (orders.Run schema directory query why) old new = (new ≡ old) ⊎ SaysEncoding taken failures (string_bytes query) old new
+  ExplainsOrder (orders.Run schema directory query why) old new = new ≡ old
   ExplainsOrder (orders.Check schema directory why) old new = new ≡ old
-  ExplainsOrder (orders.Relate first second why) old new = MayExplainBoth taken failures opens remaining opener (string_bytes first) (string_bytes second) old new
-  ExplainsOrder (orders.Why first (Some second) why) old new =
-      MayExplainBoth taken failures opens remaining opener (string_bytes first) (string_bytes second) old new
-  ExplainsOrder (orders.Why first None why) old new = MayExplainWord taken failures opens remaining opener (string_bytes first) old new
+  ExplainsOrder (orders.Relate first second why) old new = new ≡ old
+  ExplainsOrder (orders.Why first second why) old new = new ≡ old
   ExplainsOrder (orders.Pairs file why) old new =
       NotesFile taken failures opens remaining opener (string_bytes file) old new
       ⊎ MayExplainUnequal taken failures opens remaining opener (string_bytes file) old new

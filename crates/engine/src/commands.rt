@@ -45,7 +45,7 @@ type ColumnIndex = CurveTree;
 pub(crate) type RowIndex = RowTree;
 
 /// How many bytes of a schema's file are read: one more than a schema may have.
-pub(crate) const SCHEMA_BYTES: u64 = TEXT_LIMIT as u64 + 1;
+const SCHEMA_BYTES: u64 = TEXT_LIMIT as u64 + 1;
 
 /// Does what the order says. It writes the answer to `out` and the line of a failure to `err`; of what explains a fault it writes nothing.
 /// It returns the status of the program: 0, or that of the failure. The opener returns the reader of the file at a path, or None if it
@@ -79,8 +79,9 @@ pub fn serve<R: Read + Drop, F: FnMut(&str) -> Option<R>, S: Sink, E: Sink>(
 }
 
 /// Like `serve`, with an opener that learns what each file is. It reports each candidate that a query looks at, and each row that it finds,
-/// to an observer. If the order asks why, it writes to `more` what explains a fault of the schema, of a table or of the query, and after a
-/// check that is done a line for each table that has a field with a line end. A caller shows that behind the answer and the line of the fault.
+/// to an observer. If the order asks why, it writes to `more` what explains a fault of the schema, of a table, of the query or of a geometry's
+/// text, or that the query's file isn't UTF-8, and after a check that is done a line for each table that has a field with a line end. A
+/// caller shows that behind the answer and the line of the fault.
 pub fn serve_observed<
     R: Read + Drop,
     F: FnMut(File<'_>) -> Option<R>,
@@ -173,13 +174,15 @@ fn serve_order<
             serve_check(alloc, &paths, opener, out, err, more)
         }
         Order::Relate { first, second, .. } => {
-            serve_relate(alloc, first.as_str(), second.as_str(), opener, out, err)
+            let (first, second) = (first.as_str(), second.as_str());
+            serve_relate(alloc, why, first, second, opener, out, err, more)
         }
         Order::Why { first, second, .. } => match second {
             Some(second) => {
-                serve_witnesses(alloc, first.as_str(), second.as_str(), opener, out, err)
+                let (first, second) = (first.as_str(), second.as_str());
+                serve_witnesses(alloc, why, first, second, opener, out, err, more)
             }
-            None => serve_verdict(alloc, first.as_str(), opener, out, err),
+            None => serve_verdict(alloc, why, first.as_str(), opener, out, err, more),
         },
         Order::Pairs { file, .. } => serve_pairs(alloc, file.as_str(), opener, out, err),
         Order::Fault { words } => serve_fault(alloc, words.as_slice(), out, err),
@@ -220,7 +223,7 @@ fn serve_query<
         result err.old err.new }
     ensures unasked { paths.now.why ≡ false → more.new ≡ more.old }
 {
-    let query = match query_text(alloc, word, &mut opener) {
+    let query = match query_text(alloc, paths.why, word, &mut opener, more) {
         Ok(text) => text,
         Err(failure) => return failed(&failure, err),
     };

@@ -2,34 +2,25 @@
 
 ghost use Rattle.std.specs.Prelude.{◌≡◌, ◌⊎◌, false};
 ghost use Rattle.command_line.specs.Orders.{asks_why};
-ghost use Rattle.engine.specs.Explanations.{ExplainsOrder, MayNote, NotesOrder, SaysEncoding, SaysOf, not_utf8};
+ghost use Rattle.engine.specs.Explanations.{ExplainsOrder, MayNote, NotesOrder};
 ghost use Rattle.std.specs.String.{string_bytes};
-ghost use Rattle.text_commands.specs.Explanations.{MayExplainBoth, MayExplainWord};
 ghost use Rattle.text_commands.specs.Files.{OpensFile};
 ghost use Rattle.text_commands.specs.PairNotes.{MayExplainUnequal, NotesFile};
 
-use crate::commands::{RowIndex, SCHEMA_BYTES, open_tables, schema_again};
+use crate::commands::{RowIndex, open_tables, schema_again};
 use command_line::Order;
-use explanations::{file_explained, query_notes};
+use explanations::query_notes;
 use feature_table::{Database, Schema};
 use rtree::EnvelopeIndex;
 use sql_text::read_query;
 use std::alloc::{AllocError, Global};
 use std::io::Read;
-use streams::{Sink, put_all};
-use text_commands::{
-    File, explain_pairs, explain_unequal, explain_word, explain_words, geometry_text, query_text,
-};
+use streams::{MemorySink, Sink, put_all};
+use text_commands::{File, explain_pairs, explain_unequal, query_text};
 
-/// The status of a command that can't open or read a file.
-const UNREAD: u8 = 6;
-
-/// What is said of a query's file that isn't UTF-8, after its path.
-const NOT_UTF8: &str = " isn't UTF-8: save it as UTF-8";
-
-/// Writes what explains the fault of an order that has ended with a status, after the line of that fault: the line of the text that has it
-/// and what to do. Nothing is written if the order doesn't ask why, if there is no such fault now, if a file can't be opened again, or if
-/// memory runs out. A fault of a schema, a table or a query is explained by `serve_observed`. Of an order that is done, see `note_order`.
+/// Writes what explains the refusals of pairs, after an order that has ended with a status. Nothing is written of another order, which
+/// `serve_observed` explains, if the order doesn't ask why, if there is no such fault now, if the file can't be opened again, or if memory
+/// runs out. Of an order that is done, see `note_order`.
 #[inline(never)]
 pub fn explain_order<R: Read + Drop, F: FnMut(File<'_>) -> Option<R>, E: Sink>(
     alloc: Global,
@@ -59,30 +50,12 @@ fn explain_asked<R: Read + Drop, F: FnMut(File<'_>) -> Option<R>, E: Sink>(
     ensures explains { ExplainsOrder (OpensFile F.FnMut) R.remaining E.taken E.failures opener order.now err.old err.new }
 {
     match order {
-        Order::Run {
-            schema,
-            directory,
-            query,
-            ..
-        } => explain_unread_run(alloc, schema, directory, query, status, opener, err),
-        Order::Check {
-            schema,
-            directory,
-            ..
-        } => {
-            if status == UNREAD {
-                open_again(alloc, schema.as_str(), directory.as_str(), opener);
-            }
-        }
-        Order::Relate { first, second, .. } => {
-            explain_both(alloc, first, second, status, opener, err)
-        }
-        Order::Why { first, second, .. } => match second {
-            Some(second) => explain_both(alloc, first, second, status, opener, err),
-            None => explain_one(alloc, first.as_str(), status, opener, err),
-        },
         Order::Pairs { file, .. } => note_pairs(alloc, file.as_str(), status, opener, err),
-        Order::Fault { .. } => {}
+        Order::Run { .. }
+        | Order::Check { .. }
+        | Order::Relate { .. }
+        | Order::Why { .. }
+        | Order::Fault { .. } => {}
     }
 }
 
@@ -92,62 +65,6 @@ struct Places<'a> {
     schema: &'a str,
     directory: &'a str,
     query: &'a str,
-}
-
-/// Explains the first fault of the texts that two words of `relate` or `why` give, after a command that has ended with a status. Where a text
-/// isn't there, the files are opened once more, so that the opener says why.
-fn explain_both<R: Read + Drop, F: FnMut(File<'_>) -> Option<R>, E: Sink>(
-    alloc: Global,
-    first: &String,
-    second: &String,
-    status: u8,
-    opener: F,
-    err: &mut E,
-)
-    requires { F.IsAlwaysCallable opener }
-    ensures { MayExplainBoth E.taken E.failures (OpensFile F.FnMut) R.remaining opener
-        (string_bytes first.now) (string_bytes second.now) err.old err.new }
-{
-    match status {
-        5 => explain_words(alloc, first.as_str(), second.as_str(), opener, err),
-        6 => open_words(alloc, first.as_str(), second.as_str(), opener),
-        _ => {}
-    }
-}
-
-/// Opens the files of two words once more, up to the first that gives no text.
-fn open_words<R: Read + Drop, F: FnMut(File<'_>) -> Option<R>>(
-    alloc: Global,
-    first: &str,
-    second: &str,
-    mut opener: F,
-)
-    requires { F.IsAlwaysCallable opener }
-{
-    if geometry_text(alloc, first, "first", &mut opener).is_ok() {
-        let _ = geometry_text(alloc, second, "second", &mut opener);
-    }
-}
-
-/// Explains the first fault of the text that the one word of `why` gives, after a command that has ended with a status. Where the text isn't
-/// there, its file is opened once more, so that the opener says why.
-fn explain_one<R: Read + Drop, F: FnMut(File<'_>) -> Option<R>, E: Sink>(
-    alloc: Global,
-    word: &str,
-    status: u8,
-    mut opener: F,
-    err: &mut E,
-)
-    requires { F.IsAlwaysCallable opener }
-    ensures { MayExplainWord E.taken E.failures (OpensFile F.FnMut) R.remaining opener word.now err.old err.new }
-{
-    match status {
-        5 => explain_word(alloc, word, opener, err),
-        6 => {
-            let _ = geometry_text(alloc, word, "first", &mut opener);
-        }
-        _ => {}
-    }
 }
 
 // ---- notes
@@ -225,7 +142,8 @@ fn note_run<R: Read + Drop, F: FnMut(File<'_>) -> Option<R>, E: Sink>(
     requires { F.IsAlwaysCallable opener }
     ensures { MayNote (OpensFile F.FnMut) R.remaining E.taken E.failures opener places.now.query.now err.old err.new }
 {
-    let Ok(text) = query_text(alloc, places.query, &mut opener) else {
+    let mut unwritten = MemorySink::new(alloc);
+    let Ok(text) = query_text(alloc, false, places.query, &mut opener, &mut unwritten) else {
         return;
     };
     let Some(schema) = schema_again(alloc, opener(File::Schema(places.schema))) else {
@@ -287,90 +205,14 @@ fn has_two_tables(alloc: Global, text: &str) -> bool {
     }
 }
 
-// ---- files
+// ---- pairs
 
-/// Says why a run that has ended with a status couldn't open or read a file: its files are opened once more, in the order in which it opened
-/// them, so that the opener says of the first which can't be opened why. Of a query's file that isn't UTF-8 that is said here.
-fn explain_unread_run<R: Read + Drop, F: FnMut(File<'_>) -> Option<R>, E: Sink>(
-    alloc: Global,
-    schema: &String,
-    directory: &String,
-    query: &String,
-    status: u8,
-    mut opener: F,
-    err: &mut E,
-)
-    requires { F.IsAlwaysCallable opener }
-    ensures { (err.new ≡ err.old) ⊎ SaysEncoding E.taken E.failures (string_bytes query.now) err.old err.new }
-{
-    if status == UNREAD && !explain_encoding(alloc, query.as_str(), &mut opener, err) {
-        open_again(alloc, schema.as_str(), directory.as_str(), opener);
-    }
-}
-
-/// Says of the file that a query's word names that it isn't UTF-8, and returns whether the word names one that can't be read as a query.
-fn explain_encoding<R: Read + Drop, F: FnMut(File<'_>) -> Option<R>, E: Sink>(
-    alloc: Global,
-    word: &str,
-    opener: &mut F,
-    err: &mut E,
-) -> bool
-    requires { F.IsAlwaysCallable opener.old }
-    ensures callable { F.IsAlwaysCallable opener.new }
-    ensures said { (err.new ≡ err.old) ⊎ SaysEncoding E.taken E.failures word.now err.old err.new }
-{
-    let Some(path) = word.strip_prefix("@") else {
-        return false;
-    };
-    let Some(file) = opener(File::Query(path)) else {
-        return true;
-    };
-    if is_text(alloc, file) {
-        return false;
-    }
-    say_encoding(alloc, path, err);
-    true
-}
-
-/// Whether the bytes of a file are UTF-8, as far as a query may be long. What can't be read counts as that.
-fn is_text<R: Read + Drop>(alloc: Global, file: R) -> bool {
-    let mut text = Vec::new(alloc);
-    file.take(SCHEMA_BYTES).read_to_end(&mut text).is_err()
-        || std::str::from_utf8(text.as_slice()).is_ok()
-}
-
-/// Writes that the file at a path isn't UTF-8.
-fn say_encoding<E: Sink>(alloc: Global, path: &str, err: &mut E)
-    ensures { (err.new ≡ err.old) ⊎ SaysOf E.taken E.failures path.now not_utf8 err.old err.new }
-{
-    let Ok(line) = file_explained(alloc, path.as_bytes(), NOT_UTF8) else {
-        return;
-    };
-    let _ = put_all(err, line.as_slice());
-}
-
-/// Opens the files of a schema and of its tables once more, up to the first that can't be.
-fn open_again<R: Read + Drop, F: FnMut(File<'_>) -> Option<R>>(
-    alloc: Global,
-    path: &str,
-    directory: &str,
-    mut opener: F,
-)
-    requires { F.IsAlwaysCallable opener }
-{
-    let Some(schema) = schema_again(alloc, opener(File::Schema(path))) else {
-        return;
-    };
-    let _ = open_tables(alloc, &schema, directory, &mut opener);
-}
-
-/// Notes the pairs of a file that are refused, after a command that has ended with a status, or explains the record that isn't a pair; where
-/// its file can't be opened or read, it is opened once more, so that the opener says why.
+/// Notes the pairs of a file that are refused, after a command that has ended with a status, or explains the record that isn't a pair.
 fn note_pairs<R: Read + Drop, F: FnMut(File<'_>) -> Option<R>, E: Sink>(
     alloc: Global,
     path: &str,
     status: u8,
-    mut opener: F,
+    opener: F,
     err: &mut E,
 )
     requires { F.IsAlwaysCallable opener }
@@ -380,9 +222,6 @@ fn note_pairs<R: Read + Drop, F: FnMut(File<'_>) -> Option<R>, E: Sink>(
     match status {
         4 => explain_unequal(alloc, path, opener, err),
         5 => explain_pairs(alloc, path, opener, err),
-        6 => {
-            let _ = opener(File::Pairs(path));
-        }
         _ => {}
     }
 }

@@ -92,7 +92,9 @@ fn text_of<'t>(file: File<'_>, text: &'t [u8]) -> Option<&'t [u8]> {
 fn a_word_gives_a_query_of_the_greatest_length(rt: HostRuntime) -> Result<(), Fail> {
     let text = vec![in rt.alloc(); b' '; 65_536]?;
     let mut opener = |file: File<'_>| text_of(file, text.as_slice());
-    assert!(rt; query_text(rt.alloc(), "@at.sql", &mut opener).is_ok());
+    let mut more = MemorySink::new(rt.alloc());
+    assert!(rt; query_text(rt.alloc(), true, "@at.sql", &mut opener, &mut more).is_ok());
+    assert!(rt; more.bytes().is_empty());
     Ok(())
 }
 
@@ -100,7 +102,8 @@ fn a_word_gives_a_query_of_the_greatest_length(rt: HostRuntime) -> Result<(), Fa
 fn a_longer_query_is_refused(rt: HostRuntime) -> Result<(), Fail> {
     let text = vec![in rt.alloc(); b' '; 65_537]?;
     let mut opener = |file: File<'_>| text_of(file, text.as_slice());
-    let refused = query_text(rt.alloc(), "@past.sql", &mut opener);
+    let mut more = MemorySink::new(rt.alloc());
+    let refused = query_text(rt.alloc(), true, "@past.sql", &mut opener, &mut more);
     assert!(rt; matches!(refused, Err(Failure::Query(QueryFault::TooLong))));
     Ok(())
 }

@@ -11,7 +11,7 @@ use std::alloc::{AllocError, Global};
 use std::test::Fail;
 use streams::MemorySink;
 use table_model::faults::{QueryFault, SchemaFault};
-use text_commands::{File, explain_pairs, explain_unequal, explain_word, explain_words};
+use text_commands::{File, explain_pairs, explain_unequal, serve_relate, serve_verdict};
 
 const TABLES: [&[u8]; 2] = [b"building", b"parcel"];
 
@@ -104,28 +104,54 @@ fn ring_of(file: File<'_>) -> Option<&'static [u8]> {
     }
 }
 
-#[test]
-fn the_second_of_two_words_is_explained(rt: HostRuntime) {
-    let mut err = MemorySink::new(rt.alloc());
+/// What explains a coordinate that isn't whole.
+const HALF: &[u8] =
+    b"  1 | POINT(1.5 2)\n    |       ^\nsfq: 1.5 isn't whole: scale or round the coordinates; sfq-import does\n";
+
+/// What `relate` and `why` write of a refusal besides its line, where they are asked why, or aren't.
+fn said_of(alloc: Global, why: bool, first: &str, second: Option<&str>) -> MemorySink {
+    let (mut out, mut err) = (MemorySink::new(alloc), MemorySink::new(alloc));
+    let mut more = MemorySink::new(alloc);
     let opener = |file: File<'_>| ring_of(file);
-    explain_words(rt.alloc(), "POINT(0 0)", "@ring.wkt", opener, &mut err);
-    let shown =
-        b"sfq: V3 0: 0 0 to 4 4 and 4 0 to 0 4 share 2 2\nsfq: split the ring where it meets itself\n";
-    assert!(rt; err.bytes() == shown.as_slice());
+    match second {
+        Some(second) => {
+            serve_relate(
+                alloc, why, first, second, opener, &mut out, &mut err, &mut more,
+            );
+        }
+        None => {
+            serve_verdict(alloc, why, first, opener, &mut out, &mut err, &mut more);
+        }
+    }
+    more
 }
 
-/// Of a word alone, a geometry that isn't valid is no fault.
 #[test]
-fn one_word_is_explained(rt: HostRuntime) {
-    let mut err = MemorySink::new(rt.alloc());
-    let opener = |file: File<'_>| ring_of(file);
-    explain_word(rt.alloc(), "@ring.wkt", opener, &mut err);
-    assert!(rt; err.bytes().is_empty());
-    let opener = |file: File<'_>| ring_of(file);
-    explain_word(rt.alloc(), "POINT(1.5 2)", opener, &mut err);
+fn the_second_of_two_texts_is_explained(rt: HostRuntime) {
+    let said = said_of(rt.alloc(), true, "POINT(0 0)", Some("@ring.wkt"));
     let shown =
-        b"  1 | POINT(1.5 2)\n    |       ^\nsfq: 1.5 isn't whole: scale or round the coordinates; sfq-import does\n";
-    assert!(rt; err.bytes() == shown.as_slice());
+        b"sfq: V3 0: 0 0 to 4 4 and 4 0 to 0 4 share 2 2\nsfq: split the ring where it meets itself\n";
+    assert!(rt; said.bytes() == shown.as_slice());
+    let unasked = said_of(rt.alloc(), false, "POINT(0 0)", Some("@ring.wkt"));
+    assert!(rt; unasked.bytes().is_empty());
+}
+
+/// Of two texts with faults the first is explained, as the fault's line names that.
+#[test]
+fn the_first_of_two_faults_is_explained(rt: HostRuntime) {
+    let said = said_of(rt.alloc(), true, "POINT(1.5 2)", Some("@ring.wkt"));
+    assert!(rt; said.bytes() == HALF);
+}
+
+/// `why` of one geometry that isn't valid shows that: it is no fault.
+#[test]
+fn one_text_is_explained(rt: HostRuntime) {
+    assert!(rt;
+        said_of(rt.alloc(), true, "@ring.wkt", None)
+            .bytes()
+            .is_empty()
+    );
+    assert!(rt; said_of(rt.alloc(), true, "POINT(1.5 2)", None).bytes() == HALF);
 }
 
 #[test]

@@ -114,10 +114,12 @@ fn pairs_are_one_file(rt: HostRuntime) -> Result<(), Fail> {
     Ok(())
 }
 
-/// The files that explaining a run opens, which has ended with a status, and whether what is written then is this.
-fn explained(alloc: Global, order: &Order, status: u8, said: &str) -> Result<(u64, bool), Fail> {
+/// The digits of the files that a run of a query opens whose file isn't UTF-8, and whether what explains that is this.
+fn unread(alloc: Global, why: bool, said: &str) -> Result<(u64, bool), Fail> {
     let digits = Cell::new(0_u64);
+    let mut out = MemorySink::new(alloc);
     let mut err = MemorySink::new(alloc);
+    let mut more = MemorySink::new(alloc);
     let opener = |file: File<'_>| {
         let (digit, text) = digit_and_text(file);
         digits.set(digits.get().wrapping_mul(10).wrapping_add(digit));
@@ -126,24 +128,53 @@ fn explained(alloc: Global, order: &Order, status: u8, said: &str) -> Result<(u6
             _ => Some(text),
         }
     };
-    explain_order(alloc, order, status, opener, &mut err);
-    Ok((digits.get(), err.bytes() == said.as_bytes()))
+    let order = run_order(alloc, "@q", why)?;
+    match serve_observed(
+        alloc,
+        &order,
+        opener,
+        &mut out,
+        &mut err,
+        &mut more,
+        &mut Unobserved,
+    ) {
+        6 => Ok((digits.get(), more.bytes() == said.as_bytes())),
+        _ => Err(Fail::from("the query was read")),
+    }
 }
 
 #[test]
 fn a_query_that_is_not_utf8_is_said_to_be_so(rt: HostRuntime) -> Result<(), Fail> {
-    let order = run_order(rt.alloc(), "@q", true)?;
     let said = "sfq: q isn't UTF-8: save it as UTF-8\n";
-    assert!(rt; explained(rt.alloc(), &order, 6, said)? == (3, true));
+    assert!(rt; unread(rt.alloc(), true, said)? == (3, true));
+    assert!(rt; unread(rt.alloc(), false, "")? == (3, true));
     Ok(())
 }
 
+/// The digits of the files that explaining an order opens, which has ended with a status.
+fn explained(alloc: Global, order: &Order, status: u8) -> u64 {
+    let digits = Cell::new(0_u64);
+    let mut err = MemorySink::new(alloc);
+    let opener = |file: File<'_>| {
+        let (digit, text) = digit_and_text(file);
+        digits.set(digits.get().wrapping_mul(10).wrapping_add(digit));
+        Some(text)
+    };
+    explain_order(alloc, order, status, opener, &mut err);
+    digits.get()
+}
+
+/// Only pairs are opened again, of which some are refused, and only for an order that asks why.
 #[test]
-fn nothing_is_opened_unless_an_order_asks_why(rt: HostRuntime) -> Result<(), Fail> {
-    let order = run_order(rt.alloc(), "@q", false)?;
-    assert!(rt; explained(rt.alloc(), &order, 6, "")? == (0, true));
+fn pairs_that_are_refused_are_opened_again(rt: HostRuntime) -> Result<(), Fail> {
+    let order = pairs_order(rt.alloc())?;
+    assert!(rt; explained(rt.alloc(), &order, 5) == 0);
     let order = order.with_why();
-    assert!(rt; explained(rt.alloc(), &order, 7, "")? == (0, true));
+    assert!(rt; explained(rt.alloc(), &order, 5) == 5);
+    assert!(rt; explained(rt.alloc(), &order, 6) == 0);
+    assert!(rt; explained(rt.alloc(), &order, 7) == 0);
+    let run = run_order(rt.alloc(), "@q", true)?;
+    assert!(rt; explained(rt.alloc(), &run, 6) == 0);
     Ok(())
 }
 

@@ -8,7 +8,7 @@ mod openings;
 mod progress;
 
 use crate::coloured::{Coloured, is_wanted};
-use crate::openings::{OpenedTables, opened, opened_again, opened_quietly};
+use crate::openings::{Openings, opened_again, opened_quietly};
 use crate::progress::{Cleared, Progress};
 use command_line::{Misuse, Order, order, read_words, texts_of};
 use engine::{
@@ -20,6 +20,9 @@ use std::env;
 use std::io::{BufWriter, Stderr};
 use std::process::ExitCode;
 use streams::{MemorySink, Sink, StdSink, put_all};
+
+/// The status of a command that can't open or read a file.
+const UNREAD: u8 = 6;
 
 /// The status if memory ran out.
 const OUT_OF_MEMORY: u8 = 7;
@@ -42,15 +45,22 @@ fn main(rt: HostRuntime) -> ExitCode {
         Err(_) => return ExitCode::from(failed(&Failure::OutOfMemory, &mut err)),
     };
     let mut out = StdSink::new(buffer);
-    let Served { status, said, more } = serve(&rt, &progress, &order, &mut out, &mut err);
+    let Served {
+        status,
+        mut openings,
+        more,
+    } = serve(&rt, &progress, &order, &mut out, &mut err);
     let status = flushed(&mut out, status, &mut err);
     if progress.is_broken() {
         return ExitCode::from(status);
     }
+    if status == UNREAD && openings.said().is_empty() && more.bytes().is_empty() {
+        openings.say_folder(&rt);
+    }
     let mut explained = explaining(&rt, &progress);
-    let _ = put_all(&mut explained, said.bytes());
+    let _ = put_all(&mut explained, openings.said());
     let _ = put_all(&mut explained, whole_lines(more.bytes()));
-    if is_explained(status) && said.bytes().is_empty() && more.bytes().is_empty() {
+    if is_explained(status) && openings.said().is_empty() && more.bytes().is_empty() {
         explain(&rt, &progress, &order, status);
     }
     if status == 0 {
@@ -59,15 +69,15 @@ fn main(rt: HostRuntime) -> ExitCode {
     ExitCode::from(status)
 }
 
-/// How an order was served: the status, what is said of a table that can't be read again, and what explains a fault.
+/// How an order was served: the status, the files that were opened, and what explains a fault.
 #[derive(Drop)]
 struct Served {
     status: u8,
-    said: MemorySink,
+    openings: Openings,
     more: MemorySink,
 }
 
-/// Does what an order says. A table that is opened again, for a reason or a note, has to give the same bytes.
+/// Does what an order says.
 fn serve<'p, S: Sink, E: Sink>(
     rt: &HostRuntime,
     progress: &'p Progress<'p>,
@@ -75,19 +85,16 @@ fn serve<'p, S: Sink, E: Sink>(
     out: &mut S,
     err: &mut E,
 ) -> Served {
-    let mut tables = OpenedTables::new(rt.alloc());
-    let mut said = MemorySink::new(rt.alloc());
+    let mut openings = Openings::new(rt.alloc(), order.asks_why());
     let mut more = MemorySink::new(rt.alloc());
     let mut search = progress.search();
-    let opener = |file: File<'_>| {
-        if tables.has(rt.alloc(), file) {
-            opened_again(rt, progress, file, &mut said)
-        } else {
-            opened(rt, progress, file)
-        }
-    };
+    let opener = |file: File<'_>| openings.open(rt, progress, file);
     let status = serve_observed(rt.alloc(), order, opener, out, err, &mut more, &mut search);
-    Served { status, said, more }
+    Served {
+        status,
+        openings,
+        more,
+    }
 }
 
 /// The whole lines of a text: a line for whose end memory ran out is left out.
@@ -102,8 +109,7 @@ fn whole_lines(text: &[u8]) -> &[u8] {
     }
 }
 
-/// Writes what explains the fault of an order, if it asks for that. Files are opened once more.
-#[inline(never)]
+/// Writes what explains the pairs that an order refuses, if it asks for that. Their file is opened once more.
 fn explain<'p>(rt: &HostRuntime, progress: &'p Progress<'p>, order: &Order, status: u8) {
     let mut err = explaining(rt, progress);
     let mut again = explaining(rt, progress);

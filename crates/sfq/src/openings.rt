@@ -1,4 +1,4 @@
-//! How the files of a command are opened: for the command, and once more to explain a fault.
+//! How the files of a command are opened, and what is said of one that can't be; and once more, for a reason or a note.
 
 use crate::inputs::{CommandReader, Input, is_standard};
 use crate::progress::{Progress, Reported};
@@ -7,17 +7,90 @@ use explanations::{file_explained, said_line};
 use std::alloc::{AllocError, Global};
 use std::fs;
 use std::io::{Error, ErrorKind};
-use streams::{BoundedReader, Sink, put_all};
+use streams::{BoundedReader, MemorySink, Sink, put_all};
 
-/// The reader of a file that a command opens, or None if it can't be opened. A query, a geometry and pairs may come from
-/// standard input. What is CSV has a bound, and is shown while it is read.
-pub fn opened<'p>(
-    rt: &HostRuntime,
-    progress: &'p Progress<'p>,
-    file: File<'_>,
-) -> Option<CommandReader<Reported<'p>>> {
-    let input = Input::of(rt, file).ok()?;
-    Some(reader(progress, file, input))
+/// The files of a command, as they are opened for it; where it asks why, what is said of one that can't be opened.
+#[derive(Drop)]
+pub struct Openings {
+    asks: bool,
+    // The paths of the tables that were opened.
+    tables: Vec<String>,
+    // The path of the file that was opened last.
+    last: Option<String>,
+    said: MemorySink,
+}
+
+impl Openings {
+    /// None yet, for a command that asks why or doesn't.
+    pub fn new(alloc: Global, asks: bool) -> Openings {
+        Openings {
+            asks,
+            tables: Vec::new(alloc),
+            last: None,
+            said: MemorySink::new(alloc),
+        }
+    }
+
+    /// The reader of a file that a command opens, or None if it can't be opened. A query, a geometry and pairs may come from
+    /// standard input. What is CSV has a bound, and is shown while it is read. A table that is opened again, for a reason or a note, has to
+    /// give the same bytes.
+    pub fn open<'p>(
+        &mut self,
+        rt: &HostRuntime,
+        progress: &'p Progress<'p>,
+        file: File<'_>,
+    ) -> Option<CommandReader<Reported<'p>>> {
+        if self.asks && self.has(rt.alloc(), file) {
+            return opened_again(rt, progress, file, &mut self.said);
+        }
+        match Input::of(rt, file) {
+            Ok(input) => Some(reader(progress, file, input)),
+            Err(error) => {
+                if self.asks {
+                    say_unopened(rt, file.path(), reason(&error), &mut self.said);
+                }
+                None
+            }
+        }
+    }
+
+    /// What is said of a file that couldn't be opened.
+    pub fn said(&self) -> &[u8] {
+        self.said.bytes()
+    }
+
+    /// Says of the file that was opened last that it is a folder, if it is one: that is found when it is read, and nothing is opened.
+    pub fn say_folder(&mut self, rt: &HostRuntime) {
+        let Some(path) = &self.last else {
+            return;
+        };
+        if let Ok(found) = fs::metadata(rt, path.as_str())
+            && found.is_dir()
+        {
+            say_unopened(rt, path.as_str(), FOLDER, &mut self.said);
+        }
+    }
+
+    /// Keeps the path of a file that is opened, and returns whether it is a table that was opened before. Without memory nothing is kept.
+    fn has(&mut self, alloc: Global, file: File<'_>) -> bool {
+        self.last = None;
+        if is_standard(file) {
+            return false;
+        }
+        self.last = String::from_str(alloc, file.path()).ok();
+        let File::Table(path) = file else {
+            return false;
+        };
+        for earlier in self.tables.iter() {
+            if earlier.as_str() == path {
+                return true;
+            }
+        }
+        if let Ok(path) = String::from_str(alloc, path) {
+            let _ = self.tables.push(path);
+        }
+        false
+    }
 }
 
 /// The reader of a file that is opened once more, to explain a fault. If it can't be opened, or is a folder, or nothing that gives the same
@@ -32,10 +105,7 @@ pub fn opened_again<'p, E: Sink>(
     match lasting_input(rt, file) {
         Ok(input) => Some(reader(progress, file, input)),
         Err(words) => {
-            let (path, words) = missing_folder(rt, file.path()).unwrap_or((file.path(), words));
-            if let Ok(line) = unopened(rt.alloc(), path, words) {
-                let _ = put_all(err, line.as_slice());
-            }
+            say_unopened(rt, file.path(), words, err);
             None
         }
     }
@@ -50,6 +120,14 @@ pub fn opened_quietly<'p>(
 ) -> Option<CommandReader<Reported<'p>>> {
     let input = lasting_input(rt, file).ok()?;
     Some(reader(progress, file, input))
+}
+
+/// Writes why the file at a path can't be opened: these words behind its path, or that its folder isn't there.
+fn say_unopened<E: Sink>(rt: &HostRuntime, path: &str, words: &str, err: &mut E) {
+    let (path, words) = missing_folder(rt, path).unwrap_or((path, words));
+    if let Ok(line) = unopened(rt.alloc(), path, words) {
+        let _ = put_all(err, line.as_slice());
+    }
 }
 
 /// The line that says of a file why it isn't opened: its path, and these words behind it. A path that is empty can't be shown.
@@ -99,7 +177,7 @@ fn lasting_input(rt: &HostRuntime, file: File<'_>) -> Result<Input, &'static str
         return Err(TWICE);
     }
     match fs::metadata(rt, file.path()) {
-        Ok(found) if found.is_dir() => Err(" is a folder"),
+        Ok(found) if found.is_dir() => Err(FOLDER),
         Ok(found) if !found.is_file() => Err(TWICE),
         Ok(_) => match Input::of(rt, file) {
             Ok(input) => Ok(input),
@@ -108,6 +186,9 @@ fn lasting_input(rt: &HostRuntime, file: File<'_>) -> Result<Input, &'static str
         Err(error) => Err(reason(&error)),
     }
 }
+
+/// What is said of a folder, which can be opened and not be read.
+const FOLDER: &str = " is a folder";
 
 /// What is said of what can't be read twice.
 const TWICE: &str = " can't be read twice: save it as a file to see more";
@@ -118,36 +199,5 @@ fn reason(error: &Error) -> &'static str {
         ErrorKind::NotFound => " isn't there",
         ErrorKind::PermissionDenied => " may not be read by this user",
         _ => " can't be opened",
-    }
-}
-
-/// The tables that a command has opened, by their paths.
-#[derive(Drop)]
-pub struct OpenedTables {
-    paths: Vec<String>,
-}
-
-impl OpenedTables {
-    /// None.
-    pub fn new(alloc: Global) -> OpenedTables {
-        OpenedTables {
-            paths: Vec::new(alloc),
-        }
-    }
-
-    /// Whether a file is a table that was opened before. It counts as opened from then on, unless memory runs out.
-    pub fn has(&mut self, alloc: Global, file: File<'_>) -> bool {
-        let File::Table(path) = file else {
-            return false;
-        };
-        for earlier in self.paths.iter() {
-            if earlier.as_str() == path {
-                return true;
-            }
-        }
-        if let Ok(path) = String::from_str(alloc, path) {
-            let _ = self.paths.push(path);
-        }
-        false
     }
 }

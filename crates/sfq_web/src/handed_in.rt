@@ -71,7 +71,7 @@ pub fn serve_given(
         return Ok(None);
     }
     let files = files_of(alloc, paths.as_slice(), texts.as_slice(), found)?;
-    let mut handing = Handing::new(files.as_slice(), input.text, input.is_broken);
+    let mut handing = Handing::new(alloc, files.as_slice(), input.text, input.is_broken);
     let served = serve_words(alloc, words.as_slice(), asks, &mut handing)?;
     Ok(Some(served))
 }

@@ -44,6 +44,8 @@ pub struct Handing<'f> {
     // Whether reading standard input fails behind these bytes.
     is_broken: bool,
     missed: Option<Missed>,
+    // What is said of the first file that can't be opened.
+    said: MemorySink,
 }
 
 impl<'f> Handing<'f> {
@@ -52,7 +54,12 @@ impl<'f> Handing<'f> {
     ghost use Rattle.sfq_web.specs.Servings.{IsMissed, handed, handed_of};
 
     /// These files, and standard input, whose reading may fail behind its bytes.
-    pub fn new(files: &'f [HandedFile<'f>], input: Option<&'f [u8]>, is_broken: bool) -> Handing<'f>
+    pub fn new(
+        alloc: Global,
+        files: &'f [HandedFile<'f>],
+        input: Option<&'f [u8]>,
+        is_broken: bool,
+    ) -> Handing<'f>
         ensures { handed result ≡ handed_of files.entry.now input.entry }
     {
         Handing {
@@ -60,6 +67,7 @@ impl<'f> Handing<'f> {
             input,
             is_broken,
             missed: None,
+            said: MemorySink::new(alloc),
         }
     }
 
@@ -71,12 +79,45 @@ impl<'f> Handing<'f> {
             return self.open_input(alloc, file);
         }
         match file_at(self.files, file.path()) {
-            Some(found) => found.opened(file),
+            Some(found) => {
+                self.say_closed(alloc, file.path(), found.found);
+                found.opened(file)
+            }
             None => {
                 self.miss(alloc, file);
                 None
             }
         }
+    }
+
+    /// Keeps why the file at a path can't be opened, if it can't.
+    fn say_closed(&mut self, alloc: Global, path: &str, found: Found)
+        ensures { handed self.new ≡ handed self.old }
+    {
+        if !found.is_there() {
+            self.say(alloc, path, found);
+        }
+    }
+
+    /// Keeps why the file at a path can't be opened or read, unless that is kept of one before.
+    fn say(&mut self, alloc: Global, path: &str, found: Found)
+        ensures { handed self.new ≡ handed self.old }
+    {
+        if self.said.bytes().is_empty()
+            && let Some(words) = found.words()
+            && let Ok(line) = unopened(alloc, path, words)
+        {
+            let _ = put_all(&mut self.said, line.as_slice());
+        }
+    }
+
+    /// What is said of the first file that can't be opened, or of the first folder, after a command that couldn't open or read one.
+    pub(crate) fn reason(&mut self, alloc: Global) -> &[u8] {
+        let folder = self.files.iter().find(|file| file.found == Found::Folder);
+        if let Some(folder) = folder {
+            self.say(alloc, folder.path, folder.found);
+        }
+        self.said.bytes()
     }
 
     /// The reader of standard input for a command, if it is handed in.

@@ -92,8 +92,8 @@ fn serve_asked(alloc: Global, order: Order, handing: &mut Handing<'_>) -> Result
     }))
 }
 
-/// Does what an order says, and returns its status. To `more` it writes what explains a fault of the schema, of a table or of the query, or
-/// notes on a check, if the order asks why. The files are opened among those that are handed in.
+/// Does what an order says, and returns its status. To `more` it writes what explains a fault of the schema, of a table, of the query or of a
+/// geometry's text, or notes on a check, if the order asks why. The files are opened among those that are handed in.
 fn serve_handed(
     alloc: Global,
     order: &Order,
@@ -112,18 +112,22 @@ fn serve_handed(
 }
 
 /// What explains the fault of an order that has ended with a status, or notes on the query of one that is done, if the order asks why. If
-/// nothing is said yet, its files are opened once more.
+/// nothing is said yet, that is why a file couldn't be opened or read; after another status its files are opened once more.
 fn explained(
     alloc: Global,
     order: &Order,
     status: u8,
-    handing: &Handing<'_>,
+    handing: &mut Handing<'_>,
     mut said: MemorySink,
 ) -> Result<MemorySink, AllocError>
     ensures kept { IfOk result (λ more. (memory_bytes said ≡ []) ⊎ (more ≡ said)) }
     ensures unasked { IfOk result (λ more. asks_why order.now ≡ false → more ≡ said) }
 {
     if !said.bytes().is_empty() || !order.asks_why() || status == OUT_OF_MEMORY {
+        return Ok(said);
+    }
+    if status == UNREAD {
+        add(handing.reason(alloc), &mut said)?;
         return Ok(said);
     }
     let mut more = MemorySink::new(alloc);

@@ -1,5 +1,5 @@
 -- The first fault of a text, by the failure that it has as the first of two.
-use Rattle.std.proofs.Common.{◌≡◌, ◌⊎◌, inl, inr, List, ℕ, Option, Result, Ok, Err}
+use Rattle.std.proofs.Common.{◌≡◌, inl, inr, List, ℕ, Result, Ok, Err}
 use Rattle.failures.specs.declared.failure.Failure.{Failure}
 use Rattle.failures.specs.declared.failure.Failure.TheVariants as f
 use Rattle.failures.specs.declared.failure.GeometryWord.{GeometryWord}
@@ -8,7 +8,7 @@ use Rattle.geometry_model.specs.CheckedTexts.{tested}
 use Rattle.geometry_model.specs.Geometries.{Geometry}
 use Rattle.geometry_model.specs.TextReading.{read_text}
 use Rattle.geometry_model.specs.declared.geometry_faults.GeometryFault.{GeometryFault}
-use Rattle.text_commands.specs.Explanations.{Explains, HasFirst, MayExplain}
+use Rattle.text_commands.specs.Explanations.{HasFirst}
 use Rattle.text_commands.specs.Relations.{IsFailureOf, geometry_in_word, or_refused}
 
 -- the fault that a failure shows is that of what was read
@@ -29,10 +29,3 @@ first-fault text failure word fault shown (inl memory) =
     let none : ⊥ = cc in
     absurd none
 first-fault text failure word fault shown (inr is) = shown-fault (tested (read_text text)) word failure fault shown is
-
--- what may be written of the first fault of a text
-pub may-explain : {E : Type 0} (taken : E → Option (List ℕ)) (failures : E → ℕ) (old new : E) (text : List ℕ)
-    (fault : GeometryFault) → HasFirst text fault
-    → (new ≡ old) ⊎ Explains taken failures old new text fault → MayExplain taken failures old new text
-may-explain taken failures old new text fault has (inl same) = inl same
-may-explain taken failures old new text fault has (inr explains) = inr (fault, has, explains)

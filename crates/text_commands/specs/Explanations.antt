@@ -1,15 +1,17 @@
--- What is written after the line of a fault of a geometry, where more is asked for.
+-- What explains the fault of a geometry, where more is asked for.
 use Rattle.std.specs.Prelude.{◌≡◌, ◌⊎◌, ℕ, List, Option, None, Some, Ok, Err, codes}
 use Rattle.explanations.specs.Faults.{text_place}
-use Rattle.explanations.specs.Marks.{IsExplanation}
-use Rattle.failures.specs.Ends.{Writes}
+use Rattle.explanations.specs.Marks.{IsExplanation, SaysOfFile}
+use Rattle.failures.specs.Ends.{End, Writes}
+use Rattle.failures.specs.declared.failure.Failure.TheVariants as f
+use Rattle.failures.specs.declared.failure.GeometryWord.{GeometryWord}
+use Rattle.failures.specs.declared.failure.GeometryWord.TheVariants.{First, Second}
 use Rattle.geometry_model.specs.CheckedTexts.{tested}
 use Rattle.geometry_model.specs.Geometries.{Geometry}
 use Rattle.geometry_model.specs.TextReading.{read_text}
 use Rattle.geometry_model.specs.declared.geometry_faults.GeometryFault.{GeometryFault}
 use Rattle.geometry_model.specs.declared.geometry_faults.GeometryFault.TheVariants as g
-use Rattle.text_commands.specs.Files.{Opening}
-use Rattle.text_commands.specs.GivenTexts.{GivesBoth, GivesGeometry}
+use Rattle.text_commands.specs.GivenTexts.{file_named}
 use Rattle.witnesses.specs.VerdictTexts.{verdict_text}
 use Rattle.witnesses.specs.Verdicts.{IsVerdictOf}
 use Rattle.witnesses.specs.declared.verdict.Verdict.{Verdict}
@@ -27,10 +29,22 @@ abbrev pub IsFirst : List ℕ → Option GeometryFault → Type 0
 IsFirst text None = HasNone text
 IsFirst text (Some fault) = HasFirst text fault
 
+-- what is said of a query's file that isn't UTF-8, behind its path
+abbrev pub not_utf8 : List ℕ
+not_utf8 = codes " isn't UTF-8: save it as UTF-8"
+
 module _ {E : Type 0} (taken : E → Option (List ℕ)) (failures : E → ℕ) where
   -- a text was written, or a beginning of it
   abbrev pub Adds : E → E → List ℕ → Type 0
   Adds old new text = Writes (taken old) (taken new) (failures old) (failures new) text
+
+  -- nothing was written, or the line that says this of the file at a path, or a beginning of it
+  abbrev pub MaySayOf : E → E → List ℕ → List ℕ → Type 0
+  MaySayOf old new path words = (new ≡ old) ⊎ ((line : List ℕ) × SaysOfFile path words line × Adds old new line)
+
+  -- nothing was written, or the line that says that the file which a query's word names isn't UTF-8, or a beginning of it
+  abbrev pub MayExplainEncoding : E → E → List ℕ → Type 0
+  MayExplainEncoding old new word = (new ≡ old) ⊎ ((path : List ℕ) × (file_named word ≡ Some path) × MaySayOf old new path not_utf8)
 
   -- what explains a fault of a text was written, or a beginning of it: for a fault of its grammar the place, and for one of its geometry
   -- the line of its verdict; and what to do
@@ -39,20 +53,14 @@ module _ {E : Type 0} (taken : E → Option (List ℕ)) (failures : E → ℕ) w
   Explains old new text (g.Invalid fault) = (v : Verdict) × (e : List ℕ) × (second third : E) × IsVerdictOf text v × IsExplanation text None e
       × Adds old second (codes "sfq: ") × Adds second third (verdict_text v) × Adds third new e
 
-  -- nothing was written, or what explains the first fault of a text
-  abbrev pub MayExplain : E → E → List ℕ → Type 0
-  MayExplain old new text = (new ≡ old) ⊎ ((fault : GeometryFault) × HasFirst text fault × Explains old new text fault)
+  -- a command ended as the geometry that this word gives is refused, and what explains the fault of its text was written, or a beginning of it
+  abbrev pub ExplainsRefusal : E → E → GeometryWord → List ℕ → End → Type 0
+  ExplainsRefusal old new word text end = (fault : GeometryFault) × (end ≡ Err (f.Refused word fault)) × Explains old new text fault
 
-  module _ {F R : Type 0} (opens : Opening F R) (remaining : R → Option (List ℕ)) where
-    -- the same of one of the texts that two words give, whose files are opened again: of the second only where the first has no fault
-    abbrev pub MayExplainBoth : F → List ℕ → List ℕ → E → E → Type 0
-    MayExplainBoth opener first second old new =
-        (new ≡ old)
-        ⊎ ((one other : List ℕ) × GivesBoth opens remaining opener first second one other
-        × (MayExplain old new one ⊎ (HasNone one × MayExplain old new other)))
+  -- what explains the end of a command over the text of one geometry: nothing, or what explains that it is refused
+  abbrev pub MayExplainText : E → E → List ℕ → End → Type 0
+  MayExplainText old new text end = (new ≡ old) ⊎ ExplainsRefusal old new First text end
 
-    -- and of the text that a word gives
-    abbrev pub MayExplainWord : F → List ℕ → E → E → Type 0
-    MayExplainWord opener word old new =
-        (new ≡ old)
-        ⊎ ((text : List ℕ) × (after : F) × GivesGeometry opens remaining (codes "first") opener word (Ok text) after × MayExplain old new text)
+  -- what is written where one of the texts of two geometries may be refused
+  abbrev pub MayExplainTexts : E → E → List ℕ → List ℕ → End → Type 0
+  MayExplainTexts old new first second end = MayExplainText old new first end ⊎ ExplainsRefusal old new Second second end

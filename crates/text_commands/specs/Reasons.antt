@@ -5,6 +5,7 @@ use Rattle.witnesses.specs.WitnessTexts.{witnesses_text}
 use Rattle.table_model.specs.RunOutcomes.{MatrixOf}
 use Rattle.failures.specs.Ends.{End}
 use Rattle.text_commands.specs.Ends.{PutsText, Then}
+use Rattle.text_commands.specs.Explanations.{MayExplainText, MayExplainTexts}
 use Rattle.text_commands.specs.Files.{Opening}
 use Rattle.text_commands.specs.declared.files.File.TheVariants as role
 use Rattle.text_commands.specs.TextCommands.{OverTexts, OverWord}
@@ -34,12 +35,19 @@ pub record ShowsVerdict {S : Type 0} (taken : S → Option (List ℕ)) (failures
   pub refused : IfErr found (IsFailureOf (spelled_geometry text))
   pub rest : Then found (λ v. PutsText taken failures old new (verdict_text v) end) end (new ≡ old)
 
-module _ {F R S : Type 0} (opens : Opening F R) (remaining : R → Option (List ℕ)) (taken : S → Option (List ℕ)) (failures : S → ℕ) (old new : S) where
-  -- showing the cells of the matrix of the geometries that two words give ends so
+-- the sink of the answer and that of explanations, before and after a command
+module _ {F R S M : Type 0} (opens : Opening F R) (remaining : R → Option (List ℕ)) (taken : S → Option (List ℕ)) (failures : S → ℕ) (old new : S)
+    (mtaken : M → Option (List ℕ)) (mfailures : M → ℕ) (mold mnew : M) where
+  -- showing the cells of the matrix of the geometries that two words give ends so, and perhaps what explains that one is refused is written
   abbrev pub ExplainsCells : F → List ℕ → List ℕ → End → Type 0
-  ExplainsCells = OverTexts opens remaining (ShowsCells taken failures old new) (new ≡ old)
+  ExplainsCells =
+      OverTexts opens remaining
+      (λ first second end. ShowsCells taken failures old new first second end × MayExplainTexts mtaken mfailures mold mnew first second end)
+      ((new ≡ old) × (mnew ≡ mold))
 
-  -- showing whether the geometry that a word gives is valid ends so
+  -- showing whether the geometry that a word gives is valid ends so, and perhaps what explains that its text spells none is written
   abbrev pub ExplainsValidity : F → List ℕ → End → Type 0
   ExplainsValidity opener word end =
-      OverWord (opens role.Geometry) (ReadsGeometry remaining (codes "first")) opener word (λ next text ending. ShowsVerdict taken failures old new text ending) end (new ≡ old)
+      OverWord (opens role.Geometry) (ReadsGeometry remaining (codes "first")) opener word
+      (λ next text ending. ShowsVerdict taken failures old new text ending × MayExplainText mtaken mfailures mold mnew text ending)
+      end ((new ≡ old) × (mnew ≡ mold))

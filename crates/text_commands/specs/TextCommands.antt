@@ -17,6 +17,7 @@ use Rattle.table_model.specs.Loading.{Record}
 use Rattle.table_model.specs.RunOutcomes.{ByEveryMatrix, MatrixOf}
 use Rattle.failures.specs.Ends.{End}
 use Rattle.text_commands.specs.Ends.{Answers, Then, failed_writes}
+use Rattle.text_commands.specs.Explanations.{MayExplainTexts}
 use Rattle.text_commands.specs.Relations.{and_then, relation}
 use Rattle.text_commands.specs.GivenTexts.{Gives, IsUnreadable, ReadsGeometry}
 
@@ -109,12 +110,18 @@ module _ {R S : Type 0} (remaining : R → Option (List ℕ)) (taken : S → Opt
   RelatesReader None (Err failure) = IsUnreadable (codes "pairs") failure × (new ≡ old)
   RelatesReader (Some reader) end = PairsEnds (remaining reader) end (taken old) (taken new) (failures old) (failures new)
 
-module _ {F R S : Type 0} (opens : Opening F R) (remaining : R → Option (List ℕ)) (taken : S → Option (List ℕ)) (failures : S → ℕ) (old new : S) where
-  -- relating the geometries that two words give ends so
+-- the sink of the answer and that of explanations, before and after a command
+module _ {F R S M : Type 0} (opens : Opening F R) (remaining : R → Option (List ℕ)) (taken : S → Option (List ℕ)) (failures : S → ℕ) (old new : S)
+    (mtaken : M → Option (List ℕ)) (mfailures : M → ℕ) (mold mnew : M) where
+  -- relating the geometries that two words give ends so, and perhaps what explains that one is refused is written
   abbrev pub RelatesWords : F → List ℕ → List ℕ → End → Type 0
   RelatesWords =
-      OverTexts opens remaining (λ first second end. RelateEnds first second end (taken old) (taken new) (failures old) (failures new)) (new ≡ old)
+      OverTexts opens remaining
+      (λ first second end. RelateEnds first second end (taken old) (taken new) (failures old) (failures new)
+      × MayExplainTexts mtaken mfailures mold mnew first second end)
+      ((new ≡ old) × (mnew ≡ mold))
 
+module _ {F R S : Type 0} (opens : Opening F R) (remaining : R → Option (List ℕ)) (taken : S → Option (List ℕ)) (failures : S → ℕ) (old new : S) where
   -- relating the pairs of the file at a path ends so
   abbrev pub RelatesFile : F → List ℕ → End → Type 0
   RelatesFile opener path end =

@@ -1,5 +1,7 @@
 //! What the command `why` does: it shows where two geometries meet, or why one isn't valid.
 
+ghost use Rattle.std.specs.Prelude.{◌≡◌, false};
+ghost use Rattle.text_commands.specs.Explanations.{MayExplainText, MayExplainTexts};
 ghost use Rattle.text_commands.specs.Files.{OpensFile};
 ghost use Rattle.text_commands.specs.Ends.{PutsText, Serves};
 ghost use Rattle.text_commands.specs.Reasons.{ExplainsCells, ExplainsValidity, ShowsCells, ShowsVerdict};
@@ -7,6 +9,7 @@ ghost use Rattle.witnesses.specs.VerdictTexts.{verdict_text};
 ghost use Rattle.witnesses.specs.WitnessTexts.{witnesses_text};
 ghost use Rattle.witnesses.specs.Shown.{witness_at};
 
+use crate::fault_explanations::{explain_text, explain_texts};
 use crate::files::File;
 use crate::given_texts::geometry_texts;
 use crate::{geometry_text, reason_of_text, witnesses_of_texts};
@@ -20,21 +23,24 @@ use witnesses::{Verdict, put_verdict, put_witnesses};
 /// Writes what shows each cell of the matrix of the geometries that two words give: nine lines in the order of the matrix. A
 /// word is well-known text, or `@` and the path of a file that has it; both texts are there before one is read as a geometry.
 /// It returns the status: 0, or that of the failure, whose line it writes to `err` (06-103r4, 6.1.15.2; which witness
-/// shows a cell, and the words: this project's choice).
+/// shows a cell, and the words: this project's choice). If `why` says so, what explains that a text is refused is written to `more`.
 #[inline(never)]
-pub fn serve_witnesses<R: Read + Drop, F: FnMut(File<'_>) -> Option<R>, S: Sink, E: Sink>(
+pub fn serve_witnesses<R: Read + Drop, F: FnMut(File<'_>) -> Option<R>, S: Sink, E: Sink, M: Sink>(
     alloc: Global,
+    why: bool,
     first: &str,
     second: &str,
     opener: F,
     out: &mut S,
     err: &mut E,
+    more: &mut M,
 ) -> u8
     requires { F.IsAlwaysCallable opener }
     ensures serves { Serves E.taken E.failures
-        (ExplainsCells (OpensFile F.FnMut) R.remaining S.taken S.failures out.old out.new
+        (ExplainsCells (OpensFile F.FnMut) R.remaining S.taken S.failures out.old out.new M.taken M.failures more.old more.new
         opener first.now second.now)
         result err.old err.new }
+    ensures unasked { why ≡ false → more.new ≡ more.old }
 {
     let texts = match geometry_texts(alloc, first, second, opener) {
         Ok(texts) => texts,
@@ -42,28 +48,37 @@ pub fn serve_witnesses<R: Read + Drop, F: FnMut(File<'_>) -> Option<R>, S: Sink,
     };
     show_cells(
         alloc,
+        why,
         texts.first.as_slice(),
         texts.second.as_slice(),
         out,
         err,
+        more,
     )
 }
 
-/// Writes what shows each cell of the matrix of two geometries.
-fn show_cells<S: Sink, E: Sink>(
+/// Writes what shows each cell of the matrix of two geometries; or what explains that one is refused, if `why` says so.
+fn show_cells<S: Sink, E: Sink, M: Sink>(
     alloc: Global,
+    why: bool,
     first: &[u8],
     second: &[u8],
     out: &mut S,
     err: &mut E,
+    more: &mut M,
 ) -> u8
-    ensures { Serves E.taken E.failures
-        (ShowsCells S.taken S.failures out.old out.new first.now second.now)
+    ensures serves { Serves E.taken E.failures
+        (λ end. ShowsCells S.taken S.failures out.old out.new first.now second.now end
+        × MayExplainTexts M.taken M.failures more.old more.new first.now second.now end)
         result err.old err.new }
+    ensures unasked { why ≡ false → more.new ≡ more.old }
 {
     match witnesses_of_texts(alloc, first, second) {
         Ok(witnesses) => put_cells(&witnesses, out, err),
-        Err(failure) => failed(&failure, err),
+        Err(failure) => {
+            explain_texts(alloc, why, first, second, &failure, more);
+            failed(&failure, err)
+        }
     }
 }
 
@@ -82,37 +97,52 @@ fn put_cells<S: Sink, E: Sink>(witnesses: &Witnesses, out: &mut S, err: &mut E) 
 /// Writes whether the geometry that a word gives is valid: `valid`, or its first fault with a place of it, and a line feed. The
 /// word is well-known text, or `@` and the path of a file that has it. It returns the status: 0, or that of the failure, whose
 /// line it writes to `err` (06-103r4, 6.1.7, 6.1.11.1 and 6.1.14; the order of faults, which place and the words: this
-/// project's choice).
+/// project's choice). If `why` says so, what explains that the text spells no geometry is written to `more`.
 #[inline(never)]
-pub fn serve_verdict<R: Read + Drop, F: FnMut(File<'_>) -> Option<R>, S: Sink, E: Sink>(
+pub fn serve_verdict<R: Read + Drop, F: FnMut(File<'_>) -> Option<R>, S: Sink, E: Sink, M: Sink>(
     alloc: Global,
+    why: bool,
     word: &str,
     mut opener: F,
     out: &mut S,
     err: &mut E,
+    more: &mut M,
 ) -> u8
     requires { F.IsAlwaysCallable opener }
     ensures serves { Serves E.taken E.failures
-        (ExplainsValidity (OpensFile F.FnMut) R.remaining S.taken S.failures out.old out.new
+        (ExplainsValidity (OpensFile F.FnMut) R.remaining S.taken S.failures out.old out.new M.taken M.failures more.old more.new
         opener word.now)
         result err.old err.new }
+    ensures unasked { why ≡ false → more.new ≡ more.old }
 {
     let text = match geometry_text(alloc, word, "first", &mut opener) {
         Ok(text) => text,
         Err(failure) => return failed(&failure, err),
     };
-    show_verdict(alloc, text.as_slice(), out, err)
+    show_verdict(alloc, why, text.as_slice(), out, err, more)
 }
 
-/// Writes whether the geometry of a text is valid, and where it isn't.
-fn show_verdict<S: Sink, E: Sink>(alloc: Global, text: &[u8], out: &mut S, err: &mut E) -> u8
-    ensures { Serves E.taken E.failures
-        (ShowsVerdict S.taken S.failures out.old out.new text.now)
+/// Writes whether the geometry of a text is valid, and where it isn't; or what explains that the text spells none, if `why` says so.
+fn show_verdict<S: Sink, E: Sink, M: Sink>(
+    alloc: Global,
+    why: bool,
+    text: &[u8],
+    out: &mut S,
+    err: &mut E,
+    more: &mut M,
+) -> u8
+    ensures serves { Serves E.taken E.failures
+        (λ end. ShowsVerdict S.taken S.failures out.old out.new text.now end
+        × MayExplainText M.taken M.failures more.old more.new text.now end)
         result err.old err.new }
+    ensures unasked { why ≡ false → more.new ≡ more.old }
 {
     match reason_of_text(alloc, text) {
         Ok(verdict) => put_validity(&verdict, out, err),
-        Err(failure) => failed(&failure, err),
+        Err(failure) => {
+            explain_text(alloc, why, text, &failure, more);
+            failed(&failure, err)
+        }
     }
 }
 

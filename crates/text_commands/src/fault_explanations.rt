@@ -1,75 +1,72 @@
-//! What is written after the line of a fault of `relate` and `why`, where more is asked for: its place, and what to do. The words give
-//! their texts once more.
+//! What explains that a command refuses a text that a word gives, where more is asked for: its place, and what to do.
 
-ghost use Rattle.std.specs.Prelude.{◌≡◌, ◌⊎◌, IfOk, IfSome};
-ghost use Rattle.text_commands.specs.Explanations.{Explains, HasNone, IsFirst, MayExplain, MayExplainBoth, MayExplainWord};
-ghost use Rattle.text_commands.specs.Files.{OpensFile};
+ghost use Rattle.std.specs.Prelude.{◌≡◌, ◌⊎◌, Err, IfOk, IfSome, false};
+ghost use Rattle.text_commands.specs.Explanations.{Explains, IsFirst, MayExplainText, MayExplainTexts, MaySayOf, not_utf8};
 ghost use Rattle.failures.specs.declared.failure.Failure.TheVariants as f;
 ghost use Rattle.geometry_model.specs.declared.geometry_faults.GeometryFault.TheVariants as g;
 
-use crate::files::File;
-use crate::given_texts::geometry_texts;
-use crate::{geometry_of, geometry_text, reason_of_text};
-use explanations::{text_explained, validity_explained};
+use crate::{geometry_of, reason_of_text};
+use explanations::{file_explained, text_explained, validity_explained};
 use failures::{Failure, GeometryWord};
 use geometry_model::{GeometryFault, TextFault, ValidityFault};
 use std::alloc::{AllocError, Global};
-use std::io::Read;
 use streams::{Sink, put_all};
 use witnesses::put_verdict;
 
-/// Writes what explains the first fault of the texts of the geometries that two words give, after the line of that fault: the place and
-/// what to do. Nothing is written where neither has one, or a text isn't there, or memory runs out.
-pub fn explain_words<R: Read + Drop, F: FnMut(File<'_>) -> Option<R>, E: Sink>(
-    alloc: Global,
-    first: &str,
-    second: &str,
-    opener: F,
-    err: &mut E,
-)
-    requires { F.IsAlwaysCallable opener }
-    ensures explains { MayExplainBoth E.taken E.failures (OpensFile F.FnMut) R.remaining opener
-        first.now second.now err.old err.new }
+/// What is said of a query's file that isn't UTF-8, behind its path.
+const NOT_UTF8: &str = " isn't UTF-8: save it as UTF-8";
+
+/// Writes that the query's file at a path isn't UTF-8, if `why` says so.
+pub(crate) fn explain_encoding<M: Sink>(alloc: Global, why: bool, path: &str, more: &mut M)
+    ensures explains { MaySayOf M.taken M.failures more.old more.new path.now not_utf8 }
+    ensures unasked { why ≡ false → more.new ≡ more.old }
 {
-    let Ok(texts) = geometry_texts(alloc, first, second, opener) else {
+    if !why {
+        return;
+    }
+    let Ok(line) = file_explained(alloc, path.as_bytes(), NOT_UTF8) else {
         return;
     };
-    explain_texts(alloc, texts.first.as_slice(), texts.second.as_slice(), err);
+    let _ = put_all(more, line.as_slice());
 }
 
-/// The same of the word of `why` alone, whose geometry may be invalid: that is no fault of it.
-pub fn explain_word<R: Read + Drop, F: FnMut(File<'_>) -> Option<R>, E: Sink>(
+/// Writes what explains that one of the two texts of a command is refused, if `why` says so and a failure is that: the place and what to do.
+/// Nothing is written if memory runs out.
+pub(crate) fn explain_texts<M: Sink>(
     alloc: Global,
-    word: &str,
-    mut opener: F,
-    err: &mut E,
+    why: bool,
+    first: &[u8],
+    second: &[u8],
+    failure: &Failure<'_>,
+    more: &mut M,
 )
-    requires { F.IsAlwaysCallable opener }
-    ensures explains { MayExplainWord E.taken E.failures (OpensFile F.FnMut) R.remaining opener
-        word.now err.old err.new }
+    ensures explains { MayExplainTexts M.taken M.failures more.old more.new first.now second.now (Err failure.now) }
+    ensures unasked { why ≡ false → more.new ≡ more.old }
 {
-    let Ok(text) = geometry_text(alloc, word, "first", &mut opener) else {
-        return;
-    };
-    if is_unread(alloc, text.as_slice()) {
-        explain_text(alloc, text.as_slice(), err);
+    match *failure {
+        Failure::Refused(GeometryWord::Second, fault) if why => {
+            explain_fault(alloc, second, fault, more)
+        }
+        _ => explain_text(alloc, why, first, failure, more),
     }
 }
 
-/// Whether a text spells no geometry.
-fn is_unread(alloc: Global, text: &[u8]) -> bool {
-    matches!(fault_of(alloc, text), Ok(Some(GeometryFault::Text(_))))
-}
-
-/// Explains the first fault of two texts: that of the second only where the first has none.
-fn explain_texts<E: Sink>(alloc: Global, first: &[u8], second: &[u8], err: &mut E)
-    ensures { MayExplain E.taken E.failures err.old err.new first.now
-        ⊎ (HasNone first.now × MayExplain E.taken E.failures err.old err.new second.now) }
+/// Writes what explains that the text of a command, or the first of two, is refused, if `why` says so and a failure is that.
+pub(crate) fn explain_text<M: Sink>(
+    alloc: Global,
+    why: bool,
+    text: &[u8],
+    failure: &Failure<'_>,
+    more: &mut M,
+)
+    ensures explains { MayExplainText M.taken M.failures more.old more.new text.now (Err failure.now) }
+    ensures unasked { why ≡ false → more.new ≡ more.old }
 {
-    match fault_of(alloc, first) {
-        Ok(Some(fault)) => explain_fault(alloc, first, fault, err),
-        Ok(None) => explain_text(alloc, second, err),
-        Err(_) => {}
+    match *failure {
+        Failure::Refused(GeometryWord::First, fault) if why => {
+            explain_fault(alloc, text, fault, more)
+        }
+        _ => {}
     }
 }
 
@@ -96,39 +93,29 @@ fn refusal(failure: &Failure<'_>) -> Option<(GeometryWord, GeometryFault)>
     }
 }
 
-/// Explains the first fault of a text, if it has one.
-fn explain_text<E: Sink>(alloc: Global, text: &[u8], err: &mut E)
-    ensures { MayExplain E.taken E.failures err.old err.new text.now }
-{
-    let Ok(Some(fault)) = fault_of(alloc, text) else {
-        return;
-    };
-    explain_fault(alloc, text, fault, err);
-}
-
 /// Writes what explains a fault of a text.
-fn explain_fault<E: Sink>(alloc: Global, text: &[u8], fault: GeometryFault, err: &mut E)
-    ensures { (err.new ≡ err.old) ⊎ Explains E.taken E.failures err.old err.new text.now fault }
+fn explain_fault<M: Sink>(alloc: Global, text: &[u8], fault: GeometryFault, more: &mut M)
+    ensures { (more.new ≡ more.old) ⊎ Explains M.taken M.failures more.old more.new text.now fault }
 {
     match fault {
-        GeometryFault::Text(fault) => explain_refused(alloc, text, fault, err),
-        GeometryFault::Invalid(fault) => explain_invalid(alloc, text, fault, err),
+        GeometryFault::Text(fault) => explain_refused(alloc, text, fault, more),
+        GeometryFault::Invalid(fault) => explain_invalid(alloc, text, fault, more),
     }
 }
 
 /// Writes what explains a fault of a text that spells no geometry.
-fn explain_refused<E: Sink>(alloc: Global, text: &[u8], fault: TextFault, err: &mut E)
-    ensures { (err.new ≡ err.old) ⊎ Explains E.taken E.failures err.old err.new text.now (g.Text fault) }
+fn explain_refused<M: Sink>(alloc: Global, text: &[u8], fault: TextFault, more: &mut M)
+    ensures { (more.new ≡ more.old) ⊎ Explains M.taken M.failures more.old more.new text.now (g.Text fault) }
 {
     let Ok(explanation) = text_explained(alloc, text, fault) else {
         return;
     };
-    let _ = put_all(err, explanation.as_slice());
+    let _ = put_all(more, explanation.as_slice());
 }
 
 /// Writes what explains a fault of the geometry of a text, which isn't valid.
-fn explain_invalid<E: Sink>(alloc: Global, text: &[u8], fault: ValidityFault, err: &mut E)
-    ensures { (err.new ≡ err.old) ⊎ Explains E.taken E.failures err.old err.new text.now (g.Invalid fault) }
+fn explain_invalid<M: Sink>(alloc: Global, text: &[u8], fault: ValidityFault, more: &mut M)
+    ensures { (more.new ≡ more.old) ⊎ Explains M.taken M.failures more.old more.new text.now (g.Invalid fault) }
 {
     let Ok(verdict) = reason_of_text(alloc, text) else {
         return;
@@ -136,7 +123,7 @@ fn explain_invalid<E: Sink>(alloc: Global, text: &[u8], fault: ValidityFault, er
     let Ok(explanation) = validity_explained(alloc, text, fault) else {
         return;
     };
-    let _ = put_all(err, b"sfq: ");
-    let _ = put_verdict(&verdict, err);
-    let _ = put_all(err, explanation.as_slice());
+    let _ = put_all(more, b"sfq: ");
+    let _ = put_verdict(&verdict, more);
+    let _ = put_all(more, explanation.as_slice());
 }

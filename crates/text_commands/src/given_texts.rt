@@ -1,14 +1,17 @@
 //! The text of a geometry and of a query, as a word gives it.
 
-ghost use Rattle.std.specs.Prelude.{◌≡◌, ◌≤◌, ◌<◌, length, codes, Err, Ok, IfErr, IfOk, IfSome};
+ghost use Rattle.std.specs.Prelude.{◌≡◌, ◌≤◌, ◌<◌, false, length, codes, Err, Ok, IfErr, IfOk, IfSome, OnOk};
 ghost use Rattle.std.specs.String.{string_bytes};
+ghost use Rattle.text_commands.specs.Explanations.{MayExplainEncoding, MaySayOf, not_utf8};
 ghost use Rattle.text_commands.specs.Files.{OpensFile};
 ghost use Rattle.text_commands.specs.GivenTexts.{Gives, GivesBoth, GivesNotBoth, IsTextOf, IsUnread, ReadsGeometry, ReadsQuery};
 
+use crate::fault_explanations::explain_encoding;
 use crate::files::File;
 use failures::Failure;
 use std::alloc::Global;
 use std::io::{ErrorKind, Read};
+use streams::Sink;
 use table_model::faults::QueryFault;
 use table_model::tokens::TEXT_LIMIT;
 
@@ -78,11 +81,13 @@ pub(crate) fn geometry_texts<R: Read + Drop, F: FnMut(File<'_>) -> Option<R>>(
 }
 
 /// The text of a query that a word gives, in the same way. The file may have as many bytes as a query, else the failure is
-/// that of too long a query; and it is `Unreadable` also if the file isn't UTF-8.
-pub fn query_text<R: Read + Drop, F: FnMut(File<'_>) -> Option<R>>(
+/// that of too long a query; and it is `Unreadable` also if the file isn't UTF-8, which is written to `more` if `why` says so.
+pub fn query_text<R: Read + Drop, F: FnMut(File<'_>) -> Option<R>, M: Sink>(
     alloc: Global,
+    why: bool,
     word: &str,
     opener: &mut F,
+    more: &mut M,
 ) -> Result<String, Failure<'static>>
     requires { F.IsAlwaysCallable opener.old }
     ensures callable { F.IsAlwaysCallable opener.new }
@@ -90,6 +95,9 @@ pub fn query_text<R: Read + Drop, F: FnMut(File<'_>) -> Option<R>>(
         (ReadsQuery R.remaining) opener.old word.now (Ok (string_bytes text)) opener.new) }
     ensures failure { IfErr result (λ failure. Gives (OpensFile F.FnMut File.Query)
         (ReadsQuery R.remaining) opener.old word.now (Err failure) opener.new) }
+    ensures quiet { OnOk result (more.new ≡ more.old) }
+    ensures explains { MayExplainEncoding M.taken M.failures more.old more.new word.now }
+    ensures unasked { why ≡ false → more.new ≡ more.old }
 {
     let Some(path) = word.strip_prefix("@") else {
         return match String::from_str(alloc, word) {
@@ -97,7 +105,7 @@ pub fn query_text<R: Read + Drop, F: FnMut(File<'_>) -> Option<R>>(
             Err(_) => Err(Failure::OutOfMemory),
         };
     };
-    query_in(alloc, opener(File::Query(path)))
+    query_in(alloc, why, path, opener(File::Query(path)), more)
 }
 
 /// The bytes of a word.
@@ -130,10 +138,19 @@ fn geometry_in<R: Read + Drop>(
     }
 }
 
-/// The text of a query's file, or why it isn't there. None is a file that can't be opened.
-fn query_in<R: Read + Drop>(alloc: Global, file: Option<R>) -> Result<String, Failure<'static>>
+/// The text of the query's file at a path, or why it isn't there. None is a file that can't be opened.
+fn query_in<R: Read + Drop, M: Sink>(
+    alloc: Global,
+    why: bool,
+    path: &str,
+    file: Option<R>,
+    more: &mut M,
+) -> Result<String, Failure<'static>>
     ensures text { IfOk result (λ text. ReadsQuery R.remaining file (Ok (string_bytes text))) }
     ensures failure { IfErr result (λ failure. ReadsQuery R.remaining file (Err failure)) }
+    ensures quiet { OnOk result (more.new ≡ more.old) }
+    ensures explains { MaySayOf M.taken M.failures more.old more.new path.now not_utf8 }
+    ensures unasked { why ≡ false → more.new ≡ more.old }
 {
     let Some(file) = file else {
         return Err(Failure::Unreadable("query"));
@@ -146,7 +163,10 @@ fn query_in<R: Read + Drop>(alloc: Global, file: Option<R>) -> Result<String, Fa
     };
     match String::from_utf8(text) {
         Ok(text) => Ok(text),
-        Err(_) => Err(Failure::Unreadable("query")),
+        Err(_) => {
+            explain_encoding(alloc, why, path, more);
+            Err(Failure::Unreadable("query"))
+        }
     }
 }
 

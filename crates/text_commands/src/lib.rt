@@ -29,7 +29,6 @@ mod validity_pages;
 pub use cell_witnesses::witnesses_of_texts;
 pub use explained::{serve_verdict, serve_witnesses};
 pub use fault_codes::FaultCode;
-pub use fault_explanations::{explain_word, explain_words};
 pub use files::File;
 pub use given_texts::{GEOMETRY_BYTES, geometry_text, query_text};
 pub use pages::page_of;

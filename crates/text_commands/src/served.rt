@@ -1,13 +1,15 @@
 //! What each of these commands does.
 
-ghost use Rattle.std.specs.Prelude.{◌≡◌, Ok, IfErr, IfOk, map};
+ghost use Rattle.std.specs.Prelude.{◌≡◌, Ok, IfErr, IfOk, false, map};
 ghost use Rattle.std.specs.String.{string_bytes};
 ghost use Rattle.text_commands.specs.Files.{OpensFile};
 ghost use Rattle.text_commands.specs.Ends.{Serves};
+ghost use Rattle.text_commands.specs.Explanations.{MayExplainTexts};
 ghost use Rattle.text_commands.specs.TextCommands.{Explains, ExplainsFault, IsUnexplained, RelateEnds, RelatesFile, RelatesReader, RelatesWords};
 ghost use Rattle.text_commands.specs.TextCommands as spec;
 
 use crate::code_lists::code_list;
+use crate::fault_explanations::explain_texts;
 use crate::files::File;
 use crate::given_texts::geometry_texts;
 use crate::{Pairs, page_of, relate_pairs, relate_texts};
@@ -18,21 +20,24 @@ use streams::{Sink, put_all, put_parts};
 
 /// Writes the nine characters of the matrix of the geometries that two words give, and a line feed. A word is well-known text,
 /// or `@` and the path of a file that has it; both texts are there before one is read as a geometry. It returns the status: 0,
-/// or that of the failure, whose line it writes to `err`.
+/// or that of the failure, whose line it writes to `err`. If `why` says so, what explains that a text is refused is written to `more`.
 #[inline(never)]
-pub fn serve_relate<R: Read + Drop, F: FnMut(File<'_>) -> Option<R>, S: Sink, E: Sink>(
+pub fn serve_relate<R: Read + Drop, F: FnMut(File<'_>) -> Option<R>, S: Sink, E: Sink, M: Sink>(
     alloc: Global,
+    why: bool,
     first: &str,
     second: &str,
     opener: F,
     out: &mut S,
     err: &mut E,
+    more: &mut M,
 ) -> u8
     requires { F.IsAlwaysCallable opener }
     ensures serves { Serves E.taken E.failures
-        (RelatesWords (OpensFile F.FnMut) R.remaining S.taken S.failures out.old out.new
+        (RelatesWords (OpensFile F.FnMut) R.remaining S.taken S.failures out.old out.new M.taken M.failures more.old more.new
         opener first.now second.now)
         result err.old err.new }
+    ensures unasked { why ≡ false → more.new ≡ more.old }
 {
     let texts = match geometry_texts(alloc, first, second, opener) {
         Ok(texts) => texts,
@@ -40,29 +45,38 @@ pub fn serve_relate<R: Read + Drop, F: FnMut(File<'_>) -> Option<R>, S: Sink, E:
     };
     relate_given(
         alloc,
+        why,
         texts.first.as_slice(),
         texts.second.as_slice(),
         out,
         err,
+        more,
     )
 }
 
-/// Writes the nine characters of the matrix of two geometries, and a line feed.
-fn relate_given<S: Sink, E: Sink>(
+/// Writes the nine characters of the matrix of two geometries, and a line feed; or what explains that one is refused, if `why` says so.
+fn relate_given<S: Sink, E: Sink, M: Sink>(
     alloc: Global,
+    why: bool,
     first: &[u8],
     second: &[u8],
     out: &mut S,
     err: &mut E,
+    more: &mut M,
 ) -> u8
-    ensures { Serves E.taken E.failures
+    ensures serves { Serves E.taken E.failures
         (λ end. RelateEnds first.now second.now end (S.taken out.old) (S.taken out.new)
-        (S.failures out.old) (S.failures out.new))
+        (S.failures out.old) (S.failures out.new)
+        × MayExplainTexts M.taken M.failures more.old more.new first.now second.now end)
         result err.old err.new }
+    ensures unasked { why ≡ false → more.new ≡ more.old }
 {
     let matrix = match relate_texts(alloc, first, second) {
         Ok(matrix) => matrix,
-        Err(failure) => return failed(&failure, err),
+        Err(failure) => {
+            explain_texts(alloc, why, first, second, &failure, more);
+            return failed(&failure, err);
+        }
     };
     match put_parts(out, &[matrix.text().as_slice(), b"\n"]) {
         Ok(()) => 0,

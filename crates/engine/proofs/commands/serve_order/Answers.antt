@@ -3,7 +3,8 @@ use Rattle.std.proofs.Common.{ℕ, List, map, refl, subst, sym}
 use Rattle.std.specs.String.{string_bytes}
 use Rattle.command_line.specs.declared.known_commands.Order.{Order}
 use Rattle.command_line.specs.declared.known_commands.Order.TheVariants as orders
-use Rattle.engine.specs.Commands.{ServesOrder, ServesTexts}
+use Rattle.engine.specs.Commands.{ServesOrder, ServesUnexplained}
+use Rattle.text_commands.specs.Ends.{Serves}
 use Rattle.text_commands.specs.Reasons.{ExplainsCells}
 use Rattle.text_commands.specs.TextCommands.{ExplainsFault, RelatesWords}
 use Rattle.text_commands.specs.Files.{OpensFile}
@@ -14,48 +15,46 @@ returns-in-Relate-clause-serves g c =
     let new = c.serve_relate.new in
     let status = c.serve_relate.result in
     let words = RelatesWords (OpensFile g.F.FnMut) g.R.Read.remaining g.S.Sink.taken g.S.Sink.failures c.args.out.now new.out
-    c.args.opener in
-    let Serves : Order → Type 0 = λ order.
+    g.M.Sink.taken g.M.Sink.failures c.args.more.now new.more c.args.opener in
+    let InOrder : Order → Type 0 = λ order.
     ServesOrder (OpensFile g.F.FnMut) g.R.Read.remaining g.E.Sink.taken g.E.Sink.failures g.S.Sink.taken g.S.Sink.failures
     c.args.out.now new.out
-    g.M.Sink.taken g.M.Sink.failures c.args.more.now c.args.more.now c.args.why c.args.opener order status c.args.err.now
-    new.err in
-    let Ends : List ℕ → List ℕ → Type 0 = λ first second. ServesTexts g.E.Sink.taken g.E.Sink.failures c.args.more.now c.args.more.now
+    g.M.Sink.taken g.M.Sink.failures c.args.more.now new.more c.args.why c.args.opener order status c.args.err.now new.err in
+    let Ends : List ℕ → List ℕ → Type 0 = λ first second. Serves g.E.Sink.taken g.E.Sink.failures
     (words first second) status c.args.err.now new.err in
-    subst Serves (sym c.in-Relate.is)
-    (subst (λ first. Ends first (string_bytes c.in-Relate.second)) c.as_str-in-Relate.ensures.value
-    (subst (λ second. Ends c.as_str-in-Relate.result.now second) c.as_str-in-Relate-2.ensures.value
-    (c.serve_relate.ensures.serves, refl)))
+    subst InOrder (sym c.in-Relate.is)
+    (subst (λ first. Ends first (string_bytes c.in-Relate.second)) c.as_str-first.ensures.value
+    (subst (λ second. Ends c.as_str-first.result.now second) c.as_str-second.ensures.value
+    c.serve_relate.ensures.serves))
 
 pub returns-in-Some-clause-serves : goal.returns-in-Some-clause-serves
 returns-in-Some-clause-serves g c =
     let new = c.serve_witnesses.new in
     let status = c.serve_witnesses.result in
     let words = ExplainsCells (OpensFile g.F.FnMut) g.R.Read.remaining g.S.Sink.taken g.S.Sink.failures c.args.out.now new.out
-    c.args.opener in
-    let Serves : Order → Type 0 = λ order.
+    g.M.Sink.taken g.M.Sink.failures c.args.more.now new.more c.args.opener in
+    let InOrder : Order → Type 0 = λ order.
     ServesOrder (OpensFile g.F.FnMut) g.R.Read.remaining g.E.Sink.taken g.E.Sink.failures g.S.Sink.taken g.S.Sink.failures
     c.args.out.now new.out
-    g.M.Sink.taken g.M.Sink.failures c.args.more.now c.args.more.now c.args.why c.args.opener order status c.args.err.now
-    new.err in
-    let Ends : List ℕ → List ℕ → Type 0 = λ first second. ServesTexts g.E.Sink.taken g.E.Sink.failures c.args.more.now c.args.more.now
+    g.M.Sink.taken g.M.Sink.failures c.args.more.now new.more c.args.why c.args.opener order status c.args.err.now new.err in
+    let Ends : List ℕ → List ℕ → Type 0 = λ first second. Serves g.E.Sink.taken g.E.Sink.failures
     (words first second) status c.args.err.now new.err in
-    subst Serves (sym c.in-Why.is)
-    (subst (λ second. Serves (orders.Why c.in-Why.first second c.in-Why.why)) (sym c.in-Some.is)
-    (subst (λ first. Ends first (string_bytes c.in-Some.second)) c.as_str-in-Some.ensures.value
-    (subst (λ second. Ends c.as_str-in-Some.result.now second) c.as_str-in-Some-2.ensures.value
-    (c.serve_witnesses.ensures.serves, refl))))
+    subst InOrder (sym c.in-Why.is)
+    (subst (λ second. InOrder (orders.Why c.in-Why.first second c.in-Why.why)) (sym c.in-Some.is)
+    (subst (λ first. Ends first (string_bytes c.in-Some.second)) c.as_str-first-in-Some.ensures.value
+    (subst (λ second. Ends c.as_str-first-in-Some.result.now second) c.as_str-second-in-Some.ensures.value
+    c.serve_witnesses.ensures.serves)))
 
 pub returns-in-Fault-clause-serves : goal.returns-in-Fault-clause-serves
 returns-in-Fault-clause-serves g c =
     let new = c.serve_fault.new in
     let status = c.serve_fault.result in
-    let Serves : Order → Type 0 = λ order.
+    let InOrder : Order → Type 0 = λ order.
     ServesOrder (OpensFile g.F.FnMut) g.R.Read.remaining g.E.Sink.taken g.E.Sink.failures g.S.Sink.taken g.S.Sink.failures
     c.args.out.now new.out g.M.Sink.taken g.M.Sink.failures c.args.more.now c.args.more.now c.args.why c.args.opener order status
     c.args.err.now new.err in
-    subst Serves (sym c.in-Fault.is)
+    subst InOrder (sym c.in-Fault.is)
     (subst
-    (λ words. ServesTexts g.E.Sink.taken g.E.Sink.failures c.args.more.now c.args.more.now
+    (λ words. ServesUnexplained g.E.Sink.taken g.E.Sink.failures c.args.more.now c.args.more.now
     (ExplainsFault g.S.Sink.taken g.S.Sink.failures c.args.out.now new.out (map string_bytes words)) status c.args.err.now new.err)
     c.as_slice.ensures.value (c.serve_fault.ensures.serves, refl))

@@ -12,7 +12,7 @@ returns-in-Err-clause-serves g c = record {
     text = Err c.in-Err.failure;
     next = c.query_text.new.opener;
     given = c.in-Err.ensures.failure;
-    rest = (refl, (refl, refl));
+    rest = (refl, (refl, c.query_text.ensures.explains));
   };
   returned = c.failed.ensures.status;
   reported = c.failed.ensures.line;
@@ -27,11 +27,15 @@ returns-clause-serves g c =
         next = c.query_text.new.opener;
         given = c.in-Ok.ensures.text;
         rest = subst
+            (λ old. RunsFiles (OpensFile g.F.FnMut) g.R.Read.remaining g.S.Sink.taken g.S.Sink.failures c.args.out.now
+            c.serve_run.new.out g.M.Sink.taken g.M.Sink.failures old c.serve_run.new.more paths.why c.query_text.new.opener
+            paths.schema.now paths.directory.now (string_bytes c.in-Ok.text) c.serve_run.ensures.serves.end) c.in-Ok.ensures.quiet
+            (subst
             (λ query. RunsFiles (OpensFile g.F.FnMut) g.R.Read.remaining g.S.Sink.taken g.S.Sink.failures c.args.out.now
-            c.serve_run.new.out g.M.Sink.taken g.M.Sink.failures c.args.more.now c.serve_run.new.more paths.why
+            c.serve_run.new.out g.M.Sink.taken g.M.Sink.failures c.query_text.new.more c.serve_run.new.more paths.why
             c.query_text.new.opener paths.schema.now paths.directory.now query c.serve_run.ensures.serves.end)
             c.as_str.ensures.value
-            c.serve_run.ensures.serves.ends;
+            c.serve_run.ensures.serves.ends);
       };
       returned = c.serve_run.ensures.serves.returned;
       reported = c.serve_run.ensures.serves.reported;

@@ -18,6 +18,6 @@ returns g c =
       c.in-Ok-validity_explained.ensures,
       writes c.put_all.result _ _ _ _ _ first.ok first.front first.failures,
       writes c.put_verdict.result _ _ _ _ _ line.ok line.front line.failures,
-      subst (λ text. Adds g.E.Sink.taken g.E.Sink.failures c.put_verdict.new.sink c.put_all-2.new.sink text)
+      subst (λ text. Adds g.M.Sink.taken g.M.Sink.failures c.put_verdict.new.sink c.put_all-2.new.sink text)
           c.as_slice.ensures.value (writes c.put_all-2.result _ _ _ _ _ last.ok last.front last.failures),
     )

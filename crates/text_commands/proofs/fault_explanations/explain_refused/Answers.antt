@@ -10,6 +10,6 @@ returns g c =
     inr (
       c.in-Ok.explanation.items,
       c.in-Ok.ensures,
-      subst (λ text. Adds g.E.Sink.taken g.E.Sink.failures c.args.err.now c.put_all.new.sink text) c.as_slice.ensures.value
+      subst (λ text. Adds g.M.Sink.taken g.M.Sink.failures c.args.more.now c.put_all.new.sink text) c.as_slice.ensures.value
           (writes c.put_all.result _ _ _ _ _ puts.ok puts.front puts.failures),
     )

@@ -1,42 +1,41 @@
 -- Each exit: a word gives no text, or the command goes on with both.
 use Rattle.std.proofs.Common.{ℕ, List, Err, refl, subst}
 use Rattle.failures.specs.Ends.{End}
+use Rattle.text_commands.specs.Explanations.{MayExplainTexts}
 use Rattle.text_commands.specs.Files.{OpensFile}
 use Rattle.text_commands.specs.TextCommands.{RelateEnds}
 use Rattle.text_commands.proofs.WordLemmas.{over-both, over-not-both}
 use Rattle.text_commands.proofs.served.serve_relate.Goals as goal
 
-pub returns-in-Err : goal.returns-in-Err
-returns-in-Err g c =
+pub returns-in-Err-clause-serves : goal.returns-in-Err-clause-serves
+returns-in-Err-clause-serves g c =
     let Ends : List ℕ → List ℕ → End → Type 0 = λ first second end.
     RelateEnds first second end (g.S.Sink.taken c.args.out.now) (g.S.Sink.taken c.args.out.now) (g.S.Sink.failures c.args.out.now)
-    (g.S.Sink.failures c.args.out.now) in
+    (g.S.Sink.failures c.args.out.now)
+    × MayExplainTexts g.M.Sink.taken g.M.Sink.failures c.args.more.now c.args.more.now first second end in
     record {
-      serves = record {
-        end = Err c.in-Err.failure;
-        ends = over-not-both (OpensFile g.F.FnMut) g.R.Read.remaining Ends _ c.args.opener c.args.first.now c.args.second.now
-            c.in-Err.failure c.in-Err.ensures.failure refl;
-        returned = c.failed.ensures.status;
-        reported = c.failed.ensures.line;
-      };
+      end = Err c.in-Err.failure;
+      ends = over-not-both (OpensFile g.F.FnMut) g.R.Read.remaining Ends _ c.args.opener c.args.first.now c.args.second.now
+          c.in-Err.failure c.in-Err.ensures.failure (refl, refl);
+      returned = c.failed.ensures.status;
+      reported = c.failed.ensures.line;
     }
 
-pub returns : goal.returns
-returns g c =
+pub returns-clause-serves : goal.returns-clause-serves
+returns-clause-serves g c =
     let Ends : List ℕ → List ℕ → End → Type 0 = λ first second end.
     RelateEnds first second end (g.S.Sink.taken c.args.out.now) (g.S.Sink.taken c.relate_given.new.out)
-    (g.S.Sink.failures c.args.out.now) (g.S.Sink.failures c.relate_given.new.out) in
-    let end = c.relate_given.ensures.end in
+    (g.S.Sink.failures c.args.out.now) (g.S.Sink.failures c.relate_given.new.out)
+    × MayExplainTexts g.M.Sink.taken g.M.Sink.failures c.args.more.now c.relate_given.new.more first second end in
+    let given = c.relate_given.ensures.serves in
     let texts = c.in-Ok.texts in
     record {
-      serves = record {
-        end = end;
-        ends = over-both (OpensFile g.F.FnMut) g.R.Read.remaining Ends _ c.args.opener c.args.first.now c.args.second.now
-            texts.first.items texts.second.items end
-            c.in-Ok.ensures.texts
-            (subst (λ other. Ends texts.first.items other end) c.as_slice-2.ensures.value
-            (subst (λ one. Ends one c.as_slice-2.result.now end) c.as_slice.ensures.value c.relate_given.ensures.ends));
-        returned = c.relate_given.ensures.returned;
-        reported = c.relate_given.ensures.reported;
-      };
+      end = given.end;
+      ends = over-both (OpensFile g.F.FnMut) g.R.Read.remaining Ends _ c.args.opener c.args.first.now c.args.second.now
+          texts.first.items texts.second.items given.end
+          c.in-Ok.ensures.texts
+          (subst (λ other. Ends texts.first.items other given.end) c.as_slice-2.ensures.value
+          (subst (λ one. Ends one c.as_slice-2.result.now given.end) c.as_slice.ensures.value given.ends));
+      returned = given.returned;
+      reported = given.reported;
     }
