@@ -1,6 +1,5 @@
 -- Strictly between two points of an edge: sums stay there, and an edge that holds all of it holds its ends.
-use Rattle.std.proofs.Common.{ℕ, ◌+◌, ◌<◌, ℤ, pos, ◌+ℤ◌, ◌*ℤ◌, ◌≡◌, true, false, refl, sym, ap, subst, ◌∙◌, arith}
-use borrow.Author.Differences.{ints}
+use Rattle.std.proofs.Common.{ℕ, ◌+◌, ◌<◌, pos, ◌≡◌, true, false, refl, sym, ap, subst, ◌∙◌}
 use Rattle.std.specs.declared.cmp.Ordering.{Ordering}
 use Rattle.std.specs.declared.cmp.Ordering.TheVariants.{Less, Equal, Greater}
 use Rattle.basics.proofs.Bools.{by_contraries, not_both}
@@ -17,9 +16,10 @@ use Rattle.geometry_laws.proofs.Hulls.{on_from_hull, hull_from_on, on_parts}
 use Rattle.geometry_laws.proofs.RingParity.{position_is_point}
 use Rattle.geometry_laws.proofs.Lines.{weighted_is_point}
 use Rattle.geometry_laws.proofs.Triangles.{dot, dot_is_at}
-use Rattle.geometry_laws.proofs.LineOrder.{IsSum, after_sum, before_sum, sum_between, on_sum, weighted_is_sum, area_on_line}
+use Rattle.geometry_laws.proofs.LineOrder.{after_sum, before_sum, sum_between, on_sum, weighted_is_sum, area_on_line}
 use Rattle.geometry_laws.proofs.Cuts.{turn_less, not_less_self, not_after_both, not_before_both}
 use Rattle.matrix_laws.specs.Gaps.{IsBetween}
+use Rattle.matrix_laws.proofs.Pieces.{mediant_is_sum}
 
 -- two points of an edge, the lesser first
 pub record Span (e : Edge) (p q : Point) : Type 0 where
@@ -62,24 +62,7 @@ between_sum e p q x y m n k i j = record {
 }
 
 -- ---- the mediant
--- the mediant weighs both points by 1
-mediant_is_sum : (p q : Point) → IsSum p q (mediant p q)
-mediant_is_sum p q = record {
-  k = pos 1;
-  m = pos 1;
-  n = pos 1;
-  from_k = omega (arith, ints);
-  from_m = omega (arith, ints);
-  from_n = omega (arith, ints);
-  x_is = one p.X q.X;
-  y_is = one p.Y q.Y;
-  w_is = one p.W q.W;
-}
-  where
-    one : (x y : ℤ) → pos 1 *ℤ (x +ℤ y) ≡ pos 1 *ℤ x +ℤ pos 1 *ℤ y
-    one x y = omega (arith, ints)
-
--- so an edge holds the mediant of two of its points
+-- an edge holds the mediant of two of its points
 pub on_mediant : (e : Edge) (p q : Point) → IsPoint p → IsPoint q → on e p ≡ true → on e q ≡ true → on e (mediant p q) ≡ true
 on_mediant e p q hp hq k l = on_from_hull e (mediant p q) (on_sum e p q (mediant p q) (hull_from_on e p hp k) (hull_from_on e q hq l) (mediant_is_sum p q))
 

@@ -30,7 +30,7 @@ use Rattle.geometry_laws.proofs.CoverTheorems.{not_upright_dots}
 
 -- ---- the sample is strictly within
 -- the mediant weighs both points by 1
-mediant_is_sum : (p q : Point) → IsSum p q (mediant p q)
+pub mediant_is_sum : (p q : Point) → IsSum p q (mediant p q)
 mediant_is_sum p q = record {
   k = pos 1;
   m = pos 1;
@@ -106,7 +106,7 @@ level s e q h = clash s.x e.x q h
     clash x y e h = omega (arith, ints)
 
 -- a vertical edge through a point within the piece isn't on its line, so it would cross it there, and that would be a cut
-not_upright_within : (es : List Edge) (ps : List Position) (c : Piece) (h : IsPiece es ps c) → Ends c → is_upright c ≡ false → (s : Point) → Inside es ps c h s → (g : Edge) → Among g es → IsNotUprightAt s g
+pub not_upright_within : (es : List Edge) (ps : List Position) (c : Piece) (h : IsPiece es ps c) → Ends c → is_upright c ≡ false → (s : Point) → Inside es ps c h s → (g : Edge) → Among g es → IsNotUprightAt s g
 not_upright_within es ps c h d f s i g m k e = decide (on_one_line h.edge g) refl
   where
     through : (u v : Position) → side h.edge.start h.edge.end (point_at u) ≡ pos 0 → side h.edge.start h.edge.end (point_at v) ≡ pos 0 → compare (point_at u) s ≡ Less → compare s (point_at v) ≡ Less → pos 0 <ℤ right (point_at u) (point_at v)
