@@ -1,6 +1,6 @@
 -- Two geometries that share a point: where edges of both do, and what predicates hold of them.
 use Rattle.std.proofs.Common.{◌≡◌, ◌≢◌, ◌⊎◌, inl, inr, refl, sym, ap, ◌∙◌, Bool, true, false, not, ◌&&◌, if◌then◌else◌}
-use Rattle.std.proofs.Common.{Some, None, List, [], ◌∷◌, codes}
+use Rattle.std.proofs.Common.{Some, List, [], ◌∷◌, codes}
 use Rattle.std.specs.List.{Contains, list_any}
 use Rattle.std.proofs.lemmas.Bool.{false≢true}
 use Rattle.geometry_model.specs.Dimensions.{HasDimension, IsMatrix, Matrix, cell, common, transposed}
@@ -31,7 +31,7 @@ use Rattle.matrix_laws.proofs.Matrices.{labels_give_matrix}
 use Rattle.matrix_laws.proofs.MeetingFacts.{predicate_forces_meeting}
 use Rattle.matrix_laws.proofs.Shared.{start_on}
 use Rattle.edge_boxes.specs.RingEdges.{edges_share}
-use Rattle.de9im.specs.Deciding.{GeometriesShare, HasPointOutside, IsDecided, where_far, where_shared}
+use Rattle.de9im.specs.Deciding.{GeometriesShare, HasPointOutside, IsDecided, where_shared}
 use Rattle.de9im.proofs.EdgePoints.{no_edges, own_point}
 
 -- ---- a point on an edge of a geometry isn't in its exterior
@@ -291,7 +291,7 @@ fails_where_far p a b forces va vb far = fails p a b va vb (is_false (holds p (k
     h)))
 
 -- so two such geometries are disjoint
-disjoint_where_far : (a b : Geometry) → IsValid a → IsValid b → meets (envelope a) (envelope b) ≡ false
+pub disjoint_where_far : (a b : Geometry) → IsValid a → IsValid b → meets (envelope a) (envelope b) ≡ false
     → IsDecided predicates.Disjoint a b true
 disjoint_where_far a b va vb far =
     let apart = fails_where_far predicates.Intersects a b refl va vb far in
@@ -304,31 +304,3 @@ disjoint_where_far a b va vb far =
     turned : (x : Bool) → false ≡ not x → true ≡ x
     turned true e = refl
     turned false e = absurd cc
-
--- what is known of a predicate there
-pub known_where_far : (p : Predicate) (a b : Geometry) (answer : Bool) → where_far p ≡ Some answer → IsValid a → IsValid b
-    → meets (envelope a) (envelope b) ≡ false → IsDecided p a b answer
-known_where_far predicates.Disjoint a b true known va vb far = disjoint_where_far a b va vb far
-known_where_far predicates.Disjoint a b false known va vb far = absurd cc
-known_where_far predicates.Equals a b false known va vb far = fails_where_far predicates.Equals a b refl va vb far
-known_where_far predicates.Equals a b true known va vb far = absurd cc
-known_where_far predicates.Intersects a b false known va vb far = fails_where_far predicates.Intersects a b refl va vb far
-known_where_far predicates.Intersects a b true known va vb far = absurd cc
-known_where_far predicates.Touches a b false known va vb far = fails_where_far predicates.Touches a b refl va vb far
-known_where_far predicates.Touches a b true known va vb far = absurd cc
-known_where_far predicates.Crosses a b false known va vb far = fails_where_far predicates.Crosses a b refl va vb far
-known_where_far predicates.Crosses a b true known va vb far = absurd cc
-known_where_far predicates.Within a b false known va vb far = fails_where_far predicates.Within a b refl va vb far
-known_where_far predicates.Within a b true known va vb far = absurd cc
-known_where_far predicates.Contains a b false known va vb far = fails_where_far predicates.Contains a b refl va vb far
-known_where_far predicates.Contains a b true known va vb far = absurd cc
-known_where_far predicates.Overlaps a b false known va vb far = fails_where_far predicates.Overlaps a b refl va vb far
-known_where_far predicates.Overlaps a b true known va vb far = absurd cc
-known_where_far (predicates.Relate pattern) a b answer known va vb far =
-    go (forces_meeting (predicates.Relate pattern)) refl answer known
-  where
-    go : (forces : Bool) → forces_meeting (predicates.Relate pattern) ≡ forces → (answer : Bool)
-        → (if forces then Some false else None) ≡ Some answer → IsDecided (predicates.Relate pattern) a b answer
-    go true is false e = fails_where_far (predicates.Relate pattern) a b is va vb far
-    go true is true e = absurd cc
-    go false is answer e = absurd cc

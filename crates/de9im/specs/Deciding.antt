@@ -1,10 +1,11 @@
 -- Whether a predicate holds of two geometries, and where that is known without their matrix.
-use Rattle.std.specs.Prelude.{◌≡◌, ◌≢◌, Bool, true, false, if◌then◌else◌, Option, Some, None}
+use Rattle.std.specs.Prelude.{◌≡◌, ◌≢◌, Bool, true, false, Option, Some, None}
 use Rattle.geometry_model.specs.Dimensions.{IsMatrix, Matrix}
+use Rattle.geometry_model.specs.Envelopes.{envelope, meets}
 use Rattle.geometry_model.specs.Geometries.{Edge, Geometry, kind}
 use Rattle.geometry_model.specs.Locations.{locate}
 use Rattle.geometry_model.specs.Points.{Point, IsPoint, point_at}
-use Rattle.geometry_model.specs.Predicates.{forces_meeting, holds}
+use Rattle.geometry_model.specs.Predicates.{holds}
 use Rattle.geometry_model.specs.Labels.{labelled_matrix}
 use Rattle.geometry_model.specs.Validity.{IsValid}
 use Rattle.geometry_model.specs.declared.point_sets.Location.{Location}
@@ -58,14 +59,6 @@ where_shared predicates.Contains = None
 where_shared predicates.Overlaps = None
 where_shared (predicates.Relate pattern) = None
 
--- whether the predicate holds of every two geometries whose envelopes don't meet; absent where that depends on the geometries
-abbrev pub where_far : Predicate → Option Bool
-where_far predicates.Equals = Some false
-where_far predicates.Disjoint = Some true
-where_far predicates.Intersects = Some false
-where_far predicates.Touches = Some false
-where_far predicates.Crosses = Some false
-where_far predicates.Within = Some false
-where_far predicates.Contains = Some false
-where_far predicates.Overlaps = Some false
-where_far (predicates.Relate pattern) = if forces_meeting (predicates.Relate pattern) then Some false else None
+-- every two valid geometries whose envelopes don't meet decide the predicate so (06-103r4, 6.1.15.3)
+abbrev pub HoldsWhereFar : Predicate → Bool → Type 0
+HoldsWhereFar p answer = (a b : Geometry) → IsValid a → IsValid b → meets (envelope a) (envelope b) ≡ false → IsDecided p a b answer

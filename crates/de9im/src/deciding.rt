@@ -8,7 +8,7 @@ ghost use Rattle.geometry_model.specs.Dimensions.{IsMatrix};
 ghost use Rattle.geometry_model.specs.Envelopes.{envelope, meets};
 ghost use Rattle.geometry_model.specs.Geometries.{edges};
 ghost use Rattle.geometry_model.specs.declared.point_sets.Location.TheVariants.{Exterior};
-ghost use Rattle.de9im.specs.Deciding.{GeometriesShare, HasPointOutside, IsDecided, StartsInside, where_far, where_shared};
+ghost use Rattle.de9im.specs.Deciding.{GeometriesShare, HasPointOutside, HoldsWhereFar, IsDecided, StartsInside, where_shared};
 
 use crate::apart::{are_apart, find_apart};
 use crate::meeting::SpatialPredicate;
@@ -43,24 +43,14 @@ fn where_shared(predicate: Predicate) -> Option<bool>
 
 /// Whether the predicate holds of every two geometries whose envelopes don't meet; None where that depends on the geometries.
 fn where_far(predicate: Predicate) -> Option<bool>
-    ensures { result ≡ where_far predicate }
+    ensures { IfSome result (HoldsWhereFar predicate) }
 {
+    if predicate.forces_meeting() {
+        return Some(false);
+    }
     match predicate {
         Predicate::Disjoint => Some(true),
-        Predicate::Equals
-        | Predicate::Intersects
-        | Predicate::Touches
-        | Predicate::Crosses
-        | Predicate::Within
-        | Predicate::Contains
-        | Predicate::Overlaps => Some(false),
-        Predicate::Relate(_) => {
-            if predicate.forces_meeting() {
-                Some(false)
-            } else {
-                None
-            }
-        }
+        _ => None,
     }
 }
 

@@ -35,5 +35,5 @@ pub use meeting::SpatialPredicate;
 pub use pattern::MatrixPattern;
 pub use predicate::holds;
 pub use relating::relate;
-pub use text::PatternText;
+pub use text::{PatternText, pattern_in};
 pub use work::Work;

@@ -21,20 +21,28 @@ impl PatternText for Pattern {
     ghost pattern = { λ p. p };
 
     fn read(text: &str) -> Option<Pattern> {
-        match text.as_bytes() {
-            [ii, ib, ie, bi, bb, be, ei, eb, ee] => Some(Pattern {
-                interior_interior: character(*ii)?,
-                interior_boundary: character(*ib)?,
-                interior_exterior: character(*ie)?,
-                boundary_interior: character(*bi)?,
-                boundary_boundary: character(*bb)?,
-                boundary_exterior: character(*be)?,
-                exterior_interior: character(*ei)?,
-                exterior_boundary: character(*eb)?,
-                exterior_exterior: character(*ee)?,
-            }),
-            _ => None,
-        }
+        pattern_in(text.as_bytes())
+    }
+}
+
+/// The pattern that nine bytes `T F * 0 1 2` write, by rows; `t` and `f` are taken too. None for any other bytes. It takes no
+/// memory (06-103r4, 6.1.15.2; small letters: this project's choice).
+pub fn pattern_in(bytes: &[u8]) -> Option<Pattern>
+    ensures { result ≡ pattern_of_text bytes.now }
+{
+    match bytes {
+        [ii, ib, ie, bi, bb, be, ei, eb, ee] => Some(Pattern {
+            interior_interior: character(*ii)?,
+            interior_boundary: character(*ib)?,
+            interior_exterior: character(*ie)?,
+            boundary_interior: character(*bi)?,
+            boundary_boundary: character(*bb)?,
+            boundary_exterior: character(*be)?,
+            exterior_interior: character(*ei)?,
+            exterior_boundary: character(*eb)?,
+            exterior_exterior: character(*ee)?,
+        }),
+        _ => None,
     }
 }
 

@@ -11,10 +11,9 @@ ghost use Rattle.library_calls.specs.Refusals.{none_there, ok, out_of_memory};
 ghost use Rattle.library_calls.specs.Relations.{relation_of};
 ghost use Rattle.streams.specs.MemorySinks.{memory_bytes};
 
-use crate::patterns::pattern_in;
 use crate::relations::{Relation, holds, is_refuted, predicate_of, relation_of};
 use crate::texts::matrix_of;
-use de9im::{MatrixPattern, Work, decide};
+use de9im::{MatrixPattern, Work, decide, pattern_in};
 use fraction::{GridPoint, RatPoint};
 use geometry_model::{Kind, Location};
 use rtree::Envelope;
