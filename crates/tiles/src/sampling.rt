@@ -54,6 +54,8 @@ impl Sampler {
 
     /// Leaves out corners until one of at least so many rows is kept, or of 2^63. It is for a sampler that has seen all of its rows.
     pub fn thin_to(&mut self, stride: usize)
+        ensures column { self.new.column ≡ self.old.column }
+        ensures since { self.new.since ≡ self.old.since }
         ensures sample { (all : List Position) → Samples all self.old → Samples all self.new }
         ensures reach { 1 ≤ self.old.stride → (stride ≤ self.new.stride) ⊎ (2 ^ 63 ≤ self.new.stride) }
         ensures least { (self.new.stride ≡ self.old.stride) ⊎ (self.new.stride < 2 * stride) }
