@@ -34,6 +34,34 @@ is_there found.Nothing = false
 is_there found.Denied = false
 is_there found.Closed = false
 
+-- whether reading it fails behind what was read
+abbrev pub fails_behind : Found → Bool
+fails_behind found.Lasting = false
+fails_behind found.Passing = false
+fails_behind found.Folder = true
+fails_behind found.Broken = true
+fails_behind found.Nothing = false
+fails_behind found.Denied = false
+fails_behind found.Closed = false
+
+-- what is said after a path where what was found there can't be read again (the words: this project's choice)
+abbrev pub words_of : Found → Option (List ℕ)
+words_of found.Lasting = None
+words_of found.Passing = Some (codes " can't be read twice: save it as a file to see more")
+words_of found.Folder = Some (codes " is a folder")
+words_of found.Broken = None
+words_of found.Nothing = Some (codes " isn't there")
+words_of found.Denied = Some (codes " may not be read by this user")
+words_of found.Closed = Some (codes " can't be opened")
+
+-- the number of what a file is for a command (the numbers: this project's choice)
+abbrev pub number_of : File → ℕ
+number_of (role.Schema path) = 0
+number_of (role.Table path) = 1
+number_of (role.Query path) = 2
+number_of (role.Geometry path) = 3
+number_of (role.Pairs path) = 4
+
 -- the bytes that a reader has yet to give
 abbrev pub bytes_in : HandedReader → List ℕ
 bytes_in (reader.Records bounded) = (reader_under bounded).rest.now

@@ -1,7 +1,7 @@
 //! The files of a command as a caller hands them in, who has read them before.
 
 ghost use Rattle.std.specs.Prelude.{◌≡◌, option_map};
-ghost use Rattle.sfq_web.specs.HandedFiles.{bytes_in, file_at, found_of, is_standard, is_there, opened_text};
+ghost use Rattle.sfq_web.specs.HandedFiles.{bytes_in, fails_behind, file_at, found_of, is_standard, is_there, opened_text, words_of};
 
 use std::io::{self, Error, ErrorKind, Read};
 use streams::BoundedReader;
@@ -56,12 +56,16 @@ impl Found {
     }
 
     /// Whether reading it fails behind what was read.
-    pub(crate) fn fails(self) -> bool {
+    pub(crate) fn fails(self) -> bool
+        ensures { result ≡ fails_behind self }
+    {
         matches!(self, Found::Folder | Found::Broken)
     }
 
     /// What is said after its path where it can't be read again; nothing of a file.
-    pub(crate) fn words(self) -> Option<&'static str> {
+    pub(crate) fn words(self) -> Option<&'static str>
+        ensures { option_map (λ words. words.now) result ≡ words_of self }
+    {
         match self {
             Found::Lasting | Found::Broken => None,
             Found::Passing => Some(" can't be read twice: save it as a file to see more"),
@@ -104,11 +108,18 @@ pub struct HandedText<'t> {
 }
 
 impl Read for HandedText<'_> {
-    ghost use Rattle.std.specs.Prelude.{Some};
+    ghost use Rattle.std.specs.Prelude.{◌≡◌, ◌↔◌, [], IsErr, Some, true};
+    ghost use Rattle.std.specs.Io.{ReadsAtMost};
+    ghost use Rattle.std.specs.Io.KnownBytes.{ReadConsumes};
 
     ghost remaining = { λ t. Some t.rest.now };
 
-    fn read(&mut self, buffer: &mut [u8]) -> io::Result<usize> {
+    fn read(&mut self, buffer: &mut [u8]) -> io::Result<usize>
+        ensures bound { ReadsAtMost result buffer.new }
+        ensures bytes { ReadConsumes (Some self.old.rest.now) (Some self.new.rest.now) result buffer.new }
+        ensures fails { IsErr result ↔ ((self.old.fails ≡ true) × (self.old.rest.now ≡ [])) }
+        ensures same { self.new.fails ≡ self.old.fails }
+    {
         if self.fails && self.rest.is_empty() {
             return Err(Error::from(ErrorKind::Other));
         }

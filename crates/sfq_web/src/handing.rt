@@ -1,7 +1,7 @@
 //! Opens the files that are handed in, for a command.
 
 ghost use Rattle.std.specs.Prelude.{◌≡◌, true};
-ghost use Rattle.sfq_web.specs.HandedFiles.{IsNotHanded};
+ghost use Rattle.sfq_web.specs.HandedFiles.{IsNotHanded, number_of};
 ghost use Rattle.sfq_web.specs.Servings.{handed_of};
 
 use crate::handed_files::{
@@ -224,7 +224,9 @@ fn unopened(alloc: Global, path: &str, words: &str) -> Result<Vec<u8>, AllocErro
 }
 
 /// The number of what a file is for a command.
-fn role_of(file: File<'_>) -> u8 {
+fn role_of(file: File<'_>) -> u8
+    ensures { result ≡ number_of file.entry }
+{
     match file {
         File::Schema(_) => 0,
         File::Table(_) => 1,
