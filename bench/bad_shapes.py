@@ -171,6 +171,21 @@ def points_shuffled(count):
     return points(positions), points(chance.sample(positions, count))
 
 
+def squares_shuffled(count):
+    """So many squares of a grid, in no order."""
+    across = math.isqrt(count - 1) + 1
+    corners = [(10 * (k % across), 10 * (k // across)) for k in range(count)]
+    random.Random(count).shuffle(corners)
+    return polygons([[[(x, y), (x + 6, y), (x + 6, y + 6), (x, y + 6)]] for x, y in corners])
+
+
+def points_in_shuffled_squares(count):
+    """Squares of a grid, in no order, and as many points."""
+    chance = random.Random(count)
+    reach = 10 * (math.isqrt(count - 1) + 1)
+    return points([(chance.randrange(reach), chance.randrange(reach)) for _ in range(count)]), squares_shuffled(count)
+
+
 def points_equal(count):
     """One point, listed so often."""
     return twice(points([(3, 5)] * count))

@@ -21,3 +21,4 @@ pub mod BareEdges
 pub mod Beside
 pub mod NearRingFacts
 pub mod Rests
+pub mod OtherOrders

@@ -1,11 +1,15 @@
 -- Lists of boxes over consecutive edges. Each box comes after the boxes of its subtree, and has their number.
-use Rattle.std.specs.Prelude.{◌≡◌, ◌⊎◌, ℕ, zero, suc, ◌-◌, ◌≤◌, List, ◌++◌, length, drop, Option, Some, None, slice_get}
+use Rattle.std.specs.Prelude.{◌≡◌, ◌⊎◌, ℕ, zero, suc, ◌-◌, ◌≤◌, List, [], ◌++◌, length, drop}
+use Rattle.std.specs.Prelude.{Option, Some, None, IfSome, IsPermutation, slice_get}
 use Rattle.geometry_model.specs.Geometries.{Edge}
 use Rattle.edge_boxes.specs.EdgeRuns.{SumsUp}
 use Rattle.edge_boxes.specs.Chains.{AreBreaks}
 use Rattle.edge_boxes.specs.declared.kept_runs.Run.{Run}
 use Rattle.edge_boxes.specs.declared.boxes.EdgeBox.{EdgeBox}
 use Rattle.edge_boxes.specs.declared.boxes.EdgeBoxes.{EdgeBoxes}
+use Rattle.edge_boxes.specs.declared.reordering.Reordered.{Reordered}
+use Rattle.edge_boxes.specs.declared.parts.Parts.{Parts}
+use Rattle.edge_boxes.specs.declared.parts.Parts.TheVariants as parts
 
 -- where a box's run ends
 abbrev pub end_of : Option EdgeBox → ℕ
@@ -35,7 +39,23 @@ pub record IsBoxAt (edges : List Edge) (boxes : List EdgeBox) (place : ℕ) (b :
 abbrev pub AreBoxes : List EdgeBox → List Edge → Type 0
 AreBoxes boxes edges = (place : ℕ) (b : EdgeBox) → slice_get boxes place ≡ Some b → IsBoxAt edges boxes place b
 
--- the boxes are those of the edges, and so are the breaks
+-- the copy has these edges, in some order, and its boxes are over them in this order
+pub record IsReordered (r : Reordered) (edges : List Edge) : Type 0 where
+  pub moved : IsPermutation edges r.edges.items
+  pub boxes : AreBoxes r.boxes.items r.edges.items
+
+-- the places of the edges that don't start where the edge before them ends
+abbrev pub breaks_in : Parts → List ℕ
+breaks_in parts.One = []
+breaks_in (parts.Several several) = several.value.breaks.items
+
+-- a copy in another order, if there is one, is of these edges
+abbrev pub AreReordered : Parts → List Edge → Type 0
+AreReordered parts.One edges = Unit {0}
+AreReordered (parts.Several several) edges = IfSome several.value.reordered (λ r. IsReordered r edges)
+
+-- the boxes are those of the edges, and so are the breaks and the copy in another order
 pub record BoxesOf (s : EdgeBoxes) (edges : List Edge) : Type 0 where
   pub boxes : AreBoxes s.boxes.items edges
-  pub breaks : AreBreaks s.breaks.items edges
+  pub breaks : AreBreaks (breaks_in s.parts) edges
+  pub reordered : AreReordered s.parts edges

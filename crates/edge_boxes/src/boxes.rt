@@ -9,8 +9,11 @@
 //! Each box comes after those that it covers. A walk goes from the last box to the first. If a point is outside a box, the two
 //! ends of its run of edges decide for the whole run; else the walk goes on inside. A box over at most 128 edges also keeps a
 //! strip along its run, which decides more without a look inside. Edges without a box are asked singly.
+//!
+//! Where neighbours in the list are far from one another, a copy of the edges in another order has boxes too. It is searched where
+//! the order of edges doesn't matter.
 
-ghost use Rattle.std.specs.Prelude.{◌≡◌, ◌≤◌, ◌<◌, false, length, List, [], IfOk, OnErr, OnOk, slice_range};
+ghost use Rattle.std.specs.Prelude.{◌≡◌, ◌≤◌, ◌<◌, false, length, List, [], IfOk, OnErr, OnOk, IsPermutation, slice_range};
 ghost use Rattle.std.specs.List.{list_any};
 ghost use Rattle.geometry_model.specs.Geometries.{Edge};
 ghost use Rattle.edge_boxes.specs.BoxCells.{IsCellOf};
@@ -27,11 +30,12 @@ use crate::bare_edges::of_bare_edges;
 use crate::bounds::Bounds;
 use crate::building::boxes_over;
 use crate::cells::Cell;
-use crate::chains::{breaks_of, chain_start_among};
+use crate::chains::chain_start_among;
 use crate::kept_runs::Run;
 use crate::lines::is_one_on_line_among;
 use crate::near_envelopes::last_near_among;
 use crate::overlaps::last_overlapping_among;
+use crate::parts::{Laid, Parts};
 use crate::point_crossings::{Crossings, none, of_edges, said};
 use crate::shared_points::{last_sharing_among, share_among};
 use crate::sharing_edges::{Asked, push_asked};
@@ -55,8 +59,8 @@ pub(crate) struct EdgeBox {
 #[derive(Drop)]
 pub struct EdgeBoxes {
     boxes: Vec<EdgeBox>,
-    /// The places of the edges that don't start where the edge before them ends.
-    breaks: Vec<usize>,
+    /// The chains that the edges are in.
+    parts: Parts,
 }
 
 impl EdgeBoxes {
@@ -66,8 +70,17 @@ impl EdgeBoxes {
         ensures { IfOk result (λ boxes. BoxesOf boxes edges.now) }
     {
         let boxes = boxes_over(alloc, edges)?;
-        let breaks = breaks_of(alloc, edges)?;
-        Ok(EdgeBoxes { boxes, breaks })
+        let parts = Parts::of(alloc, edges, boxes.as_slice())?;
+        Ok(EdgeBoxes { boxes, parts })
+    }
+
+    /// Lends the edges and their boxes in the order that is the quickest to search.
+    fn laid<'a>(&'a self, edges: &'a [Segment]) -> Laid<'a>
+        requires { BoxesOf self.now edges.now }
+        ensures boxes { AreBoxes result.boxes.now result.edges.now }
+        ensures moved { IsPermutation edges.now result.edges.now }
+    {
+        self.parts.laid(self.boxes.as_slice(), edges)
     }
 
     /// How a point lies to the edges. The boxes are those of the edges.
@@ -77,7 +90,10 @@ impl EdgeBoxes {
     {
         match point.position() {
             Some(at) if self.boxes.is_empty() => of_bare_edges(edges, at),
-            _ => crossings_among(self.boxes.as_slice(), edges, point),
+            _ => {
+                let laid = self.laid(edges);
+                crossings_among(laid.boxes, laid.edges, point)
+            }
         }
     }
 
@@ -86,7 +102,8 @@ impl EdgeBoxes {
         requires { BoxesOf self.now edges.now }
         ensures { result ≡ on_any edges.now point.now }
     {
-        is_held_among(self.boxes.as_slice(), edges, point)
+        let laid = self.laid(edges);
+        is_held_among(laid.boxes, laid.edges, point)
     }
 
     /// Whether one of the edges is on one line with another edge and shares more than a common end with it. If it returns false,
@@ -95,7 +112,8 @@ impl EdgeBoxes {
         requires { BoxesOf self.now edges.now }
         ensures { result ≡ list_any (overlap_on_one_line edge.now) edges.now }
     {
-        is_one_on_line_among(self.boxes.as_slice(), edges, edge)
+        let laid = self.laid(edges);
+        is_one_on_line_among(laid.boxes, laid.edges, edge)
     }
 
     /// Whether one of the edges shares a point with one of another list (06-103r4, 6.1.15: intersection of point sets). The
@@ -106,12 +124,9 @@ impl EdgeBoxes {
         requires others { BoxesOf other_boxes.now others.now }
         ensures { result ≡ edges_share edges.now others.now }
     {
-        share_among(
-            self.boxes.as_slice(),
-            edges,
-            other_boxes.boxes.as_slice(),
-            others,
-        )
+        let laid = self.laid(edges);
+        let other = other_boxes.laid(others);
+        share_among(laid.boxes, laid.edges, other.boxes, other.edges)
     }
 
     /// The place after the last edge, before a place, that is near an envelope: its bounds overlap it. It is 0 if there is none.
@@ -150,13 +165,8 @@ impl EdgeBoxes {
         ensures apart { edges_share (slice_range edges.now result end) others.now ≡ false }
         ensures shares { 0 < result → EndsSharing others.now edges.now result }
     {
-        last_sharing_among(
-            self.boxes.as_slice(),
-            edges,
-            other_boxes.boxes.as_slice(),
-            others,
-            end,
-        )
+        let other = other_boxes.laid(others);
+        last_sharing_among(self.boxes.as_slice(), edges, other.boxes, other.edges, end)
     }
 
     /// The place after the last edge, before a place, that is on one line with one of another list and shares more than a
@@ -177,13 +187,8 @@ impl EdgeBoxes {
         ensures none { edges_overlap (slice_range edges.now result end) others.now ≡ false }
         ensures last { 0 < result → EndsOverlapping others.now edges.now result }
     {
-        last_overlapping_among(
-            self.boxes.as_slice(),
-            edges,
-            other_boxes.boxes.as_slice(),
-            others,
-            end,
-        )
+        let other = other_boxes.laid(others);
+        last_overlapping_among(self.boxes.as_slice(), edges, other.boxes, other.edges, end)
     }
 
     /// The first place, from one on, from which on the edges up to that at another place are a chain: each starts where the one
@@ -195,7 +200,7 @@ impl EdgeBoxes {
         ensures chain { (edges : List Edge) → BoxesOf self.now edges → IsChain edges result place }
         ensures first { (edges : List Edge) → BoxesOf self.now edges → from < result → IsBreak edges result }
     {
-        chain_start_among(self.breaks.as_slice(), from, place)
+        chain_start_among(self.parts.breaks(), from, place)
     }
 
     /// Replaces what the vector holds by the places, from this one on, of the edges that share a point with an edge, ascending.

@@ -92,7 +92,7 @@ fn push_boxes(boxes: &mut Vec<EdgeBox>, edges: &[Segment]) -> Result<(), AllocEr
 }
 
 /// Whether an edge starts where the one before it ends.
-fn goes_on(edges: &[Segment], place: usize) -> bool {
+pub(crate) fn goes_on(edges: &[Segment], place: usize) -> bool {
     match (edges.get(place.saturating_sub(1)), edges.get(place)) {
         (Some(before), Some(edge)) => before.end() == edge.start(),
         _ => false,

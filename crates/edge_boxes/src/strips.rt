@@ -63,7 +63,7 @@ fn direction_between(one: GridPoint, other: GridPoint) -> Option<Direction>
 }
 
 /// How far two positions are apart: the sum of the distances in x and in y.
-fn distance(one: GridPoint, other: GridPoint) -> u32 {
+pub(crate) fn distance(one: GridPoint, other: GridPoint) -> u32 {
     let across = one.x().abs_diff(other.x());
     let up = one.y().abs_diff(other.y());
     across.saturating_add(up)

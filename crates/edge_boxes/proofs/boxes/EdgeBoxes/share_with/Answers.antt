@@ -1,7 +1,9 @@
+use Rattle.std.proofs.Common.{◌∙◌}
+use Rattle.geometry_model.specs.FirstFaults.{share_point}
+use Rattle.edge_boxes.proofs.OtherOrders.{both_kept}
 use Rattle.edge_boxes.proofs.boxes.EdgeBoxes.share_with.Goals as goal
 
-pub share_among-requires-clause-boxes : goal.share_among-requires-clause-boxes
-share_among-requires-clause-boxes c = rw c.as_slice.ensures.value c.requires.boxes.boxes
-
-pub share_among-requires-clause-others : goal.share_among-requires-clause-others
-share_among-requires-clause-others c = rw c.as_slice-2.ensures.value c.requires.others.boxes
+pub returns : goal.returns
+returns c = c.share_among.ensures
+    ∙ both_kept share_point c.args.edges.now c.laid-laid.result.edges.now c.args.others.now c.laid-other.result.edges.now
+    c.laid-laid.ensures.moved c.laid-other.ensures.moved
