@@ -1,6 +1,7 @@
 -- Conditions without a predicate.
-use Rattle.std.specs.Prelude.{◌≡◌, ◌≤◌, ◌&&◌, ℕ, Bool, true, false, if◌then◌else◌, is_some, List, [], ◌∷◌, map, sum, sum_by}
+use Rattle.std.specs.Prelude.{◌≡◌, ◌≤◌, ◌&&◌, ℕ, Bool, true, false, if◌then◌else◌, is_some, List, [], ◌∷◌, All, map, sum, sum_by}
 use Rattle.std.proofs.Common.{arith, ◌∙◌, sym, eqb-true}
+use Rattle.std.proofs.lemmas.List.Elements.{All-cons, All-nil}
 use Rattle.std.proofs.lemmas.List.Sums.{sum-map, sum_by-cons}
 use Rattle.spatial_sql.specs.FilterOrder.{Argument}
 use Rattle.spatial_sql.specs.IdleRows.{is_free}
@@ -80,3 +81,14 @@ free_none c b is e = λ rows.
     let most = computed_at_most rows c in
     let none : predicate_count c ≡ 0 = eqb-true (predicate_count c) 0 (sym is ∙ e) in
     omega (arith, most, none)
+
+-- conditions that have no predicate among them compute none
+pub none_computed : (conditions : List (Cond Argument)) → sum_by predicate_count conditions ≡ 0
+    → All (λ c. (rows : Rows Geometry) → computed denoted rows c ≡ 0) conditions
+none_computed [] e = All-nil (λ c. (rows : Rows Geometry) → computed denoted rows c ≡ 0)
+none_computed (c ∷ conditions) e =
+    let parts = sum_by-cons predicate_count c conditions in
+    let here : predicate_count c ≡ 0 = omega (arith, parts, e) in
+    let rest : sum_by predicate_count conditions ≡ 0 = omega (arith, parts, e) in
+    All-cons (λ d. (rows : Rows Geometry) → computed denoted rows d ≡ 0) c conditions
+    (λ rows. (let most = computed_at_most rows c in omega (arith, most, here))) (none_computed conditions rest)

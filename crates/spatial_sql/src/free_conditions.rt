@@ -1,6 +1,6 @@
 //! Conditions that compute no matrix.
 
-ghost use Rattle.std.specs.Prelude.{◌≡◌, ◌==◌, sum_by, true};
+ghost use Rattle.std.specs.Prelude.{◌≡◌, ◌==◌, All, sum_by, true};
 ghost use Rattle.geometry_model.specs.Geometries.{Geometry};
 ghost use Rattle.spatial_sql.specs.IdleRows as spec;
 ghost use Rattle.table_model.specs.Arguments.{denoted};
@@ -16,6 +16,14 @@ pub(crate) fn is_free(condition: &Cond) -> bool
     ensures none { result ≡ true → (rows : Rows Geometry) → computed denoted rows condition.now ≡ 0 }
 {
     lacks_predicates(condition)
+}
+
+/// Whether no condition has a spatial predicate, so that asking them computes no matrix at any rows.
+pub fn lack_predicates(conditions: &[Cond]) -> bool
+    ensures { result ≡ true → All (λ condition. (rows : Rows Geometry) → computed denoted rows condition ≡ 0)
+        conditions.now }
+{
+    all_lack_predicates(conditions)
 }
 
 /// The same.

@@ -31,6 +31,7 @@ pub use binding::bind;
 pub use condition_values::value;
 pub use de9im::Work;
 pub use denotations::field_at;
+pub use free_conditions::lack_predicates;
 pub use idle_rows::{asks_alone, gives_none};
 pub use passing_rows::passes;
 pub use query_binder::{Argument, Bound, ColumnShape, Cond, TableDef};
