@@ -467,6 +467,23 @@ def keys_between(count):
     return Tables(rows, rows, "number INTEGER, c INTEGER", query)
 
 
+def first_pairs(count, condition=""):
+    """The first pairs of two tables, of which the second has one row less: a plan walks over it first."""
+    query = f"SELECT a.id, b.id FROM first a, second b{condition} LIMIT 5"
+    return Tables(numbered(count), numbered(count - 1, 1), "number INTEGER, name TEXT", query)
+
+
+def first_ordered_pairs(count):
+    """The first pairs whose numbers ascend."""
+    return first_pairs(count, " WHERE a.number < b.number")
+
+
+def first_equal_pairs(count):
+    """The first pairs of equal numbers, of which there are four."""
+    rows = lambda most: [f"{place % 4},name{place}" for place in range(most)]
+    return first_pairs(count, " WHERE a.number = b.number")._replace(first=rows(count), second=rows(count - 1))
+
+
 def second_predicate(count):
     """Two predicates, the first of lines of which each pair has overlapping envelopes, the second of points of which few are equal."""
     rows = [f'"LINESTRING(0 0,{SPAN} {SPAN - place})",{point(place, 0)}' for place in range(count)]

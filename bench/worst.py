@@ -213,6 +213,9 @@ PLAIN = (
     Input("a key equal to one column or another", tables.one_key_or_other, 1_500, 100, 2.09),
     Input("a key between two columns", tables.keys_between, 1_500, 100, 2.07),
     Input("keys downwards", tables.keys_downwards, 50_000, 1_000, 1.14),
+    Input("the first pairs of all", tables.first_pairs, 5_000, 400, 1.16),
+    Input("the first pairs whose numbers ascend", tables.first_ordered_pairs, 5_000, 400, 1.16),
+    Input("the first pairs of equal numbers", tables.first_equal_pairs, 5_000, 400, 1.20),
 )
 
 # What no peer can be asked.

@@ -22,5 +22,6 @@ mod StepLemmas
 mod CountLemmas
 mod TurnLemmas
 mod ValueLemmas
+mod WalkedPlanLemmas
 pub mod WalkLemmas
 pub mod WalkStateLemmas

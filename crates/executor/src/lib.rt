@@ -19,6 +19,7 @@ mod stages;
 mod steps;
 mod value_order;
 mod walk_progress;
+mod walked_plans;
 mod walks;
 
 pub use execution::execute;

@@ -59,16 +59,23 @@ impl RowObserver for RowCount {
     }
 }
 
-const SCHEMA: &[u8] = b"CREATE TABLE t (id INTEGER PRIMARY KEY, n INTEGER)";
+const SCHEMA: &[u8] = b"CREATE TABLE t (id INTEGER PRIMARY KEY, n INTEGER);
+CREATE TABLE many (id INTEGER PRIMARY KEY);
+CREATE TABLE few (id INTEGER PRIMARY KEY)";
 
 const TABLE: &[u8] = b"id,n\n1,7\n2,8\n3,7\n4,9\n";
 
+const MANY: &[u8] = b"id\n1\n2\n3\n4\n5\n6\n7\n8\n9\n10\n11\n12\n13\n14\n15\n16\n17\n";
+
+const FEW: &[u8] = b"id\n1\n2\n3\n4\n5\n6\n7\n8\n9\n10\n11\n12\n13\n14\n15\n16\n";
+
 /// The bytes of the file at a path.
 fn file_at(path: &str) -> Option<&'static [u8]> {
-    if path == "s" {
-        Some(SCHEMA)
-    } else {
-        Some(TABLE)
+    match path {
+        "s" => Some(SCHEMA),
+        "d/many.csv" => Some(MANY),
+        "d/few.csv" => Some(FEW),
+        _ => Some(TABLE),
     }
 }
 
@@ -140,5 +147,16 @@ fn each_candidate_and_each_row_is_reported(rt: HostRuntime) -> Result<(), Fail> 
     assert!(rt; equal.candidates == 16 && equal.rows == 6);
     let plan = observed(rt.alloc(), "EXPLAIN SELECT id FROM t")?;
     assert!(rt; plan.candidates == 0 && plan.rows == 0);
+    Ok(())
+}
+
+#[test]
+fn the_first_pairs_are_found_without_the_others(rt: HostRuntime) -> Result<(), Fail> {
+    let first = observed(rt.alloc(), "SELECT a.id, b.id FROM many a, few b LIMIT 3")?;
+    assert!(rt; first.candidates == 3 && first.rows == 3);
+    assert!(rt; first.first_left == 16 && first.last_left == 16);
+    let all = observed(rt.alloc(), "SELECT a.id, b.id FROM many a, few b")?;
+    assert!(rt; all.candidates == 272 && all.rows == 272);
+    assert!(rt; all.first_left == 15 && all.last_left == 0);
     Ok(())
 }
