@@ -1,11 +1,14 @@
-"""The pages of `sfq fault` are those of docs/FAULTS.md, and their examples give the lines that they explain."""
+"""The pages of `sfq fault` and the words of faults elsewhere are those of docs/FAULTS.md, and the examples give the lines that they explain."""
+import os
 import re
 import subprocess
 import tempfile
 import unittest
+from unittest import mock
 
 from support import ROOT, needs_build, read
 import fault_pages
+from sfq import _errors, _faults
 import printed
 import repository
 
@@ -29,6 +32,38 @@ def examples_of(page):
 class Pages(unittest.TestCase):
     def test_the_files_are_made_of_the_document(self):
         self.assertEqual(fault_pages.stale(), [], "run python3 tools/fault_pages.py")
+
+    def test_a_file_that_is_stale_is_found(self):
+        document = read(fault_pages.DOCUMENT)
+        for old, new, code, files in (
+            ("this ring touches or crosses itself", "this ring meets itself", "V3", ["validity_pages.rt", "code_lists.rt", "fault_words.h"]),
+            ("name a table of the schema", "write the name of a table", "Q3", ["query_pages.rt", "fault_words.h"]),
+        ):
+            self.assertIn(old, document, code)
+            with tempfile.NamedTemporaryFile("w", suffix=".md", encoding="utf-8") as file:
+                file.write(document.replace(old, new))
+                file.flush()
+                with mock.patch.object(fault_pages, "DOCUMENT", file.name):
+                    self.assertEqual(sorted(os.path.basename(it) for it in fault_pages.stale()), sorted(files), code)
+
+    def test_what_why_says_to_do_is_in_the_document(self):
+        self.assertEqual(fault_pages.unlike(), [])
+        said = fault_pages.general_sentences()
+        codes = {code for code, _ in said}
+        self.assertLessEqual({*(f"V{it}" for it in range(1, 9)), "W2", "W3", "W4", "S2", "S3", "S4", "S5", "S6", "L2", "L4", "L9", "L10", "Q4", "Q6", "Q7"}, codes)
+        with tempfile.NamedTemporaryFile("w", suffix=".md", encoding="utf-8") as file:
+            file.write(read(fault_pages.DOCUMENT).replace("split the ring where it meets itself", "split it"))
+            file.flush()
+            with mock.patch.object(fault_pages, "DOCUMENT", file.name):
+                self.assertEqual([it[:3] for it in fault_pages.unlike()], ["V3:"])
+
+    def test_words_of_the_bindings(self):
+        """The words of a code hold of each of its faults, and end without a stop."""
+        words = {**_faults.MEANINGS, **_errors.MEANINGS}
+        self.assertEqual(list(words), list(fault_pages.pages()))
+        for code, it in words.items():
+            self.assertRegex(it, r"\A[a-z0-9][^;`|]*[^.;:,]\Z", code)
+            self.assertNotIn("here reading failed", it)
 
     def test_each_code_of_the_document_has_a_page_and_no_other(self):
         codes = set(re.findall(r"`sfq: [^`]*?\b([SLQWV]\d+)\b", read(f"{ROOT}/docs/FAULTS.md")))

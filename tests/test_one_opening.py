@@ -31,7 +31,7 @@ UNOPENED = (
 # A ring that crosses itself, and what explains it; and what explains a coordinate that isn't whole.
 RING = "POLYGON((0 0,4 4,4 0,0 4,0 0))"
 RING_REASON = "sfq: V3 0: 0 0 to 4 4 and 4 0 to 0 4 share 2 2\nsfq: split the ring where it meets itself\n"
-HALF = "1.5 isn't whole: scale or round the coordinates; sfq-import does\n"
+HALF = "1.5 isn't whole: scale the coordinates to a grid of whole numbers, of centimetres say; sfq-import does\n"
 
 
 class Openings(unittest.TestCase):

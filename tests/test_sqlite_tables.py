@@ -379,7 +379,7 @@ class Faults(WithFolders):
         for at, (text, wanted) in enumerate((
             ('id,geom\n7,"POLYGON((0 0,4 4,4 0,0 4,0 0))"\n',
              "t L6 record 1 V3 0: a geometry is refused: this ring touches or crosses itself"),
-            ("id,geom\n7,\n7,\n", "t L9 record 2: an earlier record has this key: keys are unique"),
+            ("id,geom\n7,\n7,\n", "t L9 record 2: an earlier record has this key: number one of the two anew"),
             ("id\n7\n", "t L1: the table lacks a column of the schema: add the column, or take it out of the schema"),
         )):
             folder = self.folder(f"words{at}", {"schema.sql": schema, "t.csv": text})

@@ -1,24 +1,37 @@
 #!/usr/bin/env python3
-"""Writes the pages of `sfq fault` and its list of codes from the tables of docs/FAULTS.md.
+"""Makes what else has the words of docs/FAULTS.md: the pages of `sfq fault`, and the words of faults of C, Python and JavaScript.
 
-    python3 tools/fault_pages.py           writes them into crates/text_commands/src
+    python3 tools/fault_pages.py           writes them into crates/text_commands/src, and into bindings/python/sfq/fault_words.h
     python3 tools/fault_pages.py --check   says whether they are those of the document
 
 A page has the document's sentences without Markdown, and each first example as a command that runs. The list has a line for
-each code: how the first row of the code begins to say what it means. The examples of the tables are run by the tests of the
-documents, and the commands of the pages by tests/test_fault_pages.py.
+each code: how the first row of the code begins to say what it means. So has fault_words.h, with how that row begins to say what to
+do: therefore the first row of a code begins with words that hold of each of its faults. The examples of the tables are run by the
+tests of the documents, and the commands of the pages by tests/test_fault_pages.py.
+
+What `--why` says is in rows of crates/explanations/src/sentences.rt. Where it says one thing of a code, what it says to do is how a
+row of the document begins to say it, and `--check` says which isn't.
 """
 import os
 import re
 import sys
 import textwrap
-from typing import Optional
+from typing import Iterable, Optional
 
 import printed
 import repository
 
 DOCUMENT = f"{repository.ROOT}/docs/FAULTS.md"
 SOURCE = f"{repository.ROOT}/crates/text_commands/src"
+WORDS = f"{repository.ROOT}/bindings/python/sfq/fault_words.h"
+SENTENCES = f"{repository.ROOT}/crates/explanations/src/sentences.rt"
+# Where faults are declared, each with its code, and the functions of SENTENCES that have a sentence for each; and the constants
+# that have one.
+DECLARED = ("table_model/src/faults.rt", "geometry_model/src/text_faults.rt", "geometry_model/src/validity_faults.rt")
+FORMS = ("schema_form", "load_form", "query_form", "text_form", "validity_form")
+CONSTANTS = {"SHORT_LINE": "V1"}
+# What isn't general: a number with an exponent is still a fault of a number that isn't whole.
+SPECIAL = ("{} has an exponent: write all its digits",)
 WIDTH = 78
 # The files of an example are in a folder of its own, for a reader may have files of these names.
 ROOM, CHECK = "D=$(mktemp -d)", 'sfq check "$D/schema.sql" "$D"'
@@ -172,8 +185,73 @@ def pages(document: Optional[str] = None) -> dict[str, str]:
     for it in {note for notes in NOTES.values() for note in notes}:
         if it not in words:
             raise SystemExit(f"docs/FAULTS.md lacks the sentence: {it}")
-    codes = sorted({it.code for it in rows}, key=lambda it: ("WVSLQ".index(it[0]), int(it[1:])))
-    return {code: page_text(code, [it for it in rows if it.code == code]) for code in codes}
+    return {code: page_text(code, [it for it in rows if it.code == code]) for code in in_order(it.code for it in rows)}
+
+
+def in_order(codes: Iterable[str]) -> list[str]:
+    """Returns the codes, each once, in their order: W, V, S, L, Q."""
+    return sorted(set(codes), key=lambda it: ("WVSLQ".index(it[0]), int(it[1:])))
+
+
+# Of these the words say nothing to do: another fault, the place or the drawing says it.
+WITHOUT_REMEDY = ("W1", "Q2", "L6", "Q8", "V")
+
+
+def words_of(row: Row) -> str:
+    """Returns what a code means and what to do, in one sentence, given its first row."""
+    alone = row.code.startswith(WITHOUT_REMEDY)
+    return first_clause(row.means) if alone else f"{first_clause(row.means)}: {first_clause(row.remedy)}"
+
+
+def source_of_words(rows: list[Row]) -> str:
+    """Returns the file of the words of each code, in the order W, V, S, L, Q."""
+    first = {it.code: it for it in reversed(rows)}
+    macros = {"W": "FAULT", "V": "FAULT"}
+    lines = [
+        f"{macros.get(code[0], 'TABLE_FAULT')}('{code[0]}', {code[1:]}, \"{literal(words_of(first[code]))}\")\n" for code in in_order(first)
+    ]
+    return (
+        "/*\n * What each fault means and what to do, of a geometry by FAULT, of a schema, a table or a query by TABLE_FAULT. C takes the lines by\n"
+        " * these macros (faults.h, and files.h of bindings/sqlite), and Python reads them (_faults.py). tools/fault_pages.py writes them from\n"
+        " * the tables of docs/FAULTS.md.\n */\n" + "".join(lines)
+    )
+
+
+def hint(sentence: str) -> str:
+    """Returns what a sentence says to do: what is behind its first colon or question mark up to the next stop, else all of it."""
+    return first_clause(re.split(r"[:?] ", sentence, maxsplit=1)[-1])
+
+
+def general_sentences() -> list[tuple[str, str]]:
+    """Returns the sentences of --why of which a code has one, each with its code."""
+    text = repository.read(SENTENCES)
+    codes: dict[str, str] = {}
+    for path in DECLARED:
+        declared = repository.read(f"{repository.ROOT}/crates/{path}")
+        for name, body in re.findall(r"^pub enum (\w+) \{\n(.*?)^\}", declared, re.M | re.S):
+            codes |= {f"{name}::{variant}": code for code, variant in re.findall(r"/// ([A-Z]\d+): [^\n]*\n(?:    ///[^\n]*\n)*(?:    #[^\n]*\n)*    (\w+)", body)}
+    constants = dict(re.findall(r'const (\w+): &str =\s+"(.*)";', text))
+    found = [(code, constants[name]) for name, code in CONSTANTS.items()]
+    for name in FORMS:
+        body = text[text.index(f"fn {name}(") :]
+        body = body[: body.index("\n}\n")]
+        for variants, sentence in re.findall(r'^        ([\w:(, )|\n]+?)(?: if \w+)? =>\s+"(.+)",$', body, re.M):
+            found += [(codes[it], sentence) for it in re.findall(r"\w+::\w+", variants) if sentence not in SPECIAL]
+    return found
+
+
+def unlike() -> list[str]:
+    """Returns what is wrong with the sentences of --why: what each says to do that no row of its code begins with. One that names something
+    and says nothing to do is a beginning, which the code goes on with."""
+    with open(DOCUMENT, encoding="utf-8") as file:
+        rows = rows_of(file.read())
+    found = []
+    for code, sentence in general_sentences():
+        pattern = re.escape(hint(sentence)).replace(r"\{\}", r"\w+")
+        is_whole = hint(sentence) != sentence or "{" not in sentence
+        if is_whole and not any(it.code == code and re.fullmatch(pattern, first_clause(it.remedy)) for it in rows):
+            found.append(f"{code}: docs/FAULTS.md has no row whose remedy begins as sentences.rt says it: {hint(sentence)}")
+    return found
 
 
 def literal(text: str) -> str:
@@ -207,16 +285,18 @@ def source_of_list(text: str) -> str:
 
 
 def sources() -> dict[str, str]:
-    """Returns the text of each file of pages, and of the file of the list."""
+    """Returns the text of each file of pages, of the file of the list, and of the file of words."""
     texts = pages()
-    found = {f"{SOURCE}/code_lists.rt": source_of_list(code_list(texts))}
+    with open(DOCUMENT, encoding="utf-8") as file:
+        rows = rows_of(file.read())
+    found = {f"{SOURCE}/code_lists.rt": source_of_list(code_list(texts)), WORDS: source_of_words(rows)}
     for letter, name in FILES.items():
         found[f"{SOURCE}/{name}.rt"] = source_of(letter, {code: text for code, text in texts.items() if code[0] == letter})
     return found
 
 
 def stale() -> list[str]:
-    """Returns the files of pages that aren't those of the document."""
+    """Returns the files of pages and words that aren't those of the document."""
     found = []
     for path, text in sources().items():
         if not os.path.isfile(path):
@@ -233,7 +313,9 @@ def main() -> int:
         old = stale()
         for it in old:
             print(f"{os.path.relpath(it, repository.ROOT)} isn't as docs/FAULTS.md says: run python3 tools/fault_pages.py")
-        return 1 if old else 0
+        wrong = unlike()
+        print("".join(f"{it}\n" for it in wrong), end="")
+        return 1 if old or wrong else 0
     os.makedirs(SOURCE, exist_ok=True)
     for path, text in sources().items():
         repository.write_whole(path, text)

@@ -118,7 +118,7 @@ LISTS = [
     ),
     Place("bindings/python/sfq/fault_words.h", r"^FAULT", r"(?m)^FAULT\('(\w)', (\d),", [(it[0], it[1:]) for it in GEOMETRY_FAULTS]),
     Place(
-        "bindings/python/sfq/fault_words.h", r"^TABLE_FAULT", r"TABLE_FAULT\('(\w)', (\d+),", [(it[0], it[1:]) for it in FAULTS if it[0] in "SL"]
+        "bindings/python/sfq/fault_words.h", r"^TABLE_FAULT", r"TABLE_FAULT\('(\w)', (\d+),", [(it[0], it[1:]) for it in FAULTS if it[0] in "SLQ"]
     ),
     Place(LIBRARY, r"^TYPES = ", r'"(\w+)"', NUMBERED, r"\)\n"),
     Place(LIBRARY, r"^RELATIONS = ", r'"(\w+)"', [lower(it) for it in RELATIONS], r"\)\n"),
@@ -156,7 +156,6 @@ LISTS = [
     Place("bindings/python/sfq/_errors.py", r"^WITHOUT_PLACE", r'"(\w+)"', WITHOUT_PLACE, r"\)\n", True),
     Place("bindings/web/shapes.js", r"^  const NESTING", r"(\w+):", SHAPE_WORDS, r"\};"),
     Place(PAGE, r"^const SPOKEN", r"(\w+): \"", [it.removeprefix("ST_") for it in PREDICATES], r"\};"),
-    Place(PAGE, r"^const FAULTS", r"(\w\d): \"", list(GEOMETRY_FAULTS), r"\};"),
     Place("packaging/completions/sfq.bash", r"relate:2", r"([A-Z]+\()", OPENED, r";;"),
     Place("packaging/completions/sfq.bash", r"fault:2", r"([A-Z])\{1\.\.(\d+)\}", CODES, r";;"),
     Place("packaging/completions/sfq.fish", r"^function __sfq_geometries", r"'([A-Z]+\()'", OPENED, r"\nend"),

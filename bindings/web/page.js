@@ -6,20 +6,6 @@ const SPOKEN = {
   Equals: "a equals b", Disjoint: "a is disjoint from b", Intersects: "a intersects b", Touches: "a touches b",
   Crosses: "a crosses b", Within: "a is within b", Contains: "a contains b", Overlaps: "a overlaps b",
 };
-const FAULTS = {
-  W1: "This isn't well-known text from here on.",
-  W2: "This number isn't whole: scale your coordinates to a grid.",
-  W3: "This coordinate is past the limit of 10,000,000 either way.",
-  W4: "The text has more than 10,000 positions, or more than 1,000 rings or elements.",
-  V1: "A line needs two different positions, and a ring four with the closing one.",
-  V2: "The ring isn't closed: its last position isn't its first.",
-  V3: "The ring meets itself.",
-  V4: "Two rings of a polygon meet.",
-  V5: "A hole isn't inside the outer ring.",
-  V6: "A hole is inside another hole.",
-  V7: "Two polygons meet.",
-  V8: "A polygon is inside another one.",
-};
 const HINT = "Drag a corner, or the small circle between two corners for a new one. Tab and the arrow keys move a corner too, and "
   + "Delete removes it. The wheel, + and \u2212 zoom; drag the paper to move it.";
 const DRAWING = {
@@ -155,12 +141,18 @@ function ask(call) {
   }
 }
 
+// Says what a fault means and what to do, as a sentence.
+function meaning(code) {
+  const words = sfq.SENTENCES[code];
+  return `${words[0].toUpperCase()}${words.slice(1)}.`;
+}
+
 function showFault(which, fault) {
   const line = find(`fault-${which}`), text = state.texts[which];
   line.replaceChildren();
   find(`text-${which}`).setAttribute("aria-invalid", String(Boolean(fault)));
   if (!fault) return;
-  line.append(make("strong", [fault.code, ...fault.numbers].join(" ")), ` ${FAULTS[fault.code]}`);
+  line.append(make("strong", [fault.code, ...fault.numbers].join(" ")), ` ${meaning(fault.code)}`);
   if (fault.code[0] === "W" && fault.numbers.length) {
     const [before, after] = splitAt(text, fault.numbers[0]);
     const place = make("button", after ? [...after].slice(0, 16).join("") : "the end of the text", "byte");

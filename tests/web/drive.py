@@ -181,7 +181,7 @@ def changes_are_undone(page):
 def faults_are_shown(page):
     page.open()
     page.set_text(1, "POLYGON((0 0,4 0,4 4,0 4,0 0),(5 5,6 5,6 6,5 5))")
-    same(page.find("#fault-1").text, "V5 1 A hole isn't inside the outer ring. Its corner (5, 5) is outside.")
+    same(page.find("#fault-1").text, "V5 1 This hole isn't inside its outer ring. Its corner (5, 5) is outside.")
     same(page.run("return document.querySelectorAll('#sheet circle.place').length"), 1)
     same((page.matrix(), page.lights()), ("\u2013", []))
     same(page.find("#sentence").text, "There is no matrix: fault V5 in b.")
@@ -197,14 +197,14 @@ def faults_are_shown(page):
 
 def the_place_of_a_fault_is_drawn(page):
     page.open("#a=POINT(0+0)&b=POLYGON((0+0,4+4,4+0,0+4,0+0))")
-    same(page.find("#fault-1").text, "V3 0 The ring meets itself. The edges (0, 0) to (4, 4) and (4, 0) to (0, 4) share the point (2, 2).")
+    same(page.find("#fault-1").text, "V3 0 This ring touches or crosses itself. The edges (0, 0) to (4, 4) and (4, 0) to (0, 4) share the point (2, 2).")
     drawn = "return [...document.querySelectorAll('#sheet .place')].map((it) => it.getAttribute('class'))"
     same(page.run(drawn), ["place edge", "place edge", "place"])
     page.set_text(1, "POLYGON((0 0,1 1,2 2,0 0))")
-    same(page.find("#fault-1").text, "V3 0 The ring meets itself. The edges (0, 0) to (1, 1) and (2, 2) to (0, 0) share the stretch (0, 0) to (1, 1).")
+    same(page.find("#fault-1").text, "V3 0 This ring touches or crosses itself. The edges (0, 0) to (1, 1) and (2, 2) to (0, 0) share the stretch (0, 0) to (1, 1).")
     same(page.run(drawn), ["place edge", "place edge", "place shared"])
     page.set_text(1, "POLYGON((0 0,4 0,4 4,0 4))")
-    same(page.find("#fault-1").text, "V2 0 The ring isn't closed: its last position isn't its first. It begins at (0, 0) and ends at (0, 4).")
+    same(page.find("#fault-1").text, "V2 0 The last position of this ring isn't its first. It begins at (0, 0) and ends at (0, 4).")
     same(page.run(drawn), ["place", "place"])
     page.set_text(1, "POINT(1 1)")
     same(page.run(drawn), [])

@@ -10,21 +10,7 @@ from typing import Any, Optional
 from ._faults import Fault, meanings
 
 # What each fault means and what to do. docs/FAULTS.md has them with examples.
-MEANINGS = {
-    **meanings("TABLE_FAULT"),
-    "Q1": "the byte begins no token, or a string isn't closed: write names without quotes and texts in single quotes",
-    "Q2": "the query can't go on like this at this byte; if the byte is the query's length, the query ends too soon",
-    "Q3": "the schema has no table of this name",
-    "Q4": "both tables have the same name here: give one an alias",
-    "Q5": "no table of the query has a column of this name, or the query has no table of the name before the point",
-    "Q6": "both tables have a column of this name: write the table and a point before it",
-    "Q7": "values of these types can't be compared, or a function takes no column of this type",
-    "Q8": "a geometry is refused",
-    "Q9": "the pattern isn't nine characters of T, F, *, 0, 1 and 2",
-    "Q10": "the 65th level of parentheses and NOTs begins here: nest the condition less deeply",
-    "Q11": "the query is longer than 65,536 bytes: shorten it",
-    "Q12": "a number has more than 64 bits with its sign: no field is outside these, so leave the test out",
-}
+MEANINGS = meanings("TABLE_FAULT")
 # The faults that have no place.
 WITHOUT_PLACE = ("S6", "L1", "L2", "L10", "L11", "Q11")
 

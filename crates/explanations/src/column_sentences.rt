@@ -8,15 +8,14 @@ use crate::named_tables::{
     Column, Named, arguments, column_at, column_named, found_column, function_at, named_tables,
 };
 use crate::nearest_names::nearest;
-use crate::parts::{Said, is, place_in, say, say_both, shown};
-use crate::query_explanations::{Names, place_of, proposed, push_names, query_sentence};
+use crate::parts::{Said, is, is_digits, place_in, push_names, say, say_both};
+use crate::query_explanations::{Names, place_of, proposed, query_sentence};
 use crate::query_sentences::token_at;
-use crate::query_words::Role;
 use crate::said_lines::explained;
 use crate::sentences::query_form;
 use crate::token_lists::{back, compares, kind_of, written};
 use sql_text::lex::lex;
-use sql_text::{ColumnDef, ColumnType, Schema, TableDef};
+use sql_text::{ColumnType, Schema, TableDef};
 use std::alloc::{AllocError, Global};
 use table_model::faults::QueryFault;
 use table_model::tokens::{Token, TokenKind};
@@ -40,10 +39,16 @@ fn sentence_over(alloc: Global, text: &[u8], fault: QueryFault, schema: &Schema)
     let tokens = list.as_slice();
     let named = named_tables(alloc, tokens, schema)?;
     let tables = table_names(alloc, schema)?;
-    let columns = match fault {
-        QueryFault::UnknownColumn(_) => named_columns(alloc, named.as_slice())?,
-        _ => all_columns(alloc, schema)?,
-    };
+    let mut columns: Vec<&[u8]> = Vec::new(alloc);
+    if let QueryFault::UnknownColumn(_) = fault {
+        for table in named.as_slice() {
+            push_columns(&mut columns, table.definition)?;
+        }
+    } else {
+        for table in schema.tables() {
+            push_columns(&mut columns, table)?;
+        }
+    }
     let names = Names {
         tables: tables.as_slice(),
         columns: columns.as_slice(),
@@ -69,24 +74,6 @@ fn table_names(alloc: Global, schema: &Schema) -> Result<Vec<&[u8]>, AllocError>
     let mut names: Vec<&[u8]> = Vec::new(alloc);
     for table in schema.tables() {
         names.push(table.name.bytes())?;
-    }
-    Ok(names)
-}
-
-/// The names of the columns of a schema.
-fn all_columns(alloc: Global, schema: &Schema) -> Result<Vec<&[u8]>, AllocError> {
-    let mut names: Vec<&[u8]> = Vec::new(alloc);
-    for table in schema.tables() {
-        push_columns(&mut names, table)?;
-    }
-    Ok(names)
-}
-
-/// The names of the columns of the tables of FROM.
-fn named_columns<'s>(alloc: Global, tables: &[Named<'_, 's>]) -> Result<Vec<&'s [u8]>, AllocError> {
-    let mut names: Vec<&[u8]> = Vec::new(alloc);
-    for table in tables {
-        push_columns(&mut names, table.definition)?;
     }
     Ok(names)
 }
@@ -137,37 +124,25 @@ fn argument_sentence(
     let Some(function) = function_at(tokens, place) else {
         return Ok(None);
     };
+    let form = if function.relates() {
+        "{=}, and {} takes geometries"
+    } else {
+        "{=}, and {} takes a geometry"
+    };
     let (first, second) = arguments(tokens, place);
     for argument in [first, second] {
         if let Some(column) = column_at(tokens, argument)
-            && let Some((_, found)) = found_column(tables, column)
-            && let Some(form) = plain_form(found)
+            && let Some(kind) = kind_of_column(tables, column)
+            && kind != Kind::Geometry
         {
             let name = full_name(alloc, column)?;
-            let mut sentence = say_both(alloc, form, name.as_slice(), written(tokens, place))?;
-            sentence.extend_from_slice(taken(function).as_bytes())?;
+            let kind = kind_word(kind).as_bytes();
+            let front = say_both(alloc, "{=} is a {=}", name.as_slice(), kind)?;
+            let sentence = say_both(alloc, form, front.as_slice(), written(tokens, place))?;
             return Ok(Some(sentence));
         }
     }
     Ok(None)
-}
-
-/// What a function takes.
-fn taken(function: Role) -> &'static str {
-    if function.relates() {
-        " takes geometries"
-    } else {
-        " takes a geometry"
-    }
-}
-
-/// What is said of the type of a column that isn't of geometries, and of a function.
-fn plain_form(column: &ColumnDef) -> Option<&'static str> {
-    match &column.column_type {
-        ColumnType::Integer => Some("{=} is a number, and {}"),
-        ColumnType::Text => Some("{=} is a text, and {}"),
-        ColumnType::Geometry(_) => None,
-    }
 }
 
 /// A value of a comparison: how the query writes it, and what it is.
@@ -219,44 +194,29 @@ fn comparison_sentence(
     Ok(Some(unequal_sentence(alloc, &left, &right)?))
 }
 
-/// The sentence of a number and a text.
+/// The sentence of a number and a text, and how a number is to be written that the query has as the other of the two.
 fn unequal_sentence(alloc: Global, left: &Compared, right: &Compared) -> Said {
-    let (one, two) = (
-        kind_word(left.kind).as_bytes(),
-        kind_word(right.kind).as_bytes(),
-    );
-    let mut sentence = say_both(alloc, "{=} is a {=}, and ", left.written.as_slice(), one)?;
-    let other = say_both(alloc, "{=} a {=}", right.written.as_slice(), two)?;
-    sentence.extend_from_slice(other.as_slice())?;
-    if push_value(&mut sentence, left)? || push_value(&mut sentence, right)? {
-        return Ok(sentence);
+    let one = kind_word(left.kind).as_bytes();
+    let two = kind_word(right.kind).as_bytes();
+    let front = say_both(alloc, "{=} is a {=}", left.written.as_slice(), one)?;
+    let back = say_both(alloc, "{=} a {=}", right.written.as_slice(), two)?;
+    let both = say_both(alloc, "{=}, and {=}", front.as_slice(), back.as_slice())?;
+    for side in [left, right] {
+        let value = side.literal.as_slice();
+        if is_digits(value) && side.kind == Kind::Number {
+            return say_both(alloc, "{=}: write '{=}'", both.as_slice(), value);
+        } else if is_digits(value) {
+            return say_both(alloc, "{=}: write {=}", both.as_slice(), value);
+        }
     }
-    sentence.extend_from_slice(b": numbers are compared with numbers, and texts with texts")?;
-    Ok(sentence)
-}
-
-/// Adds how a number is to be written that the query has as the other of a number and a text, and returns whether it does.
-fn push_value(sentence: &mut Vec<u8>, side: &Compared) -> Result<bool, AllocError> {
-    let value = side.literal.as_slice();
-    if value.is_empty() || !value.iter().all(|byte| byte.is_ascii_digit()) {
-        return Ok(false);
-    }
-    let quote: &[u8] = if side.kind == Kind::Number { b"'" } else { b"" };
-    sentence.extend_from_slice(b": write ")?;
-    sentence.extend_from_slice(quote)?;
-    sentence.extend_from_slice(value)?;
-    sentence.extend_from_slice(quote)?;
-    Ok(true)
+    let form = "{=}: numbers are compared with numbers, and texts with texts";
+    say(alloc, form, &[both.as_slice()])
 }
 
 /// The place of the next sign that compares, from a place on; past the list, if there is none.
 fn sign_after(tokens: &[Token<'_>], place: usize) -> usize {
-    for at in place..tokens.len() {
-        if compares(tokens[at].kind) {
-            return at;
-        }
-    }
-    tokens.len()
+    let found = (place..tokens.len()).find(|at| compares(kind_of(tokens, *at)));
+    found.unwrap_or(tokens.len())
 }
 
 /// The value that begins at a place: a number, a text, a column, or a function's.
@@ -273,7 +233,7 @@ fn compared_at(
         _ => {
             let (name, kind) = match column_at(tokens, place) {
                 Some(column) => (full_name(alloc, column)?, kind_of_column(tables, column)),
-                None => (shown(alloc, text)?, kind_of_function(text)),
+                None => (say(alloc, "{}", &[text])?, kind_of_function(text)),
             };
             match kind {
                 Some(kind) => Ok(Some(Compared {
@@ -325,7 +285,7 @@ fn kind_of_function(name: &[u8]) -> Option<Kind> {
 /// A column as the query writes it.
 fn full_name(alloc: Global, column: Column<'_>) -> Said {
     if column.table.is_empty() {
-        return shown(alloc, column.name);
+        return say(alloc, "{}", &[column.name]);
     }
     say(alloc, "{}.{}", &[column.table, column.name])
 }
@@ -370,11 +330,9 @@ fn text_hint(
     names: &Names<'_>,
 ) -> Result<Option<Vec<u8>>, AllocError> {
     let word = written(tokens, place);
-    let is_text = match compared_column(tokens, place) {
-        Some(column) => kind_of_column(tables, column) == Some(Kind::Text),
-        None => false,
-    };
-    if !is_text || nearest(alloc, word, names.columns)?.is_some() {
+    let compared = compared_column(tokens, place);
+    let kind = compared.and_then(|column| kind_of_column(tables, column));
+    if kind != Some(Kind::Text) || nearest(alloc, word, names.columns)?.is_some() {
         return Ok(None);
     }
     let form = "there is no column {}: a text is in single quotes, as '{}'";
@@ -430,9 +388,7 @@ fn lacking_words(
         return say(alloc, "{} has no column {}: {} has it", &parts);
     }
     let mut names: Vec<&[u8]> = Vec::new(alloc);
-    for column in table.columns.as_slice() {
-        names.push(column.name.bytes())?;
-    }
+    push_columns(&mut names, table)?;
     let close = nearest(alloc, column.name, names.as_slice())?;
     let sentence = say(alloc, "{} has no column {}", &[column.table, column.name])?;
     proposed(sentence, close, names.as_slice())

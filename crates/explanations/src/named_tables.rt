@@ -85,30 +85,22 @@ fn named_at<'t, 's>(
 
 /// The byte of the text at which the token at a place begins.
 pub(crate) fn byte_of(tokens: &[Token<'_>], place: usize) -> usize {
-    if place < tokens.len() {
-        return tokens[place].at;
+    match tokens.get(place) {
+        Some(token) => token.at,
+        None => 0,
     }
-    0
 }
 
 /// The place and the definition of the table of this name, in any ASCII case.
 fn table_of<'s>(schema: &'s Schema, name: &[u8]) -> Option<(usize, &'s TableDef)> {
-    for (place, table) in schema.tables().iter().enumerate() {
-        if name.eq_ignore_ascii_case(table.name.bytes()) {
-            return Some((place, table));
-        }
-    }
-    None
+    let mut tables = schema.tables().iter().enumerate();
+    tables.find(|(_, table)| name.eq_ignore_ascii_case(table.name.bytes()))
 }
 
 /// The column of this name, in any ASCII case.
 pub(crate) fn column_named<'s>(table: &'s TableDef, name: &[u8]) -> Option<&'s ColumnDef> {
-    for column in table.columns.as_slice() {
-        if name.eq_ignore_ascii_case(column.name.bytes()) {
-            return Some(column);
-        }
-    }
-    None
+    let mut columns = table.columns.as_slice().iter();
+    columns.find(|column| name.eq_ignore_ascii_case(column.name.bytes()))
 }
 
 /// A column as a query writes it: the name of its table, or nothing, and its own.
@@ -187,11 +179,7 @@ pub(crate) fn type_at(
         }
         None => {
             let text = written(tokens, place.saturating_add(2));
-            let found = place_in(&TYPES, word(trimmed(text)))?;
-            if found < 6 {
-                return Some(TYPES[found]);
-            }
-            None
+            TYPES.get(place_in(&TYPES, word(trimmed(text)))?).copied()
         }
     }
 }

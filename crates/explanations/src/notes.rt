@@ -8,7 +8,7 @@ use crate::marks::marked;
 use crate::named_tables::{
     Named, arguments, byte_of, column_at, found_column, function_at, named_tables, type_at,
 };
-use crate::parts::{Said, first, is, said_of, say};
+use crate::parts::{Said, first, is, is_digits, said_of, say};
 use crate::sentences::ALIASES;
 use crate::token_lists::{back, compares, is_order, kind_of, operand_start, written};
 use itoa::Buffer;
@@ -133,11 +133,13 @@ fn note_at(
         return note_of(byte_of(tokens, text), sentence);
     }
     if compares(kind_of(tokens, place)) && is_null_beside(tokens, place) {
-        let sentence = say(alloc, null_words(kind_of(tokens, place)), &[])?;
-        return note_of(
-            byte_of(tokens, operand_start(tokens, back(place, 1))),
-            sentence,
-        );
+        let begin = operand_start(tokens, back(place, 1));
+        let form = if kind_of(tokens, place) == TokenKind::NotEqual {
+            "a comparison with NULL never holds: write IS NOT NULL"
+        } else {
+            "a comparison with NULL never holds: write IS NULL"
+        };
+        return note_of(byte_of(tokens, begin), say(alloc, form, &[])?);
     }
     Ok(None)
 }
@@ -289,20 +291,12 @@ fn never_holds(predicate: &[u8], left: &[u8], right: &[u8]) -> bool {
 
 /// The place of a string of digits beside the sign at a place.
 fn digits_beside(tokens: &[Token<'_>], place: usize) -> Option<usize> {
-    let next = place.saturating_add(1);
-    let before = back(place, 1);
-    if kind_of(tokens, next) == TokenKind::Text && is_number(written(tokens, next)) {
-        Some(next)
-    } else if kind_of(tokens, before) == TokenKind::Text && is_number(written(tokens, before)) {
-        Some(before)
-    } else {
-        None
+    for at in [place.saturating_add(1), back(place, 1)] {
+        if kind_of(tokens, at) == TokenKind::Text && is_digits(written(tokens, at)) {
+            return Some(at);
+        }
     }
-}
-
-/// Whether a text is digits, at least one.
-fn is_number(text: &[u8]) -> bool {
-    !text.is_empty() && text.iter().all(|byte| byte.is_ascii_digit())
+    None
 }
 
 /// The sentence of a text of digits that is compared by order, with a number that comes elsewhere than its value does.
@@ -327,13 +321,4 @@ fn order_words(text: &[u8]) -> &'static str {
 fn is_null_beside(tokens: &[Token<'_>], place: usize) -> bool {
     kind_of(tokens, place.saturating_add(1)) == TokenKind::Null
         || kind_of(tokens, back(place, 1)) == TokenKind::Null
-}
-
-/// What is said of a comparison with NULL.
-fn null_words(kind: TokenKind) -> &'static str {
-    if kind == TokenKind::NotEqual {
-        "a comparison with NULL never holds: write IS NOT NULL"
-    } else {
-        "a comparison with NULL never holds: write IS NULL"
-    }
 }

@@ -1,6 +1,7 @@
 //! Parts of texts, for sentences that say what is at a place. Past a text's end there is nothing.
 
 use crate::lines::{is_white, trimmed_end};
+use crate::marks::{is_plain, push_shown};
 use std::alloc::{AllocError, Global};
 
 /// A text that is made; at Err memory ran out.
@@ -9,46 +10,38 @@ pub(crate) type Said = Result<Vec<u8>, AllocError>;
 /// The most bytes of a part that a sentence shows.
 const SHOWN_BYTES: usize = 40;
 
+/// The most bytes of a sentence that lists names, up to its list's end.
+const LIST_BYTES: usize = 140;
+
 /// What comes from a place on.
 pub(crate) fn rest(text: &[u8], place: usize) -> &[u8] {
-    if place <= text.len() {
-        return &text[place..];
-    }
-    &[]
+    text.get(place..).unwrap_or(&[])
 }
 
 /// What comes before a place.
 pub(crate) fn front(text: &[u8], place: usize) -> &[u8] {
-    if place <= text.len() {
-        return &text[..place];
-    }
-    text
+    text.get(..place).unwrap_or(text)
 }
 
 /// The first byte, or 0.
 pub(crate) fn first(text: &[u8]) -> u8 {
-    if text.is_empty() {
-        return 0;
-    }
-    text[0]
+    text.first().copied().unwrap_or(0)
 }
 
 /// The last byte, or 0.
 pub(crate) fn last(text: &[u8]) -> u8 {
-    if text.is_empty() {
-        return 0;
-    }
-    text[text.len() - 1]
+    text.last().copied().unwrap_or(0)
+}
+
+/// A text up to a place, or all of it.
+fn up_to(text: &[u8], end: Option<usize>) -> &[u8] {
+    front(text, end.unwrap_or(text.len()))
 }
 
 /// A text without the white space at its beginning.
 pub(crate) fn trimmed(text: &[u8]) -> &[u8] {
-    for (at, byte) in text.iter().enumerate() {
-        if !is_white(*byte) {
-            return rest(text, at);
-        }
-    }
-    &[]
+    let begin = text.iter().position(|byte| !is_white(*byte));
+    rest(text, begin.unwrap_or(text.len()))
 }
 
 /// A text without the white space at its end.
@@ -56,61 +49,55 @@ pub(crate) fn trimmed_back(text: &[u8]) -> &[u8] {
     front(text, trimmed_end(text, 0, text.len()))
 }
 
+/// Whether a byte may be in a word: it is a letter, a digit or `_`.
+fn is_of_word(byte: u8) -> bool {
+    byte.is_ascii_alphanumeric() || byte == b'_'
+}
+
 /// The letters, digits and `_` at a text's beginning.
 pub(crate) fn word(text: &[u8]) -> &[u8] {
-    for (at, byte) in text.iter().enumerate() {
-        if !(byte.is_ascii_alphanumeric() || *byte == b'_') {
-            return front(text, at);
-        }
-    }
-    text
+    up_to(text, text.iter().position(|byte| !is_of_word(*byte)))
 }
 
 /// The last word of a text.
 pub(crate) fn last_word(text: &[u8]) -> &[u8] {
     let text = trimmed_back(text);
-    let mut found = text;
-    for at in 0..text.len() {
-        if !(text[at].is_ascii_alphanumeric() || text[at] == b'_') {
-            found = rest(text, at.saturating_add(1));
-        }
+    match text.iter().rposition(|byte| !is_of_word(*byte)) {
+        Some(at) => rest(text, at.saturating_add(1)),
+        None => text,
     }
-    found
+}
+
+/// Whether a byte begins a number: it is a digit, a sign or a point.
+pub(crate) fn begins_number(byte: u8) -> bool {
+    byte.is_ascii_digit() || byte == b'-' || byte == b'+' || byte == b'.'
 }
 
 /// The letters, digits, signs and points at a text's beginning.
 pub(crate) fn number(text: &[u8]) -> &[u8] {
-    for (at, byte) in text.iter().enumerate() {
-        if !(byte.is_ascii_alphanumeric() || *byte == b'.' || *byte == b'-' || *byte == b'+') {
-            return front(text, at);
-        }
-    }
-    text
+    let end = text.iter().position(|byte| !byte.is_ascii_alphabetic() && !begins_number(*byte));
+    up_to(text, end)
+}
+
+/// Whether a text is digits, at least one.
+pub(crate) fn is_digits(text: &[u8]) -> bool {
+    !text.is_empty() && text.iter().all(|byte| byte.is_ascii_digit())
 }
 
 /// What comes before the first of these bytes.
 pub(crate) fn before(text: &[u8], end: u8) -> &[u8] {
-    for (at, byte) in text.iter().enumerate() {
-        if *byte == end {
-            return front(text, at);
-        }
-    }
-    text
+    up_to(text, text.iter().position(|byte| *byte == end))
 }
 
 /// The character at a text's beginning: one of UTF-8, if it begins one.
 pub(crate) fn character(text: &[u8]) -> &[u8] {
-    let first = first(text);
-    let length = if first < 128 {
-        1
-    } else if first < 224 {
-        2
-    } else if first < 240 {
-        3
-    } else {
-        4
+    let length = match first(text) {
+        0..=127 => 1,
+        128..=223 => 2,
+        224..=239 => 3,
+        _ => 4,
     };
-    front(text, length.min(text.len()))
+    front(text, length)
 }
 
 /// Whether a text is a word, in any ASCII case.
@@ -120,27 +107,14 @@ pub(crate) fn is(text: &[u8], word: &str) -> bool {
 
 /// The place of a word in a list of words, in any ASCII case.
 pub(crate) fn place_in(words: &[&[u8]], text: &[u8]) -> Option<usize> {
-    for (place, word) in words.iter().enumerate() {
-        if text.eq_ignore_ascii_case(word) {
-            return Some(place);
-        }
-    }
-    None
+    words
+        .iter()
+        .position(|word| text.eq_ignore_ascii_case(word))
 }
 
 /// Whether a text is one of these words, which have a blank between them, in any ASCII case.
 pub(crate) fn is_one_of(text: &[u8], words: &str) -> bool {
-    let words = words.as_bytes();
-    let mut from = 0;
-    for (at, byte) in words.iter().enumerate() {
-        if *byte == b' ' {
-            if text.eq_ignore_ascii_case(rest(front(words, at), from)) {
-                return true;
-            }
-            from = at.saturating_add(1);
-        }
-    }
-    text.eq_ignore_ascii_case(rest(words, from))
+    words.split(' ').any(|word| is(text, word))
 }
 
 /// The sentence of the first row that has this word, in any ASCII case, or has none: a row is words, ` => ` and a sentence.
@@ -154,34 +128,33 @@ pub(crate) fn said_of(text: &[u8], rows: &[&'static str]) -> Option<&'static str
     None
 }
 
-/// A sentence with these parts in it: at each `{}` the next one as a sentence shows it, and at each `{=}` the next one as it is.
+/// The sentence of the first row with a word of at most five bytes that the text begins with, of several the longest.
+pub(crate) fn said_of_front(text: &[u8], rows: &[&'static str]) -> Option<&'static str> {
+    for length in [5, 4, 3, 2, 1] {
+        if let Some(sentence) = said_of(front(text, length), rows) {
+            return Some(sentence);
+        }
+    }
+    None
+}
+
+/// A sentence with these parts in it: at each `{}` the next one as a sentence shows it, and at each `{=}` the next one as it is; a `{-}` leaves
+/// the next one out.
 pub(crate) fn say(alloc: Global, form: &str, parts: &[&[u8]]) -> Said {
     let mut text = Vec::new(alloc);
     let mut left = form.as_bytes();
     for part in parts {
         let words = before(left, b'{');
-        let mark = rest(left, words.len());
         text.extend_from_slice(words)?;
-        if first(rest(mark, 1)) == b'=' {
-            text.extend_from_slice(part)?;
-            left = rest(mark, 3);
-        } else if first(mark) == b'{' {
-            push_part(&mut text, part)?;
-            left = rest(mark, 2);
-        } else {
-            return Ok(text);
+        left = rest(left, words.len());
+        match first(rest(left, 1)) {
+            b'=' => text.extend_from_slice(part)?,
+            b'}' => push_part(&mut text, part)?,
+            _ => {}
         }
+        left = rest(left, before(left, b'}').len().saturating_add(1));
     }
     text.extend_from_slice(left)?;
-    Ok(text)
-}
-
-/// The parts of a sentence, one after another.
-pub(crate) fn joined(alloc: Global, parts: &[&[u8]]) -> Said {
-    let mut text = Vec::new(alloc);
-    for part in parts {
-        text.extend_from_slice(part)?;
-    }
     Ok(text)
 }
 
@@ -190,24 +163,38 @@ pub(crate) fn say_both<'x>(alloc: Global, form: &str, one: &'x [u8], two: &'x [u
     say(alloc, form, &[one, two])
 }
 
-/// A part of a text as a sentence shows it: its first 40 bytes, and two dots if it has more; each that isn't printable ASCII, and isn't of
-/// a character of UTF-8, as a question mark.
-pub(crate) fn shown(alloc: Global, part: &[u8]) -> Said {
-    let mut text = Vec::new(alloc);
-    push_part(&mut text, part)?;
-    Ok(text)
+/// Adds names to a sentence, with commas between them, and two dots for those that don't fit.
+pub(crate) fn push_names(sentence: &mut Vec<u8>, names: &[&[u8]]) -> Result<(), AllocError> {
+    for (place, name) in names.iter().enumerate() {
+        if place > 0 {
+            sentence.extend_from_slice(b", ")?;
+        }
+        if sentence.len().saturating_add(name.len()) > LIST_BYTES {
+            return sentence.extend_from_slice(b"..");
+        }
+        push_part(sentence, name)?;
+    }
+    Ok(())
 }
 
-/// Adds a part of a text as a sentence shows it.
+/// Adds a part of a text as a sentence shows it: its first 40 bytes, in whole characters, and two dots if it has more. Bytes are shown as in
+/// the line of the place.
 fn push_part(text: &mut Vec<u8>, part: &[u8]) -> Result<(), AllocError> {
-    let front = front(part, SHOWN_BYTES);
-    let utf8 = std::str::from_utf8(front).is_ok();
-    for byte in front {
-        let is_plain = (32 <= *byte && *byte < 127) || (utf8 && 128 <= *byte);
-        text.push(if is_plain { *byte } else { b'?' })?;
-    }
-    if part.len() > SHOWN_BYTES {
+    let shown = cut(part);
+    push_shown(text, shown, is_plain(shown))?;
+    if shown.len() < part.len() {
         text.extend_from_slice(b"..")?;
     }
     Ok(())
+}
+
+/// The first 40 bytes of a part, or up to 3 fewer so that no character of UTF-8 is cut.
+fn cut(part: &[u8]) -> &[u8] {
+    let mut end = SHOWN_BYTES;
+    for _ in 0..3 {
+        if (128..192).contains(&first(rest(part, end))) {
+            end = end.saturating_sub(1);
+        }
+    }
+    front(part, end)
 }

@@ -6,8 +6,8 @@ ghost use Rattle.explanations.specs.Marks.{IsExplanation};
 
 use crate::nearest_names::nearest;
 use crate::parts::{
-    Said, before, character, front, is, is_one_of, last, last_word, place_in, rest, say,
-    trimmed_back, word,
+    Said, before, character, front, is, is_one_of, last, last_word, place_in, push_names, rest,
+    say, trimmed_back, word,
 };
 use crate::query_sentences::{byte_sentence, syntax_sentence};
 use crate::said_lines::explained;
@@ -111,7 +111,7 @@ fn greatness(text: &[u8]) -> &'static str {
     if is(last_word(text), "LIMIT") {
         "{} is past 64 bits: leave LIMIT out for all rows"
     } else {
-        "{} is past 64 bits: no field is as large"
+        "{} is past 64 bits: no field is as large, so leave the test out"
     }
 }
 
@@ -144,23 +144,6 @@ pub(crate) fn proposed(front: Vec<u8>, close: Option<usize>, names: &[&[u8]]) ->
     Ok(sentence)
 }
 
-/// The most bytes of a sentence that lists names.
-const LIST_BYTES: usize = 150;
-
-/// Adds the names of a list, with commas between them, and two dots for those that don't fit.
-pub(crate) fn push_names(sentence: &mut Vec<u8>, names: &[&[u8]]) -> Result<(), AllocError> {
-    for (place, name) in names.iter().enumerate() {
-        if place > 0 {
-            sentence.extend_from_slice(b", ")?;
-        }
-        if sentence.len().saturating_add(name.len()) > LIST_BYTES {
-            return sentence.extend_from_slice(b"..");
-        }
-        sentence.extend_from_slice(name)?;
-    }
-    Ok(())
-}
-
 /// The sentence of a name that no column has: of a truth, or of a name.
 fn unknown_name(alloc: Global, text: &[u8], at: usize, names: &Names<'_>) -> Said {
     let name = word(rest(text, at));
@@ -182,23 +165,13 @@ fn truth_words(name: &[u8], is_compared: bool) -> &'static str {
     }
 }
 
-/// Whether a byte may be in a pattern.
-fn is_in_pattern(byte: u8) -> bool {
-    byte == b'T' || byte == b'F' || byte == b'*' || byte == b'0' || byte == b'1' || byte == b'2'
-}
-
 /// The sentence of a pattern that isn't one.
 fn pattern_sentence(alloc: Global, pattern: &[u8]) -> Said {
-    if pattern.len() != 9 {
-        let form = "a pattern has nine characters: write nine, each T, F, *, 0, 1 or 2";
-        return say(alloc, form, &[]);
-    }
-    for (place, byte) in pattern.iter().enumerate() {
-        if !is_in_pattern(*byte) {
+    match pattern.iter().position(|byte| !b"TF*012".contains(byte)) {
+        Some(place) if pattern.len() == 9 => {
             let form = "{} isn't a character of a pattern: write T, F, *, 0, 1 or 2";
-            return say(alloc, form, &[character(rest(pattern, place))]);
+            say(alloc, form, &[character(rest(pattern, place))])
         }
+        _ => say(alloc, query_form(QueryFault::BadPattern(0)), &[]),
     }
-    let form = "a pattern has nine characters, each T, F, *, 0, 1 or 2";
-    say(alloc, form, &[])
 }

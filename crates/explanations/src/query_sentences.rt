@@ -7,12 +7,12 @@ use crate::expected::{Expected, expected_at};
 use crate::geometry_sentences::TYPES;
 use crate::nearest_names::nearest;
 use crate::parts::{
-    Said, before, character, first, front, is, is_one_of, joined, place_in, rest, said_of, say,
-    say_both, trimmed, trimmed_back, word,
+    Said, before, character, first, front, is, is_one_of, place_in, rest, said_of, say, say_both,
+    trimmed, trimmed_back, word,
 };
 use crate::query_explanations::Names;
-use crate::query_words::{OWN_FUNCTIONS, Role, own_words, role_of, to_come};
-use crate::sentences::{CLAUSES, FUNCTIONS, STATEMENTS, SYMBOLS, tokens_at};
+use crate::query_words::{OWN_FUNCTIONS, Role, own_words, role_of};
+use crate::sentences::{CLAUSES, FUNCTIONS, STATEMENTS, SYMBOLS, to_come, tokens_at};
 use crate::token_lists::{back, compares, enclosing, kind_of, opening, written};
 use sql_text::lex::lex;
 use std::alloc::{AllocError, Global};
@@ -136,19 +136,17 @@ fn end_sentence(alloc: Global, text: &[u8], near: &Around<'_>) -> Said {
 
 /// What is said of a comment at a text's end, which may be two signs.
 fn comment_words(text: &[u8]) -> &'static str {
-    let mut line = text;
-    for at in 0..text.len() {
-        if text[at] == b'\n' {
-            line = rest(text, at.saturating_add(1));
-        }
+    let line = match text.iter().rposition(|byte| *byte == b'\n') {
+        Some(at) => rest(text, at),
+        None => text,
+    };
+    let is_comment = |at| is(front(rest(line, at), 2), "--")
+        && !trimmed(front(line, at)).is_empty();
+    if (0..line.len()).any(is_comment) {
+        ": -- begins a comment"
+    } else {
+        ""
     }
-    let mut words = "";
-    for at in 0..line.len() {
-        if is(front(rest(line, at), 2), "--") && !trimmed(front(line, at)).is_empty() {
-            words = ": -- begins a comment";
-        }
-    }
-    words
 }
 
 // ---- words
@@ -245,15 +243,12 @@ fn statement_sentence(alloc: Global, near: &Around<'_>) -> Said {
     if let Some(word) = misspelt(alloc, near.here, near.expected)? {
         return say(alloc, "did you mean {=}?", &[word]);
     }
-    if near.expected == Expected::Statement && !is(near.here, "EXPLAIN") {
-        let form = "a query begins with SELECT, or EXPLAIN before it";
-        return say(alloc, form, &[]);
-    }
-    say(
-        alloc,
-        "only ANALYZE may come between EXPLAIN and SELECT",
-        &[],
-    )
+    let form = if near.expected == Expected::Statement && !is(near.here, "EXPLAIN") {
+        "a query begins with SELECT, or EXPLAIN before it"
+    } else {
+        "only ANALYZE may come between EXPLAIN and SELECT"
+    };
+    say(alloc, form, &[])
 }
 
 /// The word of the language that can come at a place and is nearest to another one.
@@ -264,9 +259,7 @@ fn misspelt(
 ) -> Result<Option<&'static [u8]>, AllocError> {
     let words = own_words(expected);
     match nearest(alloc, here, words)? {
-        Some(place) if place < words.len() && place_in(words, here).is_none() => {
-            Ok(Some(words[place]))
-        }
+        Some(place) if place_in(words, here).is_none() => Ok(words.get(place).copied()),
         _ => Ok(None),
     }
 }
@@ -382,7 +375,7 @@ fn joined_number(
     behind: &[u8],
     after: &str,
 ) -> Result<Option<Vec<u8>>, AllocError> {
-    let number = joined(alloc, &[whole, here, behind])?;
+    let number = say(alloc, "{=}{=}{=}", &[whole, here, behind])?;
     Ok(Some(say(alloc, after, &[number.as_slice()])?))
 }
 
@@ -425,19 +418,20 @@ fn other_sentence(alloc: Global, near: &Around<'_>, names: &Names<'_>) -> Said {
 
 /// Whether arithmetic would go on at a place.
 fn is_value_before(expected: Expected) -> bool {
-    expected == Expected::AfterItem
-        || expected == Expected::Comparison
-        || expected == Expected::AfterComparison
-        || expected == Expected::Grouped
-        || expected == Expected::AfterOn
+    let is_after = matches!(expected, Expected::AfterItem | Expected::AfterOn);
+    is_after || is_after_value(expected)
+}
+
+/// Whether a value of a condition is before a place.
+fn is_after_value(expected: Expected) -> bool {
+    let is_side = matches!(expected, Expected::Comparison | Expected::AfterComparison);
+    is_side || expected == Expected::Grouped
 }
 
 /// Whether a table or its alias is before a place.
 fn is_table_before(expected: Expected) -> bool {
-    expected == Expected::AfterFirst
-        || expected == Expected::AfterSecond
-        || expected == Expected::AfterCrossed
-        || expected == Expected::On
+    let is_joined = matches!(expected, Expected::AfterCrossed | Expected::On);
+    is_joined || matches!(expected, Expected::AfterFirst | Expected::AfterSecond)
 }
 
 /// The sentence of a text that can't be there: it is a name, comes behind a word such as DATE, or is a text.
@@ -445,10 +439,8 @@ fn text_sentence(alloc: Global, near: &Around<'_>, names: &Names<'_>) -> Said {
     if names.has(near.here) {
         return say(alloc, "names aren't quoted: write {}", &[near.here]);
     }
-    let is_behind = near.expected == Expected::AfterComparison
-        || near.expected == Expected::Comparison
-        || near.expected == Expected::Grouped;
-    if is_behind && near.before_kind == TokenKind::Word && !names.has(near.before) {
+    let is_behind = is_after_value(near.expected) && near.before_kind == TokenKind::Word;
+    if is_behind && !names.has(near.before) {
         let sentence = "{} can't be before a text: write the text alone";
         return say(alloc, sentence, &[near.before]);
     }
@@ -478,10 +470,7 @@ pub(crate) fn byte_sentence(alloc: Global, text: &[u8], at: usize, names: &Names
     if place_in(&QUOTE_MARKS, front(found, 2)).is_some() {
         return say(alloc, QUOTES, &[]);
     }
-    if place_in(&[b"\xef\xbb\xbf"], front(found, 3)).is_some() {
-        return say(alloc, MARKED, &[]);
-    }
-    for length in [2, 1] {
+    for length in [3, 2, 1] {
         let symbol = front(found, length);
         if let Some(sentence) = said_of(symbol, &SYMBOLS) {
             return say(alloc, sentence, &[symbol]);
@@ -497,17 +486,9 @@ const QUOTE_MARKS: [&[u8]; 4] = [b"\xe2\x80", b"\xc2\xb4", b"\xc2\xab", b"\xc2\x
 /// What is said of such quotes.
 const QUOTES: &str = "a quote of this kind isn't there: texts are in single quotes, '";
 
-/// What is said of a byte order mark.
-const MARKED: &str = "the text begins with a byte order mark: save it without one";
-
 /// Whether a text has a backslash before a quote.
 fn has_backslash(text: &[u8]) -> bool {
-    for at in 0..text.len() {
-        if is(front(rest(text, at), 2), "\\'") {
-            return true;
-        }
-    }
-    false
+    (0..text.len()).any(|at| is(front(rest(text, at), 2), "\\'"))
 }
 
 /// The sentence of what is between double quotes: a name, a number, or a text, which is compared or isn't a name.

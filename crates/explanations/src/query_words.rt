@@ -1,41 +1,7 @@
-//! The words of queries: how a sentence says what can come at a place, which words can, and the functions of the language with their roles.
+//! The words of queries: which can come at a place, and the functions of the language with their roles.
 
 use crate::expected::Expected;
 use crate::parts::{is, is_one_of, place_in};
-
-/// What can come at a place, as a sentence says it.
-pub(crate) fn to_come(expected: Expected) -> &'static str {
-    match expected {
-        Expected::Statement | Expected::Explained | Expected::Analyzed => "SELECT is to come",
-        Expected::FirstItem => "a column, * or COUNT(*) is to come",
-        Expected::Item | Expected::ItemArgument => "a column is to come",
-        Expected::AfterItem => "a comma or FROM is to come",
-        Expected::AfterStar | Expected::AfterCount => "FROM and a table are to come",
-        Expected::ColumnName => "a column's name is to come",
-        Expected::Table => "a table's name is to come",
-        Expected::Alias => "an alias is to come",
-        Expected::Join => "JOIN is to come",
-        Expected::AfterFirst => "a comma, JOIN, WHERE or LIMIT is to come",
-        Expected::AfterSecond | Expected::AfterCrossed => "WHERE or LIMIT is to come",
-        Expected::On => "ON and a condition are to come",
-        Expected::Condition => "a condition is to come",
-        Expected::Comparison => "a comparison or IS NULL is to come",
-        Expected::Value => "a value is to come",
-        Expected::Digits => "digits are to come",
-        Expected::Is => "NULL or NOT NULL is to come",
-        Expected::IsNot => "NULL is to come",
-        Expected::Truth => "1 or 0 is to come",
-        Expected::AfterOn => "AND, OR, WHERE or LIMIT is to come",
-        Expected::AfterPredicate | Expected::AfterComparison => "AND, OR or LIMIT is to come",
-        Expected::Grouped => "AND, OR or ) is to come",
-        Expected::Argument => "a column or ST_GeomFromText is to come",
-        Expected::Comma => "a comma is to come",
-        Expected::Close | Expected::CountStar => ") is to come",
-        Expected::String => "a text in single quotes is to come",
-        Expected::Number => "a number is to come",
-        Expected::End | Expected::Nothing => "the query's end is to come",
-    }
-}
 
 /// The words of the language that can come at a place, of which the nearest is proposed.
 pub(crate) fn own_words(expected: Expected) -> &'static [&'static [u8]] {
@@ -53,12 +19,6 @@ pub(crate) fn own_words(expected: Expected) -> &'static [&'static [u8]] {
         _ => &[],
     }
 }
-
-/// What is said of NOT behind a value.
-const NOT: &str = "NOT can't be here: write IS NOT NULL, or NOT before the whole condition";
-
-/// What is said of AS behind a column.
-const AS: &str = "AS isn't there for a column: it keeps its name; rename it in the output";
 
 /// The functions of the language.
 pub(crate) const OWN_FUNCTIONS: [&[u8]; 14] = [

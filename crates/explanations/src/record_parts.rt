@@ -6,18 +6,15 @@ use std::alloc::{AllocError, Global};
 
 /// A record, as it is written, without what ends it; nothing, if it isn't there. The header is record 0.
 pub(crate) fn record_at(body: &[u8], number: usize) -> &[u8] {
-    match field_place(body, number, 0) {
-        Some(from) => match record_end(body, number) {
-            Some(to) => rest(front(body, to), from),
-            None => &[],
-        },
-        None => &[],
+    match (field_place(body, number, 0), record_end(body, number)) {
+        (Some(from), Some(to)) => rest(front(body, to), from),
+        _ => &[],
     }
 }
 
-/// Whether a byte ends a field.
+/// Whether a byte ends a field: a comma or the end of a line, outside quotes.
 fn ends_field(reading: Reading, byte: u8) -> bool {
-    reading != Reading::Quoted && byte == b','
+    reading != Reading::Quoted && (byte == b',' || byte == b'\r' || byte == b'\n')
 }
 
 /// How a field is read on after a byte of it.
@@ -30,7 +27,7 @@ fn within_field(reading: Reading, byte: u8) -> Reading {
     }
 }
 
-/// The place in a record where the field ends that begins at another.
+/// The place in a text where the field ends that begins at another.
 fn field_end(record: &[u8], from: usize) -> usize {
     let mut reading = Reading::FieldStart;
     for at in from..record.len() {
@@ -103,13 +100,5 @@ pub(crate) fn name_of(field: &[u8]) -> &[u8] {
 
 /// The field that a text begins with, up to the comma or the end of a line behind it.
 pub(crate) fn field_from(text: &[u8]) -> &[u8] {
-    let mut reading = Reading::FieldStart;
-    for (at, byte) in text.iter().enumerate() {
-        let ends_line = *byte == b'\r' || *byte == b'\n';
-        if ends_field(reading, *byte) || (ends_line && reading != Reading::Quoted) {
-            return front(text, at);
-        }
-        reading = within_field(reading, *byte);
-    }
-    text
+    front(text, field_end(text, 0))
 }

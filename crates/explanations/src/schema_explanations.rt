@@ -14,7 +14,8 @@ use crate::query_explanations::Names;
 use crate::query_sentences::{byte_sentence, token_at};
 use crate::said_lines::explained;
 use crate::sentences::{
-    COLUMN_TYPES, CONSTRAINTS, MARKS, NEAR_TYPE, NO_TYPE, TABLE_WORDS, schema_form,
+    AFTER_TYPE, COLUMN_TYPES, CONSTRAINTS, MARKS, NEAR_TYPE, NO_TYPE, SCHEMA_ENDS, TABLE_WORDS,
+    ZEROS, schema_form, schema_to_come,
 };
 use crate::token_lists::{back, kind_of, written};
 use sql_text::lex::lex;
@@ -89,7 +90,7 @@ fn last_table(text: &[u8]) -> &[u8] {
 
 /// What can come at a place of a schema.
 #[derive(Clone, Copy, PartialEq, Eq)]
-enum Expected {
+pub(crate) enum Expected {
     Create,
     Table,
     Name,
@@ -151,36 +152,6 @@ fn is_inside(tokens: &[Token<'_>], start: usize) -> bool {
     before == TokenKind::LeftParenthesis || before == TokenKind::Comma
 }
 
-/// What is said of a token that is none of those that can come.
-fn to_come(expected: Expected) -> &'static str {
-    match expected {
-        Expected::Create | Expected::Table => "a schema has CREATE TABLE alone",
-        Expected::Name => "a table's name is to come",
-        Expected::Columns => "( is to come after the table's name",
-        Expected::Column => "a column's name and type are to come here",
-        Expected::Type => "a type is to come after the column's name",
-        Expected::Key => "KEY is to come after PRIMARY",
-        Expected::Null => "NULL is to come after NOT",
-        Expected::Mark => "a comma or ) is to come",
-        Expected::Behind => "; is to come between tables",
-    }
-}
-
-/// What is said of a schema that ends too early.
-fn end_words(expected: Expected) -> &'static str {
-    match expected {
-        Expected::Create => "the schema is empty: it begins with CREATE TABLE",
-        Expected::Table => "the schema ends where TABLE is to come",
-        Expected::Name => "the schema ends where a table's name is to come",
-        Expected::Columns => "the schema ends where ( is to come",
-        Expected::Column => "the schema ends where a column is to come",
-        Expected::Type => "the schema ends where a type is to come",
-        Expected::Key => "the schema ends where KEY is to come",
-        Expected::Null => "the schema ends where NULL is to come",
-        Expected::Mark | Expected::Behind => "the schema ends where a comma or ) is to come",
-    }
-}
-
 /// The sentence of what can't be there.
 fn syntax_sentence(alloc: Global, text: &[u8], at: usize) -> Said {
     let list = lex(alloc, text, false)?;
@@ -190,11 +161,10 @@ fn syntax_sentence(alloc: Global, text: &[u8], at: usize) -> Said {
     let found = rest(text, at);
     let here = word(found);
     if trimmed(found).is_empty() {
-        return say(alloc, end_words(expected), &[]);
+        return say(alloc, SCHEMA_ENDS, &[schema_to_come(expected).as_bytes()]);
     }
     if here.len() < found.len() && found[here.len()] == 0 {
-        let form = "the file has bytes that are 0: is it UTF-16? save it as UTF-8";
-        return say(alloc, form, &[]);
+        return say(alloc, ZEROS, &[]);
     }
     if let Some(sentence) = constraint_sentence(front(text, at), found) {
         return say(alloc, sentence, &[]);
@@ -249,7 +219,7 @@ fn word_form(here: &[u8], expected: Expected, before: &[u8]) -> &'static str {
             }
             Expected::Name | Expected::Column => "{} is a word of the language, and no name",
             _ if is(before, "IF") => "IF NOT EXISTS isn't there: write CREATE TABLE and the name",
-            _ => to_come(expected),
+            _ => schema_to_come(expected),
         },
     }
 }
@@ -282,29 +252,18 @@ fn mark_sentence(alloc: Global, tokens: &[Token<'_>], place: usize, here: &[u8])
     if let Some(form) = said_of(here, &MARKS).or(said_of(here, &COLUMN_TYPES)) {
         return say(alloc, form, &[here]);
     }
-    let sentence = if is(here, "PRIMARY") {
-        "PRIMARY KEY is there twice: leave one out"
-    } else if is(here, "NOT") {
-        "NOT NULL is there twice: leave one out"
-    } else if is(here, "KEY") {
-        "PRIMARY is to come before KEY"
-    } else {
-        "a comma is to come between columns"
-    };
-    say(alloc, sentence, &[])
+    say(alloc, said_of(here, &AFTER_TYPE).unwrap_or(""), &[])
 }
 
 /// The sentence of a name in quotes.
 fn quoted_sentence(alloc: Global, found: &[u8], quote: u8) -> Said {
     let name = before(rest(found, 1), quote);
-    if word(name).len() < name.len() {
-        return say(
-            alloc,
-            "names aren't quoted, and have letters A to Z, digits and _",
-            &[],
-        );
-    }
-    say(alloc, "names aren't quoted: write {}", &[name])
+    let form = if word(name).len() < name.len() {
+        "names aren't quoted, and have letters A to Z, digits and _"
+    } else {
+        "names aren't quoted: write {}"
+    };
+    say(alloc, form, &[name])
 }
 
 /// The sentence of a symbol that can't be there.
@@ -346,7 +305,7 @@ fn symbol_words(byte: u8, before: &[u8], expected: Expected) -> Option<&'static 
         0xef => None,
         128..=255 => Some("this letter isn't in the letters of a name: A to Z, digits and _ are"),
         b'(' | b')' | b',' | b';' | b':' | b'=' if expected != Expected::Create => {
-            Some(to_come(expected))
+            Some(schema_to_come(expected))
         }
         _ => None,
     }

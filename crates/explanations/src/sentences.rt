@@ -2,7 +2,45 @@
 //! sentence, in which `{}` is the word that is there.
 
 use crate::expected::Expected;
-use table_model::faults::{QueryFault, SchemaFault};
+use crate::geometry_sentences::Coming;
+use crate::schema_explanations::Expected as InSchema;
+use crate::table_sentences::{Held, Takes};
+use geometry_model::{TextFault, ValidityFault};
+use table_model::faults::{LoadFault, QueryFault, SchemaFault};
+
+/// What can come at a place, as a sentence says it.
+pub(crate) fn to_come(expected: Expected) -> &'static str {
+    match expected {
+        Expected::Statement | Expected::Explained | Expected::Analyzed => "SELECT is to come",
+        Expected::FirstItem => "a column, * or COUNT(*) is to come",
+        Expected::Item | Expected::ItemArgument => "a column is to come",
+        Expected::AfterItem => "a comma or FROM is to come",
+        Expected::AfterStar | Expected::AfterCount => "FROM and a table are to come",
+        Expected::ColumnName => "a column's name is to come",
+        Expected::Table => "a table's name is to come",
+        Expected::Alias => "an alias is to come",
+        Expected::Join => "JOIN is to come",
+        Expected::AfterFirst => "a comma, JOIN, WHERE or LIMIT is to come",
+        Expected::AfterSecond | Expected::AfterCrossed => "WHERE or LIMIT is to come",
+        Expected::On => "ON and a condition are to come",
+        Expected::Condition => "a condition is to come",
+        Expected::Comparison => "a comparison or IS NULL is to come",
+        Expected::Value => "a value is to come",
+        Expected::Digits => "digits are to come",
+        Expected::Is => "NULL or NOT NULL is to come",
+        Expected::IsNot => "NULL is to come",
+        Expected::Truth => "1 or 0 is to come",
+        Expected::AfterOn => "AND, OR, WHERE or LIMIT is to come",
+        Expected::AfterPredicate | Expected::AfterComparison => "AND, OR or LIMIT is to come",
+        Expected::Grouped => "AND, OR or ) is to come",
+        Expected::Argument => "a column or ST_GeomFromText is to come",
+        Expected::Comma => "a comma is to come",
+        Expected::Close | Expected::CountStar => ") is to come",
+        Expected::String => "a text in single quotes is to come",
+        Expected::Number => "a number is to come",
+        Expected::End | Expected::Nothing => "the query's end is to come",
+    }
+}
 
 /// What is said of tokens where something else can come: a text is `'`, and a row without words is for every token.
 pub(crate) fn tokens_at(expected: Expected) -> &'static [&'static str] {
@@ -180,6 +218,14 @@ pub(crate) const MARKS: [&str; 4] = [
     "SRID => {} isn't there: reference systems aren't taken",
 ];
 
+/// What is said of other words behind a type.
+pub(crate) const AFTER_TYPE: [&str; 4] = [
+    "PRIMARY => PRIMARY KEY is there twice: leave one out",
+    "NOT => NOT NULL is there twice: leave one out",
+    "KEY => PRIMARY is to come before KEY",
+    " => a comma is to come between columns",
+];
+
 /// Words that other engines have before a table's name and behind its columns.
 pub(crate) const TABLE_WORDS: [&str; 2] = [
     "TEMPORARY TEMP => {} isn't there: write CREATE TABLE and the name",
@@ -210,8 +256,175 @@ pub(crate) const GEOMETRY_TYPES: [&str; 10] = [
     "SRID EPSG => {} isn't a type: write the geometry alone",
 ];
 
+/// What texts begin with that are no geometry's; the part is what comes before the first `;`.
+pub(crate) const TEXT_FRONTS: [&str; 5] = [
+    "{ => this looks like GeoJSON: write the geometry as text, as POINT(1 2); sfq-import reads GeoJSON",
+    "' \" => leave the quotes out: a geometry begins with its type, as POINT(1 2)",
+    "ST_ => this is a call of a function: write the geometry's text alone, as POINT(1 2)",
+    "SRID= => {}; isn't taken: write the geometry alone",
+    "\u{feff} => the text begins with a byte order mark: save it without one",
+];
+
+/// What is said of other texts that are no geometry's.
+pub(crate) const NO_TEXT: &str =
+    "the text is empty: a geometry begins with its type, as POINT(1 2)";
+
+pub(crate) const NO_GEOMETRY: &str = "a geometry begins with its type, as POINT(1 2)";
+
+pub(crate) const BINARY: &str =
+    "this looks like WKB in hexadecimal digits: write the geometry as text, as POINT(1 2); sfq-import does";
+
+/// What is said of a type with a Z or an M at its end, and of a word that is near to a type, which is the second part, or to none.
+pub(crate) const HEIGHTS: &str = "{}: heights aren't taken; leave Z and the third numbers out";
+
+pub(crate) const MEASURES: &str = "{}: measures aren't taken; leave M and the third numbers out";
+
+pub(crate) const NEAR_SHAPE: &str = "{} isn't a type: did you mean {=}?";
+
+pub(crate) const NO_SHAPE: &str =
+    "{} isn't a type: there are POINT, MULTIPOINT, LINESTRING, MULTILINESTRING, POLYGON, MULTIPOLYGON";
+
+/// What is said in the text of a geometry of what begins with a word or a sign, where something else can come: `..` is the text's end, `1` a
+/// number, `2` several, `,,` a comma or ) behind a comma, and a row without words is for all else. The parts are the geometry's type and what is
+/// there.
+pub(crate) fn forms_at(coming: Coming) -> &'static [&'static str] {
+    match coming {
+        Coming::Opening => &[
+            ".. => the text ends where ( or EMPTY is to come",
+            "Z ZM => {} {}: heights aren't taken; leave Z and the third numbers out",
+            "M => {} {}: measures aren't taken; leave M and the third numbers out",
+            " => ( or EMPTY is to come after {}",
+        ],
+        Coming::Part => &[
+            ".. => the text ends where ( is to come",
+            ",, => ( is to come after the comma",
+            ") => ( is to come here: write {} EMPTY for one without positions",
+            EMPTY_PART,
+            " => {-}( is to come here, and not {}",
+        ],
+        Coming::Position => &[
+            ".. => the text ends where a number is to come",
+            ",, => a number is to come after the comma",
+            ") => a number is to come here: write {} EMPTY for one without positions",
+            ", => a number is to come here, and not ,",
+            EMPTY_PART,
+            ONE_SIGN,
+            NO_NUMBER,
+        ],
+        Coming::Joined => &[
+            SECOND_ENDS,
+            BLANK_COMES,
+            SECOND_COMES,
+            " => a blank is to come between the two numbers of a position",
+        ],
+        Coming::Second => &[SECOND_ENDS, BLANK_COMES, SECOND_COMES, ONE_SIGN, NO_NUMBER],
+        Coming::AfterPosition => &[
+            PART_ENDS,
+            "1 => a position has two numbers: heights aren't taken",
+            "2 => a comma is to come between two positions",
+            COMMA_COMES,
+        ],
+        Coming::AfterPoint => &[
+            ".. => the text ends where ) is to come",
+            "1 2 => a position has two numbers: heights aren't taken",
+            " => {-}) is to come, and not {}",
+        ],
+        Coming::AfterPart => &[PART_ENDS, COMMA_COMES],
+        Coming::Nothing => &[
+            ") , ; => {-}the geometry ends before this {}: leave it out",
+            " => {-}the geometry ends before this {}: write one in a word",
+        ],
+    }
+}
+
+const EMPTY_PART: &str =
+    "EMPTY => an element isn't EMPTY: leave it out, or write {} EMPTY for none";
+
+const ONE_SIGN: &str =
+    "1 2 => {-}{} isn't a number: coordinates are whole numbers, with one sign or none";
+
+const NO_NUMBER: &str = " => {-}{} isn't a number: coordinates are whole numbers";
+
+const SECOND_ENDS: &str = ".. => the text ends where a second number is to come";
+
+const BLANK_COMES: &str =
+    ", => a blank is to come between the two numbers of a position, and commas between positions";
+
+const SECOND_COMES: &str = ") => a second number is to come: a position has two";
+
+const PART_ENDS: &str = ".. => the text ends where a comma or ) is to come";
+
+const COMMA_COMES: &str = " => {-}a comma or ) is to come, and not {}";
+
+/// What is said of a number where a parenthesis is to come, by the type.
+pub(crate) const UNOPENED: [&str; 3] = [
+    "POLYGON => ( is to come here: each ring of a {} has parentheses of its own",
+    "MULTIPOLYGON => ( is to come here: each polygon of a {} has parentheses of its own",
+    "MULTILINESTRING => ( is to come here: each line of a {} has parentheses of its own",
+];
+
+/// What is said of a parenthesis where a number is to come, by the type.
+pub(crate) const OVEROPENED: [&str; 4] = [
+    "POLYGON MULTIPOLYGON => a number is to come here: a ring of a {} has one pair of parentheses",
+    "MULTILINESTRING => a number is to come here: a line of a {} has one pair of parentheses",
+    "MULTIPOINT => a number is to come here: a point of a {} has one pair of parentheses",
+    " => a number is to come here: a {} has one pair of parentheses",
+];
+
+/// What is said of a comma behind the only position of a part, by the type.
+pub(crate) const ONE_POSITION: [&str; 2] = [
+    "POINT => a {} has one position: write MULTIPOINT for several",
+    " => ) is to come: each point of a {} has parentheses of its own, or none",
+];
+
+/// What is said of letters that are joined to the digits of a number.
+pub(crate) const EXPONENT: &str = "a number has no exponent: write all its digits";
+
+pub(crate) const FOREIGN: &str = "{-}{} isn't in a number: coordinates are whole numbers";
+
+pub(crate) const LETTERS: &str = "{} isn't a number: write it in digits, 0 to 9";
+
+/// What is said of a fault of a geometry's text, but for one of its grammar: a number with an exponent or without, which is the part, or a text with
+/// too many positions or too many elements.
+pub(crate) fn text_form(fault: TextFault, is_first: bool) -> &'static str {
+    match fault {
+        TextFault::OffGrid(_) if is_first => "{} has an exponent: write all its digits",
+        TextFault::OffGrid(_) =>
+            "{} isn't whole: scale the coordinates to a grid of whole numbers, of centimetres say; sfq-import does",
+        TextFault::OutOfRange(_) =>
+            "{} is past {=}10000000: scale the coordinates to the grid; sfq-import moves and scales them",
+        TextFault::TooLong if is_first =>
+            "the text has more than 10000 positions: split the geometry",
+        TextFault::TooLong => "the text has more than 1000 elements: split the geometry",
+        TextFault::Syntax(_) => "",
+    }
+}
+
+/// What to do about a geometry that isn't valid.
+pub(crate) fn validity_form(fault: ValidityFault) -> &'static str {
+    match fault {
+        ValidityFault::TooFewPoints(_) =>
+            "write at least three corners that differ, and the first again at the end",
+        ValidityFault::RingNotClosed(_) => "write the first position again at the ring's end",
+        ValidityFault::RingNotSimple(_) => "split the ring where it meets itself",
+        ValidityFault::RingsMeet(_, _) => "draw the two rings as one, or apart",
+        ValidityFault::HoleOutside(_) =>
+            "draw the hole inside the outer ring, or write it as another polygon of a MULTIPOLYGON",
+        ValidityFault::HolesNested(_, _) =>
+            "write an island within a hole as a polygon of its own, in a MULTIPOLYGON",
+        ValidityFault::ElementsMeet(_, _) => "draw the two polygons as one, or apart",
+        ValidityFault::ElementInside(_, _) =>
+            "leave the inner polygon out, as the outer one has its points",
+    }
+}
+
+/// What to do about a line with too few positions.
+pub(crate) const SHORT_LINE: &str =
+    "a line has at least two positions that differ: write a POINT, or leave the line out";
+
 /// What texts begin with where no token of the language does.
-pub(crate) const SYMBOLS: [&str; 12] = [
+pub(crate) const SYMBOLS: [&str; 13] = [
+    "\u{feff} => the text begins with a byte order mark: save it without one",
     "/* // # => {} isn't there: a comment begins with -- and ends with its line",
     "|| => {} isn't there: texts are compared as they are",
     "&& => {} isn't there: write AND, or ST_Intersects for shapes",
@@ -236,16 +449,35 @@ pub(crate) const ALIASES: [&str; 2] = [
 pub(crate) fn schema_form(fault: SchemaFault) -> &'static str {
     match fault {
         SchemaFault::DoubleName(_) =>
-            "the name {} is there before: case doesn't count; rename one of the two",
+            "the name {} is there before, and case doesn't count: rename one of the two",
         SchemaFault::NoKey(_) =>
             "{} has no key: write PRIMARY KEY after the type of one INTEGER column",
         SchemaFault::TwoKeys(_) => "the table has a key before: leave PRIMARY KEY out here",
         SchemaFault::TooMany(_) =>
-            "a schema takes 16 tables, and a table 32 columns: leave this one out",
-        SchemaFault::TooLong => "the schema has more than 65536 bytes: comments count too",
+            "a schema takes 16 tables, and a table 32 columns: split the schema or the table",
+        SchemaFault::TooLong =>
+            "the schema has more than 65536 bytes, and comments count: shorten it",
         SchemaFault::Syntax(_) | SchemaFault::OutOfMemory => "",
     }
 }
+
+/// What can come at a place of a schema, as a sentence says it.
+pub(crate) fn schema_to_come(expected: InSchema) -> &'static str {
+    match expected {
+        InSchema::Create | InSchema::Table => "TABLE is to come after CREATE",
+        InSchema::Name => "a table's name is to come",
+        InSchema::Columns => "( is to come after the table's name",
+        InSchema::Column => "a column's name and type are to come",
+        InSchema::Type => "a type is to come after the column's name",
+        InSchema::Key => "KEY is to come after PRIMARY",
+        InSchema::Null => "NULL is to come after NOT",
+        InSchema::Mark => "a comma or ) is to come",
+        InSchema::Behind => "; is to come between tables",
+    }
+}
+
+/// What is said of a schema that ends where this is to come.
+pub(crate) const SCHEMA_ENDS: &str = "the schema ends where {=}";
 
 /// What is said of a word that is no type of a column, and is near to one, which is the second part.
 pub(crate) const NEAR_TYPE: &str = "{} isn't a type here: did you mean {=}?";
@@ -254,6 +486,115 @@ pub(crate) const NEAR_TYPE: &str = "{} isn't a type here: did you mean {=}?";
 pub(crate) const NO_TYPE: &str =
     "{} isn't a type here: there are INTEGER, INT, BIGINT, TEXT, GEOMETRY, POINT, MULTIPOINT, LINESTRING, MULTILINESTRING, POLYGON, MULTIPOLYGON";
 
+/// What is said of a fault of a table of which one thing is said; of a geometry of another type than its column's that type is the part.
+pub(crate) fn load_form(fault: LoadFault) -> &'static str {
+    match fault {
+        LoadFault::DoubleHeader => "case doesn't count: rename one of the two",
+        LoadFault::NotUtf8(_) => "is the file in Latin-1? save the table as UTF-8",
+        LoadFault::WrongType(_) => "declare the column {}, or GEOMETRY, which takes every type",
+        LoadFault::DoubleKey(_) =>
+            "keys are unique, and an earlier record has this one: number one of the two anew",
+        LoadFault::TooManyRows =>
+            "this is record 100001, and 100000 are taken: split the table, or ask by sfq-scale",
+        _ => "",
+    }
+}
+
+/// What is said of a key that an earlier record has: the parts are the number of that record, and that of its line.
+pub(crate) const EQUAL_KEYS: &str =
+    "keys are unique, and record {=} on line {=} has this one: number one of the two anew";
+
+/// What a file begins with that is no table.
+pub(crate) const HEADER_FRONTS: [&str; 2] = [
+    "sep= => sep= is a line of Excel's: leave it out; sfq takes commas",
+    "{ [ => this looks like JSON: write CSV; sfq-import reads GeoJSON",
+];
+
+/// What is said of other files that are no tables, and of names with a blank, which are the part.
+pub(crate) const EMPTY_FILE: &str = "the file is empty: its first line names the columns";
+
+pub(crate) const ZEROS: &str = "the file has bytes that are 0: is it UTF-16? save it as UTF-8";
+
+pub(crate) const BLANK_BEFORE: &str = "'{}' begins with a blank: leave it out";
+
+pub(crate) const BLANK_BEHIND: &str = "'{}' ends with a blank: leave it out";
+
+/// What is said of a header without a column: one of its names is near, which is the part; else what is before and behind its names, of which some
+/// are columns, or none.
+pub(crate) const HEADER_NEAR: &str =
+    "the header has {}: did you mean that? change the name here or in the schema";
+
+pub(crate) const HEADER: &str = "the header has ";
+
+pub(crate) const HEADER_LACKS: &str = ": add the column, or take it out of the schema";
+
+pub(crate) const HEADER_NONE: &str = ": its first line names the columns";
+
+/// Signs that separate fields elsewhere; the part is the record, or the header.
+pub(crate) const SEPARATORS: [&str; 3] = [
+    "; => {} is one field: is ; the separator? sfq takes commas",
+    "\t => {} is one field: is a tab the separator? sfq takes commas",
+    "| => {} is one field: is | the separator? sfq takes commas",
+];
+
+/// What is said of a record with more fields than the header, or fewer; of a geometry that commas cut, which is the part.
+pub(crate) const OPEN_GEOMETRY: &str = "a geometry with a comma needs quotes: \"{}\"";
+
+pub(crate) const END_COMMA: &str = "the record ends with a comma: leave it out";
+
+pub(crate) const MANY: &str =
+    "write one field for each column of the header; a field with a comma needs quotes";
+
+pub(crate) const COMMENT: &str = "comments aren't taken: every line is a record";
+
+pub(crate) const LINE_END: &str = "a field holds a line end: is its quote closed too late?";
+
+pub(crate) const FEW: &str =
+    "write one field for each column of the header; leave it empty for NULL";
+
+/// What is said of a record that is past a bound, or a field.
+pub(crate) const MANY_FIELDS: &str =
+    "this is field 100001 of the record, and 100000 are taken: split the table";
+
+pub(crate) const LONG_RECORD: &str =
+    "the record that begins here has more than 34603008 bytes: split it, or keep its texts outside the table";
+
+pub(crate) const OPEN_QUOTE: &str =
+    "the quote that opens here isn't closed within 1048576 bytes: close it";
+
+pub(crate) const LONG_FIELD: &str =
+    "the field that begins here has more than 1048576 bytes: shorten it, or keep it outside the table";
+
+/// What is said of a record whose fields are all empty.
+pub(crate) const EMPTY_RECORD: &str = "the record's fields are all empty: leave the line out";
+
+/// What is said of a field by what it holds, which is the part, and by its column.
+pub(crate) fn field_form(held: Held, takes: Takes) -> &'static str {
+    match (held, takes) {
+        (Held::Nothing | Held::Blanks | Held::Null, Takes::Key) =>
+            "a key is in every record: give this one a number",
+        (Held::Nothing | Held::Blanks | Held::Null, Takes::Value) =>
+            "the column is NOT NULL: give the field a value, or take NOT NULL out of the schema",
+        (Held::Blanks, Takes::Null) => "the field has blanks alone: leave it empty for NULL",
+        (Held::Nothing | Held::Null, Takes::Null) => "leave the field empty for NULL",
+        (Held::LineEnd, _) => "the field holds a line end: is its quote closed too late?",
+        (Held::Exponent, _) => "{} has an exponent: write the whole number",
+        (Held::True, _) => "write 1 for {}",
+        (Held::False, _) => "write 0 for {}",
+        (Held::Date, _) => "a date is a text: declare the column TEXT",
+        (Held::Large, Takes::Key) =>
+            "the number is past 64 bits: number the records anew, and keep these numbers in a TEXT column",
+        (Held::Large, _) => "the number is past 64 bits: declare the column TEXT",
+        (Held::Fraction, _) =>
+            "write whole numbers: sfq-import --scale makes them of numbers with a point",
+        (Held::Text, Takes::Key) =>
+            "a key is a whole number: number the records, and keep these names in a TEXT column",
+        (Held::Text, Takes::Null) =>
+            "write digits, with a sign or none; leave the field empty for NULL",
+        (Held::Digits | Held::Text, _) => "write digits, with a sign or none",
+    }
+}
+
 /// What is said of a fault of a query, or how that begins: a table or a column is the part, and of a column in two tables the second part is
 /// one of these.
 pub(crate) fn query_form(fault: QueryFault) -> &'static str {
@@ -261,13 +602,15 @@ pub(crate) fn query_form(fault: QueryFault) -> &'static str {
         QueryFault::UnknownTable(_) => "there is no table {}",
         QueryFault::UnknownColumn(_) => "there is no column {}",
         QueryFault::SameName(_) =>
-            "both tables have the name {} here: give each an alias, as in FROM t a, t b",
+            "both tables have the name {} here: give one an alias, as in FROM t a, t b",
         QueryFault::AmbiguousColumn(_) =>
             "both tables have a column {}: write its table and a point before it, as {}.{}",
         QueryFault::TypeMismatch(_) =>
-            "the types don't fit: numbers are compared with numbers, texts with texts in single quotes, and shapes by ST_Equals",
+            "the types don't fit: compare numbers with numbers, texts with texts in single quotes, and shapes by ST_Equals",
         QueryFault::TooDeep(_) =>
-            "this ( or NOT is the 65th level: 64 are taken; leave out those that change nothing",
+            "this ( or NOT is the 65th level, and 64 are taken: leave out those that change nothing",
+        QueryFault::BadPattern(_) =>
+            "a pattern has nine characters: write nine, each T, F, *, 0, 1 or 2",
         QueryFault::TooLong => "the query has more than 65536 bytes: shorten it",
         _ => "",
     }

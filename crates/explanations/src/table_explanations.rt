@@ -202,10 +202,9 @@ fn field_of(
     let header = record_at(body, 0);
     let record = last_record(fault);
     match fault {
-        LoadFault::ReadFailed => Ok(match long_field(body) {
-            Some((record, field)) => Some(FieldAt { record, field }),
-            None => None,
-        }),
+        LoadFault::ReadFailed => {
+            Ok(long_field(body).map(|(record, field)| FieldAt { record, field }))
+        }
         LoadFault::UnequalRecord(_) => {
             let field = field_count(header);
             if field_count(record_at(body, record)) <= field {
@@ -227,10 +226,7 @@ fn column_of(table: &TableDef, fault: LoadFault, found: &Found<'_>) -> Option<us
     if let LoadFault::DoubleKey(_) = fault {
         return Some(table.key);
     }
-    match found.column {
-        Some(name) => place_of_column(table, name),
-        None => None,
-    }
+    place_of_column(table, found.column?)
 }
 
 /// The field of a fault under the name of its column in the header; of a name given twice, the second field of that name.
@@ -270,10 +266,7 @@ fn sentence_of(
         header: record_at(body, 0),
         record: record_at(body, last_record(fault)),
         field: field_text(body, at),
-        number: match at {
-            Some(at) => Some(at.field),
-            None => None,
-        },
+        number: at.map(|at| at.field),
         column: column_of(table, fault, found),
         earlier: found.record.unwrap_or(0),
         line: line_of_record(text, found.record.unwrap_or(0)),
@@ -283,10 +276,7 @@ fn sentence_of(
 
 /// A field as it is written; nothing, if there is none.
 fn field_text(body: &[u8], at: Option<FieldAt>) -> &[u8] {
-    let Some(at) = at else {
-        return &[];
-    };
-    match field_place(body, at.record, at.field) {
+    match at.and_then(|at| field_place(body, at.record, at.field)) {
         Some(place) => field_from(rest(body, place)),
         None => &[],
     }

@@ -106,7 +106,7 @@ fn ring_of(file: File<'_>) -> Option<&'static [u8]> {
 
 /// What explains a coordinate that isn't whole.
 const HALF: &[u8] =
-    b"  1 | POINT(1.5 2)\n    |       ^\nsfq: 1.5 isn't whole: scale or round the coordinates; sfq-import does\n";
+    b"  1 | POINT(1.5 2)\n    |       ^\nsfq: 1.5 isn't whole: scale the coordinates to a grid of whole numbers, of centimetres say; sfq-import does\n";
 
 /// What `relate` and `why` write of a refusal besides its line, where they are asked why, or aren't.
 fn said_of(alloc: Global, why: bool, first: &str, second: Option<&str>) -> MemorySink {
@@ -181,7 +181,7 @@ fn a_sentence_comes_without_its_place(rt: HostRuntime) -> Result<(), Fail> {
     let said = geometry_said(alloc, text, fault)?;
     let line = said_line(alloc, said.as_slice())?;
     let shown =
-        b"sfq: 10000001 is past 10000000: sfq-import moves and scales coordinates to a grid\n";
+        b"sfq: 10000001 is past 10000000: scale the coordinates to the grid; sfq-import moves and scales them\n";
     assert_eq!(rt; line.as_slice(), shown.as_slice());
     Ok(())
 }
@@ -196,7 +196,7 @@ fn pairs_that_are_refused_are_noted(rt: HostRuntime) -> Result<(), Fail> {
     let mut err = MemorySink::new(alloc);
     explain_pairs(alloc, "p", |_: File<'_>| Some(text.as_slice()), &mut err);
     let first =
-        b"sfq: record 2: second: 1.5 isn't whole: scale or round the coordinates; sfq-import does\n";
+        b"sfq: record 2: second: 1.5 isn't whole: scale the coordinates to a grid of whole numbers, of centimetres say; sfq-import does\n";
     assert!(rt; err.bytes().starts_with(first));
     let lines = err.bytes().iter().filter(|byte| **byte == b'\n').count();
     assert_eq!(rt; lines, 100);

@@ -162,7 +162,7 @@ const RECORDS: [Row; 10] = [
         b"id,pop,name\n1,8,M\xfchle\n",
         LoadFault::NotUtf8(1),
         "name",
-        b"  2 | 1,8,M\\xfchle\n    |     ^\nsfq: is the file in Latin-1? save it as UTF-8\n",
+        b"  2 | 1,8,M\\xfchle\n    |     ^\nsfq: is the file in Latin-1? save the table as UTF-8\n",
     ),
     (
         b"id,pop,name\n1,1,x\n,9,b\n",
@@ -180,7 +180,7 @@ const RECORDS: [Row; 10] = [
         b"id,pop,name\n007,1,a\n7,2,b\n",
         LoadFault::DoubleKey(2),
         "1",
-        b"  3 | 7,2,b\n    | ^\nsfq: keys are unique: record 1 is on line 2; number one of the two anew\n",
+        b"  3 | 7,2,b\n    | ^\nsfq: keys are unique, and record 1 on line 2 has this one: number one of the two anew\n",
     ),
 ];
 
@@ -255,7 +255,7 @@ const NUMBERS: [Row; 14] = [
         b"id,pop,name\n9223372036854775808,1,b\n",
         LoadFault::BadInteger(1),
         "id",
-        b"  2 | 9223372036854775808,1,b\n    | ^\nsfq: the number is past 64 bits: declare the column TEXT, or number the records anew\n",
+        b"  2 | 9223372036854775808,1,b\n    | ^\nsfq: the number is past 64 bits: number the records anew, and keep these numbers in a TEXT column\n",
     ),
     (
         b"id,pop,name\n1,-9223372036854775809,b\n",
@@ -288,7 +288,7 @@ const GEOMETRIES: [Row; 13] = [
         b"id,geom\n1,\"POLYGON((0.5 0,4 0,4 4,0 0))\"\n",
         LoadFault::BadGeometry(1, GeometryFault::Text(TextFault::OffGrid(9))),
         "geom",
-        b"  2 | 1,\"POLYGON((0.5 0,4 0,4 4,0 0))\"\n    |             ^\nsfq: 0.5 isn't whole: scale or round the coordinates; sfq-import does\n",
+        b"  2 | 1,\"POLYGON((0.5 0,4 0,4 4,0 0))\"\n    |             ^\nsfq: 0.5 isn't whole: scale the coordinates to a grid of whole numbers, of centimetres say; sfq-import does\n",
     ),
     (
         b"id,geom\n1,\"POLYGON((0 0,4 0,4 4,0 0)\"\n",
@@ -306,13 +306,13 @@ const GEOMETRIES: [Row; 13] = [
         b"id,geom\n1,0103000000\n",
         LoadFault::BadGeometry(1, GeometryFault::Text(TextFault::Syntax(0))),
         "geom",
-        b"  2 | 1,0103000000\n    |   ^\nsfq: this looks like WKB in hexadecimal digits: write the geometry as text; sfq-import does\n",
+        b"  2 | 1,0103000000\n    |   ^\nsfq: this looks like WKB in hexadecimal digits: write the geometry as text, as POINT(1 2); sfq-import does\n",
     ),
     (
         b"id,geom\n1,\"{\"\"type\"\":\"\"Point\"\",\"\"coordinates\"\":[1,2]}\"\n",
         LoadFault::BadGeometry(1, GeometryFault::Text(TextFault::Syntax(0))),
         "geom",
-        b"  2 | 1,\"{\"\"type\"\":\"\"Point\"\",\"\"coordinates\"\":[1,2]}\"\n    |    ^\nsfq: this looks like GeoJSON: write the geometry as text; sfq-import does\n",
+        b"  2 | 1,\"{\"\"type\"\":\"\"Point\"\",\"\"coordinates\"\":[1,2]}\"\n    |    ^\nsfq: this looks like GeoJSON: write the geometry as text, as POINT(1 2); sfq-import reads GeoJSON\n",
     ),
     (
         b"id,geom\n1,SRID=25832;POINT(1 2)\n",
@@ -324,7 +324,7 @@ const GEOMETRIES: [Row; 13] = [
         b"id,geom\n1,\"POLYGON((564000000 0,4 0,4 4,564000000 0))\"\n",
         LoadFault::BadGeometry(1, GeometryFault::Text(TextFault::OutOfRange(9))),
         "geom",
-        b"  2 | 1,\"POLYGON((564000000 0,4 0,4 4,564000000 0))\"\n    |             ^\nsfq: 564000000 is past 10000000: sfq-import moves and scales coordinates to a grid\n",
+        b"  2 | 1,\"POLYGON((564000000 0,4 0,4 4,564000000 0))\"\n    |             ^\nsfq: 564000000 is past 10000000: scale the coordinates to the grid; sfq-import moves and scales them\n",
     ),
     (
         b"id,geom\n1,\"POLYGON((0 0,4 4,4 0,0 4,0 0))\"\n",
@@ -342,7 +342,7 @@ const GEOMETRIES: [Row; 13] = [
         b"id,geom\n1,\"POLYGON((3 3,3 3,3 3,3 3))\"\n",
         LoadFault::BadGeometry(1, GeometryFault::Invalid(ValidityFault::TooFewPoints(0))),
         "geom",
-        b"  2 | 1,\"POLYGON((3 3,3 3,3 3,3 3))\"\n    |   ^\nsfq: a ring has at least three corners that differ, and the first again at the end\n",
+        b"  2 | 1,\"POLYGON((3 3,3 3,3 3,3 3))\"\n    |   ^\nsfq: write at least three corners that differ, and the first again at the end\n",
     ),
     (
         b"id,geom\n1,POINT(1 2)\n",

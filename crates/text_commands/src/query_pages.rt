@@ -10,19 +10,20 @@ pub(crate) fn q1() -> &'static str
     "\
 Q1: the query (status 5)
 
+sfq: Q1 at 7
+  means: the byte begins no token, or a string isn't closed; here it is a
+    double quote, a backquote, a bracket, a question mark, or a letter that
+    isn't ASCII
+  example:
+    sfq run schema.sql . \"SELECT [id] FROM t\"
+  to do: write names without quotes and texts in single quotes; write values
+    themselves in place of parameters
+
 sfq: Q1 at 30
   means: a string isn't closed; the byte is that of its first quote
   example:
     sfq run schema.sql . \"SELECT id FROM t WHERE name = 'b\"
   to do: close the string; a quote in a string is doubled
-
-sfq: Q1 at 7
-  means: the byte begins no token: a double quote, a backquote, a bracket, a
-    question mark, or a letter that isn't ASCII
-  example:
-    sfq run schema.sql . \"SELECT [id] FROM t\"
-  to do: write names without quotes and texts in single quotes; write values
-    themselves in place of parameters
 
 Bytes count from 0. The examples are over the tables t (id, pop, name, geom),
 u (id, pop) and v (id).
@@ -37,8 +38,8 @@ pub(crate) fn q2() -> &'static str
 Q2: the query (status 5)
 
 sfq: Q2 at 22
-  means: the query can't go on like this at this byte; if the byte is the
-    query's length, the query ends too soon
+  means: the query can't go on like this at this byte, or ends too soon; then
+    the byte is the query's length
   example:
     sfq run schema.sql . \"SELECT id FROM t WHERE\"
   to do: the byte is where to look
@@ -105,7 +106,7 @@ sfq: Q4 at 18
   means: both tables have the same name here; the byte is that of the second
   example:
     sfq run schema.sql . \"SELECT id FROM t, t\"
-  to do: give one an alias: FROM t a, t b
+  to do: give one an alias, as in FROM t a, t b
 
 Bytes count from 0. The examples are over the tables t (id, pop, name, geom),
 u (id, pop) and v (id).
@@ -123,10 +124,10 @@ sfq: Q5 at 7
   means: no table of the query has a column of this name
   example:
     sfq run schema.sql . \"SELECT nope FROM t\"
-  to do: name a column of the schema
+  to do: name a column of the schema, by the alias if its table has one
 
 sfq: Q5 at 7
-  means: the query has no table or alias of the name before the point. A table
+  means: no table or alias of the query has the name before the point. A table
     with an alias is known by the alias alone
   example:
     sfq run schema.sql . \"SELECT t.id FROM t x\"
@@ -145,11 +146,10 @@ pub(crate) fn q6() -> &'static str
 Q6: the query (status 5)
 
 sfq: Q6 at 7
-  means: both tables have a column of this name, and neither is named before
-    it
+  means: both tables have a column of this name; neither is named before it
   example:
     sfq run schema.sql . \"SELECT id FROM t a, t b\"
-  to do: write a.id or b.id
+  to do: write its table and a point before it, as a.id
 
 Bytes count from 0. The examples are over the tables t (id, pop, name, geom),
 u (id, pop) and v (id).
@@ -164,23 +164,23 @@ pub(crate) fn q7() -> &'static str
 Q7: the query (status 5)
 
 sfq: Q7 at 23
-  means: a number is compared with a text; the byte is where the comparison
-    begins
+  means: the types don't fit: a number is compared with a text; the byte is
+    where the comparison begins
   example:
     sfq run schema.sql . \"SELECT id FROM t WHERE pop = 'x'\"
-  to do: compare numbers with numbers and texts with texts; test for NULL by
-    IS NULL
+  to do: compare numbers with numbers, texts with texts in single quotes, and
+    shapes by ST_Equals; test for NULL by IS NULL
 
 sfq: Q7 at 23
-  means: a geometry is compared with a number or a text
+  means: the types don't fit: a geometry is compared with a number or a text
   example:
     sfq run schema.sql . \"SELECT id FROM t WHERE geom = 'POINT(1 1)'\"
   to do: write ST_Equals(geom, ST_GeomFromText('POINT(1 1)')), or compare
     spellings by ST_AsText(geom) = 'POINT(1 1)'
 
 sfq: Q7 at 23
-  means: the argument of a function is a column that isn't a geometry; the
-    byte is that of the function
+  means: the types don't fit: the argument of a function is a column that
+    isn't a geometry; the byte is that of the function
   example:
     sfq run schema.sql . \"SELECT id FROM t WHERE ST_Touches(pop, geom)\"
   to do: name a geometry column, or ST_GeomFromText of a string
@@ -198,17 +198,18 @@ pub(crate) fn q8() -> &'static str
 Q8: the query (status 5)
 
 sfq: Q8 at 55 W1 at 9
-  means: the text of an ST_GeomFromText is refused: the byte of its string,
-    then why, as for a geometry. There bytes count within the string, without
-    the quotes around it and with a doubled quote as one
+  means: a geometry is refused: the text of an ST_GeomFromText has a fault.
+    The byte is that of its string; then the line says why, as for a geometry.
+    There bytes count within the string, without the quotes around it and with
+    a doubled quote as one
   example:
     sfq run schema.sql . \\
       \"SELECT id FROM t WHERE ST_Within(geom, ST_GeomFromText('POINT(1 2'))\"
   to do: mend the text
 
 sfq: Q8 at 55 V3 0
-  means: the geometry of an ST_GeomFromText isn't valid: the byte of its
-    string, then why, as for a geometry
+  means: a geometry is refused: that of an ST_GeomFromText isn't valid. The
+    byte is that of its string; then the line says why, as for a geometry
   example:
     sfq run schema.sql . \\
       \"SELECT id FROM t WHERE ST_Within(geom, ST_GeomFromText('POLYGON((0 0,
@@ -228,11 +229,12 @@ pub(crate) fn q9() -> &'static str
 Q9: the query (status 5)
 
 sfq: Q9 at 45
-  means: the pattern of an ST_Relate isn't nine characters of T, F, *, 0, 1
-    and 2; the byte is that of its string
+  means: the pattern isn't nine characters of T, F, *, 0, 1 and 2; it is that
+    of an ST_Relate, and the byte is that of its string
   example:
     sfq run schema.sql . \"SELECT id FROM t WHERE ST_Relate(geom, geom, 'TTT')\"
-  to do: write one character for each of the nine cells, * for any
+  to do: write nine, each T, F, *, 0, 1 or 2; there is one for each cell, *
+    for any
 
 Bytes count from 0. The examples are over the tables t (id, pop, name, geom),
 u (id, pop) and v (id).
@@ -248,7 +250,8 @@ Q10: the query (status 5)
 
 sfq: Q10 at 87
   means: the 65th level of parentheses and NOTs begins here
-  to do: nest the condition less deeply
+  to do: leave out those that change nothing; else nest the condition less
+    deeply
 
 Bytes count from 0. The examples are over the tables t (id, pop, name, geom),
 u (id, pop) and v (id).
@@ -279,11 +282,12 @@ pub(crate) fn q12() -> &'static str
 Q12: the query (status 5)
 
 sfq: Q12 at 29
-  means: a number is less than -9223372036854775808 or greater than
-    9223372036854775807; the byte is its first digit
+  means: a number has more than 64 bits with its sign: it is less than
+    -9223372036854775808 or greater than 9223372036854775807; the byte is its
+    first digit
   example:
     sfq run schema.sql . \"SELECT id FROM t WHERE pop = 9223372036854775808\"
-  to do: no field is outside these either, so leave the test out
+  to do: no field is as large, so leave the test out
 
 Bytes count from 0. The examples are over the tables t (id, pop, name, geom),
 u (id, pop) and v (id).

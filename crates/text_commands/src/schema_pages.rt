@@ -11,15 +11,15 @@ pub(crate) fn s1() -> &'static str
 S1: the schema (status 3)
 
 sfq: S1 at 34
-  means: the text can't go on like this at byte 34: a word or a sign that
-    doesn't belong there, a reserved word as a name, or a byte that begins no
-    token
+  means: the schema can't go on like this at this byte: here is a word or a
+    sign that doesn't belong there, a reserved word as a name, or a byte that
+    begins no token
   example:
     D=$(mktemp -d)
     echo \"CREATE TABLE t (id INTEGER PRIMARY, pop INT);\" > \"$D/schema.sql\"
     sfq check \"$D/schema.sql\" \"$D\"
-  to do: write a table as CREATE TABLE name (column type, ..), with NOT NULL
-    or PRIMARY KEY after a type; the byte is where to look
+  to do: write tables as CREATE TABLE name (column type, ..), with NOT NULL or
+    PRIMARY KEY after a type; the byte is where to look
 
 sfq: S1 at 45
   means: the word that begins here isn't a type
@@ -56,7 +56,8 @@ pub(crate) fn s2() -> &'static str
 S2: the schema (status 3)
 
 sfq: S2 at 47
-  means: a table's or a column's name comes a second time (case doesn't count)
+  means: the name of a table or a column comes a second time; case doesn't
+    count
   example:
     D=$(mktemp -d)
     echo \"CREATE TABLE t (id INTEGER PRIMARY KEY, a INT, A\" \\
@@ -76,12 +77,12 @@ pub(crate) fn s3() -> &'static str
 S3: the schema (status 3)
 
 sfq: S3 at 31
-  means: the table that ends at this parenthesis has no key
+  means: the table has no key; it ends at this parenthesis
   example:
     D=$(mktemp -d)
     echo \"CREATE TABLE t (id INT, pop INT)\" > \"$D/schema.sql\"
     sfq check \"$D/schema.sql\" \"$D\"
-  to do: mark one INTEGER column PRIMARY KEY
+  to do: write PRIMARY KEY after the type of one INTEGER column
 
 Bytes count from 0.
 "
@@ -95,13 +96,13 @@ pub(crate) fn s4() -> &'static str
 S4: the schema (status 3)
 
 sfq: S4 at 46
-  means: a second PRIMARY KEY in one table
+  means: the table has a second PRIMARY KEY
   example:
     D=$(mktemp -d)
     echo \"CREATE TABLE t (id INTEGER PRIMARY KEY, b INT PRIMARY\" \\
       \"KEY)\" > \"$D/schema.sql\"
     sfq check \"$D/schema.sql\" \"$D\"
-  to do: leave one key
+  to do: leave PRIMARY KEY out here
 
 Bytes count from 0.
 "
@@ -132,7 +133,7 @@ S6: the schema (status 3)
 
 sfq: S6
   means: the schema is longer than 65,536 bytes
-  to do: shorten it: comments count too
+  to do: shorten it; comments count too
 
 Bytes count from 0.
 "

@@ -11,7 +11,7 @@ pub(crate) fn l1() -> &'static str
 L1: a table's data (status 4)
 
 sfq: t L1
-  means: the header lacks a column of the schema; so does a file that is empty
+  means: the table lacks a column of the schema; so does a file that is empty
     or has no header
   example:
     D=$(mktemp -d)
@@ -36,14 +36,14 @@ pub(crate) fn l2() -> &'static str
 L2: a table's data (status 4)
 
 sfq: t L2
-  means: the header has a column of the schema twice (case doesn't count)
+  means: the table has a column of the schema twice; case doesn't count
   example:
     D=$(mktemp -d)
     echo \"CREATE TABLE t (id INTEGER PRIMARY KEY, pop INTEGER, name\" \\
       \"TEXT);\" > \"$D/schema.sql\"
     printf 'id,pop,name,Pop\\n' > \"$D/t.csv\"
     sfq check \"$D/schema.sql\" \"$D\"
-  to do: rename one
+  to do: rename one of the two
 
 t is the table's name as the schema spells it. Records count from 1, the first
 record after the header.
@@ -58,14 +58,15 @@ pub(crate) fn l3() -> &'static str
 L3: a table's data (status 4)
 
 sfq: t L3 record 2
-  means: record 2 has more or fewer fields than the header
+  means: the record has more or fewer fields than the header
   example:
     D=$(mktemp -d)
     echo \"CREATE TABLE t (id INTEGER PRIMARY KEY, pop INTEGER, name\" \\
       \"TEXT);\" > \"$D/schema.sql\"
     printf 'id,pop,name\\n1,8,a\\n2,9\\n' > \"$D/t.csv\"
     sfq check \"$D/schema.sql\" \"$D\"
-  to do: write one field for each column; a field with a comma needs quotes
+  to do: write one field for each column of the header; a field with a comma
+    needs quotes
 
 t is the table's name as the schema spells it. Records count from 1, the first
 record after the header.
@@ -80,9 +81,9 @@ pub(crate) fn l4() -> &'static str
 L4: a table's data (status 4)
 
 sfq: t L4 record 2
-  means: a TEXT field isn't UTF-8
+  means: a text isn't UTF-8; it is of a TEXT column
   example: a name in Latin-1
-  to do: save the file as UTF-8
+  to do: save the table as UTF-8
 
 t is the table's name as the schema spells it. Records count from 1, the first
 record after the header.
@@ -97,7 +98,7 @@ pub(crate) fn l5() -> &'static str
 L5: a table's data (status 4)
 
 sfq: t L5 record 2
-  means: a field of an INTEGER column isn't a whole number of 64 bits, or is
+  means: a value of an INTEGER column isn't a whole number of 64 bits, or is
     only blanks
   example:
     D=$(mktemp -d)
@@ -105,7 +106,7 @@ sfq: t L5 record 2
       \"TEXT);\" > \"$D/schema.sql\"
     printf 'id,pop,name\\n1,8,a\\n2,9.5,b\\n' > \"$D/t.csv\"
     sfq check \"$D/schema.sql\" \"$D\"
-  to do: write digits with a sign or none; leave the field empty for NULL
+  to do: write digits, with a sign or none; leave the field empty for NULL
 
 t is the table's name as the schema spells it. Records count from 1, the first
 record after the header.
@@ -120,9 +121,9 @@ pub(crate) fn l6() -> &'static str
 L6: a table's data (status 4)
 
 sfq: t L6 record 2 W2 at 9
-  means: the text of a geometry is refused. What follows the record says why,
-    as for a geometry; bytes count within the field's text, without the quotes
-    around it
+  means: a geometry is refused: its text has a fault. What follows the record
+    says why, as for a geometry; bytes count within the field's text, without
+    the quotes around it
   example:
     D=$(mktemp -d)
     echo \"CREATE TABLE t (id INTEGER PRIMARY KEY, geom\" \\
@@ -133,8 +134,8 @@ sfq: t L6 record 2 W2 at 9
     is L3
 
 sfq: t L6 record 2 V3 0
-  means: the geometry isn't valid. What follows the record says why, as for a
-    geometry
+  means: a geometry is refused: it isn't valid. What follows the record says
+    why, as for a geometry
   example:
     D=$(mktemp -d)
     echo \"CREATE TABLE t (id INTEGER PRIMARY KEY, geom\" \\
@@ -157,14 +158,14 @@ pub(crate) fn l7() -> &'static str
 L7: a table's data (status 4)
 
 sfq: t L7 record 2
-  means: a valid geometry, but not of the column's type, even if it is empty
+  means: a geometry isn't of the column's type; it is valid, or empty
   example:
     D=$(mktemp -d)
     echo \"CREATE TABLE t (id INTEGER PRIMARY KEY, geom\" \\
       \"POLYGON);\" > \"$D/schema.sql\"
     printf 'id,geom\\n1,\\n2,POINT EMPTY\\n' > \"$D/t.csv\"
     sfq check \"$D/schema.sql\" \"$D\"
-  to do: declare the column GEOMETRY, which takes every type, or write the
+  to do: declare the column GEOMETRY, which takes every type; or write the
     column's type: a MULTIPOLYGON of one polygon isn't a POLYGON
 
 t is the table's name as the schema spells it. Records count from 1, the first
@@ -180,14 +181,14 @@ pub(crate) fn l8() -> &'static str
 L8: a table's data (status 4)
 
 sfq: t L8 record 1
-  means: an empty field in the key or in a NOT NULL column
+  means: the key or a NOT NULL column is empty
   example:
     D=$(mktemp -d)
     echo \"CREATE TABLE t (id INTEGER PRIMARY KEY, pop INTEGER, name\" \\
       \"TEXT);\" > \"$D/schema.sql\"
     printf 'id,pop,name\\n,9,b\\n' > \"$D/t.csv\"
     sfq check \"$D/schema.sql\" \"$D\"
-  to do: give it a value
+  to do: give the field a value, or take NOT NULL out of the schema
 
 t is the table's name as the schema spells it. Records count from 1, the first
 record after the header.
@@ -202,14 +203,14 @@ pub(crate) fn l9() -> &'static str
 L9: a table's data (status 4)
 
 sfq: t L9 record 3
-  means: record 3 has a key that an earlier record has
+  means: an earlier record has this key; keys are unique
   example:
     D=$(mktemp -d)
     echo \"CREATE TABLE t (id INTEGER PRIMARY KEY, pop INTEGER, name\" \\
       \"TEXT);\" > \"$D/schema.sql\"
     printf 'id,pop,name\\n1,,\\n2,,\\n1,,\\n' > \"$D/t.csv\"
     sfq check \"$D/schema.sql\" \"$D\"
-  to do: keys are unique
+  to do: number one of the two anew
 
 t is the table's name as the schema spells it. Records count from 1, the first
 record after the header.
@@ -224,8 +225,8 @@ pub(crate) fn l10() -> &'static str
 L10: a table's data (status 4)
 
 sfq: t L10
-  means: more than 100,000 records
-  to do: ask by sfq-scale, which takes more, or split the table
+  means: the table has more than 100,000 records
+  to do: split the table, or ask by sfq-scale; that takes more
 
 t is the table's name as the schema spells it. Records count from 1, the first
 record after the header.
@@ -240,19 +241,20 @@ pub(crate) fn l11() -> &'static str
 L11: a table's data (status 6)
 
 sfq: t L11
-  means: reading the table's file failed on the way (status 6)
+  means: reading the table failed on the way, or a record is past the limits;
+    here reading failed (status 6)
   example:
     D=$(mktemp -d)
     echo \"CREATE TABLE t (id INTEGER PRIMARY KEY, pop INTEGER, name\" \\
       \"TEXT);\" > \"$D/schema.sql\"
     mkdir \"$D/t.csv\"
     sfq check \"$D/schema.sql\" \"$D\"
-  to do: check the file and its disk
+  to do: check the disk, and whether each quote is closed
 
 sfq: t L11
-  means: a field has more than 1,048,576 bytes (its quotes count), or a record
-    has more than 34,603,008 bytes (blank lines before it count) or more than
-    100,000 fields (status 6)
+  means: a record is past the limits: a field has more than 1,048,576 bytes
+    (its quotes count), or the record has more than 34,603,008 bytes (blank
+    lines before it count) or more than 100,000 fields (status 6)
   example: a file of some megabytes in which a quote is never closed
   to do: close the quote; shorten the text, or keep it outside the table
 

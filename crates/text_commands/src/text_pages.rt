@@ -11,11 +11,11 @@ pub(crate) fn w1() -> &'static str
 W1: the text of a geometry (status 5, or 4 in a table's field)
 
 sfq: first W1 at 9
-  means: the text can't go on like this at byte 9; if the byte is the text's
-    length, the text ends too soon
+  means: the text can't go on like this at this byte, or ends too soon; then
+    the byte is the text's length
   example:
     sfq relate \"POINT(1 2\" \"POINT(0 0)\"
-  to do: close the parenthesis; the byte is where to look
+  to do: the byte is where to look; here a parenthesis has to be closed
 
 sfq: first W1 at 0
   means: the word that begins here isn't a type
@@ -42,11 +42,11 @@ pub(crate) fn w2() -> &'static str
 W2: the text of a geometry (status 5, or 4 in a table's field)
 
 sfq: first W2 at 6
-  means: the number that begins at byte 6 isn't whole
+  means: the number at this byte isn't whole
   example:
     sfq relate \"POINT(1.5 2)\" \"POINT(0 0)\"
-  to do: scale or round the coordinates to whole numbers; 1.0 and 1. count as
-    1
+  to do: scale the coordinates to a grid of whole numbers, of centimetres say;
+    sfq-import does. 1.0 and 1. count as 1
 
 Bytes count within the geometry's own text. Bytes count from 0.
 "
@@ -60,10 +60,10 @@ pub(crate) fn w3() -> &'static str
 W3: the text of a geometry (status 5, or 4 in a table's field)
 
 sfq: second W3 at 6
-  means: the number that begins at byte 6 is past 10,000,000 either way
+  means: the number at this byte is past 10,000,000 either way
   example:
     sfq relate \"POINT(0 0)\" \"POINT(10000001 0)\"
-  to do: scale the coordinates to the grid
+  to do: scale the coordinates to the grid; sfq-import moves and scales them
 
 Bytes count within the geometry's own text. Bytes count from 0.
 "
@@ -77,7 +77,7 @@ pub(crate) fn w4() -> &'static str
 W4: the text of a geometry (status 5, or 4 in a table's field)
 
 sfq: first W4
-  means: more than 10,000 positions, or more than 1,000 elements or rings
+  means: more than 10,000 positions, or more than 1,000 rings or elements
   to do: split the geometry
 
 Bytes count within the geometry's own text. Bytes count from 0.

@@ -11,13 +11,20 @@ pub(crate) fn v1() -> &'static str
 V1: a geometry that isn't valid (status 5, or 4 in a table's field)
 
 sfq: first V1 0
-  means: part 0 is too short: after repeated positions are dropped, a line has
-    one position, or a ring fewer than four (the closing one counts)
+  means: this line or ring has too few positions that differ: it is part 0, a
+    line with one position; repeated ones don't count
   example:
     sfq relate \"LINESTRING(3 3,3 3)\" \"POINT(0 0)\"
-  to do: give a line two positions that differ, a ring three corners that
-    differ and the first again at its end; or leave the geometry out. If
-    rounding made it so, a smaller step of the grid keeps it
+  to do: write a POINT, or leave the line out; a line has two positions that
+    differ. If rounding made it so, a smaller step of the grid keeps it
+
+sfq: first V1 0
+  means: this line or ring has too few positions that differ: it is part 0, a
+    ring with fewer than four; the closing one counts, repeated ones don't
+  example:
+    sfq relate \"POLYGON((0 0,1 0,0 0))\" \"POINT(0 0)\"
+  to do: write at least three corners that differ, and the first again at the
+    end; or leave the ring out
 
 Parts, rings and elements count from 0, and rings count through all polygons
 of a MULTIPOLYGON.
@@ -32,10 +39,10 @@ pub(crate) fn v2() -> &'static str
 V2: a geometry that isn't valid (status 5, or 4 in a table's field)
 
 sfq: first V2 0
-  means: the last position of ring 0 isn't its first
+  means: the last position of this ring isn't its first
   example:
     sfq relate \"POLYGON((0 0,4 0,4 4,0 4))\" \"POINT(0 0)\"
-  to do: close the ring
+  to do: write the first position again at the ring's end
 
 Parts, rings and elements count from 0, and rings count through all polygons
 of a MULTIPOLYGON.
@@ -50,10 +57,10 @@ pub(crate) fn v3() -> &'static str
 V3: a geometry that isn't valid (status 5, or 4 in a table's field)
 
 sfq: first V3 0
-  means: ring 0 meets or covers itself
+  means: this ring touches or crosses itself
   example:
     sfq relate \"POLYGON((0 0,4 4,4 0,0 4,0 0))\" \"POINT(0 0)\"
-  to do: split it where it meets itself
+  to do: split the ring where it meets itself
 
 Parts, rings and elements count from 0, and rings count through all polygons
 of a MULTIPOLYGON.
@@ -68,12 +75,12 @@ pub(crate) fn v4() -> &'static str
 V4: a geometry that isn't valid (status 5, or 4 in a table's field)
 
 sfq: first V4 1 2
-  means: rings 1 and 2 of one polygon share a point, even if only one
+  means: these two rings of one polygon share a point; one is enough
   example:
     sfq relate \\
       \"POLYGON((0 0,9 0,9 9,0 9,0 0),(1 1,4 1,4 4,1 1),(4 4,7 4,7 7,4 4))\" \\
       \"POINT(0 0)\"
-  to do: draw the two holes as one, or apart
+  to do: draw the two rings as one, or apart
 
 Parts, rings and elements count from 0, and rings count through all polygons
 of a MULTIPOLYGON.
@@ -88,13 +95,13 @@ pub(crate) fn v5() -> &'static str
 V5: a geometry that isn't valid (status 5, or 4 in a table's field)
 
 sfq: first V5 1
-  means: hole 1 isn't inside the outer ring
+  means: this hole isn't inside its outer ring
   example:
     sfq relate \\
       \"POLYGON((0 0,4 0,4 4,0 4,0 0),(20 20,21 20,21 21,20 20))\" \\
       \"POINT(0 0)\"
-  to do: draw holes inside the outer ring; write a second area as another
-    polygon of a MULTIPOLYGON
+  to do: draw the hole inside the outer ring, or write it as another polygon
+    of a MULTIPOLYGON
 
 Parts, rings and elements count from 0, and rings count through all polygons
 of a MULTIPOLYGON.
@@ -109,7 +116,7 @@ pub(crate) fn v6() -> &'static str
 V6: a geometry that isn't valid (status 5, or 4 in a table's field)
 
 sfq: first V6 1 2
-  means: of holes 1 and 2 one is inside the other
+  means: one of these two holes is inside the other
   example:
     sfq relate \\
       \"POLYGON((0 0,9 0,9 9,0 9,0 0),(1 1,8 1,8 8,1 8,1 1),(2 2,3 2,3 3,2 3,
@@ -131,12 +138,12 @@ pub(crate) fn v7() -> &'static str
 V7: a geometry that isn't valid (status 5, or 4 in a table's field)
 
 sfq: first V7 0 1
-  means: polygons 0 and 1 of a MULTIPOLYGON share a point, even if only one
+  means: these two polygons share a point; one is enough
   example:
     sfq relate \\
       \"MULTIPOLYGON(((0 0,4 0,4 4,0 4,0 0)),((4 4,5 4,5 5,4 4)))\" \\
       \"POINT(0 0)\"
-  to do: draw the two as one, or apart
+  to do: draw the two polygons as one, or apart
 
 Parts, rings and elements count from 0, and rings count through all polygons
 of a MULTIPOLYGON.
@@ -151,12 +158,13 @@ pub(crate) fn v8() -> &'static str
 V8: a geometry that isn't valid (status 5, or 4 in a table's field)
 
 sfq: first V8 0 1
-  means: polygon 0 is inside polygon 1
+  means: the first of these polygons is inside the second
   example:
     sfq relate \\
       \"MULTIPOLYGON(((1 1,2 1,2 2,1 1)),((0 0,9 0,9 9,0 9,0 0)))\" \\
       \"POINT(0 0)\"
-  to do: leave the inner one out; a polygon within a hole of the other is fine
+  to do: leave the inner polygon out, as the outer one has its points; a
+    polygon within a hole of the other is fine
 
 Parts, rings and elements count from 0, and rings count through all polygons
 of a MULTIPOLYGON.
