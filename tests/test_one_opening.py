@@ -1,4 +1,4 @@
-"""What `--why` opens: of a schema, a query and a geometry each file once, whether there is a fault or not, so that pipes are explained too."""
+"""What `--why` opens: of a schema, a query, a geometry and pairs each file once, whether there is a fault or not, so that pipes are explained too."""
 import os
 import subprocess
 import tempfile
@@ -34,6 +34,18 @@ RING_REASON = "sfq: V3 0: 0 0 to 4 4 and 4 0 to 0 4 share 2 2\nsfq: split the ri
 HALF = "1.5 isn't whole: scale the coordinates to a grid of whole numbers, of centimetres say; sfq-import does\n"
 
 
+# A pair that is refused and a record that is none, with what is written of both; and a join of more rows than go without a note, with its note.
+PAIRS = "POINT(1 2),POINT(1.5 2)\nPOINT(1 2)\n"
+PAIRS_REASON = f"""sfq: pairs L3 record 2
+sfq: record 1: second: {HALF}sfq: record 2: the number of its fields is 1: write two geometries in a record, one with a comma in quotes
+"""
+JOIN = "SELECT a.id FROM t a, t b LIMIT 1"
+JOIN_NOTE = """  1 | SELECT a.id FROM t a, t b LIMIT 1
+    |                       ^
+sfq: note: no condition joins a and b: each of 1001 rows meets each of 1001
+"""
+
+
 class Openings(unittest.TestCase):
     def setUp(self):
         room = tempfile.TemporaryDirectory(prefix="sfq-opening-", dir=sweeps.room())
@@ -65,6 +77,28 @@ class Openings(unittest.TestCase):
                     first, _, added = ran.err.decode().partition("\n")
                     self.assertEqual(f"{first}\n", line)
                     self.assertEqual(reason in added, bool(switch))
+
+    @needs_build
+    @needs("gcc", "cc")
+    def test_a_join_with_notes_opens_each_file_once(self):
+        self.make(SCHEMA, JOIN)
+        write(f"{self.folder}/t.csv", "id,name\n" + "".join(f"{it},a\n" for it in range(1001)))
+        for switch in ([], ["--why"]):
+            ran = sweeps.run(["run", *switch, "schema.sql", ".", "@query.sql"], folder=self.folder)
+            self.assertEqual((ran.counts["open"], ran.counts["statx"]), (3, 0), switch)
+            self.assertEqual(ran.err.decode(), JOIN_NOTE * bool(switch))
+
+    @needs_build
+    @needs("gcc", "cc")
+    def test_pairs_are_opened_once(self):
+        write(f"{self.folder}/pairs.csv", PAIRS)
+        ran = sweeps.run(["pairs", "--why", "pairs.csv"], folder=self.folder)
+        self.assertEqual((ran.counts["open"], ran.counts["statx"]), (1, 0))
+        self.assertEqual(ran.err.decode(), PAIRS_REASON)
+
+    @needs_build
+    def test_pairs_from_standard_input(self):
+        self.assertEqual(self.said(["pairs", "-"], PAIRS), PAIRS_REASON)
 
     @needs_build
     @needs("gcc", "cc")

@@ -252,7 +252,7 @@ class Streams(unittest.TestCase):
     @needs_build
     def test_pairs_from_standard_input(self):
         said = self.run_with_switch(["pairs", "-"], given="POINT(1 x),POINT(1 2)\n", stdout=subprocess.DEVNULL)
-        self.assertEqual(said, "sfq: - can't be read twice: save it as a file to see more\n")
+        self.assertEqual(said, "sfq: record 1: first: x isn't a number: write one here\n")
 
     @needs_build
     def test_an_empty_path(self):
@@ -261,25 +261,25 @@ class Streams(unittest.TestCase):
             self.assertEqual(said, f"sfq: {fault} unreadable\nsfq: the path is empty: name a file\n")
 
     @needs_build
-    def test_notes_are_quiet_of_what_cannot_be_read_twice(self):
+    def test_notes_on_a_query_from_standard_input(self):
         with tempfile.TemporaryDirectory(prefix="sfq-once-") as room:
             write(f"{room}/schema.sql", "CREATE TABLE t (id INTEGER PRIMARY KEY, name TEXT)")
             write(f"{room}/t.csv", "id,name\n1,a\n")
             words = ["run", f"{room}/schema.sql", room]
             said = self.run_with_switch([*words, "@-"], given="SELECT id FROM t WHERE name = NULL", stdout=subprocess.DEVNULL)
-            self.assertEqual(said, "")
+            self.assertEqual(said.splitlines()[2], "sfq: note: a comparison with NULL never holds: write IS NULL")
             with open("/dev/full", "wb") as full:
                 said = self.run_with_switch([*words, "SELECT id FROM t WHERE name = NULL"], stdout=full)
             self.assertEqual(said, "sfq: write failed\n")
 
     @needs_build
-    def test_a_named_pipe_is_not_waited_for(self):
+    def test_pairs_from_a_named_pipe(self):
         with tempfile.TemporaryDirectory(prefix="sfq-pipe-") as room:
             os.mkfifo(f"{room}/a.csv")
             ours = subprocess.Popen(["sh", "-c", f"printf 'POINT(1 x),POINT(1 2)\\n' > {room}/a.csv"])
             said = self.run_with_switch(["pairs", f"{room}/a.csv"], stdout=subprocess.DEVNULL)
             ours.wait(timeout=60)
-        self.assertEqual(said, f"sfq: {room}/a.csv can't be read twice: save it as a file to see more\n")
+        self.assertEqual(said, "sfq: record 1: first: x isn't a number: write one here\n")
 
     @needs_build
     def test_many_pairs_that_are_refused(self):

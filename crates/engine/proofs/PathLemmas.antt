@@ -18,8 +18,9 @@ use Rattle.text_commands.specs.Ends.{Serves, Then}
 use Rattle.text_commands.specs.Explanations.{MayExplainEncoding, MayExplainText, MayExplainTexts}
 use Rattle.text_commands.specs.Files.{Opening, Role, path_of}
 use Rattle.text_commands.specs.GivenTexts.{GivesBy, ReadsGeometry, ReadsQuery, file_named}
+use Rattle.text_commands.specs.PairNotes.{MayNotePairs}
 use Rattle.text_commands.specs.Reasons.{ShowsCells, ShowsVerdict}
-use Rattle.text_commands.specs.TextCommands.{OverTexts, OverWord, RelateEnds, RelatesFile}
+use Rattle.text_commands.specs.TextCommands.{OverTexts, OverWord, RelateEnds, RelatesFile, RelatesReader}
 use Rattle.text_commands.specs.declared.files.File.TheVariants as role
 
 -- ---- ends
@@ -244,7 +245,7 @@ module _ {F G R : Type 0} (files : Opening G R) (paths : Opening F R) (under : G
     says-of-run : (old new : E) (loaded : G) (query : List ℕ) (definitions : SpatialSchema) (end : End)
         → SaysOfRun files remaining taken failures old new loaded directory query definitions end
         → SaysOfRun paths remaining taken failures old new (under loaded) directory query definitions end
-    says-of-run old new loaded query definitions (Ok done) said = absurd said
+    says-of-run old new loaded query definitions (Ok done) said = said
     says-of-run old new loaded query definitions (Err (f.Query fault)) said = said
     says-of-run old new loaded query definitions (Err (f.Load name fault)) said =
         explains-load old new loaded definitions name.now fault said
@@ -306,6 +307,8 @@ module _ {F G R : Type 0} (files : Opening G R) (paths : Opening F R) (under : G
         → MayExplainText ntaken nfailures nold nnew text end
     texts : (first second : List ℕ) (end : End) → MayExplainTexts mtaken mfailures mold mnew first second end
         → MayExplainTexts ntaken nfailures nold nnew first second end
+    pairs : (known : Option (List ℕ)) (end : End) → MayNotePairs mtaken mfailures mold mnew known end
+        → MayNotePairs ntaken nfailures nold nnew known end
     run : (after : G) (directory query : List ℕ) (definitions : SpatialSchema) (end : End)
         → ExplainsRun files remaining mtaken mfailures mold mnew after directory why query definitions end
         → ExplainsRun paths remaining ntaken nfailures nold nnew (under after) directory why query definitions end
@@ -379,10 +382,18 @@ module _ {F G R : Type 0} (files : Opening G R) (paths : Opening F R) (under : G
         (λ nothing. (nothing.0, carries.encoding word nothing.1))
         (λ next query. runs-files next schema directory query end)
 
+    relates-reader : (file : Option R) (end : End)
+        → RelatesReader remaining taken failures old new mtaken mfailures mold mnew file end
+        → RelatesReader remaining taken failures old new ntaken nfailures nold nnew file end
+    relates-reader None (Ok done) ends = absurd ends
+    relates-reader None (Err failure) ends = (ends.0, ends.1, carries.same ends.2)
+    relates-reader (Some reader) end ends = (ends.0, carries.pairs (remaining reader) end ends.1)
+
     relates-file : (opener : G) (path : List ℕ) (end : End)
-        → RelatesFile files remaining taken failures old new opener path end
-        → RelatesFile paths remaining taken failures old new (under opener) path end
-    relates-file opener path end r = (r.0, under r.1, called role.Pairs (λ lent. refl) opener path r.0 r.1 r.2, r.3)
+        → RelatesFile files remaining taken failures old new mtaken mfailures mold mnew opener path end
+        → RelatesFile paths remaining taken failures old new ntaken nfailures nold nnew (under opener) path end
+    relates-file opener path end r =
+        (r.0, under r.1, called role.Pairs (λ lent. refl) opener path r.0 r.1 r.2, relates-reader r.0 end r.3)
 
     -- ---- orders
 
@@ -427,10 +438,8 @@ module _ {F G R : Type 0} (files : Opening G R) (paths : Opening F R) (under : G
         × MayExplainText ntaken nfailures nold nnew text ending) end
         ((new ≡ old) × (mnew ≡ mold)) ((new ≡ old) × (nnew ≡ nold)) (λ nothing. (nothing.0, carries.same nothing.1))
         (λ next text shows. (shows.0, carries.text text end shows.1))) served
-    serves-order etaken efailures opener (orders.Pairs path asks) status before after served = (
-      serves-more etaken efailures _ _ status before after (relates-file opener (string_bytes path)) served.0,
-      carries.same served.1,
-    )
+    serves-order etaken efailures opener (orders.Pairs path asks) status before after served =
+        serves-more etaken efailures _ _ status before after (relates-file opener (string_bytes path)) served
     serves-order etaken efailures opener (orders.Fault code) status before after served =
         (served.0, carries.same served.1)
 
@@ -457,6 +466,7 @@ by-paths {files = files} paths remaining etaken efailures taken failures old new
       encoding = λ word said. said;
       text = λ text end said. said;
       texts = λ first second end said. said;
+      pairs = λ known end said. said;
       run = λ loaded directory. explains-run files paths under called remaining mtaken mfailures directory mold mnew loaded why;
       check = λ loaded directory.
           explains-check files paths under called remaining mtaken mfailures directory mold mnew loaded why;
@@ -484,6 +494,7 @@ by-paths-alone {files = files} paths remaining etaken efailures taken failures o
       encoding = λ word said. inl refl;
       text = λ text end said. inl refl;
       texts = λ first second end said. inl (inl refl);
+      pairs = λ known end said. inl refl;
       run = λ loaded directory query definitions end said. refl;
       check = λ loaded directory definitions end said. refl;
     }) etaken efailures opener order status before after served

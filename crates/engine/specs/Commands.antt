@@ -10,6 +10,7 @@ use Rattle.failures.specs.declared.run_fault.Fault.TheVariants as faults
 use Rattle.engine.specs.declared.commands.TheConstants.{SCHEMA_BYTES}
 use Rattle.explanations.specs.Faults.{query_place, schema_place}
 use Rattle.explanations.specs.Marks.{IsExplanation}
+use Rattle.explanations.specs.Notes.{AreNotes}
 use Rattle.explanations.specs.Tables.{IsFront, IsTableExplanation, IsTableNote}
 use Rattle.feature_table.specs.Tables.{EachRecordsOf, EarlierLoad}
 use Rattle.feature_table.specs.Outcomes.{IsFailure}
@@ -191,6 +192,10 @@ module _ {M : Type 0} (taken : M → Option (List ℕ)) (failures : M → ℕ) (
   ExplainsAt text place =
       (explanation : List ℕ) × IsExplanation text place explanation × Writes (taken old) (taken new) (failures old) (failures new) explanation
 
+  -- notes on a query were written, at most two, or a beginning of them
+  abbrev pub NotesQuery : List ℕ → Type 0
+  NotesQuery query = (notes : List ℕ) × AreNotes query notes × Writes (taken old) (taken new) (failures old) (failures new) notes
+
   -- either what explains a fault at this place of a text was written, or a beginning of it, or memory ran out and nothing was written
   abbrev pub MayExplainAt : List ℕ → Option ℕ → Type 0
   MayExplainAt text place = (new ≡ old) ⊎ ExplainsAt text place
@@ -312,15 +317,16 @@ module _ {F R E : Type 0} (opens : Opening F R) (remaining : R → Option (List 
 -- the sink of explanations, before and after a command that leaves the opener in this state
 module _ {F R M : Type 0} (opens : Opening F R) (remaining : R → Option (List ℕ)) (taken : M → Option (List ℕ)) (failures : M → ℕ) (old new : M)
     (loaded : F) (directory : List ℕ) where
-  -- what explains a failure of a run: the fault of its query or of a table
+  -- what explains the end of a run: notes on its query, if it is done; else the fault of its query or of a table
   abbrev pub SaysOfRun : List ℕ → SpatialSchema → End → Type 0
+  SaysOfRun query definitions (Ok done) = NotesQuery taken failures old new query
   SaysOfRun query definitions (Err (f.Query fault)) = ExplainsAt taken failures old new query (query_place fault)
   SaysOfRun query definitions (Err (f.Load name fault)) =
       ExplainsLoad opens remaining taken failures old new loaded directory definitions name.now fault
-  SaysOfRun query definitions _ = ⊥
+  SaysOfRun query definitions (Err _) = ⊥
 
-  -- what is written of a run that ends so: nothing, if that isn't asked for; else what explains its failure, or nothing, where there is no failure
-  -- that is explained, or as for a table's fault, or memory ran out
+  -- what is written of a run that ends so: nothing, if that isn't asked for; else notes on its query, or what explains its failure, or nothing,
+  -- where there is no failure that is explained, or as for a table's fault, or memory ran out
   abbrev pub ExplainsRun : Bool → List ℕ → SpatialSchema → End → Type 0
   ExplainsRun false query definitions end = new ≡ old
   ExplainsRun true query definitions end = (new ≡ old) ⊎ SaysOfRun query definitions end
@@ -393,7 +399,7 @@ module _ {F R E S M : Type 0} (opens : Opening F R) (remaining : R → Option (L
   ServesOrder opener (orders.Why first None asks) status before after =
       Serves etaken efailures (ExplainsValidity opens remaining taken failures old new mtaken mfailures mold mnew opener (string_bytes first)) status before after
   ServesOrder opener (orders.Pairs file asks) status before after =
-      ServesUnexplained etaken efailures mold mnew (RelatesFile opens remaining taken failures old new opener (string_bytes file)) status before after
+      Serves etaken efailures (RelatesFile opens remaining taken failures old new mtaken mfailures mold mnew opener (string_bytes file)) status before after
   ServesOrder opener (orders.Fault words) status before after =
       ServesUnexplained etaken efailures mold mnew (ExplainsFault taken failures old new (map string_bytes words.items)) status before after
 

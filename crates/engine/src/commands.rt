@@ -1,11 +1,11 @@
 //! The commands of the program: `serve` does what the command line orders, over readers and sinks of any kind.
 
-ghost use Rattle.std.specs.Prelude.{◌≡◌, ◌<◌, [], false, length, take, Err, IfErr, IfOk, IfSome, OnErr, OnOk};
+ghost use Rattle.std.specs.Prelude.{◌≡◌, ◌<◌, ◌⊎◌, [], false, length, take, Err, IfErr, IfOk, IfSome, OnErr, OnOk};
 ghost use Rattle.command_line.specs.Orders.{asks_why};
 ghost use Rattle.std.specs.Fn.{CalledAt, TakesAt};
 ghost use Rattle.std.specs.String.{string_bytes};
 ghost use Rattle.std.specs.Io.KnownBytes.{Appends};
-ghost use Rattle.engine.specs.Commands.{ChecksFiles, ChecksTables, ExplainsCheck, ExplainsRun, ExplainsTable, IsFaultOf, IsNamed, IsUnread, LooksAgain, MayExplainAt, MayExplainFile, MayExplainLoad, MayExplainSchema, NotesTable, NotesTables, Opens, OpensTables, ReadsSchema, RunsFiles, RunsQuery, RunsTables, SaysQuote, SaysReason, ServesAlone, ServesOrder, check_text, table_names, table_paths};
+ghost use Rattle.engine.specs.Commands.{ChecksFiles, ChecksTables, ExplainsCheck, ExplainsRun, ExplainsTable, IsFaultOf, IsNamed, IsUnread, LooksAgain, MayExplainAt, MayExplainFile, MayExplainLoad, MayExplainSchema, NotesQuery, NotesTable, NotesTables, Opens, OpensTables, ReadsSchema, RunsFiles, RunsQuery, RunsTables, SaysQuote, SaysReason, ServesAlone, ServesOrder, check_text, table_names, table_paths};
 ghost use Rattle.engine.specs.Commands as spec;
 ghost use Rattle.explanations.specs.Faults.{query_place};
 ghost use Rattle.explanations.specs.Tables.{IsTableExplanation};
@@ -18,13 +18,13 @@ ghost use Rattle.text_commands.specs.Files.{OpensFile, OpensPath, path_of};
 
 use command_line::Order;
 use explanations::{
-    Found, last_record, open_quote_explained, query_explained_over, schema_explained,
+    Found, last_record, open_quote_explained, query_explained_over, query_notes, schema_explained,
     table_explained, table_front,
 };
 use failures::{Failure, Fault, ended, failed};
 use feature_table::{Database, Records, Schema};
 use itoa::Buffer;
-use query_runs::run_by_references;
+use query_runs::{RowCounts, run_counted};
 use record_reasons::{LineEnd, Reason, first_line_end, put_line_end, put_record_reason, reason_of};
 use rtree::{CurveTree, EnvelopeIndex, RowTree};
 use sql_text::{TableDef, read_schema};
@@ -42,7 +42,7 @@ use text_commands::{
 type ColumnIndex = CurveTree;
 
 /// The type of the index of each geometry column under a query with a single reference, and in a check: it is searched once at most.
-pub(crate) type RowIndex = RowTree;
+type RowIndex = RowTree;
 
 /// How many bytes of a schema's file are read: one more than a schema may have.
 const SCHEMA_BYTES: u64 = TEXT_LIMIT as u64 + 1;
@@ -80,8 +80,8 @@ pub fn serve<R: Read + Drop, F: FnMut(&str) -> Option<R>, S: Sink, E: Sink>(
 
 /// Like `serve`, with an opener that learns what each file is. It reports each candidate that a query looks at, and each row that it finds,
 /// to an observer. If the order asks why, it writes to `more` what explains a fault of the schema, of a table, of the query or of a geometry's
-/// text, or that the query's file isn't UTF-8, and after a check that is done a line for each table that has a field with a line end. A
-/// caller shows that behind the answer and the line of the fault.
+/// text, of which `pairs` may have many, or that the query's file isn't UTF-8; after a check that is done a line for each table that has a
+/// field with a line end, and after a run that is done notes on its query. A caller shows that behind the answer and the line of the fault.
 pub fn serve_observed<
     R: Read + Drop,
     F: FnMut(File<'_>) -> Option<R>,
@@ -184,7 +184,9 @@ fn serve_order<
             }
             None => serve_verdict(alloc, why, first.as_str(), opener, out, err, more),
         },
-        Order::Pairs { file, .. } => serve_pairs(alloc, file.as_str(), opener, out, err),
+        Order::Pairs { file, .. } => {
+            serve_pairs(alloc, why, file.as_str(), opener, out, err, more)
+        }
         Order::Fault { words } => serve_fault(alloc, words.as_slice(), out, err),
     }
 }
@@ -269,25 +271,28 @@ fn serve_run<
         Ok(schema) => schema,
         Err(failure) => return failed(&failure, err),
     };
+    let mut counts = RowCounts::new(paths.why);
     let end = run_over(
         alloc,
         &schema,
         paths.directory,
         query,
+        &mut counts,
         &mut opener,
         out,
         observer,
     );
-    explain_run(alloc, paths, &schema, query, &end, opener, more);
+    explain_run(alloc, paths, &schema, query, &counts, &end, opener, more);
     ended(end, err)
 }
 
-/// Opens the files of all tables, and runs a query over them.
+/// Opens the files of all tables, and runs a query over them. It counts their rows if that is asked for.
 fn run_over<'s, R: Read + Drop, F: FnMut(File<'_>) -> Option<R>, S: Sink, O: RowObserver>(
     alloc: Global,
     schema: &'s Schema,
     directory: &str,
     query: &str,
+    counts: &mut RowCounts,
     opener: &mut F,
     out: &mut S,
     observer: &mut O,
@@ -298,8 +303,8 @@ fn run_over<'s, R: Read + Drop, F: FnMut(File<'_>) -> Option<R>, S: Sink, O: Row
         opener.new directory.now query.now schema.entry.now result }
 {
     let readers = open_tables(alloc, schema, directory, opener)?;
-    let ran = run_by_references::<ColumnIndex, RowIndex, R, S, O>(
-        alloc, schema, readers, query, out, observer,
+    let ran = run_counted::<ColumnIndex, RowIndex, R, S, O>(
+        alloc, schema, readers, query, counts, out, observer,
     );
     match ran {
         Ok(_) => Ok(()),
@@ -334,13 +339,15 @@ fn serve_check<R: Read + Drop, F: FnMut(File<'_>) -> Option<R>, S: Sink, E: Sink
     ended(end, err)
 }
 
-/// Writes what explains the end of a run, if that is asked for and the end is a fault of the query, or one of a table whose reason is found.
+/// Writes what explains the end of a run, if that is asked for and the end is a fault of the query, or one of a table whose reason is found;
+/// and notes on the query of a run that is done.
 #[inline(never)]
 fn explain_run<R: Read + Drop, F: FnMut(File<'_>) -> Option<R>, M: Sink>(
     alloc: Global,
     paths: &Paths<'_>,
     schema: &Schema,
     query: &str,
+    counts: &RowCounts,
     end: &Result<(), Failure<'_>>,
     opener: F,
     more: &mut M,
@@ -354,6 +361,7 @@ fn explain_run<R: Read + Drop, F: FnMut(File<'_>) -> Option<R>, M: Sink>(
         return;
     }
     match *end {
+        Ok(()) => note_query(alloc, schema, query, counts, more),
         Err(Failure::Query(fault)) => explain_query(alloc, schema, query, fault, more),
         Err(Failure::Load(name, fault)) => {
             explain_load(alloc, schema, paths.directory, name, fault, opener, more)
@@ -387,6 +395,25 @@ fn explain_check<R: Read + Drop, F: FnMut(File<'_>) -> Option<R>, M: Sink>(
             explain_load(alloc, schema, paths.directory, name, fault, opener, more)
         }
         Err(_) => {}
+    }
+}
+
+/// Writes notes on the query of a run that is done: what it means, where most readers think otherwise. Nothing is written if memory ran out,
+/// as for the numbers of rows.
+fn note_query<M: Sink>(
+    alloc: Global,
+    schema: &Schema,
+    query: &str,
+    counts: &RowCounts,
+    more: &mut M,
+)
+    ensures { (more.new ≡ more.old) ⊎ NotesQuery M.taken M.failures more.old more.new query.now }
+{
+    let RowCounts::Counted(rows) = counts else {
+        return;
+    };
+    if let Ok(notes) = query_notes(alloc, query.as_bytes(), schema, rows.as_slice()) {
+        let _ = put_all(more, notes.as_slice());
     }
 }
 
@@ -817,12 +844,6 @@ fn schema_in<R: Read + Drop, M: Sink>(
     }
 }
 
-/// The schema in a file that is opened once more, if it has one.
-pub(crate) fn schema_again<R: Read + Drop>(alloc: Global, file: Option<R>) -> Option<Schema> {
-    let mut unwritten = MemorySink::new(alloc);
-    schema_in(alloc, file, false, &mut unwritten).ok()
-}
-
 /// The failure of the program for a fault of a schema.
 fn schema_failure(fault: SchemaFault) -> Failure<'static>
     ensures { result ≡ spec.schema_failure fault }
@@ -834,7 +855,7 @@ fn schema_failure(fault: SchemaFault) -> Failure<'static>
 }
 
 /// Opens the files of all tables, in the schema's order.
-pub(crate) fn open_tables<'s, R: Read + Drop, F: FnMut(File<'_>) -> Option<R>>(
+fn open_tables<'s, R: Read + Drop, F: FnMut(File<'_>) -> Option<R>>(
     alloc: Global,
     schema: &'s Schema,
     directory: &str,

@@ -4,11 +4,9 @@
 #![tactic(auto)]
 
 mod commands;
-mod explained_orders;
 pub mod first_run;
 
 pub use commands::{serve, serve_observed};
-pub use explained_orders::{explain_order, note_order};
 pub use failures::{
     Failure, Fault, GeometryWord, failed, failed_words, fault_line, flushed, status,
 };

@@ -3,7 +3,9 @@
 #![tactic(auto)]
 
 mod record_fields;
+mod row_counts;
 mod runs;
 
 pub use record_fields::{header_record, put_row};
-pub use runs::{one_field, put_pair, run, run_by_references, run_observed};
+pub use row_counts::RowCounts;
+pub use runs::{one_field, put_pair, run, run_by_references, run_counted, run_observed};

@@ -6,6 +6,8 @@ ghost use Rattle.std.specs.List.{concat};
 ghost use Rattle.query_runs.specs.Puts.{PutsText};
 ghost use Rattle.query_runs.specs.Runs.{ReturnsQuery, CountsQuery, IsOfTables, RunsReaders, bound_text, choice_text, count_after, count_text, planned_text, planned_work, rows_of_choices, rows_text};
 ghost use Rattle.query_runs.specs.RecordTexts.{record_text};
+ghost use Rattle.feature_table.specs.Tables.{records_in};
+ghost use Rattle.query_runs.specs.RowCounts.{CountsLoaded};
 ghost use Rattle.executor.specs.FoundPairs.{HasReferences};
 ghost use Rattle.executor.specs.Pairs.{IsPlace, pair_rows};
 ghost use Rattle.executor.specs.Streams.{to_come, work_at_end};
@@ -21,6 +23,7 @@ ghost use Rattle.table_model.specs.QueryReading.{query_of};
 ghost use Rattle.table_model.specs.RunOutcomes.{ByEveryMatrix, kept_count};
 ghost use Rattle.table_model.specs.Work as spec;
 
+use crate::row_counts::{RowCounts, count_rows};
 use crate::{header_record, put_row};
 use csv::ByteRecord;
 use executor::{RowPair, Rows, Work};
@@ -98,29 +101,65 @@ pub fn run_by_references<
     ensures { RunsReaders result schema.now (map R.remaining readers.items) query.now
         (S.taken sink.old) (S.taken sink.new) (S.failures sink.old) (S.failures sink.new) }
 {
-    let query = read_query(alloc, query)?;
-    if query.references.as_slice().len() == 1 {
-        return load_and_answer::<L, R, S, O>(alloc, schema, readers, &query, sink, observer);
-    }
-    load_and_answer::<I, R, S, O>(alloc, schema, readers, &query, sink, observer)
+    let mut counts = RowCounts::Unasked;
+    run_counted::<I, L, R, S, O>(alloc, schema, readers, query, &mut counts, sink, observer)
 }
 
-/// Loads all tables and runs a query over them. What it promises holds for each text that is read as this query.
+/// Like `run_by_references`. If the numbers of rows of the tables are asked for, it counts them once all tables have loaded. Where
+/// memory runs out for that alone, they stay asked for.
+pub fn run_counted<
+    I: EnvelopeIndex + Drop,
+    L: EnvelopeIndex + Drop,
+    R: Read + Drop,
+    S: Sink,
+    O: RowObserver,
+>(
+    alloc: Global,
+    schema: &Schema,
+    readers: Vec<R>,
+    query: &str,
+    counts: &mut RowCounts,
+    sink: &mut S,
+    observer: &mut O,
+) -> Result<Work, Fault>
+    requires { length readers.items ≡ length schema.now }
+    ensures runs { RunsReaders result schema.now (map R.remaining readers.items) query.now
+        (S.taken sink.old) (S.taken sink.new) (S.failures sink.old) (S.failures sink.new) }
+    ensures counts { (texts : List (List ℕ)) → map R.remaining readers.items ≡ map Some texts
+        → OnOk result (CountsLoaded schema.now (map records_in texts) counts.old counts.new) }
+    ensures unasked { counts.old ≡ RowCounts.Unasked → counts.new ≡ RowCounts.Unasked }
+{
+    let query = read_query(alloc, query)?;
+    if query.references.as_slice().len() == 1 {
+        return load_and_answer::<L, R, S, O>(
+            alloc, schema, readers, &query, counts, sink, observer,
+        );
+    }
+    load_and_answer::<I, R, S, O>(alloc, schema, readers, &query, counts, sink, observer)
+}
+
+/// Loads all tables, counts their rows if that is asked for, and runs a query over them. What it promises holds for each text that is
+/// read as this query.
 #[inline(never)]
 fn load_and_answer<I: EnvelopeIndex + Drop, R: Read + Drop, S: Sink, O: RowObserver>(
     alloc: Global,
     schema: &Schema,
     readers: Vec<R>,
     query: &Query<'_>,
+    counts: &mut RowCounts,
     sink: &mut S,
     observer: &mut O,
 ) -> Result<Work, Fault>
     requires { length readers.items ≡ length schema.now }
-    ensures { (text : List ℕ) → query_of text ≡ Ok query.now
+    ensures runs { (text : List ℕ) → query_of text ≡ Ok query.now
         → RunsReaders result schema.now (map R.remaining readers.items) text
         (S.taken sink.old) (S.taken sink.new) (S.failures sink.old) (S.failures sink.new) }
+    ensures counts { (texts : List (List ℕ)) → map R.remaining readers.items ≡ map Some texts
+        → OnOk result (CountsLoaded schema.now (map records_in texts) counts.old counts.new) }
+    ensures unasked { counts.old ≡ RowCounts.Unasked → counts.new ≡ RowCounts.Unasked }
 {
     let database: Database<'_, I> = Database::load(alloc, schema, readers)?;
+    count_rows(alloc, &database, counts);
     answer_query(alloc, query, &database, sink, observer)
 }
 

@@ -11,7 +11,7 @@ use std::alloc::{AllocError, Global};
 use std::test::Fail;
 use streams::MemorySink;
 use table_model::faults::{QueryFault, SchemaFault};
-use text_commands::{File, explain_pairs, explain_unequal, serve_relate, serve_verdict};
+use text_commands::{File, serve_pairs, serve_relate, serve_verdict};
 
 const TABLES: [&[u8]; 2] = [b"building", b"parcel"];
 
@@ -186,20 +186,38 @@ fn a_sentence_comes_without_its_place(rt: HostRuntime) -> Result<(), Fail> {
     Ok(())
 }
 
-#[test]
-fn pairs_that_are_refused_are_noted(rt: HostRuntime) -> Result<(), Fail> {
-    let alloc = rt.alloc();
+/// What explains the pairs of a text, if that is asked for, and the status.
+fn explained_pairs(alloc: Global, text: &[u8], why: bool) -> (MemorySink, u8) {
+    let mut out = MemorySink::new(alloc);
+    let mut err = MemorySink::new(alloc);
+    let mut more = MemorySink::new(alloc);
+    let opener = |_: File<'_>| Some(text);
+    let status = serve_pairs(alloc, why, "p", opener, &mut out, &mut err, &mut more);
+    (more, status)
+}
+
+/// A text of 102 pairs, of which all but the first are refused.
+fn refused_pairs(alloc: Global) -> Result<Vec<u8>, AllocError> {
     let mut text = Vec::from_slice(alloc, b"POINT(1 2),POINT(1 2)\n")?;
     for _ in 0..101 {
         text.extend_from_slice(b"POINT(1 2),POINT(1.5 2)\n")?;
     }
-    let mut err = MemorySink::new(alloc);
-    explain_pairs(alloc, "p", |_: File<'_>| Some(text.as_slice()), &mut err);
+    Ok(text)
+}
+
+#[test]
+fn pairs_that_are_refused_are_noted(rt: HostRuntime) -> Result<(), Fail> {
+    let alloc = rt.alloc();
+    let text = refused_pairs(alloc)?;
+    let (more, status) = explained_pairs(alloc, text.as_slice(), true);
+    assert_eq!(rt; status, 5);
     let first =
         b"sfq: record 2: second: 1.5 isn't whole: scale the coordinates to a grid of whole numbers, of centimetres say; sfq-import does\n";
-    assert!(rt; err.bytes().starts_with(first));
-    let lines = err.bytes().iter().filter(|byte| **byte == b'\n').count();
+    assert!(rt; more.bytes().starts_with(first));
+    let lines = more.bytes().iter().filter(|byte| **byte == b'\n').count();
     assert_eq!(rt; lines, 100);
+    let (more, status) = explained_pairs(alloc, text.as_slice(), false);
+    assert!(rt; more.bytes().is_empty() && status == 5);
     Ok(())
 }
 
@@ -208,15 +226,13 @@ fn pairs_that_are_refused_are_noted(rt: HostRuntime) -> Result<(), Fail> {
 fn a_record_that_is_no_pair_is_explained(rt: HostRuntime) {
     let alloc = rt.alloc();
     let text = b"POINT(1 2),POINT(1 2)\n\nLINESTRING(0 0,1 1),POINT(1 1)\nPOINT(1 2)\n";
-    let mut err = MemorySink::new(alloc);
-    explain_unequal(alloc, "p", |_: File<'_>| Some(text.as_slice()), &mut err);
     let said =
         b"sfq: record 2: the number of its fields is 3: write two geometries in a record, one with a comma in quotes\n";
-    assert_eq!(rt; err.bytes(), said.as_slice());
-    let text = b"POINT(1 2),POINT(1 2)\n";
-    let mut err = MemorySink::new(alloc);
-    explain_unequal(alloc, "p", |_: File<'_>| Some(text.as_slice()), &mut err);
-    assert!(rt; err.bytes().is_empty());
+    let (more, status) = explained_pairs(alloc, text, true);
+    assert_eq!(rt; more.bytes(), said.as_slice());
+    assert_eq!(rt; status, 4);
+    let (more, status) = explained_pairs(alloc, b"POINT(1 2),POINT(1 2)\n", true);
+    assert!(rt; more.bytes().is_empty() && status == 0);
 }
 
 const SCHEMA: &str =

@@ -1,7 +1,7 @@
 //! What the files that a command opens are, in their order.
 
 use command_line::Order;
-use engine::{File, Unobserved, explain_order, note_order, serve_observed};
+use engine::{File, Unobserved, serve_observed};
 use std::alloc::{AllocError, Global};
 use std::cell::Cell;
 use std::test::Fail;
@@ -85,10 +85,17 @@ fn pairs_order(alloc: Global) -> Result<Order, AllocError> {
     })
 }
 
+/// What a run opens of a query.
+fn opened_by_run(alloc: Global, query: &str, why: bool) -> Result<u64, Fail> {
+    opened(alloc, &run_order(alloc, query, why)?)
+}
+
+/// Notes on the query open nothing more.
 #[test]
 fn a_run_opens_its_query_the_schema_and_each_table(rt: HostRuntime) -> Result<(), Fail> {
-    let order = run_order(rt.alloc(), "@q", false)?;
-    assert!(rt; opened(rt.alloc(), &order)? == 312);
+    assert!(rt; opened_by_run(rt.alloc(), "@q", false)? == 312);
+    assert!(rt; opened_by_run(rt.alloc(), "@q", true)? == 312);
+    assert!(rt; opened_by_run(rt.alloc(), "SELECT a.id FROM t a, t b", true)? == 12);
     Ok(())
 }
 
@@ -148,64 +155,5 @@ fn a_query_that_is_not_utf8_is_said_to_be_so(rt: HostRuntime) -> Result<(), Fail
     let said = "sfq: q isn't UTF-8: save it as UTF-8\n";
     assert!(rt; unread(rt.alloc(), true, said)? == (3, true));
     assert!(rt; unread(rt.alloc(), false, "")? == (3, true));
-    Ok(())
-}
-
-/// The digits of the files that explaining an order opens, which has ended with a status.
-fn explained(alloc: Global, order: &Order, status: u8) -> u64 {
-    let digits = Cell::new(0_u64);
-    let mut err = MemorySink::new(alloc);
-    let opener = |file: File<'_>| {
-        let (digit, text) = digit_and_text(file);
-        digits.set(digits.get().wrapping_mul(10).wrapping_add(digit));
-        Some(text)
-    };
-    explain_order(alloc, order, status, opener, &mut err);
-    digits.get()
-}
-
-/// Only pairs are opened again, of which some are refused, and only for an order that asks why.
-#[test]
-fn pairs_that_are_refused_are_opened_again(rt: HostRuntime) -> Result<(), Fail> {
-    let order = pairs_order(rt.alloc())?;
-    assert!(rt; explained(rt.alloc(), &order, 5) == 0);
-    let order = order.with_why();
-    assert!(rt; explained(rt.alloc(), &order, 5) == 5);
-    assert!(rt; explained(rt.alloc(), &order, 6) == 0);
-    assert!(rt; explained(rt.alloc(), &order, 7) == 0);
-    let run = run_order(rt.alloc(), "@q", true)?;
-    assert!(rt; explained(rt.alloc(), &run, 6) == 0);
-    Ok(())
-}
-
-/// The files that notes on an order open.
-fn noted(alloc: Global, order: &Order) -> u64 {
-    let digits = Cell::new(0_u64);
-    let mut err = MemorySink::new(alloc);
-    let opener = |file: File<'_>| {
-        let (digit, text) = digit_and_text(file);
-        digits.set(digits.get().wrapping_mul(10).wrapping_add(digit));
-        Some(text)
-    };
-    note_order(alloc, order, opener, &mut err);
-    digits.get()
-}
-
-/// The same of a run of a query.
-fn noted_of(alloc: Global, query: &str, why: bool) -> Result<u64, AllocError> {
-    Ok(noted(alloc, &run_order(alloc, query, why)?))
-}
-
-/// The same where the order was asked why by itself.
-fn noted_with_why(alloc: Global, query: &str) -> Result<u64, AllocError> {
-    Ok(noted(alloc, &run_order(alloc, query, false)?.with_why()))
-}
-
-/// Tables are opened again only for a query over two, whose rows are counted; and nothing is, unless an order asks why.
-#[test]
-fn notes_open_the_query_and_the_schema(rt: HostRuntime) -> Result<(), Fail> {
-    assert!(rt; noted_of(rt.alloc(), "@q", false)? == 0);
-    assert!(rt; noted_with_why(rt.alloc(), "@q")? == 31);
-    assert!(rt; noted_of(rt.alloc(), "SELECT a.id FROM t a, t b", true)? == 12);
     Ok(())
 }

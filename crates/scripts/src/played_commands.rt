@@ -2,7 +2,7 @@
 
 use crate::files::Files;
 use command_line::{Order, order};
-use engine::{File, Unobserved, explain_order, note_order, serve_observed};
+use engine::{File, Unobserved, serve_observed};
 use std::alloc::{AllocError, Global};
 use streams::MemorySink;
 
@@ -52,12 +52,6 @@ fn output_of_order(alloc: Global, files: &Files, order: &Order) -> Result<Vec<u8
         &mut more,
         &mut Unobserved,
     );
-    let again = |file: File<'_>| files.text_at(file.path());
-    if status == 0 {
-        note_order(alloc, order, again, &mut more);
-    } else {
-        explain_order(alloc, order, status, again, &mut more);
-    }
     let mut text = Vec::from_slice(alloc, out.bytes())?;
     if !err.bytes().is_empty() || !more.bytes().is_empty() {
         text.extend_from_slice(b"! ")?;

@@ -8,12 +8,10 @@ mod openings;
 mod progress;
 
 use crate::coloured::{Coloured, is_wanted};
-use crate::openings::{Openings, opened_again, opened_quietly};
+use crate::openings::Openings;
 use crate::progress::{Cleared, Progress};
 use command_line::{Misuse, Order, order, read_words, texts_of};
-use engine::{
-    Failure, File, explain_order, failed, failed_words, flushed, note_order, serve_observed,
-};
+use engine::{Failure, File, failed, failed_words, flushed, serve_observed};
 use memchr::memrchr;
 use std::alloc::Global;
 use std::env;
@@ -23,9 +21,6 @@ use streams::{MemorySink, Sink, StdSink, put_all};
 
 /// The status of a command that can't open or read a file.
 const UNREAD: u8 = 6;
-
-/// The status if memory ran out.
-const OUT_OF_MEMORY: u8 = 7;
 
 fn main(rt: HostRuntime) -> ExitCode {
     let progress = Progress::new(&rt);
@@ -50,8 +45,9 @@ fn main(rt: HostRuntime) -> ExitCode {
         mut openings,
         more,
     } = serve(&rt, &progress, &order, &mut out, &mut err);
+    let served = status;
     let status = flushed(&mut out, status, &mut err);
-    if progress.is_broken() {
+    if progress.is_broken() || status != served {
         return ExitCode::from(status);
     }
     if status == UNREAD && openings.said().is_empty() && more.bytes().is_empty() {
@@ -60,12 +56,6 @@ fn main(rt: HostRuntime) -> ExitCode {
     let mut explained = explaining(&rt, &progress);
     let _ = put_all(&mut explained, openings.said());
     let _ = put_all(&mut explained, whole_lines(more.bytes()));
-    if is_explained(status) && openings.said().is_empty() && more.bytes().is_empty() {
-        explain(&rt, &progress, &order, status);
-    }
-    if status == 0 {
-        note(&rt, &progress, &order);
-    }
     ExitCode::from(status)
 }
 
@@ -109,33 +99,12 @@ fn whole_lines(text: &[u8]) -> &[u8] {
     }
 }
 
-/// Writes what explains the pairs that an order refuses, if it asks for that. Their file is opened once more.
-fn explain<'p>(rt: &HostRuntime, progress: &'p Progress<'p>, order: &Order, status: u8) {
-    let mut err = explaining(rt, progress);
-    let mut again = explaining(rt, progress);
-    let opener = |file: File<'_>| opened_again(rt, progress, file, &mut again);
-    explain_order(rt.alloc(), order, status, opener, &mut err);
-}
-
-/// Writes notes on the query of an order that is done, if it asks for that. Files are opened once more; of one that can't be, nothing is said.
-#[inline(never)]
-fn note<'p>(rt: &HostRuntime, progress: &'p Progress<'p>, order: &Order) {
-    let mut err = explaining(rt, progress);
-    let opener = |file: File<'_>| opened_quietly(rt, progress, file);
-    note_order(rt.alloc(), order, opener, &mut err);
-}
-
 /// Standard error, for what explains a fault.
 fn explaining<'p>(
     rt: &HostRuntime,
     progress: &'p Progress<'p>,
 ) -> StdSink<Coloured<Cleared<'p, Stderr>>> {
     StdSink::new(Coloured::new(progress.before(rt.stderr()), is_wanted(rt)))
-}
-
-/// Whether something is said of a fault besides its line: there is one, and memory didn't run out.
-fn is_explained(status: u8) -> bool {
-    status != 0 && status != OUT_OF_MEMORY
 }
 
 /// The order of the words; where the environment asks to say more of a fault, the order does too: `SFQ_WHY` is there, and neither empty nor

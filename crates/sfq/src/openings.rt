@@ -96,7 +96,7 @@ impl Openings {
 /// The reader of a file that is opened once more, to explain a fault. If it can't be opened, or is a folder, or nothing that gives the same
 /// bytes again, that is written, and the result is None. Where the folder that should have it isn't there, that is written instead.
 #[inline(never)]
-pub fn opened_again<'p, E: Sink>(
+fn opened_again<'p, E: Sink>(
     rt: &HostRuntime,
     progress: &'p Progress<'p>,
     file: File<'_>,
@@ -109,17 +109,6 @@ pub fn opened_again<'p, E: Sink>(
             None
         }
     }
-}
-
-/// The reader of a file that is opened once more, for notes on a query. If there is none, nothing is said of that.
-#[inline(never)]
-pub fn opened_quietly<'p>(
-    rt: &HostRuntime,
-    progress: &'p Progress<'p>,
-    file: File<'_>,
-) -> Option<CommandReader<Reported<'p>>> {
-    let input = lasting_input(rt, file).ok()?;
-    Some(reader(progress, file, input))
 }
 
 /// Writes why the file at a path can't be opened: these words behind its path, or that its folder isn't there.

@@ -44,10 +44,10 @@ fails_behind found.Nothing = false
 fails_behind found.Denied = false
 fails_behind found.Closed = false
 
--- what is said after a path where what was found there can't be read again (the words: this project's choice)
+-- what is said after a path where what was found there can't be opened or is a folder (the words: this project's choice)
 abbrev pub words_of : Found → Option (List ℕ)
 words_of found.Lasting = None
-words_of found.Passing = Some (codes " can't be read twice: save it as a file to see more")
+words_of found.Passing = None
 words_of found.Folder = Some (codes " is a folder")
 words_of found.Broken = None
 words_of found.Nothing = Some (codes " isn't there")

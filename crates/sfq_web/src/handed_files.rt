@@ -62,13 +62,12 @@ impl Found {
         matches!(self, Found::Folder | Found::Broken)
     }
 
-    /// What is said after its path where it can't be read again; nothing of a file.
+    /// What is said after its path where it can't be opened or is a folder; nothing of a file.
     pub(crate) fn words(self) -> Option<&'static str>
         ensures { option_map (λ words. words.now) result ≡ words_of self }
     {
         match self {
-            Found::Lasting | Found::Broken => None,
-            Found::Passing => Some(" can't be read twice: save it as a file to see more"),
+            Found::Lasting | Found::Passing | Found::Broken => None,
             Found::Folder => Some(" is a folder"),
             Found::Nothing => Some(" isn't there"),
             Found::Denied => Some(" may not be read by this user"),

@@ -166,43 +166,6 @@ impl<'f> Handing<'f> {
             None
         }
     }
-
-    /// The reader of a file that is opened once more, to explain a fault. If it isn't a file that can be read again, a line says that, and
-    /// the result is None.
-    pub(crate) fn open_again(
-        &self,
-        alloc: Global,
-        file: File<'_>,
-        said: &mut MemorySink,
-    ) -> Option<HandedReader<'f>> {
-        let (reader, words) = self.opened_again(file);
-        if let Some(words) = words
-            && let Ok(line) = unopened(alloc, file.path(), words)
-        {
-            let _ = put_all(said, line.as_slice());
-        }
-        reader
-    }
-
-    /// The reader of a file that is opened once more, for notes on a query. If there is none, nothing is said of that.
-    pub(crate) fn open_quietly(&self, file: File<'_>) -> Option<HandedReader<'f>> {
-        let (reader, _) = self.opened_again(file);
-        reader
-    }
-
-    /// The reader of a file that can be read again, or what is said after its path where it can't be.
-    fn opened_again(&self, file: File<'_>) -> (Option<HandedReader<'f>>, Option<&'static str>) {
-        if is_standard(file) {
-            return (None, Found::Passing.words());
-        }
-        let Some(found) = file_at(self.files, file.path()) else {
-            return (None, Found::Closed.words());
-        };
-        match found.found.words() {
-            Some(words) => (None, Some(words)),
-            None => (found.opened(file), None),
-        }
-    }
 }
 
 /// Whether none of some files is at a path; or it is the path of standard input, and that isn't handed in.

@@ -8,15 +8,13 @@ ghost use Rattle.streams.specs.MemorySinks.{memory_bytes};
 
 use crate::handing::{Handing, Missed};
 use command_line::{Misuse, Order, order};
-use engine::{explain_order, note_order, serve_observed};
+use engine::serve_observed;
 use std::alloc::{AllocError, Global};
 use streams::{MemorySink, Unobserved, put_all};
 use text_commands::File;
 
 /// The status of a command that can't open or read a file.
 const UNREAD: u8 = 6;
-/// The status of a command in which memory ran out.
-const OUT_OF_MEMORY: u8 = 7;
 
 /// What a command wrote, and its status.
 #[derive(Drop)]
@@ -93,7 +91,7 @@ fn serve_asked(alloc: Global, order: Order, handing: &mut Handing<'_>) -> Result
 }
 
 /// Does what an order says, and returns its status. To `more` it writes what explains a fault of the schema, of a table, of the query or of a
-/// geometry's text, or notes on a check, if the order asks why. The files are opened among those that are handed in.
+/// geometry's text, or notes on a check or a query, if the order asks why. The files are opened among those that are handed in.
 fn serve_handed(
     alloc: Global,
     order: &Order,
@@ -111,8 +109,8 @@ fn serve_handed(
     serve_observed(alloc, order, opener, out, err, more, &mut Unobserved)
 }
 
-/// What explains the fault of an order that has ended with a status, or notes on the query of one that is done, if the order asks why. If
-/// nothing is said yet, that is why a file couldn't be opened or read; after another status its files are opened once more.
+/// What explains the end of an order that has ended with a status, if the order asks why. If nothing is said yet, that is why a file couldn't be
+/// opened or read.
 fn explained(
     alloc: Global,
     order: &Order,
@@ -123,22 +121,9 @@ fn explained(
     ensures kept { IfOk result (λ more. (memory_bytes said ≡ []) ⊎ (more ≡ said)) }
     ensures unasked { IfOk result (λ more. asks_why order.now ≡ false → more ≡ said) }
 {
-    if !said.bytes().is_empty() || !order.asks_why() || status == OUT_OF_MEMORY {
-        return Ok(said);
-    }
-    if status == UNREAD {
+    if said.bytes().is_empty() && order.asks_why() && status == UNREAD {
         add(handing.reason(alloc), &mut said)?;
-        return Ok(said);
     }
-    let mut more = MemorySink::new(alloc);
-    if status == 0 {
-        let opener = |file: File<'_>| handing.open_quietly(file);
-        note_order(alloc, order, opener, &mut more);
-    } else {
-        let opener = |file: File<'_>| handing.open_again(alloc, file, &mut said);
-        explain_order(alloc, order, status, opener, &mut more);
-    }
-    add(more.bytes(), &mut said)?;
     Ok(said)
 }
 

@@ -310,38 +310,12 @@ refusal_front matrix fields first second failure (Err _) old new before after is
 
 -- ---- the first record that isn't a pair
 
--- so many records were read, all of them pairs
-pub record Passed {R : Type 0} (remaining : R → Option (List ℕ)) (known : Option (List ℕ))
-    (reader : Reader R) (place : ℕ) : Type 0 where
-  pub read : List Record
-  pub count : length read ≡ place
-  pub pairs : ArePairs read
-  pub begins : Begins remaining known reader read
-
-pub none_passed : {R : Type 0} (remaining : R → Option (List ℕ)) (known : Option (List ℕ)) (reader : Reader R)
-    → Begins remaining known reader []
-    → Passed remaining known reader 0
-none_passed remaining known reader begins = record { read = []; count = refl; pairs = refl; begins = begins }
-
-pub passed_more : {R : Type 0} (remaining : R → Option (List ℕ)) (known : Option (List ℕ))
-    (reader after : Reader R) (fields : Record) (place : ℕ)
-    → Passed remaining known reader place → Takes remaining reader after true fields → is_pair fields ≡ true
-    → Passed remaining known after (place + 1)
-passed_more remaining known reader after fields place p takes is =
-    let size = length-append p.read (fields ∷ []) in
-    let count = p.count in record {
-      read = p.read ++ fields ∷ [];
-      count = omega (arith, size, count);
-      pairs = pairs_more p.read fields p.pairs is;
-      begins = begins_more remaining known reader after p.read fields p.begins takes;
-    }
-
 -- the next record isn't a pair
-pub passed_all : {R : Type 0} (remaining : R → Option (List ℕ)) (known : Option (List ℕ))
-    (reader after : Reader R) (fields : Record) (place count : ℕ)
-    → Passed remaining known reader place → Takes remaining reader after true fields → is_pair fields ≡ false
+pub first_other : {R : Type 0} (remaining : R → Option (List ℕ)) (known : Option (List ℕ))
+    (reader after : Reader R) (fields : Record) (place count : ℕ) (some_refused : Bool) (old new : Option (List ℕ))
+    → Midway remaining known reader place some_refused old new → Takes remaining reader after true fields → is_pair fields ≡ false
     → count ≡ length fields → IsFirstUnequal known (place + 1) count
-passed_all remaining known reader after fields place count p takes is counts =
+first_other remaining known reader after fields place count some_refused old new p takes is counts =
     let b = begun_more remaining known reader after p.read fields p.begins takes in
     let front = front_length p.read (fields ∷ b.0) p.pairs in
     let none = front_ends fields b.0 is in

@@ -1,5 +1,5 @@
 -- What was read and noted of the pairs of a text so far.
-use Rattle.std.proofs.Common.{◌≡◌, ◌≢◌, ◌∙◌, ◌+◌, ◌++◌, ◌≤◌, inl, inr}
+use Rattle.std.proofs.Common.{◌≡◌, ◌∙◌, ◌+◌, ◌++◌, ◌≤◌, ◌⊎◌, inl, inr}
 use Rattle.std.proofs.Common.{ℕ, Bool, true, false, List, [], ◌∷◌, Option, Some, Result, Ok, Err}
 use Rattle.std.proofs.Common.{ap, arith, codes, length, refl, sym, subst, append-nil, length-append}
 use Rattle.std.specs.Prelude.{slice_get}
@@ -10,12 +10,19 @@ use Rattle.basics.proofs.Lists.{behind, found_in_front}
 use Rattle.basics.specs.Counts.{one_more}
 use Rattle.csv.specs.declared.reader.Reader.{Reader}
 use Rattle.streams.specs.Sinks.{AppendsFront}
-use Rattle.streams.specs.declared.sink.SinkFault.{SinkFault}
+use Rattle.explanations.specs.Marks.{said}
+use Rattle.failures.specs.Ends.{End, Writes}
+use Rattle.failures.specs.declared.failure.Failure.{Failure}
 use Rattle.streams.proofs.SinkLemmas.{Appends-none, Appends-then, AppendsFront-then}
 use Rattle.table_model.specs.Loading.{Record}
 use Rattle.text_commands.specs.Explanations.{HasNone}
-use Rattle.text_commands.specs.PairNotes.{AreNotes, IsNote, IsNoteOf, NotesPairs, NotesText, PutsNote, counted}
-use Rattle.text_commands.specs.Pairs.{Begins, field}
+use Rattle.text_commands.specs.PairNotes.{AreNotes, ExplainsEnd, IsFirst, IsFirstUnequal, IsNote, IsNoteOf, NotesPair, NotesPairs}
+use Rattle.text_commands.specs.PairNotes.{NotesText, PutsNote, counted, unequal_text}
+use Rattle.text_commands.specs.Pairs.{Begins, IsUnequal, field}
+use Rattle.text_commands.specs.TextCommands.{end_of}
+use Rattle.text_commands.specs.declared.pair_notes.Notes.{Notes}
+use Rattle.text_commands.specs.declared.pair_notes.Notes.TheVariants as n
+use Rattle.text_commands.specs.declared.runs.Pairs.{Pairs}
 use Rattle.text_commands.proofs.PairLemmas.{Takes, begins_more, begun}
 
 -- what notes some records notes records of a longer list
@@ -32,44 +39,113 @@ notes_more : (read : List Record) (lines : List (List ℕ)) (line : List ℕ) �
 notes_more read [] line notes note = (note, tt)
 notes_more read (first ∷ lines) line (here, rest) note = (here, notes_more read lines line rest note)
 
--- a run midway: so many records were read, and lines that note so many of them were written
+-- how many lines note pairs: as many as are counted, while pairs are noted, and at most 100
+abbrev pub HasLines : Notes → ℕ → Type 0
+HasLines (n.Open count) lines = (lines ≡ count) × (lines ≤ 100)
+HasLines n.Closed lines = lines ≤ 100
+
+-- a text was written; where pairs are noted no more, perhaps only a beginning of it
+abbrev pub WritesNotes : Notes → Option (List ℕ) → Option (List ℕ) → ℕ → ℕ → List ℕ → Type 0
+WritesNotes (n.Open count) old new before after text = Appends old new text × (after ≡ before)
+WritesNotes n.Closed old new before after text = Writes old new before after text
+
+-- a run midway: so many records were read, and lines that note some of them were written
 pub record Midnotes {R : Type 0} (remaining : R → Option (List ℕ)) (known : Option (List ℕ)) (reader : Reader R)
-    (place count : ℕ) (old new : Option (List ℕ)) : Type 0 where
+    (place : ℕ) (notes : Notes) (old new : Option (List ℕ)) (before after : ℕ) : Type 0 where
   pub read : List Record
   pub size : length read ≡ place
   pub begins : Begins remaining known reader read
   pub lines : List (List ℕ)
   pub note : AreNotes read lines
-  pub counted : length lines ≡ count
-  pub written : Appends old new (concat lines)
+  pub few : HasLines notes (length lines)
+  pub written : WritesNotes notes old new before after (concat lines)
 
 -- before the first record nothing was read or noted
-pub at_first : {R : Type 0} (remaining : R → Option (List ℕ)) (known : Option (List ℕ)) (reader : Reader R)
-    (old : Option (List ℕ)) → Begins remaining known reader [] → Midnotes remaining known reader 0 0 old old
-at_first remaining known reader old begins = record {
+pub at_first : {R : Type 0} (remaining : R → Option (List ℕ)) (known : Option (List ℕ)) (reader : Reader R) (notes : Notes)
+    (old : Option (List ℕ)) (before : ℕ) → IsFirst notes → Begins remaining known reader []
+    → Midnotes remaining known reader 0 notes old old before before
+at_first remaining known reader (n.Open count) old before first begins = record {
   read = [];
   size = refl;
   begins = begins;
   lines = [];
   note = tt;
-  counted = refl;
-  written = Appends-none old;
+  few = (sym first, omega arith);
+  written = (Appends-none old, refl);
+}
+at_first remaining known reader n.Closed old before first begins = record {
+  read = [];
+  size = refl;
+  begins = begins;
+  lines = [];
+  note = tt;
+  few = omega arith;
+  written = inl (Appends-none old, refl);
 }
 
--- the end of a run
-pub ended_notes : {R : Type 0} (remaining : R → Option (List ℕ)) (known : Option (List ℕ)) (reader : Reader R)
-    (place count : ℕ) (old new : Option (List ℕ)) (before after : ℕ) → Midnotes remaining known reader place count old new
-    → count ≤ 100 → after ≡ before → NotesPairs known old new before after
-ended_notes remaining known reader place count old new before after m few same =
-    let b = begun known m.read (λ text e. let g = m.begins text e in (g.0, g.2)) in
-    let counted = m.counted in record {
+few_of : (notes : Notes) (lines : ℕ) → HasLines notes lines → lines ≤ 100
+few_of (n.Open count) lines has = has.1
+few_of n.Closed lines has = has
+
+writes_of : (notes : Notes) (old new : Option (List ℕ)) (before after : ℕ) (text : List ℕ)
+    → WritesNotes notes old new before after text → Writes old new before after text
+writes_of (n.Open count) old new before after text written = inl written
+writes_of n.Closed old new before after text written = written
+
+-- a run may end after any record
+pub ended_notes : {A R : Type 0} (remaining : R → Option (List ℕ)) (known : Option (List ℕ)) (reader : Reader R)
+    (place : ℕ) (notes : Notes) (old new : Option (List ℕ)) (before after : ℕ) (result : Result A Failure)
+    → Midnotes remaining known reader place notes old new before after → NotesPairs known result old new before after
+ended_notes remaining known reader place notes old new before after result m =
+    let b = begun known m.read (λ text e. let g = m.begins text e in (g.0, g.2)) in record {
       records = m.read ++ b.0;
       read = b.1;
       lines = m.lines;
       note = notes_longer m.read b.0 m.lines m.note;
-      few = omega (arith, few, counted);
-      written = inl (m.written, same);
+      few = few_of notes (length m.lines) m.few;
+      last = [];
+      explains = inl refl;
+      written = subst (λ t. Writes old new before after t) (sym (append-nil (concat m.lines)))
+          (writes_of notes old new before after (concat m.lines) m.written);
     }
+
+-- a text was written behind another
+writes_then : (a b c : Option (List ℕ)) (before between after : ℕ) (x y : List ℕ) → Appends a b x → between ≡ before
+    → Writes b c between after y → Writes a c before after (x ++ y)
+writes_then a b c before between after x y put same (inl w) = inl (Appends-then a b c x y put w.0, w.1 ∙ same)
+writes_then a b c before between after x y put same (inr w) =
+    inr (AppendsFront-then a b c x y put w.0, w.1 ∙ ap one_more same)
+
+-- it ends at a record that isn't a pair, whose line is written while pairs are noted
+pub ended_other : {A R M : Type 0} (remaining : R → Option (List ℕ)) (known : Option (List ℕ)) (reader : Reader R)
+    (taken : M → Option (List ℕ)) (failures : M → ℕ) (first old new : M) (place : ℕ) (fields : ℕ) (result : Result A Failure)
+    (failure : Failure) (notes : Notes)
+    → Midnotes remaining known reader place notes (taken first) (taken old) (failures first) (failures old)
+    → IsFirstUnequal known (place + 1) fields → result ≡ Err failure → IsUnequal (place + 1) failure
+    → (notes ≡ n.Closed → new ≡ old)
+    → (new ≡ old) ⊎ Writes (taken old) (taken new) (failures old) (failures new) (said (unequal_text (place + 1) fields))
+    → NotesPairs known result (taken first) (taken new) (failures first) (failures new)
+ended_other remaining known reader taken failures first old new place fields result failure notes m other is unequal closed
+    (inl same) =
+    subst (λ s. NotesPairs known result (taken first) (taken s) (failures first) (failures s)) (sym same)
+    (ended_notes remaining known reader place notes (taken first) (taken old) (failures first) (failures old) result m)
+ended_other remaining known reader taken failures first old new place fields result failure (n.Open count) m other is unequal
+    closed (inr writes) =
+    let b = begun known m.read (λ text e. let g = m.begins text e in (g.0, g.2)) in record {
+      records = m.read ++ b.0;
+      read = b.1;
+      lines = m.lines;
+      note = notes_longer m.read b.0 m.lines m.note;
+      few = m.few.1;
+      last = said (unequal_text (place + 1) fields);
+      explains = inr (place + 1, fields, (failure, is, unequal), other, refl);
+      written = writes_then (taken first) (taken old) (taken new) (failures first) (failures old) (failures new)
+          (concat m.lines) (said (unequal_text (place + 1) fields)) m.written.0 m.written.1 writes;
+    }
+ended_other remaining known reader taken failures first old new place fields result failure n.Closed m other is unequal closed
+    (inr writes) =
+    subst (λ s. NotesPairs known result (taken first) (taken s) (failures first) (failures s)) (sym (closed refl))
+    (ended_notes remaining known reader place n.Closed (taken first) (taken old) (failures first) (failures old) result m)
 
 -- the lines of some notes and one more
 lines_more : (lines : List (List ℕ)) (line : List ℕ) → concat (lines ++ line ∷ []) ≡ concat lines ++ line
@@ -87,9 +163,10 @@ noted_next read fields place line size note = (
 
 -- the record after some was taken, and isn't noted
 passed : {R : Type 0} (remaining : R → Option (List ℕ)) (known : Option (List ℕ)) (reader after : Reader R)
-    (fields : Record) (place count : ℕ) (old new : Option (List ℕ)) → Midnotes remaining known reader place count old new
-    → Takes remaining reader after true fields → Midnotes remaining known after (place + 1) count old new
-passed remaining known reader after fields place count old new m takes =
+    (fields : Record) (place : ℕ) (notes : Notes) (old new : Option (List ℕ)) (before last : ℕ)
+    → Midnotes remaining known reader place notes old new before last
+    → Takes remaining reader after true fields → Midnotes remaining known after (place + 1) notes old new before last
+passed remaining known reader after fields place notes old new before last m takes =
     let longer = length-append m.read (fields ∷ []) in
     let size = m.size in record {
       read = m.read ++ fields ∷ [];
@@ -97,102 +174,117 @@ passed remaining known reader after fields place count old new m takes =
       begins = begins_more remaining known reader after m.read fields m.begins takes;
       lines = m.lines;
       note = notes_longer m.read (fields ∷ []) m.lines m.note;
-      counted = m.counted;
+      few = m.few;
       written = m.written;
     }
 
--- the same, and its line was written
+-- the record is noted, and its line was written
 noted_more : {R : Type 0} (remaining : R → Option (List ℕ)) (known : Option (List ℕ)) (reader after : Reader R)
-    (fields : Record) (place count : ℕ) (old middle new : Option (List ℕ)) (line : List ℕ)
-    → Midnotes remaining known reader place count old middle → Takes remaining reader after true fields
-    → IsNote (place + 1) fields line → Appends middle new line → Midnotes remaining known after (place + 1) (count + 1) old new
-unfolding passed
-noted_more remaining known reader after fields place count old middle new line m takes note put =
-    let p = passed remaining known reader after fields place count old middle m takes in
-    let longer = length-append m.lines (line ∷ []) in
-    let counted = m.counted in record {
-      read = p.read;
-      size = p.size;
-      begins = p.begins;
+    (fields : Record) (place count next : ℕ) (old middle new : Option (List ℕ)) (before between last : ℕ) (line : List ℕ)
+    → Midnotes remaining known reader place (n.Open count) old middle before between → Takes remaining reader after true fields
+    → count ≤ 99 → next ≡ count + 1 → IsNote (place + 1) fields line → Appends middle new line → last ≡ between
+    → Midnotes remaining known after (place + 1) (n.Open next) old new before last
+noted_more remaining known reader after fields place count next old middle new before between last line m takes few is note put
+    same =
+    let longer = length-append m.read (fields ∷ []) in
+    let size = m.size in
+    let more = length-append m.lines (line ∷ []) in
+    let counted = m.few.0 in record {
+      read = m.read ++ fields ∷ [];
+      size = omega (arith, longer, size);
+      begins = begins_more remaining known reader after m.read fields m.begins takes;
       lines = m.lines ++ line ∷ [];
-      note = notes_more p.read m.lines line p.note (noted_next m.read fields place line m.size note);
-      counted = omega (arith, longer, counted);
-      written = subst (λ t. Appends old new t) (sym (lines_more m.lines line))
-          (Appends-then old middle new (concat m.lines) line m.written put);
+      note = notes_more (m.read ++ fields ∷ []) m.lines line (notes_longer m.read (fields ∷ []) m.lines m.note)
+          (noted_next m.read fields place line m.size note);
+      few = (omega (arith, more, counted, is), omega (arith, more, counted, few));
+      written = (
+        subst (λ t. Appends old new t) (sym (lines_more m.lines line))
+            (Appends-then old middle new (concat m.lines) line m.written.0 put),
+        same ∙ m.written.1,
+      );
     }
 
--- the same, and only a beginning of its line was written: the end of a run
-broken_note : {R : Type 0} (remaining : R → Option (List ℕ)) (known : Option (List ℕ)) (reader after : Reader R)
+-- only a beginning of its line was written
+noted_front : {R : Type 0} (remaining : R → Option (List ℕ)) (known : Option (List ℕ)) (reader after : Reader R)
     (fields : Record) (place count : ℕ) (old middle new : Option (List ℕ)) (before between last : ℕ) (line : List ℕ)
-    → Midnotes remaining known reader place count old middle → Takes remaining reader after true fields
-    → IsNote (place + 1) fields line → AppendsFront middle new line → count ≤ 99 → between ≡ before → last ≡ one_more between
-    → NotesPairs known old new before last
-unfolding passed
-broken_note remaining known reader after fields place count old middle new before between last line m takes note front few same
-    more =
-    let p = passed remaining known reader after fields place count old middle m takes in
-    let b = begun known p.read (λ text e. let g = p.begins text e in (g.0, g.2)) in
-    let longer = length-append m.lines (line ∷ []) in
-    let counted = m.counted in record {
-      records = p.read ++ b.0;
-      read = b.1;
+    → Midnotes remaining known reader place (n.Open count) old middle before between → Takes remaining reader after true fields
+    → count ≤ 99 → IsNote (place + 1) fields line → AppendsFront middle new line → last ≡ one_more between
+    → Midnotes remaining known after (place + 1) n.Closed old new before last
+noted_front remaining known reader after fields place count old middle new before between last line m takes few note front more =
+    let longer = length-append m.read (fields ∷ []) in
+    let size = m.size in
+    let further = length-append m.lines (line ∷ []) in
+    let counted = m.few.0 in record {
+      read = m.read ++ fields ∷ [];
+      size = omega (arith, longer, size);
+      begins = begins_more remaining known reader after m.read fields m.begins takes;
       lines = m.lines ++ line ∷ [];
-      note = notes_longer p.read b.0 (m.lines ++ line ∷ [])
-          (notes_more p.read m.lines line p.note (noted_next m.read fields place line m.size note));
-      few = omega (arith, longer, counted, few);
+      note = notes_more (m.read ++ fields ∷ []) m.lines line (notes_longer m.read (fields ∷ []) m.lines m.note)
+          (noted_next m.read fields place line m.size note);
+      few = omega (arith, further, counted, few);
       written = inr (
         subst (λ t. AppendsFront old new t) (sym (lines_more m.lines line))
-            (AppendsFront-then old middle new (concat m.lines) line m.written front),
-        more ∙ ap one_more same,
+            (AppendsFront-then old middle new (concat m.lines) line m.written.0 front),
+        more ∙ ap one_more m.written.1,
       );
     }
 
 -- the record after some was taken, and noted if it is refused
 pub next_note : {R : Type 0} (remaining : R → Option (List ℕ)) (known : Option (List ℕ)) (reader after : Reader R)
-    (fields : Record) (place count : ℕ) (old middle new : Option (List ℕ)) (between last : ℕ) (is_noted : Bool) (next : ℕ)
-    → Midnotes remaining known reader place count old middle → Takes remaining reader after true fields
-    → PutsNote (place + 1) fields (Ok is_noted) middle new between last → next ≡ counted count is_noted
-    → Midnotes remaining known after (place + 1) next old new
-next_note remaining known reader after fields place count old middle new between last true next m takes
-    (line, note, put, same) is =
-    subst (λ n. Midnotes remaining known after (place + 1) n old new) (sym is)
-    (noted_more remaining known reader after fields place count old middle new line m takes note put)
-next_note remaining known reader after fields place count old middle new between last false next m takes (kept, same) is =
-    subst (λ n. Midnotes remaining known after (place + 1) n old new) (sym is)
-    (subst (λ t. Midnotes remaining known after (place + 1) count old t) (sym kept)
-    (passed remaining known reader after fields place count old middle m takes))
+    (fields : Record) (place : ℕ) (notes next : Notes) (old middle new : Option (List ℕ)) (before between last : ℕ)
+    → Midnotes remaining known reader place notes old middle before between → Takes remaining reader after true fields
+    → NotesPair notes (place + 1) fields next middle new between last
+    → Midnotes remaining known after (place + 1) next old new before last
+next_note remaining known reader after fields place (n.Open count) (n.Open next) old middle new before between last m takes
+    (inl (is, kept, same)) =
+    subst (λ k. Midnotes remaining known after (place + 1) (n.Open k) old new before last) (sym is)
+    (subst (λ t. Midnotes remaining known after (place + 1) (n.Open count) old t before last) (sym kept)
+    (subst (λ k. Midnotes remaining known after (place + 1) (n.Open count) old middle before k) (sym same)
+    (passed remaining known reader after fields place (n.Open count) old middle before between m takes)))
+next_note remaining known reader after fields place (n.Open count) (n.Open next) old middle new before between last m takes
+    (inr (few, is, (line, note, put, same))) =
+    noted_more remaining known reader after fields place count next old middle new before between last line m takes few is note
+    put same
+next_note remaining known reader after fields place (n.Open count) n.Closed old middle new before between last m takes
+    (few, (fault, (line, note, front, more))) =
+    noted_front remaining known reader after fields place count old middle new before between last line m takes few note front
+    more
+next_note remaining known reader after fields place n.Closed (n.Open next) old middle new before between last m takes puts =
+    absurd puts
+next_note remaining known reader after fields place n.Closed n.Closed old middle new before between last m takes (kept, same) =
+    subst (λ t. Midnotes remaining known after (place + 1) n.Closed old t before last) (sym kept)
+    (subst (λ k. Midnotes remaining known after (place + 1) n.Closed old middle before k) (sym same)
+    (passed remaining known reader after fields place n.Closed old middle before between m takes))
 
--- what was counted is still within the limit
-pub within : (count next : ℕ) (is_noted : Bool) → count ≤ 99 → next ≡ counted count is_noted → next ≤ 100
-within count next true few is = omega (arith, few, is)
-within count next false few is = omega (arith, few, is)
+-- a line was written that notes the pair of a record, or none was to be
+pub noted_pair : (count next number : ℕ) (fields : Record) (is_noted : Bool) (old new : Option (List ℕ)) (before after : ℕ)
+    → count ≤ 99 → PutsNote number fields (Ok is_noted) old new before after → next ≡ counted count is_noted
+    → NotesPair (n.Open count) number fields (n.Open next) old new before after
+noted_pair count next number fields true old new before after few puts is = inr (few, is, puts)
+noted_pair count next number fields false old new before after few puts is = inl (is, puts.0, puts.1)
 
--- no failure was counted where a note was written, or none was to be
-pub unfailed : (number : ℕ) (fields : Record) (is_noted : Bool) (old new : Option (List ℕ)) (before after : ℕ)
-    → PutsNote number fields (Ok is_noted) old new before after → after ≡ before
-unfailed number fields true old new before after (line, note, put, same) = same
-unfailed number fields false old new before after (kept, same) = same
+-- how a run over pairs ended is how its command does
+explains_end : (known : Option (List ℕ)) (result : Result Pairs Failure) (end : End) (line : List ℕ) → end ≡ end_of result
+    → ExplainsEnd known result line → ExplainsEnd known end line
+explains_end known result end line is (inl none) = inl none
+explains_end known (Ok pairs) end line is (inr e) = absurd (cc e.2.1)
+explains_end known (Err failure) end line is (inr e) =
+    let same : failure ≡ e.2.0 = cc e.2.1 in
+    inr (e.0, e.1, (e.2.0, is ∙ ap Err same, e.2.2), e.3, e.4)
 
--- a run may end after any note
-pub ended_note : {R : Type 0} (remaining : R → Option (List ℕ)) (known : Option (List ℕ)) (reader after : Reader R)
-    (fields : Record) (place count : ℕ) (old middle new : Option (List ℕ)) (before between last : ℕ) (r : Result Bool SinkFault)
-    → Midnotes remaining known reader place count old middle → Takes remaining reader after true fields
-    → PutsNote (place + 1) fields r middle new between last → count ≤ 99 → between ≡ before
-    → NotesPairs known old new before last
-ended_note remaining known reader after fields place count old middle new before between last (Ok is_noted) m takes puts few
-    same =
-    let next = counted count is_noted in
-    ended_notes remaining known after (place + 1) next old new before last
-    (next_note remaining known reader after fields place count old middle new between last is_noted next m takes puts refl)
-    (within count next is_noted few refl) (unfailed (place + 1) fields is_noted middle new between last puts ∙ same)
-ended_note remaining known reader after fields place count old middle new before between last (Err e) m takes
-    (line, note, front, more) few same =
-    broken_note remaining known reader after fields place count old middle new before between last line m takes note front few
-    same more
-
--- at most 99 are noted if at most 100 are, and not 100
-pub below : (count : ℕ) → count ≤ 100 → count ≢ 100 → count ≤ 99
-below count few other = omega (arith, few, other)
+pub notes_end : (known : Option (List ℕ)) (result : Result Pairs Failure) (end : End) (old new : Option (List ℕ))
+    (before after : ℕ) → end ≡ end_of result → NotesPairs known result old new before after
+    → NotesPairs known end old new before after
+notes_end known result end old new before after is noted = record {
+  records = noted.records;
+  read = noted.read;
+  lines = noted.lines;
+  note = noted.note;
+  few = noted.few;
+  last = noted.last;
+  explains = explains_end known result end noted.last is noted.explains;
+  written = noted.written;
+}
 
 -- ---- the note of one record
 

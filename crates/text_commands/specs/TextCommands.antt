@@ -9,6 +9,7 @@ use Rattle.text_commands.specs.declared.fault_codes.FaultCode.{FaultCode}
 use Rattle.text_commands.specs.declared.files.File.TheVariants as role
 use Rattle.geometry_model.specs.Dimensions.{Matrix}
 use Rattle.geometry_model.specs.Patterns.{matrix_text}
+use Rattle.text_commands.specs.PairNotes.{MayNotePairs}
 use Rattle.text_commands.specs.Pairs.{AreRead, CountsWrites, RelatesPairs}
 use Rattle.text_commands.specs.declared.runs.Pairs.{Pairs}
 use Rattle.text_commands.specs.declared.runs.Pairs.TheVariants as pairs
@@ -103,12 +104,16 @@ module _ {S : Type 0} (taken : S → Option (List ℕ)) (failures : S → ℕ) (
   abbrev pub ExplainsFault : List (List ℕ) → End → Type 0
   ExplainsFault words end = FaultEnds words end (taken old) (taken new) (failures old) (failures new)
 
-module _ {R S : Type 0} (remaining : R → Option (List ℕ)) (taken : S → Option (List ℕ)) (failures : S → ℕ) (old new : S) where
-  -- relating the pairs of a reader ends so; no reader is there where the file can't be opened, and then nothing is written
+module _ {R S M : Type 0} (remaining : R → Option (List ℕ)) (taken : S → Option (List ℕ)) (failures : S → ℕ) (old new : S)
+    (mtaken : M → Option (List ℕ)) (mfailures : M → ℕ) (mold mnew : M) where
+  -- relating the pairs of a reader ends so, and perhaps they are noted; no reader is there where the file can't be opened, and then nothing is
+  -- written
   abbrev pub RelatesReader : Option R → End → Type 0
   RelatesReader None (Ok done) = ⊥
-  RelatesReader None (Err failure) = IsUnreadable (codes "pairs") failure × (new ≡ old)
-  RelatesReader (Some reader) end = PairsEnds (remaining reader) end (taken old) (taken new) (failures old) (failures new)
+  RelatesReader None (Err failure) = IsUnreadable (codes "pairs") failure × (new ≡ old) × (mnew ≡ mold)
+  RelatesReader (Some reader) end =
+      PairsEnds (remaining reader) end (taken old) (taken new) (failures old) (failures new)
+      × MayNotePairs mtaken mfailures mold mnew (remaining reader) end
 
 -- the sink of the answer and that of explanations, before and after a command
 module _ {F R S M : Type 0} (opens : Opening F R) (remaining : R → Option (List ℕ)) (taken : S → Option (List ℕ)) (failures : S → ℕ) (old new : S)
@@ -121,8 +126,8 @@ module _ {F R S M : Type 0} (opens : Opening F R) (remaining : R → Option (Lis
       × MayExplainTexts mtaken mfailures mold mnew first second end)
       ((new ≡ old) × (mnew ≡ mold))
 
-module _ {F R S : Type 0} (opens : Opening F R) (remaining : R → Option (List ℕ)) (taken : S → Option (List ℕ)) (failures : S → ℕ) (old new : S) where
-  -- relating the pairs of the file at a path ends so
+  -- and relating the pairs of the file at a path, which perhaps are noted
   abbrev pub RelatesFile : F → List ℕ → End → Type 0
   RelatesFile opener path end =
-      (file : Option R) × (next : F) × opens role.Pairs opener path file next × RelatesReader remaining taken failures old new file end
+      (file : Option R) × (next : F) × opens role.Pairs opener path file next
+      × RelatesReader remaining taken failures old new mtaken mfailures mold mnew file end

@@ -32,8 +32,6 @@ pub use fault_codes::FaultCode;
 pub use files::File;
 pub use given_texts::{GEOMETRY_BYTES, geometry_text, query_text};
 pub use pages::page_of;
-pub use pair_faults::explain_unequal;
-pub use pair_notes::explain_pairs;
 pub use relate::{geometry_of, relate_texts, text_failure};
 pub use runs::{Pairs, relate_pairs};
 pub use served::{serve_fault, serve_pairs, serve_relate};

@@ -1,79 +1,36 @@
 //! What is written after the fault of `pairs` at a record that hasn't two fields, where more is asked for: how many it has, and what to do.
 
-ghost use Rattle.std.specs.Prelude.{◌≡◌, IfOk, IfSome, List, Option, [], ℕ};
+ghost use Rattle.std.specs.Prelude.{◌≡◌, ◌⊎◌, IfOk};
 ghost use Rattle.explanations.specs.Marks.{said};
-ghost use Rattle.feature_table.specs.Reading.{IsSteady};
-ghost use Rattle.text_commands.specs.Files.{OpensFile};
-ghost use Rattle.text_commands.specs.PairNotes.{IsFirstUnequal, MayExplainUnequal, unequal_text};
-ghost use Rattle.text_commands.specs.Pairs.{Begins};
+ghost use Rattle.failures.specs.Ends.{Writes};
+ghost use Rattle.text_commands.specs.PairNotes.{unequal_text};
 
-use crate::files::File;
-use crate::pair_records::next_record;
-use csv::{ByteRecord, Reader};
+use crate::pair_notes::Notes;
 use explanations::said_line;
-use feature_table::record_reader;
 use itoa::Buffer;
 use std::alloc::{AllocError, Global};
-use std::io::Read;
 use streams::{Sink, put_all};
 
-/// Writes a line for the first record of a file that hasn't two fields, after the line of that fault: its number, how many it has, and what to
-/// do. The file is opened and read once more. Nothing is written where that can't be done, or where all records are pairs now, or where
-/// memory runs out (the form: this project's choice).
-pub fn explain_unequal<R: Read + Drop, F: FnMut(File<'_>) -> Option<R>, E: Sink>(
+/// Writes the line of a record of this number that has so many fields in place of two, while notes are open: its number, how many it has, and
+/// what to do. Nothing is written if memory runs out (the form: this project's choice).
+pub(crate) fn explain_unequal<M: Sink>(
     alloc: Global,
-    path: &str,
-    mut opener: F,
-    err: &mut E,
-)
-    requires { F.IsAlwaysCallable opener }
-    ensures explains { MayExplainUnequal E.taken E.failures (OpensFile F.FnMut) R.remaining opener path.now
-        err.old err.new }
-{
-    let Some(file) = opener(File::Pairs(path)) else {
-        return;
-    };
-    let mut records = record_reader(alloc, file);
-    let Some(unequal) = first_unequal(alloc, &mut records) else {
-        return;
-    };
-    let Ok(line) = unequal_line(alloc, unequal.number, unequal.fields) else {
-        return;
-    };
-    let _ = put_all(err, line.as_slice());
-}
-
-/// A record that hasn't two fields: its number, from 1, and how many it has.
-#[derive(Clone, Copy)]
-struct Unequal {
+    notes: Notes,
     number: usize,
     fields: usize,
-}
-
-/// The first record that a reader still gives, from the start of its text, which hasn't two fields. None if there is none, if reading
-/// fails, or if memory runs out.
-fn first_unequal<R: Read + Drop>(alloc: Global, records: &mut Reader<R>) -> Option<Unequal>
-    requires { IsSteady records.old }
-    ensures { (known : Option (List ℕ)) → Begins R.remaining known records.old []
-        → IfSome result (λ unequal. IsFirstUnequal known unequal.number unequal.fields) }
+    more: &mut M,
+)
+    ensures explains { (more.new ≡ more.old)
+        ⊎ Writes (M.taken more.old) (M.taken more.new) (M.failures more.old) (M.failures more.new)
+        (said (unequal_text number fields)) }
+    ensures closed { notes ≡ Notes.Closed → more.new ≡ more.old }
 {
-    let mut pair = ByteRecord::new(alloc);
-    for place in 0..usize::MAX {
-        let Ok(found) = next_record(records, &mut pair) else {
-            return None;
-        };
-        if !found {
-            return None;
-        }
-        let fields = pair.len();
-        if fields != 2 {
-            return Some(Unequal {
-                number: place + 1,
-                fields,
-            });
-        }
+    let Notes::Open(_) = notes else {
+        return;
+    };
+    if let Ok(line) = unequal_line(alloc, number, fields) {
+        let _ = put_all(more, line.as_slice());
     }
-    None
 }
 
 /// The line of a record of this number with so many fields in place of two.

@@ -1,72 +1,85 @@
-//! What is written after the lines of `pairs`, where more is asked for: of each pair that is refused its number, and what to do.
+//! What is written beside the lines of `pairs`, where more is asked for: of each pair that is refused its number, and what to do.
 
-ghost use Rattle.std.specs.Prelude.{◌≡◌, ◌≤◌, IfOk, IfSome, List, Option, [], ℕ};
+ghost use Rattle.std.specs.Prelude.{◌≡◌, ◌≤◌, IfOk, IfSome, false};
 ghost use Rattle.csv.specs.Records.{fields_of};
 ghost use Rattle.explanations.specs.Marks.{said};
-ghost use Rattle.feature_table.specs.Reading.{IsSteady};
 ghost use Rattle.text_commands.specs.Explanations.{HasFirst};
-ghost use Rattle.text_commands.specs.Files.{OpensFile};
-ghost use Rattle.text_commands.specs.PairNotes.{IsNote, NotesFile, NotesPairs, NotesText, PutsNote, noted};
+ghost use Rattle.text_commands.specs.PairNotes.{IsFirst, IsNote, NotesPair, NotesText, PutsNote, noted};
 ghost use Rattle.text_commands.specs.PairNotes as spec;
-ghost use Rattle.text_commands.specs.Pairs.{Begins};
 
 use crate::fault_explanations::fault_of;
-use crate::files::File;
-use crate::pair_records::next_record;
-use csv::{ByteRecord, Reader};
+use csv::ByteRecord;
 use explanations::{geometry_said, said_line};
-use feature_table::{field_at, record_reader};
+use feature_table::field_at;
 use geometry_model::GeometryFault;
 use itoa::Buffer;
 use std::alloc::{AllocError, Global};
-use std::io::Read;
 use streams::{Sink, SinkFault, put_all};
 
 /// The most pairs that are noted.
 const MOST_NOTES: usize = 100;
 
-/// Writes a line for each pair of a file with a geometry that is refused, in order: the number of its record, which geometry it is, and what
-/// to do. Of more than 100 only the first are noted. The file is opened and read once more; where that can't be done, nothing is written
-/// (the form: this project's choice).
-pub fn explain_pairs<R: Read + Drop, F: FnMut(File<'_>) -> Option<R>, E: Sink>(
-    alloc: Global,
-    path: &str,
-    mut opener: F,
-    err: &mut E,
-)
-    requires { F.IsAlwaysCallable opener }
-    ensures notes { NotesFile E.taken E.failures (OpensFile F.FnMut) R.remaining opener path.now
-        err.old err.new }
-{
-    let Some(file) = opener(File::Pairs(path)) else {
-        return;
-    };
-    let mut records = record_reader(alloc, file);
-    note_all(alloc, &mut records, err);
+/// Whether pairs are noted.
+#[derive(Clone, Copy, Debug)]
+pub(crate) enum Notes {
+    /// They are, and so many were.
+    Open(usize),
+    /// They aren't: nobody asks for that, or a line couldn't be written.
+    Closed,
 }
 
-/// Notes the pairs that a reader still gives, all of them from the start of its text.
-fn note_all<R: Read + Drop, E: Sink>(alloc: Global, records: &mut Reader<R>, err: &mut E)
-    requires { IsSteady records.old }
-    ensures { (known : Option (List ℕ)) → Begins R.remaining known records.old []
-        → NotesPairs known (E.taken err.old) (E.taken err.new) (E.failures err.old) (E.failures err.new) }
+impl Notes {
+    /// No pair was noted yet, if that is asked for.
+    pub(crate) fn new(asks: bool) -> Notes
+        ensures first { IsFirst result }
+        ensures unasked { asks ≡ false → result ≡ Notes.Closed }
+    {
+        if asks { Notes::Open(0) } else { Notes::Closed }
+    }
+}
+
+/// Writes the line that notes the pair of a record, if one of its geometries is refused and fewer than 100 pairs are noted: the number of the
+/// record, which geometry it is, and what to do. It is left out if memory runs out (the form: this project's choice).
+pub(crate) fn note_pair<M: Sink>(
+    alloc: Global,
+    notes: Notes,
+    refused: bool,
+    number: usize,
+    pair: &ByteRecord,
+    more: &mut M,
+) -> Notes
+    ensures notes { NotesPair notes number (fields_of pair.now) result (M.taken more.old) (M.taken more.new)
+        (M.failures more.old) (M.failures more.new) }
+    ensures closed { notes ≡ Notes.Closed → more.new ≡ more.old }
+    ensures stays { notes ≡ Notes.Closed → result ≡ Notes.Closed }
 {
-    let mut pair = ByteRecord::new(alloc);
-    let mut count = 0;
-    for place in 0..usize::MAX {
-        if count == MOST_NOTES {
-            return;
-        }
-        let Ok(found) = next_record(records, &mut pair) else {
-            return;
-        };
-        if !found {
-            return;
-        }
-        let Ok(is_noted) = put_note(alloc, place + 1, &pair, err) else {
-            return;
-        };
-        count = counted(count, is_noted);
+    match notes {
+        Notes::Open(count) => note_next(alloc, count, refused, number, pair, more),
+        Notes::Closed => Notes::Closed,
+    }
+}
+
+/// Does that where so many pairs are noted.
+fn note_next<M: Sink>(
+    alloc: Global,
+    count: usize,
+    refused: bool,
+    number: usize,
+    pair: &ByteRecord,
+    more: &mut M,
+) -> Notes
+    ensures { NotesPair (Notes.Open count) number (fields_of pair.now) result (M.taken more.old) (M.taken more.new)
+        (M.failures more.old) (M.failures more.new) }
+{
+    if !refused {
+        return Notes::Open(count);
+    }
+    if count >= MOST_NOTES {
+        return Notes::Open(count);
+    }
+    match put_note(alloc, number, pair, more) {
+        Ok(is_noted) => Notes::Open(counted(count, is_noted)),
+        Err(_) => Notes::Closed,
     }
 }
 

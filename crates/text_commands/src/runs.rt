@@ -1,19 +1,22 @@
 //! A run over the pairs of geometries of a CSV text.
 
 ghost use Rattle.std.specs.Prelude.{◌≡◌, ◌||◌, List, Option, [], ℕ};
+ghost use Rattle.text_commands.specs.PairNotes.{IsFirst, NotesPairs};
 ghost use Rattle.text_commands.specs.Pairs.{AreRead, Begins, CountsWrites, Ends, RelatesPairs, pairs_end};
 ghost use Rattle.table_model.specs.Loading.{Record};
 ghost use Rattle.table_model.specs.RunOutcomes.{ByEveryMatrix};
 ghost use Rattle.feature_table.specs.Reading.{IsSteady};
 
+use crate::pair_faults::explain_unequal;
 use crate::pair_lines::put_pair;
+use crate::pair_notes::{Notes, note_pair};
 use crate::pair_records::{broken_off, next_record, unequal};
 use csv::{ByteRecord, Reader};
 use failures::Failure;
 use feature_table::record_reader;
 use std::alloc::Global;
 use std::io::Read;
-use streams::Sink;
+use streams::{MemorySink, Sink};
 
 /// How a run over pairs ended.
 #[derive(Clone, Copy, Debug, PartialEq, Eq)]
@@ -39,20 +42,47 @@ pub fn relate_pairs<R: Read + Drop, S: Sink>(
         × ByEveryMatrix (λ matrix. RelatesPairs matrix records result (S.taken sink.old) (S.taken sink.new)) }
     ensures failures { CountsWrites result (S.failures sink.old) (S.failures sink.new) }
 {
-    let mut records = record_reader(alloc, reader);
-    relate_all(alloc, &mut records, sink)
+    let mut unwritten = MemorySink::new(alloc);
+    relate_noted(alloc, Notes::Closed, reader, sink, &mut unwritten)
 }
 
-/// Relates the pairs that a reader still gives, all of them from the start of its text.
-fn relate_all<R: Read + Drop, S: Sink>(
+/// Like `relate_pairs`. While notes are open, it writes to `more` a line for each pair that is refused, behind the pair's own line; and at
+/// last one for the record that isn't a pair, if there is one.
+pub(crate) fn relate_noted<R: Read + Drop, S: Sink, M: Sink>(
     alloc: Global,
+    notes: Notes,
+    reader: R,
+    sink: &mut S,
+    more: &mut M,
+) -> Result<Pairs, Failure<'static>>
+    requires { IsFirst notes }
+    ensures relates { (records : List Record) × AreRead (R.remaining reader) records
+        × ByEveryMatrix (λ matrix. RelatesPairs matrix records result (S.taken sink.old) (S.taken sink.new)) }
+    ensures failures { CountsWrites result (S.failures sink.old) (S.failures sink.new) }
+    ensures notes { NotesPairs (R.remaining reader) result (M.taken more.old) (M.taken more.new)
+        (M.failures more.old) (M.failures more.new) }
+    ensures closed { notes ≡ Notes.Closed → more.new ≡ more.old }
+{
+    let mut records = record_reader(alloc, reader);
+    relate_all(alloc, notes, &mut records, sink, more)
+}
+
+/// Relates the pairs that a reader still gives, all of them from the start of its text, and notes them.
+fn relate_all<R: Read + Drop, S: Sink, M: Sink>(
+    alloc: Global,
+    mut notes: Notes,
     records: &mut Reader<R>,
     sink: &mut S,
+    more: &mut M,
 ) -> Result<Pairs, Failure<'static>>
-    requires { IsSteady records.old }
+    requires steady { IsSteady records.old }
+    requires first { IsFirst notes }
     ensures relates { (known : Option (List ℕ)) → Begins R.remaining known records.old []
         → Ends known result (S.taken sink.old) (S.taken sink.new) }
     ensures failures { CountsWrites result (S.failures sink.old) (S.failures sink.new) }
+    ensures notes { (known : Option (List ℕ)) → Begins R.remaining known records.old []
+        → NotesPairs known result (M.taken more.old) (M.taken more.new) (M.failures more.old) (M.failures more.new) }
+    ensures closed { notes ≡ Notes.Closed → more.new ≡ more.old }
 {
     let mut pair = ByteRecord::new(alloc);
     let mut some_refused = false;
@@ -61,11 +91,14 @@ fn relate_all<R: Read + Drop, S: Sink>(
         if !found {
             return Ok(ended(some_refused));
         }
-        if pair.len() != 2 {
+        let fields = pair.len();
+        if fields != 2 {
+            explain_unequal(alloc, notes, place + 1, fields, more);
             return Err(unequal(place + 1));
         }
         let refused = put_pair(alloc, &pair, sink)?;
         some_refused = either(some_refused, refused);
+        notes = note_pair(alloc, notes, refused, place + 1, &pair, more);
     }
     // No text has so many records.
     Err(broken_off())

@@ -6,13 +6,16 @@ ghost use Rattle.text_commands.specs.Files.{OpensFile};
 ghost use Rattle.text_commands.specs.Ends.{Serves};
 ghost use Rattle.text_commands.specs.Explanations.{MayExplainTexts};
 ghost use Rattle.text_commands.specs.TextCommands.{Explains, ExplainsFault, IsUnexplained, RelateEnds, RelatesFile, RelatesReader, RelatesWords};
+ghost use Rattle.text_commands.specs.PairNotes.{IsFirst};
 ghost use Rattle.text_commands.specs.TextCommands as spec;
 
 use crate::code_lists::code_list;
 use crate::fault_explanations::explain_texts;
 use crate::files::File;
 use crate::given_texts::geometry_texts;
-use crate::{Pairs, page_of, relate_pairs, relate_texts};
+use crate::pair_notes::Notes;
+use crate::runs::relate_noted;
+use crate::{Pairs, page_of, relate_texts};
 use failures::{Failure, ended, failed};
 use std::alloc::Global;
 use std::io::Read;
@@ -85,36 +88,48 @@ fn relate_given<S: Sink, E: Sink, M: Sink>(
 }
 
 /// Writes a line for each record of the file at a path: the matrix of its two geometries, or why one is refused. It returns
-/// the status: 0, 5 if at least one pair is refused, or that of the failure, whose line it writes to `err`.
+/// the status: 0, 5 if at least one pair is refused, or that of the failure, whose line it writes to `err`. If `why` says so, `more` gets
+/// a line for each pair that is refused, of more than 100 only for the first, and one for the record that isn't a pair.
 #[inline(never)]
-pub fn serve_pairs<R: Read + Drop, F: FnMut(File<'_>) -> Option<R>, S: Sink, E: Sink>(
+pub fn serve_pairs<R: Read + Drop, F: FnMut(File<'_>) -> Option<R>, S: Sink, E: Sink, M: Sink>(
     alloc: Global,
+    why: bool,
     path: &str,
     mut opener: F,
     out: &mut S,
     err: &mut E,
+    more: &mut M,
 ) -> u8
     requires { F.IsAlwaysCallable opener }
     ensures serves { Serves E.taken E.failures
-        (RelatesFile (OpensFile F.FnMut) R.remaining S.taken S.failures out.old out.new
+        (RelatesFile (OpensFile F.FnMut) R.remaining S.taken S.failures out.old out.new M.taken M.failures more.old more.new
         opener path.now)
         result err.old err.new }
+    ensures unasked { why ≡ false → more.new ≡ more.old }
 {
-    ended(relate_file(alloc, opener(File::Pairs(path)), out), err)
+    let notes = Notes::new(why);
+    let file = opener(File::Pairs(path));
+    let end = relate_file(alloc, notes, file, out, more);
+    ended(end, err)
 }
 
-/// Relates the pairs of a file. None is a file that can't be opened.
-fn relate_file<R: Read + Drop, S: Sink>(
+/// Relates the pairs of a file, and notes them. None is a file that can't be opened.
+fn relate_file<R: Read + Drop, S: Sink, M: Sink>(
     alloc: Global,
+    notes: Notes,
     file: Option<R>,
     out: &mut S,
+    more: &mut M,
 ) -> Result<(), Failure<'static>>
-    ensures { RelatesReader R.remaining S.taken S.failures out.old out.new file result }
+    requires { IsFirst notes }
+    ensures relates { RelatesReader R.remaining S.taken S.failures out.old out.new M.taken M.failures more.old more.new
+        file result }
+    ensures closed { notes ≡ Notes.Closed → more.new ≡ more.old }
 {
     let Some(reader) = file else {
         return Err(Failure::Unreadable("pairs"));
     };
-    match relate_pairs(alloc, reader, out) {
+    match relate_noted(alloc, notes, reader, out, more) {
         Ok(pairs) => end_of(pairs),
         Err(failure) => Err(failure),
     }

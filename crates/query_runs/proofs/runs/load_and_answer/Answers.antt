@@ -1,11 +1,13 @@
 -- Each exit of loading and running: over the records of known texts, and over records that are there whatever the readers are.
-use Rattle.std.proofs.Common.{length, map, rules}
+use Rattle.std.proofs.Common.{Err, Ok, OnOk, Result, length, map, rules, ℕ}
+use Rattle.failures.specs.declared.run_fault.Fault.{Fault}
 use Rattle.feature_table.specs.Tables.{records_in}
+use Rattle.query_runs.specs.RowCounts.{CountsLoaded}
 use Rattle.query_runs.proofs.RunLemmas.{load-of-tables, loaded-counts, loaded-runs, no-count, of-tables, unloaded-runs}
 use Rattle.query_runs.proofs.runs.load_and_answer.Goals as goal
 
-pub returns-in_err-database : goal.returns-in_err-database
-returns-in_err-database g c = λ text read.
+pub returns-in_err-database-clause-runs : goal.returns-in_err-database-clause-runs
+returns-in_err-database-clause-runs g c = λ text read.
     let these = c.in_err-database.ensures.records in record {
       texts = λ texts known matrix gives.
           unloaded-runs c.from_residual.result c.in_err-database.field-0.0 matrix c.args.schema.now (map records_in texts) text
@@ -27,8 +29,8 @@ returns-in_err-database g c = λ text read.
           (load-of-tables (length c.args.schema.now) c.in_err-database.field-0.0 c.in_err-database.ensures.table);
     }
 
-pub returns : goal.returns
-returns g c = λ text read.
+pub returns-clause-runs : goal.returns-clause-runs
+returns-clause-runs g c = λ text read.
     let these = c.in_ok-database.ensures.records in record {
       texts = λ texts known matrix gives.
           loaded-runs c.answer_query.result matrix c.in_ok-database.database c.args.schema.now (map records_in texts) text
@@ -55,3 +57,12 @@ returns g c = λ text read.
       failures = c.answer_query.ensures.failures;
       table = c.answer_query.ensures.table (length c.args.schema.now);
     }
+
+pub returns-clause-counts : goal.returns-clause-counts
+returns-clause-counts g c texts known =
+    let counted : CountsLoaded c.args.schema.now (map records_in texts) c.args.counts.now c.count_rows.new.counts =
+    (c.in_ok-database.database.tables, c.in_ok-database.ensures.loads texts known, c.count_rows.ensures) in
+    elim c.answer_query.result as
+    (λ (result : Result ℕ Fault). OnOk result
+    (CountsLoaded c.args.schema.now (map records_in texts) c.args.counts.now c.count_rows.new.counts))
+    [ Ok work ↦ counted | Err fault ↦ tt ]

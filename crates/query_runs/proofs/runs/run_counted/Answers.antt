@@ -3,10 +3,10 @@ use Rattle.std.proofs.Common.{length, map, rules}
 use Rattle.feature_table.specs.Tables.{records_in}
 use Rattle.query_runs.proofs.ReaderLemmas.{some-records}
 use Rattle.query_runs.proofs.RunLemmas.{no-count, of-tables, query-of-tables, unread-runs}
-use Rattle.query_runs.proofs.runs.run_by_references.Goals as goal
+use Rattle.query_runs.proofs.runs.run_counted.Goals as goal
 
-pub returns-in_err-query : goal.returns-in_err-query
-returns-in_err-query g c =
+pub returns-in_err-query-clause-runs : goal.returns-in_err-query-clause-runs
+returns-in_err-query-clause-runs g c =
     let these = some-records (map g.R.Read.remaining c.args.readers.items) in record {
       texts = λ texts known matrix gives.
           unread-runs c.from_residual.result c.in_err-query.field-0.0 matrix c.args.schema.now (map records_in texts)
@@ -26,8 +26,8 @@ returns-in_err-query g c =
           (query-of-tables (length c.args.schema.now) c.in_err-query.field-0.0);
     }
 
-pub returns-then-as_slice-eq1 : goal.returns-then-as_slice-eq1
-returns-then-as_slice-eq1 g c = c.load_and_answer.ensures c.args.query.now c.in_ok-query.ensures.exact
+pub returns-then-as_slice-eq1-clause-runs : goal.returns-then-as_slice-eq1-clause-runs
+returns-then-as_slice-eq1-clause-runs g c = c.load_and_answer.ensures.runs c.args.query.now c.in_ok-query.ensures.exact
 
-pub returns : goal.returns
-returns g c = c.load_and_answer-2.ensures c.args.query.now c.in_ok-query.ensures.exact
+pub returns-clause-runs : goal.returns-clause-runs
+returns-clause-runs g c = c.load_and_answer-2.ensures.runs c.args.query.now c.in_ok-query.ensures.exact
