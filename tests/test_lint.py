@@ -24,7 +24,7 @@ CLEAN = {
 }
 
 # What ./lint counts with.
-TOOLS = ["antt", "common_facts", "counts", "paths", "proved_page", "recorded", "repository"]
+TOOLS = ["antt", "common_facts", "counts", "paths", "proved_page", "recorded", "repository", "twins"]
 # A stand-in for `rt`, whose layout is that no line ends with a space.
 LAYS_OUT = f"""#!{sys.executable}
 import pathlib
