@@ -12,6 +12,6 @@ returns-in-Ok g c =
     inr (
       notes,
       subst (λ text. AreNotes text notes) c.as_bytes.ensures.value c.in-Ok.ensures,
-      subst (λ text. Adds g.M.Sink.taken g.M.Sink.failures c.args.more.now c.put_all.new.sink text) c.as_slice-notes.ensures.value
+      subst (λ text. Adds g.M.Sink.taken g.M.Sink.failures c.args.more.now c.put_all.new.sink text) c.as_slice-in-Ok.ensures.value
           (writes c.put_all.result _ _ _ _ _ puts.ok puts.front puts.failures),
     )

@@ -15,15 +15,15 @@ returns-in_err-readers-clause-runs g c =
 
 pub returns-in-Ok-clause-runs : goal.returns-in-Ok-clause-runs
 returns-in-Ok-clause-runs g c =
-    let these = c.in-Ok.ensures.records in record {
+    let these = c.in-Ok.ensures.runs.records in record {
       readers = Ok c.in_ok-readers.readers.items;
       opened = c.in_ok-readers.ensures.opened;
-      rest = (these.0, these.1, record { runs = these.2; failures = c.in-Ok.ensures.failures });
+      rest = (these.0, these.1, record { runs = these.2; failures = c.in-Ok.ensures.runs.failures });
     }
 
 pub returns-in-Err-clause-runs : goal.returns-in-Err-clause-runs
 returns-in-Err-clause-runs g c =
-    let these = c.in-Err.ensures.records in record {
+    let these = c.in-Err.ensures.runs.records in record {
       readers = Ok c.in_ok-readers.readers.items;
       opened = c.in_ok-readers.ensures.opened;
       rest = (
@@ -36,7 +36,7 @@ returns-in-Err-clause-runs g c =
             λ matrix gives. runs-as ℕ (Unit {0}) c.in-Err.fault _ _ _ _
                 (these.2 matrix gives),
           );
-          failures = c.in-Err.ensures.failures ∙ counts-as c.args.schema.now c.in-Err.fault c.run_failure.result
+          failures = c.in-Err.ensures.runs.failures ∙ counts-as c.args.schema.now c.in-Err.fault c.run_failure.result
               (g.S.Sink.failures c.args.out.now) c.run_failure.ensures;
         },
       );
