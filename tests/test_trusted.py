@@ -22,7 +22,7 @@ REACHED = {
     "headline": "geometry_model/specs/Sides geometry_model/specs/Crossings geometry_model/specs/Patterns geometry_model/specs/GivenMatrix"
     " geometry_model/specs/WellKnownText geometry_model/specs/FirstFaults geometry_model/specs/Dimensions geometry_model/specs/PointSets"
     " table_model/specs/Arguments table_model/specs/QueryGrammar table_model/specs/Loading query_runs/specs/RecordTexts query_runs/specs/Runs",
-    "commands": "engine/specs/Commands engine/specs/Explanations text_commands/specs/Pairs text_commands/specs/FaultPages"
+    "commands": "engine/specs/Commands text_commands/specs/Pairs text_commands/specs/FaultPages"
     " text_commands/specs/TextWitnesses record_reasons/specs/Reasons query_runs/specs/Runs geometry_model/specs/Dimensions",
     "library": "library_calls/specs/Refusals library_calls/specs/Arrays library_calls/specs/Relations geometry_model/specs/Crossings"
     " geometry_model/specs/Dimensions witnesses/specs/Shown matrix_laws/specs/Witnessing wkt/specs/KeptGeometries",

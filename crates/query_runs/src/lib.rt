@@ -8,4 +8,4 @@ mod runs;
 
 pub use record_fields::{header_record, put_row};
 pub use row_counts::RowCounts;
-pub use runs::{one_field, put_pair, run, run_by_references, run_counted, run_observed};
+pub use runs::{one_field, put_pair, run, run_counted, run_observed};

@@ -78,35 +78,13 @@ pub fn run_observed<I: EnvelopeIndex + Drop, R: Read + Drop, S: Sink, O: RowObse
     ensures { RunsReaders result schema.now (map R.remaining readers.items) query.now
         (S.taken sink.old) (S.taken sink.new) (S.failures sink.old) (S.failures sink.new) }
 {
-    run_by_references::<I, I, R, S, O>(alloc, schema, readers, query, sink, observer)
-}
-
-/// The same as `run_observed`. Under a query with two references the indexes are of the type `I`; under one with a single
-/// reference, which searches an index once at most, of the type `L`.
-pub fn run_by_references<
-    I: EnvelopeIndex + Drop,
-    L: EnvelopeIndex + Drop,
-    R: Read + Drop,
-    S: Sink,
-    O: RowObserver,
->(
-    alloc: Global,
-    schema: &Schema,
-    readers: Vec<R>,
-    query: &str,
-    sink: &mut S,
-    observer: &mut O,
-) -> Result<Work, Fault>
-    requires { length readers.items ≡ length schema.now }
-    ensures { RunsReaders result schema.now (map R.remaining readers.items) query.now
-        (S.taken sink.old) (S.taken sink.new) (S.failures sink.old) (S.failures sink.new) }
-{
     let mut counts = RowCounts::Unasked;
-    run_counted::<I, L, R, S, O>(alloc, schema, readers, query, &mut counts, sink, observer)
+    run_counted::<I, I, R, S, O>(alloc, schema, readers, query, &mut counts, sink, observer)
 }
 
-/// Like `run_by_references`. If the numbers of rows of the tables are asked for, it counts them once all tables have loaded. Where
-/// memory runs out for that alone, they stay asked for.
+/// Like `run_observed`, with a type of index for each kind of query: `I` under a query with two references, and `L` under one with a
+/// single reference, which searches an index once at most. If the numbers of rows of the tables are asked for, it counts them once
+/// all tables have loaded. Where memory runs out for that alone, they stay asked for.
 pub fn run_counted<
     I: EnvelopeIndex + Drop,
     L: EnvelopeIndex + Drop,
