@@ -39,7 +39,7 @@ REACHED = {
 # The sources whose clauses begin a chain, and types that are in their models.
 SOURCES = {
     "headline": "query_runs/src/runs geometry_model/src/shapes table_model/src/values failures/src/run_fault streams/src/sink",
-    "commands": "engine/src/commands engine/src/explained_orders streams/src/sink failures/src/failure",
+    "commands": "engine/src/commands streams/src/sink failures/src/failure",
     "web": "sfq_web/src/serve_call sfq_web/src/handed_files",
     "others": "explanations/src/nearest_names planner/src/chosen_plans noding/src/segment_meetings",
     "library": "sfq_c/src/text_calls sfq_c/src/kept_calls validity/src/valid_geometry library_calls/src/faults",
