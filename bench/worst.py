@@ -68,7 +68,7 @@ PAIRS = (
     Input("line along a polygon's edge", shapes.along_edge, 2_000, 100, 1.18),
     Input("line of short steps along an edge", shapes.along_edge_step_by_step, 4_000, 200, 1.12),
     Input("points to themselves, shuffled", shapes.points_shuffled, 4_500, 400, 1.23),
-    Input("points in squares in no order", shapes.points_in_shuffled_squares, 900, 200, 1.30),
+    Input("points in squares in no order", shapes.points_in_shuffled_squares, 500, 200, 1.30),
     Input("one point listed often, to itself", shapes.points_equal, 4_500, 400, 1.18),
     Input("points on an upright line, shuffled", shapes.points_on_upright, 4_500, 400, 1.25),
     Input("points to other points", shapes.points_apart, 4_500, 400, 1.23),
