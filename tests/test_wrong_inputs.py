@@ -40,6 +40,7 @@ COMING = {
     "AND, OR, WHERE or LIMIT": ["AND", "OR", "WHERE", "LIMIT"],
     "AND, OR or LIMIT": ["AND", "OR", "LIMIT"],
     "AND, OR or )": ["AND", "OR", ")"],
+    ")": [")"],
     "a column or ST_GeomFromText": ["geom", "ST_GeomFromText('POINT(1 1)')"],
     "a comma": [","],
     "a text in single quotes": ["'POINT(1 1)'"],
@@ -252,7 +253,7 @@ class Streams(unittest.TestCase):
     @needs_build
     def test_pairs_from_standard_input(self):
         said = self.run_with_switch(["pairs", "-"], given="POINT(1 x),POINT(1 2)\n", stdout=subprocess.DEVNULL)
-        self.assertEqual(said, "sfq: record 1: first: x isn't a number: write one here\n")
+        self.assertEqual(said, "sfq: record 1: first: x isn't a number: coordinates are whole numbers\n")
 
     @needs_build
     def test_an_empty_path(self):
@@ -279,7 +280,7 @@ class Streams(unittest.TestCase):
             ours = subprocess.Popen(["sh", "-c", f"printf 'POINT(1 x),POINT(1 2)\\n' > {room}/a.csv"])
             said = self.run_with_switch(["pairs", f"{room}/a.csv"], stdout=subprocess.DEVNULL)
             ours.wait(timeout=60)
-        self.assertEqual(said, "sfq: record 1: first: x isn't a number: write one here\n")
+        self.assertEqual(said, "sfq: record 1: first: x isn't a number: coordinates are whole numbers\n")
 
     @needs_build
     def test_many_pairs_that_are_refused(self):
