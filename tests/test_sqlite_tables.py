@@ -179,7 +179,7 @@ class RandomQueries(WithFolders):
     """Changed rows of the scripts: where `run` answers, SQLite gives the same rows."""
 
     ASKS_PROGRAM = True
-    COUNT, SEED = 150, 5
+    COUNT, SEED = 150, 2
 
     @needs_build
     def test_sqlite_gives_what_run_writes(self):
