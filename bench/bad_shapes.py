@@ -311,6 +311,23 @@ def chevron(k, reach):
     return [(-reach, y), (0, y + reach), (reach, y), (reach, y + 2), (0, y + reach + 2), (-reach, y + 2)]
 
 
+def ell(at, count):
+    """The corners of one of so many L-shapes, each in the corner of the one before it."""
+    low, far = 3 * at, 3 * count + 9
+    return [(low, low), (far, low), (far, low + 1), (low + 1, low + 1), (low + 1, far), (low, far)]
+
+
+def ells(count):
+    """So many L-shapes, each in the corner of the one before it."""
+    return polygons([[ell(at, count)] for at in range(count)])
+
+
+def holes_of_ells(count):
+    """A polygon whose holes are so many L-shapes, each in the corner of the one before it."""
+    far = 3 * count + 12
+    return polygon([(-3, -3), (far, -3), (far, far), (-3, far)], *(ell(at, count) for at in range(count)))
+
+
 def nested_chevrons(count):
     """So many chevrons, each in the next."""
     return polygons([[chevron(k, 8 * count)] for k in range(count)])

@@ -36,7 +36,7 @@ none_left applies fault i n h = ap (λ ns. find applies (map fault ns)) (numbers
 
 -- ---- some faults a number
 -- a search through two lists finds what lies first in the front one, or else what it finds in the other
-in_front : (applies : ValidityFault → Bool) (xs ys : List ValidityFault) (o : Option ValidityFault) → find applies xs ≡ o → find applies (xs ++ ys) ≡ option_or o (find applies ys)
+pub in_front : (applies : ValidityFault → Bool) (xs ys : List ValidityFault) (o : Option ValidityFault) → find applies xs ≡ o → find applies (xs ++ ys) ≡ option_or o (find applies ys)
 in_front applies xs ys o e = find-append applies xs ys ∙ ap (λ f. option_or f (find applies ys)) e
 
 -- the same where each number has several faults: what applies first among this number's is the first of all ..

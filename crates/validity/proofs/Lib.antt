@@ -1,3 +1,4 @@
+pub mod ApartRings
 pub mod Ascending
 pub mod CheckedTexts
 pub mod Faults
@@ -12,5 +13,6 @@ pub mod Finding
 pub mod NearNumbers
 pub mod OutlineFacts
 pub mod PartFacts
+pub mod Rays
 pub mod Polygons
 pub mod RingNumbers

@@ -34,11 +34,11 @@ abbrev pub AreNear : Geometry → (ℕ → ValidityFault) → ℕ → ℕ → Op
 AreNear g fault from end asked n envelopes = (j : ℕ) (o : Option Envelope) → n ≤ j → slice_get envelopes (j - n) ≡ Some o → from ≤ j → j < end → has_fault g (fault j) ≡ true → meets o asked ≡ true
 
 -- the places from n on at which an envelope meets the one asked for
-abbrev places : Option Envelope → ℕ → List (Option Envelope) → List ℕ
+abbrev pub places : Option Envelope → ℕ → List (Option Envelope) → List ℕ
 places asked n envelopes = map (λ (p : ℕ × Option Envelope). p.0) (filter (placed_meets asked) (enumerate_from n envelopes))
 
 -- the first of these envelopes gives its place exactly where it meets the one asked for
-one_place : (asked : Option Envelope) (n : ℕ) (o : Option Envelope) (envelopes : List (Option Envelope)) → places asked n (o ∷ envelopes) ≡ cond (meets o asked) (n ∷ places asked (n + 1) envelopes) (places asked (n + 1) envelopes)
+pub one_place : (asked : Option Envelope) (n : ℕ) (o : Option Envelope) (envelopes : List (Option Envelope)) → places asked n (o ∷ envelopes) ≡ cond (meets o asked) (n ∷ places asked (n + 1) envelopes) (places asked (n + 1) envelopes)
 one_place asked n o envelopes = go (meets o asked) refl
   where
     go : (b : Bool) → meets o asked ≡ b → places asked n (o ∷ envelopes) ≡ cond b (n ∷ places asked (n + 1) envelopes) (places asked (n + 1) envelopes)
@@ -154,7 +154,7 @@ both_there : {A : Type 0} (test : A → A → Bool) (o p : Option A) (r s : A) �
 both_there test o p r s e f h = sym (ap₂ (test_of_both test) e f) ∙ h
 
 -- where all rings are closed, so is the one with this number
-closed_at : (rs : List (List Position)) (i : ℕ) (r : List Position) → All IsClosed rs → slice_get rs i ≡ Some r → (i < length rs) × IsClosed r
+pub closed_at : (rs : List (List Position)) (i : ℕ) (r : List Position) → All IsClosed rs → slice_get rs i ≡ Some r → (i < length rs) × IsClosed r
 closed_at rs i r closed is = let within = slice_get_within rs i r is in (within, subst IsClosed (get_or_from_slice_get rs i r r is) (closed i r within))
 
 -- the envelope asked for is that of the ring or polygon with the number
@@ -164,7 +164,7 @@ asked_envelope f (y ∷ ys) zero x h = let same : y ≡ x = cc in ap f same
 asked_envelope f (y ∷ ys) (suc i) x h = asked_envelope f ys i x h
 
 -- envelopes that meet meet the other way round
-overlap_turned : (a b : Envelope) → overlap a b ≡ true → overlap b a ≡ true
+pub overlap_turned : (a b : Envelope) → overlap a b ≡ true → overlap b a ≡ true
 overlap_turned a b h = go (int_le a.least_x b.greatest_x) (int_le b.least_x a.greatest_x) (int_le a.least_y b.greatest_y) (int_le b.least_y a.greatest_y) h
   where
     go : (p q r s : Bool) → p && q && r && s ≡ true → q && p && s && r ≡ true
@@ -217,7 +217,7 @@ part_of (e ∷ es) zero d h is = let same : e ≡ d = cc in subst (Each IsClosed
 part_of (e ∷ es) (suc i) d h is = part_of es i d (each_right IsClosed e (joined_rings es) h) is
 
 -- where a geometry's rings are closed, so are those of each of its polygons
-element_closed : (g : Geometry) (i : ℕ) (d : List (List Position)) → HasClosedRings g → slice_get (elements g) i ≡ Some d → All IsClosed d
+pub element_closed : (g : Geometry) (i : ℕ) (d : List (List Position)) → HasClosedRings g → slice_get (elements g) i ≡ Some d → All IsClosed d
 element_closed (Geometry.Point p) i d closed is = absurd cc
 element_closed (Geometry.MultiPoint ps) i d closed is = absurd cc
 element_closed (Geometry.LineString ps) i d closed is = absurd cc
@@ -247,7 +247,7 @@ insides_near g element closed there_is j o h is later before applies =
 
 -- ---- numbers within the lists
 -- a geometry that has a polygon is an area, so its lines are its rings
-rings_of_elements : (g : Geometry) (m : ℕ) (e : Element) → slice_get (numbered_elements g) m ≡ Some e → rings g ≡ lines g
+pub rings_of_elements : (g : Geometry) (m : ℕ) (e : Element) → slice_get (numbered_elements g) m ≡ Some e → rings g ≡ lines g
 rings_of_elements (Geometry.Point p) m e is = absurd cc
 rings_of_elements (Geometry.MultiPoint ps) m e is = absurd cc
 rings_of_elements (Geometry.LineString ps) m e is = absurd cc

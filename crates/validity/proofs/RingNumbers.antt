@@ -110,7 +110,7 @@ asks_it : (g : Geometry) (first end : ℕ) (are : AreRings g first end) (t : Ele
     → list_any t (numbered_elements g) ≡ t are.element
 asks_it g first end are t i low high fails = one_decides t i 0 (elements g) are.place are.element are.numbered (omega (arith, are.starts, low)) (omega (arith, are.ends, high)) fails
 
-second_none : (test : List Position → List Position → Bool) (r : Option (List Position)) → test_of_both test r None ≡ false
+pub second_none : (test : List Position → List Position → Bool) (r : Option (List Position)) → test_of_both test r None ≡ false
 second_none test None = refl
 second_none test (Some r) = refl
 

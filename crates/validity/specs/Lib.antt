@@ -1,3 +1,4 @@
+pub mod ApartRings
 pub mod CheckFaults
 pub mod Contents
 pub mod OddEnds
@@ -6,4 +7,5 @@ pub mod ValidGeometries
 pub mod FaultOrder
 pub mod Neighbours
 pub mod Outlines
+pub mod Rays
 pub mod Runs

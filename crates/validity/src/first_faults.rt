@@ -10,7 +10,9 @@ ghost use Rattle.validity.specs.FaultOrder.{rings_meeting, holes_outside, nested
 ghost use Rattle.validity.specs.Neighbours.{near_one, ring_envelopes, element_envelopes};
 ghost use Rattle.validity.specs.Outlines.{AreRings, IsRing, IsHole};
 
+use crate::apart::are_apart_in_a_crowd;
 use crate::neighbours::Neighbours;
+use crate::nesting::{may_elements_nest_in_a_crowd, may_holes_nest_in_a_crowd};
 use crate::outlines::Outline;
 use edge_boxes::EdgeBoxes;
 use geometry_model::ValidityFault;
@@ -176,6 +178,28 @@ fn holes_of_one_nested(
     Ok(None)
 }
 
+/// The first two holes of a polygon of which one is inside the other. If a quick test finds that there are none, the holes
+/// aren't compared one by one.
+fn hole_nested(
+    alloc: Global,
+    outline: &Outline,
+    rings: &Neighbours,
+    first: usize,
+    end: usize,
+) -> Result<Option<ValidityFault>, AllocError>
+    requires closed { HasClosedRings outline.now }
+    requires rings { rings.now ≡ ring_envelopes outline.now }
+    requires are { AreRings outline.now first end }
+    ensures { IfOk result
+        (λ fault. fault ≡ first_of outline.now (of_pairs ValidityFault.HolesNested (first + 1) end)) }
+{
+    if may_holes_nest_in_a_crowd(alloc, outline, rings, first, end)? {
+        holes_of_one_nested(alloc, outline, rings, first, end)
+    } else {
+        Ok(None)
+    }
+}
+
 /// What is tested of the rings of a polygon.
 #[derive(Clone, Copy, Debug)]
 enum RingTest {
@@ -204,7 +228,7 @@ fn fault_of_one(
     match test {
         RingTest::Meeting => rings_of_one_meet(alloc, outline, rings, first, end),
         RingTest::Outside => hole_of_one_outside(alloc, outline, first, end),
-        RingTest::Nested => holes_of_one_nested(alloc, outline, rings, first, end),
+        RingTest::Nested => hole_nested(alloc, outline, rings, first, end),
     }
 }
 
@@ -227,6 +251,22 @@ fn fault_by(
         }
     }
     Ok(None)
+}
+
+/// The first two rings of one polygon that meet. If all rings are found to be apart, no two of them are compared.
+fn rings_meet(
+    alloc: Global,
+    outline: &Outline,
+    rings: &Neighbours,
+) -> Result<Option<ValidityFault>, AllocError>
+    requires closed { HasClosedRings outline.now }
+    requires rings { rings.now ≡ ring_envelopes outline.now }
+    ensures { IfOk result (λ fault. fault ≡ first_of outline.now (rings_meeting outline.now)) }
+{
+    if are_apart_in_a_crowd(alloc, outline, rings)? {
+        return Ok(None);
+    }
+    fault_by(alloc, outline, rings, RingTest::Meeting)
 }
 
 /// The first of the later polygons that a polygon meets; all that it meets are among those near it.
@@ -277,6 +317,23 @@ fn elements_meet(
     Ok(None)
 }
 
+/// The first two polygons whose rings meet. If all rings are found to be apart, no two polygons are compared.
+fn polygons_meet(
+    alloc: Global,
+    outline: &Outline,
+    elements: &Neighbours,
+) -> Result<Option<ValidityFault>, AllocError>
+    requires closed { HasClosedRings outline.now }
+    requires elements { elements.now ≡ element_envelopes outline.now }
+    ensures { IfOk result
+        (λ fault. fault ≡ first_of outline.now (of_two_elements ValidityFault.ElementsMeet outline.now)) }
+{
+    if are_apart_in_a_crowd(alloc, outline, elements)? {
+        return Ok(None);
+    }
+    elements_meet(alloc, outline, elements)
+}
+
 /// The first polygon inside which a polygon is; all such are among those near it.
 fn element_inside_near(outline: &Outline, element: usize, near: &[usize]) -> Option<ValidityFault>
     requires closed { HasClosedRings outline.now }
@@ -315,6 +372,25 @@ fn element_inside(
     Ok(None)
 }
 
+/// The first polygon that is inside another, and the first of those. If a quick test finds that there is none, the polygons
+/// aren't compared one by one.
+fn polygon_inside(
+    alloc: Global,
+    outline: &Outline,
+    elements: &Neighbours,
+) -> Result<Option<ValidityFault>, AllocError>
+    requires closed { HasClosedRings outline.now }
+    requires elements { elements.now ≡ element_envelopes outline.now }
+    ensures { IfOk result
+        (λ fault. fault ≡ first_of outline.now (of_other_elements ValidityFault.ElementInside outline.now)) }
+{
+    if may_elements_nest_in_a_crowd(alloc, outline, elements)? {
+        element_inside(alloc, outline, elements)
+    } else {
+        Ok(None)
+    }
+}
+
 /// The first fault of the rings of polygons, by which of them are near one another: V4 to V6.
 fn fault_among_rings(
     alloc: Global,
@@ -326,7 +402,7 @@ fn fault_among_rings(
     ensures { IfOk result (λ fault. fault ≡ first_of outline.now
         (rings_meeting outline.now ++ holes_outside outline.now ++ nested_holes outline.now)) }
 {
-    let meeting = fault_by(alloc, outline, rings, RingTest::Meeting)?;
+    let meeting = rings_meet(alloc, outline, rings)?;
     if meeting.is_some() {
         return Ok(meeting);
     }
@@ -362,11 +438,11 @@ fn fault_among_elements(
         (of_two_elements ValidityFault.ElementsMeet outline.now
         ++ of_other_elements ValidityFault.ElementInside outline.now)) }
 {
-    let meeting = elements_meet(alloc, outline, elements)?;
+    let meeting = polygons_meet(alloc, outline, elements)?;
     if meeting.is_some() {
         return Ok(meeting);
     }
-    element_inside(alloc, outline, elements)
+    polygon_inside(alloc, outline, elements)
 }
 
 /// The first fault of two polygons: V7 and V8.

@@ -2,10 +2,13 @@
 //! its type `Valid` says that it has no fault.
 #![tactic(auto)]
 
+mod apart;
 mod check_fault;
 mod checked_texts;
 pub mod first_faults;
+mod first_positions;
 mod neighbours;
+mod nesting;
 mod odd_ends;
 pub mod outlines;
 mod part_tests;

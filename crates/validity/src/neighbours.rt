@@ -69,6 +69,19 @@ impl Neighbours {
         self.index.search(self.envelopes[number], &mut near)?;
         Ok(near)
     }
+
+    /// Whether more than so many pairs are near one another. Each is near itself, and two are near one another twice.
+    pub(crate) fn are_crowded(&self, alloc: Global, most: usize) -> Result<bool, AllocError> {
+        let mut left = most;
+        for number in 0..self.envelopes.len() {
+            let near = self.near(alloc, number)?;
+            if left < near.len() {
+                return Ok(true);
+            }
+            left -= near.len();
+        }
+        Ok(false)
+    }
 }
 
 /// The smallest envelope that holds these two, each of which may be absent.

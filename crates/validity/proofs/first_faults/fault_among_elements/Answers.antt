@@ -10,11 +10,13 @@ use Rattle.validity.proofs.first_faults.fault_among_elements.Goals as goal
 pub returns-then-is_some : goal.returns-then-is_some
 returns-then-is_some c =
     let g = c.args.outline.now in
-    sym (first_stays (has_fault g) (of_two_elements validity.ElementsMeet g) (of_other_elements validity.ElementInside g) c.in_ok-meeting.meeting c.in_ok-meeting.ensures (sym c.is_some.ensures ∙ c.if-is_some.true))
+    sym (first_stays (has_fault g) (of_two_elements validity.ElementsMeet g) (of_other_elements validity.ElementInside g)
+    c.in_ok-meeting.meeting c.in_ok-meeting.ensures (sym c.is_some.ensures ∙ c.if-is_some.true))
 
 pub returns : goal.returns
 returns c =
     let g = c.args.outline.now in
-    IfOk-weaker c.element_inside.result (λ fault. fault ≡ find (has_fault g) (of_other_elements validity.ElementInside g)) _
-    (λ fault e. sym (second_follows (has_fault g) (of_two_elements validity.ElementsMeet g) (of_other_elements validity.ElementInside g) c.in_ok-meeting.meeting fault c.in_ok-meeting.ensures (sym c.is_some.ensures ∙ c.if-is_some.false) e))
-    c.element_inside.ensures
+    IfOk-weaker c.polygon_inside.result (λ fault. fault ≡ find (has_fault g) (of_other_elements validity.ElementInside g)) _
+    (λ fault e. sym (second_follows (has_fault g) (of_two_elements validity.ElementsMeet g)
+    (of_other_elements validity.ElementInside g) c.in_ok-meeting.meeting fault c.in_ok-meeting.ensures (sym c.is_some.ensures ∙ c.if-is_some.false) e))
+    c.polygon_inside.ensures

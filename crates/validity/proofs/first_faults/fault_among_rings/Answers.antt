@@ -23,6 +23,6 @@ pub returns : goal.returns
 returns c =
     let g = c.args.outline.now in
     let two = second_follows (has_fault g) (rings_meeting g) (holes_outside g) c.in_ok-meeting.meeting c.in_ok-outside.outside c.in_ok-meeting.ensures (sym c.is_some.ensures ∙ c.if-is_some.false) c.in_ok-outside.ensures in
-    IfOk-weaker c.fault_by-3.result (λ fault. fault ≡ find (has_fault g) (nested_holes g)) _
+    IfOk-weaker c.fault_by-2.result (λ fault. fault ≡ find (has_fault g) (nested_holes g)) _
     (λ fault e. sym (second_follows (has_fault g) (rings_meeting g ++ holes_outside g) (nested_holes g) c.in_ok-outside.outside fault (sym two) (sym c.is_some-2.ensures ∙ c.if-is_some-2.false) e))
-    c.fault_by-3.ensures
+    c.fault_by-2.ensures
