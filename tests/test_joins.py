@@ -149,7 +149,7 @@ class Planted(unittest.TestCase):
     @needs_build
     def test_mistakes_are_found(self):
         model = joins.Model(pool())
-        meanings = [(query, model.meaning(query)) for _, _, query in drawn(1, ENOUGH)]
+        meanings = [(query, model.meaning(query)) for _, _, query in drawn(4, ENOUGH)]
         for wrong in (ByOuterLoop, ByNumber, WithoutNulls, WithoutEmpties, WithoutStops, StopsEarly, EqualNulls):
             with self.subTest(wrong=wrong.__name__):
                 self.assertTrue(any(wrong(pool()).meaning(query) != it for query, it in meanings))

@@ -2,6 +2,7 @@ mod RunLemmas
 pub mod StreamLemmas
 mod FirstLemmas
 pub mod OrderLemmas
+mod OrderKeyLemmas
 mod KeptLemmas
 mod KeptRowLemmas
 mod LookLemmas
@@ -20,6 +21,7 @@ mod RowLemmas
 pub mod ScanLemmas
 mod StepLemmas
 mod CountLemmas
+mod EqualGroupLemmas
 mod TurnLemmas
 mod ValueLemmas
 mod WalkedPlanLemmas

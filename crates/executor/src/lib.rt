@@ -4,11 +4,13 @@
 
 mod asked_envelopes;
 mod envelopes;
+mod equal_groups;
 mod execution;
 mod found_pairs;
 mod inner_rows;
 mod iteration;
 mod keys;
+mod order_keys;
 mod orders;
 mod partners;
 mod paused_rows;
@@ -25,7 +27,7 @@ mod walks;
 pub use execution::execute;
 pub use iteration::Rows;
 pub use paused_rows::PausedRows;
-pub use referenced_tables::{Tables, tables_of};
+pub use referenced_tables::Tables;
 pub use row_pairs::RowPair;
 pub use spatial_sql::Work;
 pub use steps::{CountStep, Step};

@@ -1,23 +1,25 @@
-//! Tests of the libraries that need code: failing devices, counts of work, laws, and values of which no command prints
-//! anything. What a command prints is tested by the rows of `scripts`.
+//! Tests of the libraries below the runs of queries, which need code: counts of work, laws, explanations, pages of faults,
+//! witnesses and tiles, and values of which no command prints anything. What a command prints is tested by the rows of `scripts`.
 #![tactic(auto)]
 
+#[cfg(test)]
+mod batch_line_tests;
 #[cfg(test)]
 mod bound_query_tests;
 #[cfg(test)]
 mod box_tests;
 #[cfg(test)]
-mod constant_tests;
+mod cell_tests;
 #[cfg(test)]
 mod deciding_tests;
-#[cfg(test)]
-mod device_tests;
 #[cfg(test)]
 mod draws;
 #[cfg(test)]
 mod edge_tests;
 #[cfg(test)]
 mod envelope_tests;
+#[cfg(test)]
+mod explanation_tests;
 #[cfg(test)]
 mod gap_tests;
 #[cfg(test)]
@@ -57,6 +59,16 @@ mod shapes;
 #[cfg(test)]
 mod sink_tests;
 #[cfg(test)]
-mod starved_index_tests;
+mod table_explanation_tests;
+#[cfg(test)]
+mod tile_cell_tests;
+#[cfg(test)]
+mod tile_copy_tests;
+#[cfg(test)]
+mod tile_table_tests;
+#[cfg(test)]
+mod tile_text_tests;
+#[cfg(test)]
+mod tile_texts;
 #[cfg(test)]
 mod validity_tests;

@@ -1,6 +1,6 @@
 //! How many rows the tables of a run have.
 
-ghost use Rattle.std.specs.Prelude.{◌≡◌, IfOk, length, map};
+ghost use Rattle.std.specs.Prelude.{◌≡◌, IfOk, if◌then◌else◌, length, map};
 ghost use Rattle.query_runs.specs.RowCounts.{CountsTables};
 
 use feature_table::Database;
@@ -20,7 +20,9 @@ pub enum RowCounts {
 
 impl RowCounts {
     /// Not counted yet, and asked for or not.
-    pub fn new(asks: bool) -> RowCounts {
+    pub fn new(asks: bool) -> RowCounts
+        ensures { result ≡ (if asks then RowCounts.Asked else RowCounts.Unasked) }
+    {
         if asks {
             RowCounts::Asked
         } else {

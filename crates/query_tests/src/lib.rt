@@ -1,16 +1,13 @@
-//! Tests of what is above the tables, which need code: loaded tables, rows of plans and conditions at rows, whole commands with
-//! observers and refused searches, runs over pairs, pages of faults and texts of words, explanations, witnesses and places of
-//! faults, and tiles.
+//! Tests of what runs queries, which need code: loaded tables, rows of plans and conditions at rows, statements and their
+//! constants, and whole commands with observers, failing devices and refused searches.
 #![tactic(auto)]
 
 #[cfg(test)]
-mod batch_line_tests;
-#[cfg(test)]
-mod cell_tests;
-#[cfg(test)]
 mod condition_tests;
 #[cfg(test)]
-mod explanation_tests;
+mod constant_tests;
+#[cfg(test)]
+mod device_tests;
 #[cfg(test)]
 mod file_tests;
 #[cfg(test)]
@@ -22,27 +19,17 @@ mod observer_tests;
 #[cfg(test)]
 mod row_tests;
 #[cfg(test)]
+mod starved_index_tests;
+#[cfg(test)]
 mod statement_row_tests;
 #[cfg(test)]
 mod statement_tests;
 #[cfg(test)]
 mod step_tests;
 #[cfg(test)]
-mod table_explanation_tests;
-#[cfg(test)]
 mod table_tests;
 #[cfg(test)]
 mod tables;
-#[cfg(test)]
-mod tile_cell_tests;
-#[cfg(test)]
-mod tile_copy_tests;
-#[cfg(test)]
-mod tile_table_tests;
-#[cfg(test)]
-mod tile_text_tests;
-#[cfg(test)]
-mod tile_texts;
 #[cfg(test)]
 mod tree_tests;
 #[cfg(test)]

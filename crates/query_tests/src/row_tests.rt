@@ -43,6 +43,9 @@ const PROBED_WITHIN: &str =
 const JOINED: &str =
     "SELECT b.id, s.id FROM big b JOIN sq s ON ST_Intersects(b.geom, s.geom) WHERE b.id <> 2";
 
+const EQUAL_DIMENSIONS: &str = "SELECT COUNT(*) FROM big a JOIN big b \
+    ON ST_Dimension(a.geom) = ST_Dimension(b.geom)";
+
 /// Adds how the rows of a reference are found to a text.
 fn write_access(text: &mut String, access: &Access) -> Result<(), AllocError> {
     let reference = access.reference;
@@ -379,5 +382,31 @@ fn all_rows_of_each_shape(rt: HostRuntime) -> Result<(), Fail> {
         let text = found(rt.alloc(), TWO_SCHEMA, &[points.as_bytes(), SQUARES], query)?;
         assert!(rt; text.as_str() == *wanted, "{query}");
     }
+    Ok(())
+}
+
+/// How many rows the plan has that is chosen for a bound query, and the work after the last, where they are counted by steps of
+/// one look.
+fn counted_by_looks(
+    alloc: Global,
+    database: &Database<'_, RTree>,
+    bound: &Bound,
+) -> Result<(usize, u64), Fail>
+    requires bound { IsBound geometry_fits database.now.definitions bound.now }
+{
+    let plan = choose(alloc, database, bound)?;
+    Ok(counted(alloc, database, bound, &plan, 1)?)
+}
+
+/// Pairs of equal rows are counted together: there are 10,000, and `counted` makes 1,000 looks at most.
+#[test]
+fn pairs_of_equal_rows_are_counted_together(rt: HostRuntime) -> Result<(), Fail> {
+    let points = points_up_to(rt.alloc(), 100)?;
+    let schema = read_schema(rt.alloc(), POINTS_SCHEMA.as_bytes())?;
+    let database = database_of(rt.alloc(), &schema, &[points.as_bytes()])?;
+    let query = read_query(rt.alloc(), EQUAL_DIMENSIONS)?;
+    let bound = bind(rt.alloc(), &query, &database)?;
+    let counted = counted_by_looks(rt.alloc(), &database, &bound)?;
+    assert!(rt; counted == (10_000, 0));
     Ok(())
 }

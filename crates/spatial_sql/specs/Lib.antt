@@ -4,4 +4,5 @@ pub mod Evaluation
 pub mod Sides
 pub mod FilterOrder
 pub mod IdleRows
+pub mod Readings
 pub mod SoughtValues

@@ -4,3 +4,4 @@ pub mod SinkLemmas
 pub mod PartLemmas
 pub mod LineLemmas
 pub mod WriterLemmas
+pub mod RowLemmas

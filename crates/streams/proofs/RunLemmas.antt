@@ -74,14 +74,14 @@ abbrev made : Place → Bool → ℕ → ℕ → ℕ → Tally
 made place past f e r = checked (record { place = place; field_bytes = f; ended_fields = e; record_bytes = r; is_past = past })
 
 -- a length after so many bytes more
-abbrev more_by : ℕ → ℕ → ℕ
+abbrev pub more_by : ℕ → ℕ → ℕ
 more_by n x = min (x + n) (2 ^ 64 - 1)
 
 -- the tally after so many bytes that stay
 abbrev pub after : Tally → ℕ → Tally
 after t n = made (place_in_field t.place) t.is_past (more_by n t.field_bytes) t.ended_fields (more_by n t.record_bytes)
 
-more-twice : (x n : ℕ) → more_by n (more_by 1 x) ≡ more_by (suc n) x
+pub more-twice : (x n : ℕ) → more_by n (more_by 1 x) ≡ more_by (suc n) x
 more-twice x n = omega arith
 
 grown : (x n : ℕ) → more_by 1 x ≤ more_by (suc n) x

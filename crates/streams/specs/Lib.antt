@@ -9,3 +9,4 @@ pub mod StdSinks
 pub mod StopReaders
 pub mod StopSinks
 pub mod RecordWriters
+pub mod RowCounts

@@ -23,7 +23,7 @@ pub use memory::MemorySink;
 pub use put_fault::PutFault;
 pub use readers::BoundedReader;
 pub use record_writer::RecordWriter;
-pub use rows::{RowObserver, Unobserved};
+pub use rows::{RowCount, RowObserver, Unobserved};
 pub use sink::{Sink, SinkFault, put_all, put_parts};
 pub use standard::StdSink;
 pub use tallies::{FIELD_BYTES, Place, RECORD_BYTES, RECORD_FIELDS, Tally};

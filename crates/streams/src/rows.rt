@@ -1,12 +1,25 @@
 //! Observers of the search for rows.
 
-/// What the search for the rows of a query reports its progress to.
-pub trait RowObserver {
-    /// A candidate is looked at. After its row this many rows of the outer table, or of the only one, are still to come.
-    fn looked(&mut self, left: usize);
+ghost use Rattle.std.specs.Prelude.{◌≡◌, ℕ};
+ghost use Rattle.std.specs.Fn.{iterate};
 
-    /// The candidate passes all conditions: it is a row of the query.
-    fn found(&mut self);
+/// What the search for the rows of a query reports its progress to. Candidates that are decided together are reported together,
+/// and leave the observer as reports of each of them would.
+pub trait RowObserver {
+    /// The observer after one candidate, where this many rows are still to come after the candidate's row.
+    ghost after_candidate: { ℕ → Self → Self };
+
+    /// The observer after one row of the query.
+    ghost after_row: { Self → Self };
+
+    /// So many candidates are looked at, all of one row of the outer table, or of the only one. After it this many rows are still
+    /// to come.
+    fn looked(&mut self, candidates: usize, left: usize)
+        ensures together { self.new ≡ iterate (after_candidate left) candidates self.old };
+
+    /// So many candidates pass all conditions: they are rows of the query.
+    fn found(&mut self, rows: usize)
+        ensures together { self.new ≡ iterate after_row rows self.old };
 }
 
 /// An observer that does nothing.
@@ -14,9 +27,64 @@ pub trait RowObserver {
 pub struct Unobserved;
 
 impl RowObserver for Unobserved {
-    fn looked(&mut self, left: usize) {
-        let _ = left;
+    ghost after_candidate = { λ left observer. observer };
+
+    ghost after_row = { λ observer. observer };
+
+    fn looked(&mut self, candidates: usize, left: usize) {
+        let _ = (candidates, left);
     }
 
-    fn found(&mut self) {}
+    fn found(&mut self, rows: usize) {
+        let _ = rows;
+    }
+}
+
+/// An observer that counts, up to the greatest number of 64 bits.
+#[derive(Clone, Copy, Debug, Default)]
+pub struct RowCount {
+    /// How many candidates were looked at.
+    pub candidates: u64,
+    /// How many rows of the outer table, or of the only one, were still to come after that of the first candidate.
+    pub first_left: usize,
+    /// How many were still to come after that of the last candidate.
+    pub last_left: usize,
+    /// How many rows of the query were found.
+    pub rows: u64,
+}
+
+impl RowCount {
+    ghost use Rattle.std.specs.Prelude.{◌==◌, if◌then◌else◌};
+
+    /// How many rows are still to come after that of the first candidate: this many, if no candidate came before.
+    fn first_or(&self, left: usize) -> usize
+        ensures { result ≡ (if self.now.candidates == 0 then left else self.now.first_left) }
+    {
+        if self.candidates == 0 {
+            left
+        } else {
+            self.first_left
+        }
+    }
+}
+
+impl RowObserver for RowCount {
+    ghost use Rattle.streams.specs.RowCounts.{after_candidate, after_row};
+
+    ghost after_candidate = { after_candidate };
+
+    ghost after_row = { after_row };
+
+    fn looked(&mut self, candidates: usize, left: usize) {
+        if candidates == 0 {
+            return;
+        }
+        self.first_left = self.first_or(left);
+        self.candidates = self.candidates.saturating_add(candidates as u64);
+        self.last_left = left;
+    }
+
+    fn found(&mut self, rows: usize) {
+        self.rows = self.rows.saturating_add(rows as u64);
+    }
 }

@@ -77,7 +77,7 @@ impl Tally {
     }
 
     /// Whether a field or a record was longer than its limit.
-    pub fn is_past(&self) -> bool
+    pub(crate) fn is_past(&self) -> bool
         ensures { result ≡ spec.is_past self.now }
     {
         self.is_past
