@@ -1,4 +1,4 @@
-"""What `--why` opens: of a schema, a query, a geometry and pairs each file once, whether there is a fault or not, so that pipes are explained too."""
+"""What `--why` opens: each file once, whether there is a fault or not, so that pipes are explained too."""
 import os
 import subprocess
 import tempfile
@@ -17,6 +17,38 @@ FAULTS = (
     (SCHEMA, "SELECT nam FROM t", 3, "sfq: Q5 at 7\n", "sfq: there is no column nam"),
     (SCHEMA, "SELECT id FROM t WERE id = 1", 3, "sfq: Q2 at 22\n", "sfq: "),
 )
+# Of each a table's text and all that a check writes of it; the schema's file and the table's are opened.
+TABLES = (
+    ("id,name\n1,a\nx,b\n", """sfq: t L5 record 2
+  3 | x,b
+    | ^
+sfq: column id: "x" isn't a whole number of 64 bits
+"""),
+    ("id,name\r\n\r\n1,a\r\n2\r\n3,c\r\n", """sfq: t L3 record 2
+  4 | 2
+    |  ^
+sfq: the record has 1 fields, the header 2
+"""),
+    ("id,name\n1,a\n2,b\n1,c\n", """sfq: t L9 record 3
+  4 | 1,c
+    | ^
+sfq: record 1 has the key 1
+"""),
+    ("id,nam\n1,a\n", """sfq: t L1
+  1 | id,nam
+sfq: column name isn't in the header
+"""),
+    ("", """sfq: t L1
+sfq: the file is empty: its first line names the columns
+"""),
+)
+# A table in which a quote isn't closed, and the notes of a check.
+OPEN = "id,name\n1,a\n2,\"b\n3,c\n"
+OPEN_NOTE = """sfq: note: t record 2: field 2 holds a line end
+  3 | 2,"b
+    |   ^
+sfq: the quote that opens here isn't closed: the rest of the file is one field
+"""
 # Of each the words, how many files are opened or tried, the line of the fault and its reason.
 UNOPENED = (
     (["check", "nope.sql", "."], 1, "sfq: schema unreadable\n", "sfq: nope.sql isn't there\n"),
@@ -77,6 +109,43 @@ class Openings(unittest.TestCase):
                     first, _, added = ran.err.decode().partition("\n")
                     self.assertEqual(f"{first}\n", line)
                     self.assertEqual(reason in added, bool(switch))
+
+    def of_table(self, text):
+        """Returns how many files a check of a table of this text opens, with how many calls of statx, and what it writes."""
+        write(f"{self.folder}/t.csv", text)
+        ran = sweeps.run(["check", "--why", "schema.sql", "."], folder=self.folder)
+        return (ran.counts["open"], ran.counts["statx"]), ran.err.decode()
+
+    @needs_build
+    @needs("gcc", "cc")
+    def test_a_table_with_a_fault_is_opened_once(self):
+        for text, lines in TABLES:
+            with self.subTest(text=text):
+                counts, err = self.of_table(text)
+                self.assertEqual(counts, (2, 0))
+                for line in lines.splitlines():
+                    self.assertIn(f"{line}\n", err)
+
+    @needs_build
+    @needs("gcc", "cc")
+    def test_notes_of_a_check_open_each_file_once(self):
+        self.assertEqual(self.of_table(OPEN), ((2, 0), OPEN_NOTE))
+
+    @needs_build
+    def test_tables_from_pipes_are_explained_as_from_files(self):
+        for text in (*(text for text, _ in TABLES), OPEN):
+            with self.subTest(text=text):
+                write(f"{self.folder}/t.csv", text)
+                expected = self.said(["check", "schema.sql", "."], "")
+                os.remove(f"{self.folder}/t.csv")
+                os.symlink("/dev/stdin", f"{self.folder}/t.csv")
+                self.assertEqual(self.said(["check", "schema.sql", "."], text), expected)
+                os.remove(f"{self.folder}/t.csv")
+                os.mkfifo(f"{self.folder}/t.csv")
+                writer = subprocess.Popen(["sh", "-c", 'printf %s "$1" > t.csv', "sh", text], cwd=self.folder)
+                self.assertEqual(self.said(["check", "schema.sql", "."], ""), expected)
+                writer.wait(timeout=60)
+                os.remove(f"{self.folder}/t.csv")
 
     @needs_build
     @needs("gcc", "cc")

@@ -320,8 +320,13 @@ class Streams(unittest.TestCase):
         with tempfile.TemporaryDirectory(prefix="sfq-pipe-") as room:
             write(f"{room}/schema.sql", "CREATE TABLE t (id INTEGER PRIMARY KEY)")
             os.symlink("/dev/stdin", f"{room}/t.csv")
-            said = self.run_with_switch(["check", f"{room}/schema.sql", room], given="id\nx\n", stdout=subprocess.DEVNULL)
-        self.look(said, "sfq: t L5 record 1")
+            words = ["check", f"{room}/schema.sql", room]
+            of_pipe = self.run_with_switch(words, given="id\nx\n", stdout=subprocess.DEVNULL)
+            os.remove(f"{room}/t.csv")
+            write(f"{room}/t.csv", "id\nx\n")
+            of_file = self.run_with_switch(words, stdout=subprocess.DEVNULL)
+        self.assertEqual(of_pipe, of_file)
+        self.assertTrue(of_pipe.startswith("sfq: t L5 record 1\n  2 | x\n"), of_pipe)
 
 
 if __name__ == "__main__":

@@ -11,7 +11,7 @@ FOLDER = f"{ROOT}/tests/wrong_inputs"
 # How many columns of a line are shown before the place and from there on.
 BEFORE, BEHIND = 100, 60
 # Characters that a terminal obeys, or doesn't show, or that turn those around them.
-UNSEEN = re.compile("[\x80-\x9f\u200b-\u200f\u2028-\u202e\u2060-\u206f\ufeff]")
+UNSEEN = re.compile("[\x80-\x9f\u061c\u200b-\u200f\u2028-\u202e\u2060-\u206f\ufeff\U000e0000-\U000e007f]")
 
 
 class Case(NamedTuple):

@@ -1,28 +1,26 @@
 -- What is written of tables that have loaded, one after another.
-use Rattle.std.proofs.Common.{◌≡◌, ◌+◌, ◌≤◌, inr, ℕ, List, [], ◌∷◌, ◌++◌, length, take, add-one, refl, subst, sym, IfErr, IfOk, Option, Some, Result, Ok, Err}
+use Rattle.std.proofs.Common.{◌≡◌, ◌+◌, ◌≤◌, inl, inr, ℕ, Bool, true, List, [], ◌∷◌, ◌++◌, length, take, add-one, refl, subst, sym, Option, Some}
 use Rattle.std.specs.Prelude.{slice_get}
 use Rattle.std.proofs.lemmas.List.{take_all}
 use Rattle.engine.proofs.FileLemmas.{take-more}
-use Rattle.engine.specs.Commands.{LooksAgain, NotesTable, NotesTables, table_path}
-use Rattle.feature_table.specs.Outcomes.{IsFailure}
-use Rattle.record_reasons.specs.LineEnds.{FindsLineEnd}
-use Rattle.record_reasons.specs.declared.line_ends.LineEnd.{LineEnd}
-use Rattle.table_model.specs.declared.faults.LoadFault.{LoadFault}
+use Rattle.engine.specs.Commands.{MayNoteText, NotesTable, NotesTables, ReadsAgain}
 use Rattle.text_commands.specs.Files.{Opening}
-use Rattle.text_commands.specs.declared.files.File.TheVariants as role
-
--- what a file that is opened shows
-pub looked-again : {F R : Type 0} (files : Opening F R) (remaining : R → Option (List ℕ)) (directory name : List ℕ)
-    (before after : F) (reader : R)
-    (looked : Result (Option LineEnd) LoadFault) → files role.Table before (table_path directory name) (Some reader) after
-    → IfOk looked (FindsLineEnd (remaining reader)) → IfErr looked IsFailure
-    → LooksAgain files remaining directory name before after looked
-looked-again files remaining directory name before after reader (Ok found) opened finds fails = (reader, opened, finds)
-looked-again files remaining directory name before after reader (Err fault) opened finds fails =
-    (fails, inr (Some reader, opened))
 
 module _ {F R E : Type 0} (files : Opening F R) (remaining : R → Option (List ℕ)) (taken : E → Option (List ℕ))
     (failures : E → ℕ) (directory : List ℕ) where
+  -- a text that was read again is noted, or isn't
+  pub noted : (name : List ℕ) (before after : F) (old new : E) (text : List ℕ) (whole : Bool)
+      → ReadsAgain files remaining directory name before after text whole → whole ≡ true
+      → MayNoteText taken failures name text old new
+      → NotesTable files remaining taken failures directory name before after old new
+  noted name before after old new text whole read is said =
+      inr (text, subst (ReadsAgain files remaining directory name before after text) is read, said)
+
+  pub not-noted : (name : List ℕ) (before after : F) (sink : E) (text : List ℕ) (whole : Bool)
+      → ReadsAgain files remaining directory name before after text whole
+      → NotesTable files remaining taken failures directory name before after sink sink
+  not-noted name before after sink text whole read = inl (inr (Some read.reader, read.opened), refl)
+
   -- one table more
   one-more : (names : List (List ℕ)) (name : List ℕ) (before middle after : F) (old next new : E)
       → NotesTables files remaining taken failures directory names before middle old next

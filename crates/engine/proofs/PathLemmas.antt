@@ -6,10 +6,9 @@ use Rattle.std.specs.String.{string_bytes}
 use denote.Ref.{Bor}
 use Rattle.command_line.specs.declared.known_commands.Order.{Order}
 use Rattle.command_line.specs.declared.known_commands.Order.TheVariants as orders
-use Rattle.engine.specs.Commands.{AfterSchema, CheckEnds, ChecksFiles, ChecksTables, EndsUnread, ExplainsCheck, ExplainsFile, ExplainsLoad, ExplainsRun, ExplainsTable, LooksAgain, MayOpen, Notes, NotesTables, Opens, OpensTables, OverFiles, OverTables, RunEnds, RunsFiles, RunsQuery, RunsTables, SaysOfRun, SaysOfTables, SaysQuote, ServesAlone, ServesOrder, table_names, table_path, table_paths}
+use Rattle.engine.specs.Commands.{AfterSchema, CheckEnds, ChecksFiles, ChecksTables, EndsUnread, ExplainsCheck, ExplainsFile, ExplainsLoad, ExplainsRun, ExplainsTable, MayOpen, NotesTable, NotesTables, Opens, OpensTables, OverFiles, OverTables, ReadsAgain, RunEnds, RunsFiles, RunsQuery, RunsTables, SaysOfRun, SaysOfTables, ServesAlone, ServesOrder, table_names, table_path, table_paths}
 use Rattle.failures.specs.declared.failure.Failure.{Failure}
 use Rattle.failures.specs.declared.failure.Failure.TheVariants as f
-use Rattle.record_reasons.specs.declared.line_ends.LineEnd.{LineEnd}
 use Rattle.table_model.specs.Loading.{Record}
 use Rattle.table_model.specs.SpatialTables.{SpatialSchema}
 use Rattle.table_model.specs.declared.faults.LoadFault.{LoadFault}
@@ -157,6 +156,17 @@ module _ {F G R : Type 0} (files : Opening G R) (paths : Opening F R) (under : G
 
   module _ {E : Type 0} (remaining : R → Option (List ℕ)) (taken : E → Option (List ℕ)) (failures : E → ℕ)
       (directory : List ℕ) where
+    reads-again : (name : List ℕ) (before after : G) (text : List ℕ) (whole : Bool)
+        → ReadsAgain files remaining directory name before after text whole
+        → ReadsAgain paths remaining directory name (under before) (under after) text whole
+    reads-again name before after text whole r = record {
+      reader = r.reader;
+      opened = called role.Table (λ lent. refl) before (table_path directory name) (Some r.reader) after r.opened;
+      left = r.left;
+      front = r.front;
+      all = r.all;
+    }
+
     explains-table : (before : G) (definitions : SpatialSchema) (name : List ℕ) (fault : LoadFault) (explanation : List ℕ)
         → ExplainsTable files remaining before directory definitions name fault explanation
         → ExplainsTable paths remaining (under before) directory definitions name fault explanation
@@ -165,17 +175,13 @@ module _ {F G R : Type 0} (files : Opening G R) (paths : Opening F R) (under : G
       named = e.named;
       table = e.table;
       there = e.there;
-      reader = e.reader;
-      middle = under e.middle;
-      opened = called role.Table (λ lent. refl) before (table_path directory name) (Some e.reader) e.middle e.opened;
+      after = under e.after;
+      text = e.text;
+      whole = e.whole;
+      read = reads-again name before e.after e.text e.whole e.read;
+      all = e.all;
       line = e.line;
       says = e.says;
-      again = e.again;
-      after = under e.after;
-      reopened = called role.Table (λ lent. refl) e.middle (table_path directory name) (Some e.again) e.after e.reopened;
-      left = e.left;
-      text = e.text;
-      front = e.front;
       explains = e.explains;
     }
 
@@ -185,36 +191,11 @@ module _ {F G R : Type 0} (files : Opening G R) (paths : Opening F R) (under : G
     may-open name before after (inr by) =
         inr (by.0, called role.Table (λ lent. refl) before (table_path directory name) by.0 after by.1)
 
-    looks-again : (name : List ℕ) (before after : G) (looked : Result (Option LineEnd) LoadFault)
-        → LooksAgain files remaining directory name before after looked → LooksAgain paths remaining directory name
-        (under before) (under after) looked
-    looks-again name before after (Ok found) l =
-        (l.0, called role.Table (λ lent. refl) before (table_path directory name) (Some l.0) after l.1, l.2)
-    looks-again name before after (Err fault) l = (l.0, may-open name before after l.1)
-
-    says-quote : (name : List ℕ) (number : ℕ) (before after : G) (old new : E)
-        → SaysQuote files remaining taken failures directory name number before after old new
-        → SaysQuote paths remaining taken failures directory name number (under before) (under after) old new
-    says-quote name number before after old new (inl nothing) = inl (may-open name before after nothing.0, nothing.1)
-    says-quote name number before after old new (inr s) =
-        inr (record {
-          reader = s.reader;
-          opened = called role.Table (λ lent. refl) before (table_path directory name) (Some s.reader) after s.opened;
-          left = s.left;
-          text = s.text;
-          front = s.front;
-          note = s.note;
-          notes = s.notes;
-          written = s.written;
-        })
-
-    notes-more : (name : List ℕ) (looked : Result (Option LineEnd) LoadFault) (before after : G) (old new : E)
-        → Notes files remaining taken failures directory name looked before after old new
-        → Notes paths remaining taken failures directory name looked (under before) (under after) old new
-    notes-more name (Ok (Some at_field)) before after old new n =
-        (n.0, n.1, says-quote name at_field.number before after n.0 new n.2)
-    notes-more name (Ok None) before after old new n = (ap under n.0, n.1)
-    notes-more name (Err fault) before after old new n = (ap under n.0, n.1)
+    notes-table : (name : List ℕ) (before after : G) (old new : E)
+        → NotesTable files remaining taken failures directory name before after old new
+        → NotesTable paths remaining taken failures directory name (under before) (under after) old new
+    notes-table name before after old new (inl nothing) = inl (may-open name before after nothing.0, nothing.1)
+    notes-table name before after old new (inr n) = inr (n.0, reads-again name before after n.0 true n.1, n.2)
 
     explains-load : (old new : E) (before : G) (definitions : SpatialSchema) (name : List ℕ) (fault : LoadFault)
         → ExplainsLoad files remaining taken failures old new before directory definitions name fault
@@ -229,18 +210,12 @@ module _ {F G R : Type 0} (files : Opening G R) (paths : Opening F R) (under : G
         → NotesTables files remaining taken failures directory names before after old new
         → NotesTables paths remaining taken failures directory names (under before) (under after) old new
     notes-tables [] before after old new noted = (ap under noted.0, noted.1)
-    notes-tables (name ∷ names) before after old new noted =
-        let n = noted.2 in (
-          under noted.0,
-          noted.1,
-          record {
-            looked = n.looked;
-            middle = under n.middle;
-            looks = looks-again name before n.middle n.looked n.looks;
-            notes = notes-more name n.looked n.middle noted.0 old noted.1 n.notes;
-          },
-          notes-tables names noted.0 after noted.1 new noted.3,
-        )
+    notes-tables (name ∷ names) before after old new noted = (
+      under noted.0,
+      noted.1,
+      notes-table name before noted.0 old noted.1 noted.2,
+      notes-tables names noted.0 after noted.1 new noted.3,
+    )
 
     says-of-run : (old new : E) (loaded : G) (query : List ℕ) (definitions : SpatialSchema) (end : End)
         → SaysOfRun files remaining taken failures old new loaded directory query definitions end

@@ -11,9 +11,9 @@ use Rattle.engine.specs.declared.commands.TheConstants.{SCHEMA_BYTES}
 use Rattle.explanations.specs.Faults.{query_place, schema_place}
 use Rattle.explanations.specs.Marks.{IsExplanation}
 use Rattle.explanations.specs.Notes.{AreNotes}
-use Rattle.explanations.specs.Tables.{IsFront, IsTableExplanation, IsTableNote}
+use Rattle.explanations.specs.Tables.{IsTableExplanation, IsTableNote}
+use Rattle.std.specs.Io.KnownBytes.{Consumes}
 use Rattle.feature_table.specs.Tables.{EachRecordsOf, EarlierLoad}
-use Rattle.feature_table.specs.Outcomes.{IsFailure}
 use Rattle.query_runs.specs.Runs.{Runs, RunsOver}
 use Rattle.record_reasons.specs.LineEnds.{FindsLineEnd}
 use Rattle.record_reasons.specs.NoteTexts.{note_line}
@@ -31,6 +31,7 @@ use Rattle.table_model.specs.SpatialTables.{SpatialSchema, SpatialTable}
 use Rattle.table_model.specs.Texts.{same_name}
 use Rattle.table_model.specs.declared.definitions.TableDef.{TableDef}
 use Rattle.table_model.specs.declared.faults.LoadFault.{LoadFault}
+use Rattle.table_model.specs.declared.faults.LoadFault.TheVariants as loading
 use Rattle.table_model.specs.declared.faults.QueryFault.{QueryFault}
 use Rattle.table_model.specs.declared.faults.SchemaFault.{SchemaFault}
 use Rattle.table_model.specs.declared.faults.SchemaFault.TheVariants as s
@@ -221,29 +222,34 @@ module _ {M : Type 0} (taken : M → Option (List ℕ)) (failures : M → ℕ) (
 abbrev pub IsNamed : SpatialSchema → List ℕ → ℕ → Type 0
 IsNamed definitions name place = (table : TableDef ColumnShape) × (slice_get definitions place ≡ Some table) × (same_name table.name name ≡ true)
 
--- the line that says what is wrong in some bytes, if they are known: that of the reason of a table's fault, or none
-abbrev pub SaysReason : Option (List ℕ) → TableDef ColumnShape → LoadFault → List ℕ → Type 0
-SaysReason known table fault line = (line ≡ []) ⊎ ((reason : Reason) × IsReasonOf known table fault reason × (line ≡ reason_line reason))
+-- the line that says what is wrong in a text: that of the reason of a table's fault, or none
+abbrev pub SaysReason : List ℕ → TableDef ColumnShape → LoadFault → List ℕ → Type 0
+SaysReason text table fault line = (line ≡ []) ⊎ ((reason : Reason) × IsReasonOf (Some text) table fault reason × (line ≡ reason_line reason))
 
--- what explains the fault of the table of this name: its file is opened again, in the state `before`, for the reason, and then once more for a
--- front of its text, in which the explanation shows the record
+-- the file of the table of this name is opened again, in the state `before`, and read: this text is what was taken of it, and all of it, if it is whole
+pub record ReadsAgain {F R : Type 0} (opens : Opening F R) (remaining : R → Option (List ℕ)) (directory name : List ℕ) (before after : F)
+    (text : List ℕ) (whole : Bool) : Type 0 where
+  pub reader : R
+  pub opened : opens role.Table before (table_path directory name) (Some reader) after
+  pub left : R
+  pub front : Consumes (remaining reader) (remaining left) text
+  pub all : whole ≡ true → IfSome (remaining reader) (λ bytes. text ≡ bytes)
+
+-- what explains the fault of the table of this name: its file is opened again, in the state `before`, and its text has the reason, and the record
+-- that the explanation shows; where reading had failed, a front of the text has it
 pub record ExplainsTable {F R : Type 0} (opens : Opening F R) (remaining : R → Option (List ℕ)) (before : F) (directory : List ℕ)
     (definitions : SpatialSchema) (name : List ℕ) (fault : LoadFault) (explanation : List ℕ) : Type 0 where
   pub place : ℕ
   pub named : IsNamed definitions name place
   pub table : TableDef ColumnShape
   pub there : slice_get definitions place ≡ Some table
-  pub reader : R
-  pub middle : F
-  pub opened : opens role.Table before (table_path directory name) (Some reader) middle
-  pub line : List ℕ
-  pub says : SaysReason (remaining reader) table fault line
-  pub again : R
   pub after : F
-  pub reopened : opens role.Table middle (table_path directory name) (Some again) after
-  pub left : R
   pub text : List ℕ
-  pub front : IsFront (remaining again) (remaining left) text
+  pub whole : Bool
+  pub read : ReadsAgain opens remaining directory name before after text whole
+  pub all : (whole ≡ true) ⊎ (fault ≡ loading.ReadFailed)
+  pub line : List ℕ
+  pub says : SaysReason text table fault line
   pub explains : IsTableExplanation text fault line explanation
 
 -- what explains a table's fault was written, or a beginning of it
@@ -265,48 +271,31 @@ abbrev pub MayOpen : {F R : Type 0} → Opening F R → List ℕ → List ℕ �
 MayOpen {R = R} opens directory name before after =
     (after ≡ before) ⊎ ((file : Option R) × opens role.Table before (table_path directory name) file after)
 
--- what a table's file shows when it is opened again, in the state `before`, and read: its first field with a line end, or that it has none; at Err
--- it isn't opened or read, or memory ran out
-abbrev pub LooksAgain : {F R : Type 0} → Opening F R → (R → Option (List ℕ)) → List ℕ → List ℕ → F → F → Result (Option LineEnd) LoadFault → Type 0
-LooksAgain {R = R} opens remaining directory name before after (Ok found) =
-    (reader : R) × opens role.Table before (table_path directory name) (Some reader) after × FindsLineEnd (remaining reader) found
-LooksAgain opens remaining directory name before after (Err fault) = IsFailure fault × MayOpen opens directory name before after
+-- the sink of standard error
+module _ {E : Type 0} (taken : E → Option (List ℕ)) (failures : E → ℕ) where
+  -- either the place in a text where the quote of a record's field opens was written, or a beginning of it, or nothing
+  abbrev pub SaysQuote : List ℕ → ℕ → E → E → Type 0
+  SaysQuote text number old new =
+      (new ≡ old) ⊎ ((note : List ℕ) × IsTableNote text number note × Writes (taken old) (taken new) (failures old) (failures new) note)
+
+  -- the line of a field with a line end was written, or a beginning of it, and where its quote opens; without such a field nothing was
+  abbrev pub Notes : List ℕ → List ℕ → Option LineEnd → E → E → Type 0
+  Notes name text (Some at_field) old new =
+      (shown : E) × Writes (taken old) (taken shown) (failures old) (failures shown) (note_line name at_field)
+      × SaysQuote text at_field.number shown new
+  Notes name text None old new = new ≡ old
+
+  -- what is written of the text of the table of this name: of its first field with a line end, if it has one; nothing, where memory ran out
+  abbrev pub MayNoteText : List ℕ → List ℕ → E → E → Type 0
+  MayNoteText name text old new = (new ≡ old) ⊎ ((found : Option LineEnd) × FindsLineEnd (Some text) found × Notes name text found old new)
 
 -- the sink of standard error, and the folder of the tables' files
 module _ {F R E : Type 0} (opens : Opening F R) (remaining : R → Option (List ℕ)) (taken : E → Option (List ℕ)) (failures : E → ℕ) (directory : List ℕ) where
-  -- the place where the quote of a record's field opens was written, or a beginning of it, or nothing: it is in a front of the text of the
-  -- table's file, which is opened once more
-  pub record ShowsQuote (name : List ℕ) (number : ℕ) (before after : F) (old new : E) : Type 0 where
-    pub reader : R
-    pub opened : opens role.Table before (table_path directory name) (Some reader) after
-    pub left : R
-    pub text : List ℕ
-    pub front : IsFront (remaining reader) (remaining left) text
-    pub note : List ℕ
-    pub notes : IsTableNote text number note
-    pub written : Writes (taken old) (taken new) (failures old) (failures new) note
-
-  -- either the place where the quote of a record's field opens was written, or a beginning of it, or nothing; nothing also where the table's file
-  -- can't be opened, or memory ran out
-  abbrev pub SaysQuote : List ℕ → ℕ → F → F → E → E → Type 0
-  SaysQuote name number before after old new =
-      (MayOpen opens directory name before after × (new ≡ old)) ⊎ ShowsQuote name number before after old new
-
-  -- the line of a field with a line end was written, or a beginning of it, and where its quote opens; without such a field nothing was, nor where
-  -- the file can't be opened or read again
-  abbrev pub Notes : List ℕ → Result (Option LineEnd) LoadFault → F → F → E → E → Type 0
-  Notes name (Ok (Some at_field)) before after old new =
-      (shown : E) × Writes (taken old) (taken shown) (failures old) (failures shown) (note_line name at_field)
-      × SaysQuote name at_field.number before after shown new
-  Notes name (Ok None) before after old new = (after ≡ before) × (new ≡ old)
-  Notes name (Err fault) before after old new = (after ≡ before) × (new ≡ old)
-
-  -- what is written of the table of this name, which has loaded, and the states of the opener
-  pub record NotesTable (name : List ℕ) (before after : F) (old new : E) : Type 0 where
-    pub looked : Result (Option LineEnd) LoadFault
-    pub middle : F
-    pub looks : LooksAgain opens remaining directory name before middle looked
-    pub notes : Notes name looked middle after old new
+  -- what is written of the table of this name, which has loaded, and the states of the opener: nothing, where its file can't be read again
+  abbrev pub NotesTable : List ℕ → F → F → E → E → Type 0
+  NotesTable name before after old new =
+      (MayOpen opens directory name before after × (new ≡ old))
+      ⊎ ((text : List ℕ) × ReadsAgain opens remaining directory name before after text true × MayNoteText taken failures name text old new)
 
   -- and of the tables of these names, one after another
   abbrev pub NotesTables : List (List ℕ) → F → F → E → E → Type 0

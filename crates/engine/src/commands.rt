@@ -1,25 +1,25 @@
 //! The commands of the program: `serve` does what the command line orders, over readers and sinks of any kind.
 
-ghost use Rattle.std.specs.Prelude.{◌≡◌, ◌<◌, ◌⊎◌, [], false, length, take, Err, IfErr, IfOk, IfSome, OnErr, OnOk};
+ghost use Rattle.std.specs.Prelude.{◌≡◌, ◌<◌, ◌⊎◌, [], false, true, length, take, Err, IfErr, IfNone, IfOk, IfSome, OnErr, OnOk};
 ghost use Rattle.command_line.specs.Orders.{asks_why};
 ghost use Rattle.std.specs.Fn.{CalledAt, TakesAt};
 ghost use Rattle.std.specs.String.{string_bytes};
 ghost use Rattle.std.specs.Io.KnownBytes.{Appends};
-ghost use Rattle.engine.specs.Commands.{ChecksFiles, ChecksTables, ExplainsCheck, ExplainsRun, ExplainsTable, IsFaultOf, IsNamed, IsUnread, LooksAgain, MayExplainAt, MayExplainFile, MayExplainLoad, MayExplainSchema, NotesQuery, NotesTable, NotesTables, Opens, OpensTables, ReadsSchema, RunsFiles, RunsQuery, RunsTables, SaysQuote, SaysReason, ServesAlone, ServesOrder, check_text, table_names, table_paths};
+ghost use Rattle.engine.specs.Commands.{ChecksFiles, ChecksTables, ExplainsCheck, ExplainsRun, ExplainsTable, IsFaultOf, IsNamed, IsUnread, MayExplainAt, MayExplainFile, MayExplainLoad, MayExplainSchema, MayNoteText, MayOpen, NotesQuery, NotesTable, NotesTables, Opens, OpensTables, ReadsAgain, ReadsSchema, RunsFiles, RunsQuery, RunsTables, SaysQuote, SaysReason, ServesAlone, ServesOrder, check_text, table_names, table_paths};
 ghost use Rattle.engine.specs.Commands as spec;
 ghost use Rattle.explanations.specs.Faults.{query_place};
 ghost use Rattle.explanations.specs.Tables.{IsTableExplanation};
-ghost use Rattle.feature_table.specs.Outcomes.{IsFailure};
 ghost use Rattle.query_runs.specs.Runs.{IsOfTables};
 ghost use Rattle.record_reasons.specs.ReasonTexts.{reason_line};
 ghost use Rattle.streams.specs.Sinks.{AppendsFront, CountsFailure};
+ghost use Rattle.table_model.specs.declared.faults.LoadFault.TheVariants as loading;
 ghost use Rattle.text_commands.specs.Ends.{Serves};
 ghost use Rattle.text_commands.specs.Files.{OpensFile, OpensPath, path_of};
 
 use command_line::Order;
 use explanations::{
-    Found, last_record, open_quote_explained, query_explained_over, query_notes, schema_explained,
-    table_explained, table_front,
+    Found, open_quote_explained, query_explained_over, query_notes, schema_explained,
+    table_explained,
 };
 use failures::{Failure, Fault, ended, failed};
 use feature_table::{Database, Records, Schema};
@@ -473,8 +473,8 @@ fn explain_load<R: Read + Drop, F: FnMut(File<'_>) -> Option<R>, M: Sink>(
     }
 }
 
-/// What explains the fault of the table of this name; None if nothing is found, or memory runs out. Its file is opened again for the reason,
-/// and once more for the text.
+/// What explains the fault of the table of this name, whose file is read again; None if nothing is found, the file can't be read as it was, or
+/// memory runs out.
 fn fault_explained<R: Read + Drop, F: FnMut(File<'_>) -> Option<R>>(
     alloc: Global,
     schema: &Schema,
@@ -489,22 +489,64 @@ fn fault_explained<R: Read + Drop, F: FnMut(File<'_>) -> Option<R>>(
 {
     let place = table_named(schema, name)?;
     let table = schema.table(place);
+    let read = read_again(alloc, directory, name, &mut opener)?;
+    if !is_enough(read.is_whole, fault) {
+        return None;
+    }
+    let text = read.text.as_slice();
+    let said = reason_said(alloc, table, text, fault)?;
+    explanation_of(alloc, table, text, fault, &said)
+}
+
+/// Whether a text is enough to explain a fault: it is whole, or reading had failed before too.
+fn is_enough(is_whole: bool, fault: LoadFault) -> bool
+    ensures { result ≡ true → (is_whole ≡ true) ⊎ (fault ≡ loading.ReadFailed) }
+{
+    match fault {
+        LoadFault::ReadFailed => true,
+        _ => is_whole,
+    }
+}
+
+/// The text of a table's file, or a front of it where reading failed.
+#[derive(Drop)]
+struct TableText {
+    text: Vec<u8>,
+    is_whole: bool,
+}
+
+/// Opens the file of the table of this name again, and reads it to its end, or to where reading fails. None is for a file that can't be opened,
+/// and for memory that ran out.
+fn read_again<R: Read + Drop, F: FnMut(File<'_>) -> Option<R>>(
+    alloc: Global,
+    directory: &str,
+    name: &str,
+    opener: &mut F,
+) -> Option<TableText>
+    requires { F.IsAlwaysCallable opener.old }
+    ensures callable { F.IsAlwaysCallable opener.new }
+    ensures none { IfNone result (MayOpen {R = R} (OpensFile F.FnMut) directory.now name.now opener.old opener.new) }
+    ensures reads { IfSome result (λ read. ReadsAgain (OpensFile F.FnMut) R.remaining directory.now name.now
+        opener.old opener.new read.text.items read.is_whole) }
+{
     let Ok(path) = table_path(alloc, directory, name) else {
         return None;
     };
-    let Some(reader) = opener(File::Table(path.as_str())) else {
+    let Some(mut reader) = opener(File::Table(path.as_str())) else {
         return None;
     };
-    let Some(said) = reason_said(alloc, table, reader, fault) else {
-        return None;
-    };
-    let Some(mut again) = opener(File::Table(path.as_str())) else {
-        return None;
-    };
-    let Ok(text) = table_front(alloc, &mut again, last_record(fault)) else {
-        return None;
-    };
-    explanation_of(alloc, table, text.as_slice(), fault, &said)
+    let mut text = Vec::new(alloc);
+    match reader.read_to_end(&mut text) {
+        Ok(_) => Some(TableText {
+            text,
+            is_whole: true,
+        }),
+        Err(error) if error.kind() == ErrorKind::OutOfMemory => None,
+        Err(_) => Some(TableText {
+            text,
+            is_whole: false,
+        }),
+    }
 }
 
 /// What the reason of a table's fault says: its line, the column that it names, and the record with the same key.
@@ -515,20 +557,19 @@ struct Said<'s> {
     record: Option<usize>,
 }
 
-/// What the reason of a table's fault says in the records that a reader gives; nothing, if there is none. None is for records that can't be read
-/// now, and for memory that ran out.
-fn reason_said<'s, R: Read + Drop>(
+/// What the reason of a table's fault says in a text; nothing, if there is none. None is for memory that ran out.
+fn reason_said<'s>(
     alloc: Global,
     table: &'s TableDef,
-    reader: R,
+    text: &[u8],
     fault: LoadFault,
 ) -> Option<Said<'s>>
-    ensures { IfSome result (λ said. SaysReason (R.remaining reader) table.entry.now fault said.line.items) }
+    ensures { IfSome result (λ said. SaysReason text.now table.entry.now fault said.line.items) }
 {
     if let LoadFault::ReadFailed = fault {
         return Some(nothing_said(alloc));
     }
-    let mut records = Records::new(alloc, reader);
+    let mut records = Records::new(alloc, text);
     let Ok(found) = reason_of(alloc, table, &mut records, fault) else {
         return None;
     };
@@ -653,7 +694,7 @@ fn table_named(schema: &Schema, name: &str) -> Option<usize>
 }
 
 /// Writes a line for each table that has a field with a line end, in the schema's order: the first such field of its first such
-/// record. Each file is opened and read again; of one that can't be, nothing is said.
+/// record. Each file is read again; of one that can't be, nothing is said.
 fn put_notes<R: Read + Drop, F: FnMut(File<'_>) -> Option<R>, M: Sink>(
     alloc: Global,
     schema: &Schema,
@@ -670,8 +711,7 @@ fn put_notes<R: Read + Drop, F: FnMut(File<'_>) -> Option<R>, M: Sink>(
     }
 }
 
-/// Writes the line of the first field with a line end in the file of the table of this name, if there is one, and where its quote opens, if
-/// it isn't closed.
+/// Writes what there is to note of the text of the table of this name, whose file is read again; nothing, if it can't be.
 fn put_note<R: Read + Drop, F: FnMut(File<'_>) -> Option<R>, M: Sink>(
     alloc: Global,
     directory: &str,
@@ -684,76 +724,39 @@ fn put_note<R: Read + Drop, F: FnMut(File<'_>) -> Option<R>, M: Sink>(
     ensures notes { NotesTable (OpensFile F.FnMut) R.remaining M.taken M.failures directory.now name.now
         opener.old opener.new more.old more.new }
 {
-    let Ok(found) = found_line_end(alloc, directory, name, opener) else {
+    match read_again(alloc, directory, name, opener) {
+        Some(read) => {
+            if read.is_whole {
+                note_text(alloc, name, read.text.as_slice(), more);
+            }
+        }
+        None => {}
+    }
+}
+
+/// Writes the line of the first field with a line end in the text of the table of this name, if there is one, and where its quote opens, if
+/// it isn't closed. Nothing is written if memory runs out.
+fn note_text<M: Sink>(alloc: Global, name: &str, text: &[u8], more: &mut M)
+    ensures { MayNoteText M.taken M.failures name.now text.now more.old more.new }
+{
+    let mut records = Records::new(alloc, text);
+    let Ok(found) = first_line_end(alloc, &mut records) else {
         return;
     };
     let Some(at) = found else {
         return;
     };
     let _ = put_line_end(name, at, more);
-    put_open_quote(alloc, directory, name, at, opener, more);
+    put_open_quote(alloc, text, at, more);
 }
 
-/// Shows where the quote of a field with a line end opens, in the file of the table of this name, which is opened once more. Nothing is
-/// written if the quote is closed.
-fn put_open_quote<R: Read + Drop, F: FnMut(File<'_>) -> Option<R>, M: Sink>(
-    alloc: Global,
-    directory: &str,
-    name: &str,
-    at: LineEnd,
-    opener: &mut F,
-    more: &mut M,
-)
-    requires { F.IsAlwaysCallable opener.old }
-    ensures callable { F.IsAlwaysCallable opener.new }
-    ensures says { SaysQuote (OpensFile F.FnMut) R.remaining M.taken M.failures directory.now name.now at.number
-        opener.old opener.new more.old more.new }
+/// Shows where the quote of a field with a line end opens in a table's text. Nothing is written if the quote is closed.
+fn put_open_quote<M: Sink>(alloc: Global, text: &[u8], at: LineEnd, more: &mut M)
+    ensures { SaysQuote M.taken M.failures text.now at.number more.old more.new }
 {
-    let Ok(path) = table_path(alloc, directory, name) else {
-        return;
-    };
-    let Some(mut reader) = opener(File::Table(path.as_str())) else {
-        return;
-    };
-    let Ok(text) = table_front(alloc, &mut reader, usize::MAX) else {
-        return;
-    };
-    if !is_at_end(&mut reader) {
-        return;
+    if let Ok(note) = open_quote_explained(alloc, text, at.number, at.field) {
+        let _ = put_all(more, note.as_slice());
     }
-    let Ok(note) = open_quote_explained(alloc, text.as_slice(), at.number, at.field) else {
-        return;
-    };
-    let _ = put_all(more, note.as_slice());
-}
-
-/// Whether a reader has nothing more to give.
-fn is_at_end<R: Read>(reader: &mut R) -> bool {
-    let mut byte = [0; 1];
-    matches!(reader.read(&mut byte), Ok(0))
-}
-
-/// The first field with a line end in the file of the table of this name, which is opened again. At Err it can't be opened or read, or
-/// memory ran out.
-fn found_line_end<R: Read + Drop, F: FnMut(File<'_>) -> Option<R>>(
-    alloc: Global,
-    directory: &str,
-    name: &str,
-    opener: &mut F,
-) -> Result<Option<LineEnd>, LoadFault>
-    requires { F.IsAlwaysCallable opener.old }
-    ensures callable { F.IsAlwaysCallable opener.new }
-    ensures looks { LooksAgain (OpensFile F.FnMut) R.remaining directory.now name.now opener.old opener.new
-        result }
-{
-    let Ok(path) = table_path(alloc, directory, name) else {
-        return Err(LoadFault::OutOfMemory);
-    };
-    let Some(reader) = opener(File::Table(path.as_str())) else {
-        return Err(LoadFault::ReadFailed);
-    };
-    let mut records = Records::new(alloc, reader);
-    first_line_end(alloc, &mut records)
 }
 
 /// Opens the files of all tables, loads the tables, and writes their lines.

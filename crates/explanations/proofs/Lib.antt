@@ -1,2 +1,2 @@
 mod FieldLemmas
-mod ReadLemmas
+mod MarkLemmas

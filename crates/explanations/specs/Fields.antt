@@ -9,6 +9,7 @@ use Rattle.csv.specs.declared.parser.State.TheVariants as st
 use Rattle.explanations.specs.declared.field_places.Cursor.{Cursor}
 use Rattle.explanations.specs.declared.field_places.Reading.{Reading}
 use Rattle.explanations.specs.declared.field_places.Reading.TheVariants as readings
+use Rattle.explanations.specs.declared.field_places.Spot.{Spot}
 
 -- the greatest number of 64 bits
 abbrev pub most : ℕ
@@ -51,6 +52,12 @@ moved c byte = after_step (step default_config c.0 byte) c
 -- after a text
 abbrev pub read : List ℕ → Counted
 read text = fold moved first_cursor text
+
+-- a place of a text, with what was read before it
+pub record IsSpot (text : List ℕ) (spot : Spot) : Type 0 where
+  pub within : spot.place ≤ length text
+  pub is : cursor spot.cursor ≡ read (take spot.place text)
+  pub few : (spot.cursor.records ≤ spot.place) × (spot.cursor.fields ≤ spot.place)
 
 -- whether a byte outside quotes ends a line
 abbrev pub ends_line : ℕ → Bool

@@ -1,8 +1,7 @@
 -- Explanations of faults of tables (this project's choice).
 use Rattle.std.specs.Prelude.{◌≡◌, ◌⊎◌, ◌++◌, ◌+◌, ◌-◌, ◌==◌, ℕ, Bool, true, false, List, [], Option, Some, codes, if◌then◌else◌, length, min, nat_lt, slice_index, ◌&&◌}
-use Rattle.std.specs.Io.KnownBytes.{Consumes}
-use Rattle.explanations.specs.Fields.{IsFieldPlace, IsRecordEnd, most, without_mark}
-use Rattle.explanations.specs.Marks.{IsExplanation, IsShown, said}
+use Rattle.explanations.specs.Fields.{IsFieldPlace, IsRecordEnd, without_mark}
+use Rattle.explanations.specs.Marks.{IsExplanation, IsExplanationBy, IsShown, said}
 use Rattle.geometry_model.specs.declared.geometry_faults.GeometryFault.{GeometryFault}
 use Rattle.geometry_model.specs.declared.geometry_faults.GeometryFault.TheVariants as g
 use Rattle.geometry_model.specs.declared.text_faults.TextFault.TheVariants as w
@@ -73,21 +72,11 @@ abbrev pub IsTableNote : List ℕ → ℕ → List ℕ → Type 0
 IsTableNote text number explanation =
     (explanation ≡ []) ⊎ ((place : ℕ) × IsInRecord (without_mark text) number place × IsExplanation text (Some (in_text text place)) explanation)
 
--- the number of the last record that an explanation of a fault looks at; the greatest number, where reading failed
-abbrev pub last_record : LoadFault → ℕ
-last_record (fault.UnequalRecord number) = number
-last_record (fault.NotUtf8 number) = number
-last_record (fault.BadInteger number) = number
-last_record (fault.BadGeometry number why) = number
-last_record (fault.WrongType number) = number
-last_record (fault.NullNotAllowed number) = number
-last_record (fault.DoubleKey number) = number
-last_record fault.TooManyRows = row_limit + 1
-last_record fault.ReadFailed = most
-last_record fault.MissingColumn = 0
-last_record fault.DoubleHeader = 0
-last_record fault.OutOfMemory = 0
+-- what is said of a quote that isn't closed, in a field of this number, from 1: nothing, or the place of that field and this sentence
+abbrev pub open_quote_sentence : List ℕ
+open_quote_sentence = codes "the quote that opens here isn't closed: the rest of the file is one field"
 
--- a text is what was taken from the front of the bytes that a reader gives, if they are known
-abbrev pub IsFront : Option (List ℕ) → Option (List ℕ) → List ℕ → Type 0
-IsFront before after text = Consumes before after text
+abbrev pub IsFieldNote : List ℕ → ℕ → ℕ → List ℕ → Type 0
+IsFieldNote text number field explanation =
+    (explanation ≡ []) ⊎ ((place : ℕ) × IsFieldPlace (without_mark text) number (field - 1) place
+    × IsExplanationBy open_quote_sentence text (Some (in_text text place)) explanation)

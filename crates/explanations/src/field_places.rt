@@ -1,10 +1,10 @@
 //! Where the records and the fields of a CSV text begin.
 
-ghost use Rattle.std.specs.Prelude.{◌≡◌, ◌<◌, ◌≤◌, ◌+◌, ◌++◌, IfSome, length, take};
+ghost use Rattle.std.specs.Prelude.{◌≡◌, ◌<◌, ◌≤◌, ◌+◌, ◌++◌, ℕ, IfSome, List, length, take};
 ghost use Rattle.csv.specs.Machine.{in_field, start_field, start_record};
 ghost use Rattle.csv.specs.declared.parser.State.TheVariants as st;
 ghost use Rattle.csv.specs.Reading.{default_config};
-ghost use Rattle.explanations.specs.Fields.{IsFieldPlace, IsRecordEnd};
+ghost use Rattle.explanations.specs.Fields.{IsFieldPlace, IsRecordEnd, IsSpot};
 ghost use Rattle.explanations.specs.Fields as spec;
 
 /// Where the reading of a CSV text is.
@@ -45,6 +45,7 @@ impl Cursor {
     }
 
     /// After one byte more.
+    #[inline(always)]
     pub(crate) fn after(self, byte: u8) -> Cursor
         requires few { (self.records < spec.most) × (self.fields < spec.most) }
         ensures { spec.cursor result ≡ spec.moved (spec.cursor self) byte }
@@ -60,6 +61,7 @@ impl Cursor {
     }
 
     /// The same, reading on in this way.
+    #[inline(always)]
     fn on(self, reading: Reading) -> Cursor
         ensures { spec.cursor result ≡ (spec.state_of reading, self.records, self.fields) }
     {
@@ -67,6 +69,7 @@ impl Cursor {
     }
 
     /// Where the next record may begin.
+    #[inline(always)]
     fn at_next_record(self, reading: Reading) -> Cursor
         requires { self.records < spec.most }
         ensures { spec.cursor result ≡ (spec.state_of reading, self.records + 1, 0) }
@@ -79,6 +82,7 @@ impl Cursor {
     }
 
     /// After a byte outside quotes.
+    #[inline(always)]
     fn in_field(self, byte: u8) -> Cursor
         requires few { (self.records < spec.most) × (self.fields < spec.most) }
         ensures { spec.cursor result ≡ spec.after_step (in_field default_config byte) (spec.cursor self) }
@@ -100,6 +104,7 @@ impl Cursor {
     }
 
     /// After a byte where a field begins.
+    #[inline(always)]
     fn at_field_start(self, byte: u8) -> Cursor
         requires few { (self.records < spec.most) × (self.fields < spec.most) }
         ensures { spec.cursor result ≡ spec.after_step (start_field default_config byte) (spec.cursor self) }
@@ -111,6 +116,7 @@ impl Cursor {
     }
 
     /// After a byte where a record may begin.
+    #[inline(always)]
     fn at_record_start(self, byte: u8) -> Cursor
         requires few { (self.records < spec.most) × (self.fields < spec.most) }
         ensures { spec.cursor result ≡ spec.after_step (start_record default_config byte) (spec.cursor self) }
@@ -122,6 +128,7 @@ impl Cursor {
     }
 
     /// After a byte behind the carriage return of a record's end.
+    #[inline(always)]
     fn after_return(self, byte: u8) -> Cursor
         requires few { (self.records < spec.most) × (self.fields < spec.most) }
         requires returned { spec.state_of self.reading ≡ st.AfterCr }
@@ -134,6 +141,7 @@ impl Cursor {
     }
 
     /// After a byte in quotes.
+    #[inline(always)]
     fn in_quotes(self, byte: u8) -> Cursor
         requires { spec.state_of self.reading ≡ st.InQuoted }
         ensures { spec.cursor result ≡ spec.moved (spec.cursor self) byte }
@@ -145,6 +153,7 @@ impl Cursor {
     }
 
     /// After a byte behind a quote in quotes.
+    #[inline(always)]
     fn after_quote(self, byte: u8) -> Cursor
         requires few { (self.records < spec.most) × (self.fields < spec.most) }
         requires quote { spec.state_of self.reading ≡ st.AfterQuote }
@@ -157,6 +166,7 @@ impl Cursor {
     }
 
     /// Whether this byte begins a field.
+    #[inline(always)]
     fn begins(self, byte: u8) -> bool
         ensures { result ≡ spec.begins_field (spec.state_of self.reading) byte }
     {
@@ -206,6 +216,7 @@ pub(crate) fn after_mark(text: &[u8]) -> &[u8]
 }
 
 /// The cursor after one byte more of a text.
+#[inline(always)]
 #[tactic(auto, using(crate::proofs::FieldLemmas::read_on))]
 fn read_more(body: &[u8], at: usize, cursor: Cursor) -> Cursor
     requires within { at < length body.now }
@@ -217,31 +228,71 @@ fn read_more(body: &[u8], at: usize, cursor: Cursor) -> Cursor
     cursor.after(body[at])
 }
 
-/// The place where a field of a record begins, each counted from 0; the header is record 0.
-pub(crate) fn field_place(body: &[u8], number: usize, field: usize) -> Option<usize>
-    ensures place { IfSome result (IsFieldPlace body.now number field) }
-    ensures within { IfSome result (λ place. place ≤ length body.now) }
-{
-    let mut cursor = Cursor::new();
-    for at in 0..body.len() {
-        if cursor.records == number && cursor.fields == field && cursor.begins(body[at]) {
-            return Some(at);
+/// A place of a text, and where the reading of what comes before it is.
+#[derive(Clone, Copy, Debug)]
+pub(crate) struct Spot {
+    pub(crate) place: usize,
+    cursor: Cursor,
+}
+
+impl Spot {
+    /// Before the first byte of a text.
+    pub(crate) fn first() -> Spot
+        ensures { (body : List ℕ) → IsSpot body result }
+    {
+        Spot {
+            place: 0,
+            cursor: Cursor::new(),
         }
-        cursor = read_more(body, at, cursor);
+    }
+
+    /// How many records end before it.
+    pub(crate) fn records(self) -> usize {
+        self.cursor.records
+    }
+}
+
+/// Where a field of a record begins, each counted from 0; the header is record 0. It is looked for from a spot on.
+pub(crate) fn field_spot(body: &[u8], from: Spot, number: usize, field: usize) -> Option<Spot>
+    requires from { IsSpot body.now from }
+    ensures place { IfSome result (λ spot. IsFieldPlace body.now number field spot.place) }
+    ensures spot { IfSome result (IsSpot body.now) }
+{
+    let mut cursor = from.cursor;
+    for place in from.place..body.len() {
+        if cursor.records > number {
+            return None;
+        }
+        if cursor.records == number && cursor.fields == field && cursor.begins(body[place]) {
+            return Some(Spot { place, cursor });
+        }
+        cursor = read_more(body, place, cursor);
     }
     if cursor.records == number && cursor.fields == field && cursor.is_field_start() {
-        return Some(body.len());
+        let place = body.len();
+        return Some(Spot { place, cursor });
     }
     None
 }
 
-/// The place where a record ends: that of the byte that ends it, or the text's end.
-pub(crate) fn record_end(body: &[u8], number: usize) -> Option<usize>
+/// The place where a field of a record begins, looked for from a spot on.
+pub(crate) fn field_place(body: &[u8], from: Spot, number: usize, field: usize) -> Option<usize>
+    requires from { IsSpot body.now from }
+    ensures place { IfSome result (IsFieldPlace body.now number field) }
+    ensures within { IfSome result (λ place. place ≤ length body.now) }
+{
+    let spot = field_spot(body, from, number, field)?;
+    Some(spot.place)
+}
+
+/// The place where a record ends, looked for from a spot on: that of the byte that ends it, or the text's end.
+pub(crate) fn record_end(body: &[u8], from: Spot, number: usize) -> Option<usize>
+    requires from { IsSpot body.now from }
     ensures place { IfSome result (IsRecordEnd body.now number) }
     ensures within { IfSome result (λ place. place ≤ length body.now) }
 {
-    let mut cursor = Cursor::new();
-    for at in 0..body.len() {
+    let mut cursor = from.cursor;
+    for at in from.place..body.len() {
         if cursor.records == number && cursor.ends(body[at]) {
             return Some(at);
         }
@@ -290,10 +341,12 @@ pub(crate) fn long_field(body: &[u8]) -> Option<(usize, usize)> {
     None
 }
 
-/// Whether a text ends in quotes that aren't closed, in this record.
-pub(crate) fn ends_in_quotes(body: &[u8], number: usize) -> bool {
-    let mut cursor = Cursor::new();
-    for at in 0..body.len() {
+/// Whether a text ends in quotes that aren't closed, in this record. The end is looked for from a spot on.
+pub(crate) fn ends_in_quotes(body: &[u8], from: Spot, number: usize) -> bool
+    requires { IsSpot body.now from }
+{
+    let mut cursor = from.cursor;
+    for at in from.place..body.len() {
         cursor = cursor.after(body[at]);
     }
     cursor.records == number && cursor.reading == Reading::Quoted

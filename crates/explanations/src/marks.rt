@@ -1,8 +1,10 @@
 //! A line of a text, as it is shown, with a caret below a place of it.
 
-ghost use Rattle.std.specs.Prelude.{◌≡◌, ◌≤◌, ◌++◌, IfOk, OnOk, length, replicate, take, drop};
+ghost use Rattle.std.specs.Prelude.{◌≡◌, ◌≤◌, ◌<◌, ◌++◌, ◌&&◌, IfOk, OnOk, length, nat_le, nat_lt, replicate, take, drop};
+ghost use Rattle.std.specs.List.{list_any};
+ghost use Rattle.std.specs.Str.{chars};
 ghost use Rattle.std.specs.Char.Escape.{escape_ascii};
-ghost use Rattle.explanations.specs.Marks.{IsMark, IsMarkAt, IsPath, IsShown, dots, shown_lines};
+ghost use Rattle.explanations.specs.Marks.{IsMark, IsMarkAt, IsPath, IsShown, columns, dots, shown_lines};
 ghost use Rattle.explanations.specs.Marks as spec;
 
 use crate::lines::{line_of, trimmed_end};
@@ -120,35 +122,63 @@ fn back_shown(alloc: Global, bytes: &[u8], utf8: bool, is_cut: bool) -> Result<V
 }
 
 /// Whether a line is shown in UTF-8: it is UTF-8, and each of its characters is seen, and none obeyed by terminals.
-pub(crate) fn is_plain(line: &[u8]) -> bool {
+#[tactic(auto, using(crate::proofs::MarkLemmas::plain_text, crate::proofs::MarkLemmas::plain_none))]
+pub(crate) fn is_plain(line: &[u8]) -> bool
+    ensures { result ≡ spec.is_plain line.now }
+{
     match std::str::from_utf8(line) {
-        Ok(text) => !text.chars().any(is_hidden),
+        Ok(text) => !has_hidden(text),
         Err(_) => false,
     }
 }
 
+/// Whether one of the characters of a text isn't seen, or is obeyed by terminals.
+fn has_hidden(text: &str) -> bool
+    ensures { result ≡ list_any spec.is_hidden (chars text.now) }
+{
+    for character in text.chars() {
+        if is_hidden(character) {
+            return true;
+        }
+    }
+    false
+}
+
 /// Whether a character isn't seen, or is obeyed by terminals: those of control, of direction and of no width.
-fn is_hidden(character: char) -> bool {
+fn is_hidden(character: char) -> bool
+    ensures { result ≡ spec.is_hidden character }
+{
     let code = character as u32;
-    (128..160).contains(&code)
-        || (0x200b..0x2010).contains(&code)
-        || (0x2028..0x202f).contains(&code)
-        || (0x2060..0x2070).contains(&code)
+    is_among(code, 128, 160)
+        || code == 0x61c
+        || is_among(code, 0x200b, 0x2010)
+        || is_among(code, 0x2028, 0x202f)
+        || is_among(code, 0x2060, 0x2070)
         || code == 0xfeff
+        || is_among(code, 0xe0000, 0xe0080)
+}
+
+/// Whether a code is one from the first number on, and before the second.
+fn is_among(code: u32, from: u32, to: u32) -> bool
+    ensures { result ≡ nat_le from code && nat_lt code to }
+{
+    from <= code && code < to
 }
 
 /// Where what is shown before a place begins.
 fn first_shown(text: &[u8], start: usize, place: usize, utf8: bool) -> usize
     requires { (start ≤ place) × (place ≤ length text.now) }
-    ensures { (start ≤ result) × (result ≤ place) }
+    ensures within { (start ≤ result) × (result ≤ place) }
+    ensures fits { columns utf8 (drop result (take place text.now)) ≤ COLUMNS_BEFORE }
+    ensures cut { start < result → 96 < columns utf8 (drop result (take place text.now)) }
 {
     let mut left = COLUMNS_BEFORE;
     let mut from = place;
     while from > start && width(text[from - 1], utf8) <= left {
-        left = left.saturating_sub(width(text[from - 1], utf8));
+        left -= width(text[from - 1], utf8);
         from -= 1;
     }
-    while utf8 && from < place && !begins_character(text[from]) {
+    while utf8 && start < from && from < place && !begins_character(text[from]) {
         from += 1;
     }
     from
@@ -157,27 +187,32 @@ fn first_shown(text: &[u8], start: usize, place: usize, utf8: bool) -> usize
 /// Where what is shown from a place on ends.
 fn last_shown(text: &[u8], place: usize, end: usize, utf8: bool) -> usize
     requires { (place ≤ end) × (end ≤ length text.now) }
-    ensures { (place ≤ result) × (result ≤ end) }
+    ensures within { (place ≤ result) × (result ≤ end) }
+    ensures fits { columns utf8 (drop place (take result text.now)) ≤ COLUMNS_AFTER }
+    ensures cut { result < end → 56 < columns utf8 (drop place (take result text.now)) }
 {
     let mut left = COLUMNS_AFTER;
     let mut to = place;
     while to < end && width(text[to], utf8) <= left {
-        left = left.saturating_sub(width(text[to], utf8));
+        left -= width(text[to], utf8);
         to += 1;
     }
     to
 }
 
 /// At most how many columns a byte takes that is shown.
-fn width(byte: u8, utf8: bool) -> usize {
-    if byte == b'\t' || byte == b'\r' {
-        2
-    } else if !is_shown(byte, utf8) {
-        4
-    } else if begins_character(byte) {
-        1
-    } else {
+fn width(byte: u8, utf8: bool) -> usize
+    ensures is { result ≡ spec.width utf8 byte }
+    ensures most { result ≤ 4 }
+{
+    if utf8 && !begins_character(byte) {
         0
+    } else if is_shown(byte, utf8) {
+        1
+    } else if byte == b'\t' || byte == b'\r' {
+        2
+    } else {
+        4
     }
 }
 

@@ -1,12 +1,19 @@
 //! The fields of a record of a CSV text, as they are written, and what they mean.
 
-use crate::field_places::{Reading, field_place, record_end};
+ghost use Rattle.explanations.specs.Fields.{IsSpot};
+
+use crate::field_places::{Reading, Spot, field_place, record_end};
 use crate::parts::{first, front, last, rest};
 use std::alloc::{AllocError, Global};
 
-/// A record, as it is written, without what ends it; nothing, if it isn't there. The header is record 0.
-pub(crate) fn record_at(body: &[u8], number: usize) -> &[u8] {
-    match (field_place(body, number, 0), record_end(body, number)) {
+/// A record, as it is written, without what ends it; nothing, if it isn't there. It is looked for from a spot on. The header is record 0.
+pub(crate) fn record_at(body: &[u8], from: Spot, number: usize) -> &[u8]
+    requires { IsSpot body.now from }
+{
+    match (
+        field_place(body, from, number, 0),
+        record_end(body, from, number),
+    ) {
         (Some(from), Some(to)) => rest(front(body, to), from),
         _ => &[],
     }

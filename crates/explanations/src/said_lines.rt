@@ -1,7 +1,7 @@
 //! Explanations: the lines that show a place, and a sentence below them.
 
 ghost use Rattle.std.specs.Prelude.{◌≡◌, IfOk, None, Some};
-ghost use Rattle.explanations.specs.Marks.{IsExplanation, SaysOfFile, said};
+ghost use Rattle.explanations.specs.Marks.{IsExplanation, IsExplanationBy, SaysOfFile, said};
 
 use crate::marks::{marked, path_shown};
 use std::alloc::{AllocError, Global};
@@ -13,7 +13,8 @@ pub fn explained(
     place: Option<usize>,
     sentence: &[u8],
 ) -> Result<Vec<u8>, AllocError>
-    ensures { IfOk result (λ e. IsExplanation text.now place e.items) }
+    ensures explains { IfOk result (λ e. IsExplanation text.now place e.items) }
+    ensures says { IfOk result (λ e. IsExplanationBy sentence.now text.now place e.items) }
 {
     match place {
         None => said_line(alloc, sentence),
@@ -47,7 +48,8 @@ fn explained_at(
     place: usize,
     sentence: &[u8],
 ) -> Result<Vec<u8>, AllocError>
-    ensures { IfOk result (λ e. IsExplanation text.now (Some place) e.items) }
+    ensures explains { IfOk result (λ e. IsExplanation text.now (Some place) e.items) }
+    ensures says { IfOk result (λ e. IsExplanationBy sentence.now text.now (Some place) e.items) }
 {
     let mut lines = marked(alloc, text, place)?;
     let line = said_line(alloc, sentence)?;

@@ -493,7 +493,7 @@ pub(crate) fn load_form(fault: LoadFault) -> &'static str {
         LoadFault::NotUtf8(_) => "is the file in Latin-1? save the table as UTF-8",
         LoadFault::WrongType(_) => "declare the column {}, or GEOMETRY, which takes every type",
         LoadFault::DoubleKey(_) =>
-            "keys are unique, and an earlier record has this one: number one of the two anew",
+            "keys are unique, and an earlier record has this one: give one of the two another key",
         LoadFault::TooManyRows =>
             "this is record 100001, and 100000 are taken: split the table, or ask by sfq-scale",
         _ => "",
@@ -502,7 +502,7 @@ pub(crate) fn load_form(fault: LoadFault) -> &'static str {
 
 /// What is said of a key that an earlier record has: the parts are the number of that record, and that of its line.
 pub(crate) const EQUAL_KEYS: &str =
-    "keys are unique, and record {=} on line {=} has this one: number one of the two anew";
+    "keys are unique, and record {=} on line {=} has this one: give one of the two another key";
 
 /// What a file begins with that is no table.
 pub(crate) const HEADER_FRONTS: [&str; 2] = [

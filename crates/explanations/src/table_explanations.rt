@@ -2,16 +2,18 @@
 
 ghost use Rattle.std.specs.Prelude.{◌≡◌, ◌≤◌, IfOk, IfSome, OnOk, length, min};
 ghost use Rattle.explanations.specs.Fields as fields;
-ghost use Rattle.explanations.specs.Tables.{IsFaultPlace, IsTableExplanation, IsTableNote, SaysMore, ShowsFault};
+ghost use Rattle.explanations.specs.Fields.{IsSpot};
+ghost use Rattle.explanations.specs.Tables.{IsFaultPlace, IsFieldNote, IsTableExplanation, IsTableNote, SaysMore, ShowsFault};
 ghost use Rattle.explanations.specs.Tables as spec;
 
-use crate::field_places::{after_mark, ends_in_quotes, field_place, long_field, record_end};
+use crate::field_places::{
+    Spot, after_mark, ends_in_quotes, field_place, field_spot, long_field, record_end,
+};
 use crate::lines::line_of;
 use crate::marks::shown_place;
 use crate::parts::rest;
 use crate::record_parts::{field_count, field_from, fields_of, name_of, record_at};
 use crate::said_lines::explained;
-use crate::table_fronts::last_record;
 use crate::table_sentences::{Near, place_of_column, table_sentence};
 use geometry_model::{GeometryFault, TextFault};
 use sql_text::TableDef;
@@ -35,7 +37,7 @@ pub struct Found<'r> {
 /// begins; of a fault of a geometry's text the byte of that, behind the quote before it; of a name given twice the second; of a record with
 /// too many fields the first of these, and of one with too few its end. Of a column that the header lacks, and of a record too many, the
 /// line alone is shown. If the text has no such place, the line that says what is wrong is all. Of a read that failed, something is said only if the text has a field or a record that is too long, or one with too
-/// many fields. At Err memory ran out (the form: this project's choice).
+/// many fields. The record is looked for once. At Err memory ran out (the form: this project's choice).
 pub fn table_explained(
     alloc: Global,
     text: &[u8],
@@ -46,16 +48,75 @@ pub fn table_explained(
     ensures { IfOk result (λ e. IsTableExplanation text.now fault found.now.line.now e.items) }
 {
     let body = after_mark(text);
-    let at = field_of(alloc, body, table, fault, found)?;
-    let place = fault_place(body, fault, at);
-    let mut lines = place_shown(alloc, text, fault, place)?;
-    let sentence = match place {
-        None if !found.line.is_empty() => Vec::new(alloc),
-        _ => sentence_of(alloc, text, table, fault, found, at)?,
+    let long = long_in(body, fault);
+    let number = long.map_or(record_of(fault), |(record, _)| record);
+    let earlier = field_spot(body, Spot::first(), found.record.unwrap_or(0), 0);
+    let from = begin_of(body, earlier, number);
+    let header = record_at(body, Spot::first(), 0);
+    let record = record_at(body, from, number);
+    let column = column_of(table, fault, found);
+    let field = match long {
+        Some((_, field)) => Some(field),
+        None => field_of(alloc, table, header, record, column, fault)?,
     };
+    let place = fault_place(body, from, number, fault, field);
+    let mut lines = place_shown(alloc, text, fault, place)?;
     lines.extend_from_slice(found.line)?;
+    if place.is_none() && !found.line.is_empty() {
+        return Ok(lines);
+    }
+    let near = Near {
+        table,
+        header,
+        record,
+        field: field_text(body, from, number, field),
+        number: field,
+        column,
+        earlier: found.record.unwrap_or(0),
+        line: line_at(text, earlier),
+    };
+    let sentence = table_sentence(alloc, fault, &near)?;
     push_said(&mut lines, sentence.as_slice())?;
     Ok(lines)
+}
+
+/// The number of the record that a fault is in, if it is in one that is known: that of one too many, and 0 of the header.
+fn record_of(fault: LoadFault) -> usize {
+    match fault {
+        LoadFault::UnequalRecord(number)
+        | LoadFault::NotUtf8(number)
+        | LoadFault::BadInteger(number)
+        | LoadFault::BadGeometry(number, _)
+        | LoadFault::WrongType(number)
+        | LoadFault::NullNotAllowed(number)
+        | LoadFault::DoubleKey(number) => number,
+        LoadFault::TooManyRows => ROW_LIMIT + 1,
+        LoadFault::ReadFailed => usize::MAX,
+        LoadFault::MissingColumn | LoadFault::DoubleHeader | LoadFault::OutOfMemory => 0,
+    }
+}
+
+/// The record and the field that are too long, where reading failed.
+fn long_in(body: &[u8], fault: LoadFault) -> Option<(usize, usize)> {
+    match fault {
+        LoadFault::ReadFailed => long_field(body),
+        _ => None,
+    }
+}
+
+/// Where a record begins, looked for from where an earlier one does; before the first byte, if it isn't there.
+fn begin_of(body: &[u8], earlier: Option<Spot>, number: usize) -> Spot
+    requires { IfSome earlier (IsSpot body.now) }
+    ensures { IsSpot body.now result }
+{
+    let from = match earlier {
+        Some(spot) if spot.records() <= number => spot,
+        _ => Spot::first(),
+    };
+    match field_spot(body, from, number, 0) {
+        Some(spot) => spot,
+        None => Spot::first(),
+    }
 }
 
 /// The lines that show the place of a fault in the text after its byte order mark; none, if it has none.
@@ -106,63 +167,69 @@ fn push_said(lines: &mut Vec<u8>, sentence: &[u8]) -> Result<(), AllocError>
     lines.extend_from_slice(b"\n")
 }
 
-/// A field: the number of its record, and its own in it, from 0.
-#[derive(Clone, Copy)]
-struct FieldAt {
-    record: usize,
-    field: usize,
-}
-
-/// The place of a fault, by its field.
-fn fault_place(body: &[u8], fault: LoadFault, at: Option<FieldAt>) -> Option<usize>
-    ensures place { IfSome result (IsFaultPlace body.now fault) }
-    ensures within { IfSome result (λ place. place ≤ length body.now) }
-{
-    if let LoadFault::MissingColumn = fault {
-        return field_place(body, 0, 0);
-    }
-    if let LoadFault::TooManyRows = fault {
-        return field_place(body, ROW_LIMIT + 1, 0);
-    }
-    match at {
-        Some(at) => place_in_record(body, fault, at),
-        None => end_of_record(body, fault),
-    }
-}
-
-/// The place where the record with too few fields ends.
-fn end_of_record(body: &[u8], fault: LoadFault) -> Option<usize>
+/// The place of a fault, by its field; the record is looked for from a spot on.
+fn fault_place(
+    body: &[u8],
+    from: Spot,
+    number: usize,
+    fault: LoadFault,
+    field: Option<usize>,
+) -> Option<usize>
+    requires from { IsSpot body.now from }
     ensures place { IfSome result (IsFaultPlace body.now fault) }
     ensures within { IfSome result (λ place. place ≤ length body.now) }
 {
     match fault {
-        LoadFault::UnequalRecord(number) => record_end(body, number),
+        LoadFault::MissingColumn => field_place(body, from, 0, 0),
+        LoadFault::TooManyRows => field_place(body, from, ROW_LIMIT + 1, 0),
+        _ => match field {
+            Some(field) => place_in_record(body, from, number, fault, field),
+            None => end_of_record(body, from, fault),
+        },
+    }
+}
+
+/// The place where the record with too few fields ends.
+fn end_of_record(body: &[u8], from: Spot, fault: LoadFault) -> Option<usize>
+    requires from { IsSpot body.now from }
+    ensures place { IfSome result (IsFaultPlace body.now fault) }
+    ensures within { IfSome result (λ place. place ≤ length body.now) }
+{
+    match fault {
+        LoadFault::UnequalRecord(number) => record_end(body, from, number),
         _ => None,
     }
 }
 
 /// The place of a fault in a field.
-fn place_in_record(body: &[u8], fault: LoadFault, at: FieldAt) -> Option<usize>
+fn place_in_record(
+    body: &[u8],
+    from: Spot,
+    number: usize,
+    fault: LoadFault,
+    field: usize,
+) -> Option<usize>
+    requires from { IsSpot body.now from }
     ensures place { IfSome result (IsFaultPlace body.now fault) }
     ensures within { IfSome result (λ place. place ≤ length body.now) }
 {
     match fault {
-        LoadFault::DoubleHeader => field_place(body, 0, at.field),
+        LoadFault::DoubleHeader => field_place(body, from, 0, field),
         LoadFault::UnequalRecord(number)
         | LoadFault::NotUtf8(number)
         | LoadFault::BadInteger(number)
         | LoadFault::WrongType(number)
         | LoadFault::NullNotAllowed(number)
-        | LoadFault::DoubleKey(number) => field_place(body, number, at.field),
+        | LoadFault::DoubleKey(number) => field_place(body, from, number, field),
         LoadFault::BadGeometry(number, why) => {
-            let place = field_place(body, number, at.field)?;
+            let place = field_place(body, from, number, field)?;
             Some(
                 place
                     .saturating_add(behind(body, place, why))
                     .min(body.len()),
             )
         }
-        LoadFault::ReadFailed => field_place(body, at.record, at.field),
+        LoadFault::ReadFailed => field_place(body, from, number, field),
         LoadFault::MissingColumn | LoadFault::TooManyRows | LoadFault::OutOfMemory => None,
     }
 }
@@ -191,33 +258,23 @@ fn quote_at(body: &[u8], place: usize) -> usize
     0
 }
 
-/// The field that a fault is in, if it is in one.
+/// The number of the field that a fault is in, if it is in one; where reading failed, none is looked for.
 fn field_of(
     alloc: Global,
-    body: &[u8],
     table: &TableDef,
+    header: &[u8],
+    record: &[u8],
+    column: Option<usize>,
     fault: LoadFault,
-    found: &Found<'_>,
-) -> Result<Option<FieldAt>, AllocError> {
-    let header = record_at(body, 0);
-    let record = last_record(fault);
-    match fault {
-        LoadFault::ReadFailed => {
-            Ok(long_field(body).map(|(record, field)| FieldAt { record, field }))
+) -> Result<Option<usize>, AllocError> {
+    match (fault, column) {
+        (LoadFault::ReadFailed, _) => Ok(None),
+        (LoadFault::UnequalRecord(_), _) => {
+            let wanted = field_count(header);
+            Ok((field_count(record) > wanted).then_some(wanted))
         }
-        LoadFault::UnequalRecord(_) => {
-            let field = field_count(header);
-            if field_count(record_at(body, record)) <= field {
-                return Ok(None);
-            }
-            Ok(Some(FieldAt { record, field }))
-        }
-        _ => {
-            let Some(place) = column_of(table, fault, found) else {
-                return Ok(None);
-            };
-            named_field(alloc, header, table, place, fault)
-        }
+        (_, Some(place)) => named_field(alloc, table, header, place, fault),
+        (_, None) => Ok(None),
     }
 }
 
@@ -229,21 +286,20 @@ fn column_of(table: &TableDef, fault: LoadFault, found: &Found<'_>) -> Option<us
     place_of_column(table, found.column?)
 }
 
-/// The field of a fault under the name of its column in the header; of a name given twice, the second field of that name.
+/// The number of the field of a fault, which the header has under the name of its column; of a name given twice, the second field of that name.
 fn named_field(
     alloc: Global,
-    header: &[u8],
     table: &TableDef,
+    header: &[u8],
     place: usize,
     fault: LoadFault,
-) -> Result<Option<FieldAt>, AllocError> {
-    let record = last_record(fault);
+) -> Result<Option<usize>, AllocError> {
     let mut skipped = !matches!(fault, LoadFault::DoubleHeader);
     let fields = fields_of(alloc, header, usize::MAX)?;
     for (field, name) in fields.as_slice().iter().enumerate() {
         if place_of_column(table, name_of(name)) == Some(place) {
             if skipped {
-                return Ok(Some(FieldAt { record, field }));
+                return Ok(Some(field));
             }
             skipped = true;
         }
@@ -251,41 +307,25 @@ fn named_field(
     Ok(None)
 }
 
-/// The sentence of a fault, with the field that it is in.
-fn sentence_of(
-    alloc: Global,
-    text: &[u8],
-    table: &TableDef,
-    fault: LoadFault,
-    found: &Found<'_>,
-    at: Option<FieldAt>,
-) -> Result<Vec<u8>, AllocError> {
-    let body = after_mark(text);
-    let near = Near {
-        table,
-        header: record_at(body, 0),
-        record: record_at(body, last_record(fault)),
-        field: field_text(body, at),
-        number: at.map(|at| at.field),
-        column: column_of(table, fault, found),
-        earlier: found.record.unwrap_or(0),
-        line: line_of_record(text, found.record.unwrap_or(0)),
-    };
-    table_sentence(alloc, fault, &near)
-}
-
 /// A field as it is written; nothing, if there is none.
-fn field_text(body: &[u8], at: Option<FieldAt>) -> &[u8] {
-    match at.and_then(|at| field_place(body, at.record, at.field)) {
+fn field_text(body: &[u8], from: Spot, number: usize, field: Option<usize>) -> &[u8]
+    requires { IsSpot body.now from }
+{
+    let Some(field) = field else {
+        return &[];
+    };
+    match field_place(body, from, number, field) {
         Some(place) => field_from(rest(body, place)),
         None => &[],
     }
 }
 
-/// The number of the line on which a record begins; 0, if it isn't there.
-fn line_of_record(text: &[u8], number: usize) -> usize {
-    match field_place(after_mark(text), number, 0) {
-        Some(place) => line_of(text, in_text(text, place).min(text.len())).number,
+/// The number of the line of a spot behind the byte order mark of a text; 0, if there is none.
+fn line_at(text: &[u8], spot: Option<Spot>) -> usize
+    requires { IfSome spot (IsSpot (fields.without_mark text.now)) }
+{
+    match spot {
+        Some(spot) => line_of(text, in_text(text, spot.place).min(text.len())).number,
         None => 0,
     }
 }
@@ -298,13 +338,17 @@ pub fn open_quote_explained(
     number: usize,
     field: usize,
 ) -> Result<Vec<u8>, AllocError>
-    ensures { IfOk result (λ e. IsTableNote text.now number e.items) }
+    ensures note { IfOk result (λ e. IsTableNote text.now number e.items) }
+    ensures of_field { IfOk result (λ e. IsFieldNote text.now number field e.items) }
 {
     let body = after_mark(text);
-    if !ends_in_quotes(body, number) || field_count(record_at(body, number)) != field {
+    let Some(from) = field_spot(body, Spot::first(), number, 0) else {
+        return Ok(Vec::new(alloc));
+    };
+    if !ends_in_quotes(body, from, number) || field_count(record_at(body, from, number)) != field {
         return Ok(Vec::new(alloc));
     }
-    match field_place(body, number, field.saturating_sub(1)) {
+    match field_place(body, from, number, field.saturating_sub(1)) {
         Some(place) => explained(
             alloc,
             text,

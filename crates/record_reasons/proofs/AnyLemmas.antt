@@ -11,32 +11,12 @@ use Rattle.table_model.specs.declared.faults.LoadFault.TheVariants as fault
 pub of-any : {E : Type 0} (r : Result (Option Reason) E) (known : Option (List ℕ)) (table : TableDef ColumnShape) (f : LoadFault)
     → ((number : ℕ) → f ≡ fault.DoubleKey number → ⊥) → IfOk r (λ found. IfSome found (IsRecordReason known table f))
     → IfOk r (λ found. IfSome found (IsReasonOf known table f))
-of-any r known table fault.MissingColumn other is = is
-of-any r known table fault.DoubleHeader other is = is
-of-any r known table (fault.UnequalRecord number) other is = is
-of-any r known table (fault.NotUtf8 number) other is = is
-of-any r known table (fault.BadInteger number) other is = is
-of-any r known table (fault.BadGeometry number why) other is = is
-of-any r known table (fault.WrongType number) other is = is
-of-any r known table (fault.NullNotAllowed number) other is = is
 of-any r known table (fault.DoubleKey number) other is = absurd (other number refl)
-of-any r known table fault.TooManyRows other is = is
-of-any r known table fault.ReadFailed other is = is
-of-any r known table fault.OutOfMemory other is = is
+of-any r known table _ other is = is
 
 -- and that it has none
 pub none-of-any : {E : Type 0} (r : Result (Option Reason) E) (known : Option (List ℕ)) (table : TableDef ColumnShape) (f : LoadFault)
     → ((number : ℕ) → f ≡ fault.DoubleKey number → ⊥) → IfOk r (λ found. IfNone found (HasNoRecordReason known table f))
     → IfOk r (λ found. IfNone found (HasNoReason known table f))
-none-of-any r known table fault.MissingColumn other is = is
-none-of-any r known table fault.DoubleHeader other is = is
-none-of-any r known table (fault.UnequalRecord number) other is = is
-none-of-any r known table (fault.NotUtf8 number) other is = is
-none-of-any r known table (fault.BadInteger number) other is = is
-none-of-any r known table (fault.BadGeometry number why) other is = is
-none-of-any r known table (fault.WrongType number) other is = is
-none-of-any r known table (fault.NullNotAllowed number) other is = is
 none-of-any r known table (fault.DoubleKey number) other is = absurd (other number refl)
-none-of-any r known table fault.TooManyRows other is = is
-none-of-any r known table fault.ReadFailed other is = is
-none-of-any r known table fault.OutOfMemory other is = is
+none-of-any r known table _ other is = is

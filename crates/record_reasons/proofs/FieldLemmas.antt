@@ -26,64 +26,32 @@ one g h is = cc is
 -- a field that spells nothing has no geometry that isn't valid
 pub no-invalid : (c : ColumnDef ColumnShape) (field : List ℕ) (v : ValidityFault) → ((g : Geometry) → Spells field g → ⊥) → (reason : Reason)
     → IsInvalidIn c field v reason → ⊥
-no-invalid c field v none (reasons.Lengths found wanted) is = is
-no-invalid c field v none (reasons.Missing name) is = is
-no-invalid c field v none (reasons.Repeated name) is = is
-no-invalid c field v none (reasons.Null name) is = is
-no-invalid c field v none (reasons.NoInteger name text) is = is
-no-invalid c field v none (reasons.NotUtf8 name) is = is
-no-invalid c field v none (reasons.SameKey number key) is = is
-no-invalid c field v none (reasons.Refused name shown) is = is
 no-invalid c field v none (reasons.Invalid name shown place) is = none is.2.geometry is.2.spelled
-no-invalid c field v none (reasons.OtherType name found wanted) is = is
+no-invalid c field v none _ is = is
 
 -- nor has one whose geometry hasn't the fault
 pub no-fault : (c : ColumnDef ColumnShape) (field : List ℕ) (v : ValidityFault) (g : Geometry)
     → ((h : Geometry) → Spells field h → ◌≡◌ {A = Result Geometry TextFault} (Ok g) (Ok h)) → (HasFault g v → ⊥) → (reason : Reason)
     → IsInvalidIn c field v reason → ⊥
-no-fault c field v g only none (reasons.Lengths found wanted) is = is
-no-fault c field v g only none (reasons.Missing name) is = is
-no-fault c field v g only none (reasons.Repeated name) is = is
-no-fault c field v g only none (reasons.Null name) is = is
-no-fault c field v g only none (reasons.NoInteger name text) is = is
-no-fault c field v g only none (reasons.NotUtf8 name) is = is
-no-fault c field v g only none (reasons.SameKey number key) is = is
-no-fault c field v g only none (reasons.Refused name shown) is = is
 no-fault c field v g only none (reasons.Invalid name shown place) is =
     let geometry = is.2.geometry in
     none (subst (λ h. HasFault h v) (sym (one g geometry (only geometry is.2.spelled))) is.2.has)
-no-fault c field v g only none (reasons.OtherType name found wanted) is = is
+no-fault c field v g only none _ is = is
 
 -- a field that spells nothing has no geometry of another type
 pub no-type : (c : ColumnDef ColumnShape) (asked : GeometryType) (field : List ℕ) → ((g : Geometry) → Spells field g → ⊥) → (reason : Reason)
     → IsOtherTypeIn c asked field reason → ⊥
-no-type c asked field none (reasons.Lengths found wanted) is = is
-no-type c asked field none (reasons.Missing name) is = is
-no-type c asked field none (reasons.Repeated name) is = is
-no-type c asked field none (reasons.Null name) is = is
-no-type c asked field none (reasons.NoInteger name text) is = is
-no-type c asked field none (reasons.NotUtf8 name) is = is
-no-type c asked field none (reasons.SameKey number key) is = is
-no-type c asked field none (reasons.Refused name shown) is = is
-no-type c asked field none (reasons.Invalid name shown place) is = is
 no-type c asked field none (reasons.OtherType name found wanted) is = none is.2.geometry is.2.spelled
+no-type c asked field none _ is = is
 
 -- nor has one whose geometry is of the type that is wanted
 pub same-type : (c : ColumnDef ColumnShape) (asked : GeometryType) (field : List ℕ) (g : Geometry)
     → ((h : Geometry) → Spells field h → ◌≡◌ {A = Result Geometry TextFault} (Ok g) (Ok h)) → takes_type (Some asked) (type_of g) ≡ true → (reason : Reason)
     → IsOtherTypeIn c asked field reason → ⊥
-same-type c asked field g only same (reasons.Lengths found wanted) is = is
-same-type c asked field g only same (reasons.Missing name) is = is
-same-type c asked field g only same (reasons.Repeated name) is = is
-same-type c asked field g only same (reasons.Null name) is = is
-same-type c asked field g only same (reasons.NoInteger name text) is = is
-same-type c asked field g only same (reasons.NotUtf8 name) is = is
-same-type c asked field g only same (reasons.SameKey number key) is = is
-same-type c asked field g only same (reasons.Refused name shown) is = is
-same-type c asked field g only same (reasons.Invalid name shown place) is = is
 same-type c asked field g only same (reasons.OtherType name found wanted) is =
     let other = is.2 in
     let type : type_of g ≡ found = ap type_of (one g other.geometry (only other.geometry other.spelled)) ∙ other.type in
     let clash : takes_type (Some wanted) found ≡ true = subst (λ t. takes_type (Some t) found ≡ true) (sym is.1)
     (subst (λ t. takes_type (Some asked) t ≡ true) type same) in
     true≢false (sym clash ∙ other.other)
+same-type c asked field g only same _ is = is

@@ -128,15 +128,7 @@ key-reason known table (suc n) place keys key are low within here there first =
 two-records : (table : TableDef ColumnShape) (header : Record) (read : List Record) (number : ℕ) (reason : Reason) → IsOfKey table header read number reason
     → (first : ℕ) × (key : ℤ) × (1 ≤ first) × (first < number) × HasKey table header read number key × HasKey table header read first key
 two-records table header read number (reasons.SameKey first key) is = (first, key, is.0, is.1, is.2, is.3)
-two-records table header read number (reasons.Missing name) is = absurd is
-two-records table header read number (reasons.Repeated name) is = absurd is
-two-records table header read number (reasons.Lengths found wanted) is = absurd is
-two-records table header read number (reasons.Null name) is = absurd is
-two-records table header read number (reasons.NoInteger name shown) is = absurd is
-two-records table header read number (reasons.Refused name w) is = absurd is
-two-records table header read number (reasons.Invalid name v place) is = absurd is
-two-records table header read number (reasons.OtherType name found wanted) is = absurd is
-two-records table header read number (reasons.NotUtf8 name) is = absurd is
+two-records table header read number _ is = absurd is
 
 -- no number that isn't one of a record has a reason
 pub outside : (known : Option (List ℕ)) (table : TableDef ColumnShape) (number : ℕ) → (number ≤ row_limit + 1 → number ≡ 0) → HasNoKeyReason known table number

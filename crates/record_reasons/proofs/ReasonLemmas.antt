@@ -1,5 +1,5 @@
 -- A reason in what was read, or none there.
-use Rattle.std.proofs.Common.{◌≡◌, ◌∙◌, ℕ, List, Option, Some, None, Result, Ok, Err, IfOk, IfSome, IfNone, ap, refl, subst, sym}
+use Rattle.std.proofs.Common.{◌≡◌, ◌∙◌, ℕ, List, Option, Some, None, Result, Ok, IfOk, IfSome, IfNone, ap, refl, subst, sym}
 use Rattle.std.specs.Prelude.{slice_get}
 use Rattle.std.proofs.lemmas.Option.{same_Some}
 use Rattle.basics.proofs.Lists.{found_in_front}
@@ -47,23 +47,21 @@ no-record known table f absent text is within reason has =
 pub seen-some : {E : Type 0} (r : Result (Option Reason) E) (known : Option (List ℕ)) (table : TableDef ColumnShape) (f : LoadFault)
     (header fields : Record) → AreSeen known header (record_number f) fields → IfOk r (Finds (HasReason table header fields f))
     → IfOk r (λ found. IfSome found (IsRecordReason known table f))
-seen-some (Err e) known table f header fields seen finds = tt
-seen-some (Ok None) known table f header fields seen finds = tt
 seen-some (Ok (Some reason)) known table f header fields seen finds =
     record { header = header; fields = fields; seen = seen; has = finds }
+seen-some _ known table f header fields seen finds = tt
 
 -- where the record that was seen has no reason, the fault has none
 pub seen-none : {E : Type 0} (r : Result (Option Reason) E) (known : Option (List ℕ)) (table : TableDef ColumnShape) (f : LoadFault) (header fields : Record)
     → AreSeen known header (record_number f) fields → IfOk r (Finds (HasReason table header fields f))
     → IfOk r (λ found. IfNone found (HasNoRecordReason known table f))
-seen-none (Err e) known table f header fields seen finds = tt
-seen-none (Ok (Some reason)) known table f header fields seen finds = tt
 seen-none (Ok None) known table f header fields seen finds = λ text is within reason has.
     let mine = seen-there known text header (record_number f) fields is seen in
     let other = seen-there (Some text) text has.header (record_number f) has.fields refl has.seen in
     let same_header = same_Some has.header header (sym other.0 ∙ mine.0) in
     let same_fields = same_Some has.fields fields (sym other.1 ∙ mine.1) in
     finds reason (subst (λ h. HasReason table h fields f reason) same_header (subst (λ fs. HasReason table has.header fs f reason) same_fields has.has))
+seen-none _ known table f header fields seen finds = tt
 
 -- a fault that is neither of the header nor of lengths has its reason in a column
 pub of-column : {E : Type 0} (r : Result (Option Reason) E) (table : TableDef ColumnShape) (header fields : Record) (f : LoadFault)
@@ -72,15 +70,8 @@ pub of-column : {E : Type 0} (r : Result (Option Reason) E) (table : TableDef Co
 of-column r table header fields fault.MissingColumn lacks repeats other null finds = absurd (lacks refl)
 of-column r table header fields fault.DoubleHeader lacks repeats other null finds = absurd (repeats refl)
 of-column r table header fields (fault.UnequalRecord number) lacks repeats other null finds = absurd (other number refl)
-of-column r table header fields (fault.NotUtf8 number) lacks repeats other null finds = finds
-of-column r table header fields (fault.BadInteger number) lacks repeats other null finds = finds
-of-column r table header fields (fault.BadGeometry number why) lacks repeats other null finds = finds
-of-column r table header fields (fault.WrongType number) lacks repeats other null finds = finds
 of-column r table header fields (fault.NullNotAllowed number) lacks repeats other null finds = absurd (null number refl)
-of-column r table header fields (fault.DoubleKey number) lacks repeats other null finds = finds
-of-column r table header fields fault.TooManyRows lacks repeats other null finds = finds
-of-column r table header fields fault.ReadFailed lacks repeats other null finds = finds
-of-column r table header fields fault.OutOfMemory lacks repeats other null finds = finds
+of-column r table header fields _ lacks repeats other null finds = finds
 
 -- ---- fields
 
@@ -88,15 +79,6 @@ of-column r table header fields fault.OutOfMemory lacks repeats other null finds
 pub of-geometry : {E : Type 0} (r : Result (Option Reason) E) (c : ColumnDef ColumnShape) (field : List ℕ) (f : LoadFault)
     → ((number : ℕ) → f ≡ fault.NotUtf8 number → ⊥) → ((number : ℕ) → f ≡ fault.BadInteger number → ⊥) → IfOk r (Finds (IsGeometryReason c field f))
     → IfOk r (Finds (IsFilledReason c field f))
-of-geometry r c field fault.MissingColumn utf8 integer finds = finds
-of-geometry r c field fault.DoubleHeader utf8 integer finds = finds
-of-geometry r c field (fault.UnequalRecord number) utf8 integer finds = finds
 of-geometry r c field (fault.NotUtf8 number) utf8 integer finds = absurd (utf8 number refl)
 of-geometry r c field (fault.BadInteger number) utf8 integer finds = absurd (integer number refl)
-of-geometry r c field (fault.BadGeometry number why) utf8 integer finds = finds
-of-geometry r c field (fault.WrongType number) utf8 integer finds = finds
-of-geometry r c field (fault.NullNotAllowed number) utf8 integer finds = finds
-of-geometry r c field (fault.DoubleKey number) utf8 integer finds = finds
-of-geometry r c field fault.TooManyRows utf8 integer finds = finds
-of-geometry r c field fault.ReadFailed utf8 integer finds = finds
-of-geometry r c field fault.OutOfMemory utf8 integer finds = finds
+of-geometry r c field _ utf8 integer finds = finds

@@ -1,8 +1,10 @@
 //! What the commands read: files and standard input, with a bound on the texts of tables and pairs.
 
+use crate::opened_tables::OpenedTable;
 use engine::File;
 use std::fs;
 use std::io::{self, Read, Stdin};
+use std::rc::Rc;
 use streams::BoundedReader;
 
 /// The path that means standard input, if a word names a file by `@`, and for a file of pairs. A file of this name is `./-`.
@@ -13,6 +15,10 @@ const STANDARD_INPUT: &str = "-";
 pub enum Input {
     File(fs::File),
     Standard(Stdin),
+    // A table that can be read again.
+    Table(Rc<OpenedTable>),
+    // What was read of a table before, from a place on.
+    Again(Rc<OpenedTable>, usize),
 }
 
 impl Input {
@@ -38,6 +44,12 @@ impl Read for Input {
         match self {
             Input::File(file) => file.read(buffer),
             Input::Standard(stream) => stream.read(buffer),
+            Input::Table(table) => table.read(buffer),
+            Input::Again(table, place) => {
+                let count = table.read_again(*place, buffer)?;
+                *place = place.saturating_add(count);
+                Ok(count)
+            }
         }
     }
 }

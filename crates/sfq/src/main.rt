@@ -4,6 +4,7 @@
 
 mod coloured;
 mod inputs;
+mod opened_tables;
 mod openings;
 mod progress;
 
@@ -12,7 +13,6 @@ use crate::openings::Openings;
 use crate::progress::{Cleared, Progress};
 use command_line::{Misuse, Order, order, read_words, texts_of};
 use engine::{Failure, File, failed, failed_words, flushed, serve_observed};
-use memchr::memrchr;
 use std::alloc::Global;
 use std::env;
 use std::io::{BufWriter, Stderr};
@@ -55,7 +55,7 @@ fn main(rt: HostRuntime) -> ExitCode {
     }
     let mut explained = explaining(&rt, &progress);
     let _ = put_all(&mut explained, openings.said());
-    let _ = put_all(&mut explained, whole_lines(more.bytes()));
+    let _ = put_all(&mut explained, lines_of(&more));
     ExitCode::from(status)
 }
 
@@ -87,16 +87,12 @@ fn serve<'p, S: Sink, E: Sink>(
     }
 }
 
-/// The whole lines of a text: a line for whose end memory ran out is left out.
-fn whole_lines(text: &[u8]) -> &[u8] {
-    let end = match memrchr(b'\n', text) {
-        Some(last) => last.wrapping_add(1),
-        None => 0,
-    };
-    match text.get(..end) {
-        Some(lines) => lines,
-        None => text,
+/// The lines that explain a fault; none, if memory ran out for a part of one, since others may be behind that part.
+fn lines_of(more: &MemorySink) -> &[u8] {
+    if more.failures() == 0 {
+        return more.bytes();
     }
+    &[]
 }
 
 /// Standard error, for what explains a fault.

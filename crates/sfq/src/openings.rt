@@ -1,20 +1,23 @@
-//! How the files of a command are opened, and what is said of one that can't be; and once more, for a reason or a note.
+//! How the files of a command are opened, and what is said of one that can't be. Each file is opened once: where a fault is explained, a
+//! table that was opened is read again.
 
 use crate::inputs::{CommandReader, Input, is_standard};
+use crate::opened_tables::OpenedTable;
 use crate::progress::{Progress, Reported};
 use engine::File;
 use explanations::{file_explained, said_line};
 use std::alloc::{AllocError, Global};
 use std::fs;
 use std::io::{Error, ErrorKind};
+use std::rc::Rc;
 use streams::{BoundedReader, MemorySink, Sink, put_all};
 
 /// The files of a command, as they are opened for it; where it asks why, what is said of one that can't be opened.
 #[derive(Drop)]
 pub struct Openings {
     asks: bool,
-    // The paths of the tables that were opened.
-    tables: Vec<String>,
+    // The tables that were opened, where it asks why.
+    tables: Vec<Rc<OpenedTable>>,
     // The path of the file that was opened last.
     last: Option<String>,
     said: MemorySink,
@@ -32,19 +35,23 @@ impl Openings {
     }
 
     /// The reader of a file that a command opens, or None if it can't be opened. A query, a geometry and pairs may come from
-    /// standard input. What is CSV has a bound, and is shown while it is read. A table that is opened again, for a reason or a note, has to
-    /// give the same bytes.
+    /// standard input. What is CSV has a bound, and is shown while it is read. A table that is asked for again, for a reason or a note, isn't
+    /// opened: what was read of it, which was within the bound, is read once more.
     pub fn open<'p>(
         &mut self,
         rt: &HostRuntime,
         progress: &'p Progress<'p>,
         file: File<'_>,
     ) -> Option<CommandReader<Reported<'p>>> {
-        if self.asks && self.has(rt.alloc(), file) {
-            return opened_again(rt, progress, file, &mut self.said);
+        if self.asks {
+            self.note(rt.alloc(), file);
+            if let Some(table) = self.opened(file) {
+                table.go_back();
+                return Some(CommandReader::Text(progress.read(Input::Again(table, 0))));
+            }
         }
         match Input::of(rt, file) {
-            Ok(input) => Some(reader(progress, file, input)),
+            Ok(input) => Some(reader(progress, file, self.held(rt.alloc(), file, input))),
             Err(error) => {
                 if self.asks {
                     say_unopened(rt, file.path(), reason(&error), &mut self.said);
@@ -71,43 +78,47 @@ impl Openings {
         }
     }
 
-    /// Keeps the path of a file that is opened, and returns whether it is a table that was opened before. Without memory nothing is kept.
-    fn has(&mut self, alloc: Global, file: File<'_>) -> bool {
+    /// Notes the path of a file that is opened, which standard input has none of. Without memory it isn't noted.
+    fn note(&mut self, alloc: Global, file: File<'_>) {
         self.last = None;
-        if is_standard(file) {
-            return false;
+        if !is_standard(file) {
+            self.last = String::from_str(alloc, file.path()).ok();
         }
-        self.last = String::from_str(alloc, file.path()).ok();
-        let File::Table(path) = file else {
-            return false;
-        };
-        for earlier in self.tables.iter() {
-            if earlier.as_str() == path {
-                return true;
+    }
+
+    /// The table that was opened before.
+    fn opened(&self, file: File<'_>) -> Option<Rc<OpenedTable>> {
+        for table in self.tables.iter() {
+            if let File::Table(path) = file
+                && table.is_at(path)
+            {
+                return table.clone().ok();
             }
         }
-        if let Ok(path) = String::from_str(alloc, path) {
-            let _ = self.tables.push(path);
-        }
-        false
+        None
     }
-}
 
-/// The reader of a file that is opened once more, to explain a fault. If it can't be opened, or is a folder, or nothing that gives the same
-/// bytes again, that is written, and the result is None. Where the folder that should have it isn't there, that is written instead.
-#[inline(never)]
-fn opened_again<'p, E: Sink>(
-    rt: &HostRuntime,
-    progress: &'p Progress<'p>,
-    file: File<'_>,
-    err: &mut E,
-) -> Option<CommandReader<Reported<'p>>> {
-    match lasting_input(rt, file) {
-        Ok(input) => Some(reader(progress, file, input)),
-        Err(words) => {
-            say_unopened(rt, file.path(), words, err);
-            None
+    /// The input of a file; that of a table can be read again, where a fault is explained. Without memory it can't.
+    fn held(&mut self, alloc: Global, file: File<'_>, input: Input) -> Input {
+        match (file, input) {
+            (File::Table(path), Input::File(opened)) if self.asks => match self.add(alloc, path) {
+                Ok(table) => {
+                    table.hold(alloc, opened);
+                    Input::Table(table)
+                }
+                Err(_) => Input::File(opened),
+            },
+            (_, input) => input,
         }
+    }
+
+    /// Adds a table whose file is at a path.
+    fn add(&mut self, alloc: Global, path: &str) -> Result<Rc<OpenedTable>, AllocError> {
+        let Ok(table) = Rc::new(alloc, OpenedTable::new(alloc, path)?) else {
+            return Err(AllocError);
+        };
+        self.tables.push(table.clone()?)?;
+        Ok(table)
     }
 }
 
@@ -159,28 +170,8 @@ fn reader<'p>(
     }
 }
 
-/// The input of a file that gives the same bytes once more; or what is said after its path where there is none. Nothing but a file is opened
-/// for it: a named pipe would wait for a writer.
-fn lasting_input(rt: &HostRuntime, file: File<'_>) -> Result<Input, &'static str> {
-    if is_standard(file) {
-        return Err(TWICE);
-    }
-    match fs::metadata(rt, file.path()) {
-        Ok(found) if found.is_dir() => Err(FOLDER),
-        Ok(found) if !found.is_file() => Err(TWICE),
-        Ok(_) => match Input::of(rt, file) {
-            Ok(input) => Ok(input),
-            Err(error) => Err(reason(&error)),
-        },
-        Err(error) => Err(reason(&error)),
-    }
-}
-
 /// What is said of a folder, which can be opened and not be read.
 const FOLDER: &str = " is a folder";
-
-/// What is said of what can't be read twice.
-const TWICE: &str = " can't be read twice: save it as a file to see more";
 
 /// What is said of a file that can't be opened.
 fn reason(error: &Error) -> &'static str {

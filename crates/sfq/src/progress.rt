@@ -7,7 +7,7 @@ use std::cell::Cell;
 use std::io::{self, Error, ErrorKind, IsTerminal, Write};
 use std::path::Path;
 use std::time::{Duration, Instant};
-use streams::{Followed, PatientReader, ReadObserver, RowObserver, write_again};
+use streams::{Followed, PatientReader, ReadObserver, RowCount, RowObserver, write_again};
 
 /// How many milliseconds pass before a line is shown.
 const PATIENCE_MILLISECONDS: u64 = 500;
@@ -18,7 +18,7 @@ const PAUSE_MILLISECONDS: u64 = 100;
 /// What removes a line: the cursor goes up to its first column, and all from there on is erased.
 const CLEAR: &[u8] = b"\r\x1b[A\x1b[K";
 
-/// How many candidates are looked at from one look at the clock to the next.
+/// How many candidates are looked at from one look at the clock to the next; those that are reported together may be more.
 const STRIDE: u64 = 64;
 
 /// How many bytes are a megabyte.
@@ -87,9 +87,7 @@ impl<'r> Progress<'r> {
     /// The observer that reports the search for rows.
     pub fn search(&self) -> Search<'_> {
         Search {
-            candidates: 0,
-            rows: 0,
-            total: 0,
+            count: RowCount::default(),
             progress: self,
         }
     }
@@ -191,28 +189,23 @@ impl Drop for FileReading<'_> {
 
 /// How far the search for the rows of a query is. Once it is dropped, no line is left on the terminal.
 pub struct Search<'p> {
-    candidates: u64,
-    rows: u64,
-    // How many rows of the table that is walked over were to come at first.
-    total: usize,
+    count: RowCount,
     progress: &'p Progress<'p>,
 }
 
-impl RowObserver for Search<'_> {
-    /// Prints how far the search is, where it is time for a line. A line that can't be written is left out.
-    fn looked(&mut self, left: usize) {
-        if self.candidates == 0 {
-            self.total = left.saturating_add(1);
-        }
-        self.candidates = self.candidates.saturating_add(1);
-        if self.candidates % STRIDE == 0 && self.progress.takes_line() {
-            let Search {
+impl Search<'_> {
+    /// Prints how far the search is, if it was this many strides far before and is farther now, and it is time for a line. A line
+    /// that can't be written is left out.
+    fn print_after(&self, strides: u64) {
+        if self.count.candidates / STRIDE > strides && self.progress.takes_line() {
+            let RowCount {
                 candidates,
+                first_left,
+                last_left,
                 rows,
-                total,
-                ..
-            } = self;
-            let row = total.saturating_sub(left);
+            } = self.count;
+            let total = first_left.saturating_add(1);
+            let row = total.saturating_sub(last_left);
             let mut err = self.progress.rt.stderr();
             let written = writeln!(
                 err,
@@ -221,20 +214,30 @@ impl RowObserver for Search<'_> {
             self.progress.keep(written);
         }
     }
+}
 
-    fn found(&mut self) {
-        self.rows = self.rows.saturating_add(1);
+impl RowObserver for Search<'_> {
+    ghost use Rattle.streams.specs.RowCounts.{after_candidate, after_row};
+
+    ghost after_candidate = { λ left search. record search { count = after_candidate left search.count } };
+
+    ghost after_row = { λ search. record search { count = after_row search.count } };
+
+    /// Prints how far the search is, where a stride ends and it is time for a line.
+    fn looked(&mut self, candidates: usize, left: usize) {
+        let strides = self.count.candidates / STRIDE;
+        self.count.looked(candidates, left);
+        self.print_after(strides);
+    }
+
+    fn found(&mut self, rows: usize) {
+        self.count.found(rows);
     }
 }
 
 impl Drop for Search<'_> {
     fn drop(self) {
-        let Self {
-            candidates: _,
-            rows: _,
-            total: _,
-            progress,
-        } = self;
+        let Self { count: _, progress } = self;
         progress.clear();
     }
 }

@@ -12,8 +12,8 @@ use Rattle.streams.specs.MemorySinks.{memory_bytes}
 use Rattle.streams.specs.declared.memory.MemorySink.{MemorySink}
 use Rattle.text_commands.specs.Files.{path_of}
 use Rattle.text_commands.specs.declared.files.File.{File}
-use Rattle.sfq_web.specs.HandedFiles.{Handed, IsNotHanded, OpensAs, OpensBy, bytes_in, file_at, is_standard, opened_text, text_at}
-use Rattle.sfq_web.specs.Servings.{AreWritten, FailsOrder, HandsOutTexts, IsDone, IsMisuse, IsMisuseOf, IsMisusedAs, IsPathOf, IsServed, IsServedOver, MissesFile, MissesGiven, ServesGiven, ServesWords, asking, handed_of}
+use Rattle.sfq_web.specs.HandedFiles.{Handed, IsNotHandedAs, OpensAs, OpensBy, bytes_in, file_at, is_standard, opened_text, text_at}
+use Rattle.sfq_web.specs.Servings.{AreWritten, FailsOrder, HandsOutTexts, IsDone, IsMisuseOf, IsMisusedAs, IsPathOf, IsServed, IsServedOver, MissesFile, MissesGiven, ServesGiven, ServesWords, asking, handed_of}
 use Rattle.sfq_web.specs.declared.handed_files.HandedFile.{HandedFile}
 use Rattle.sfq_web.specs.declared.handed_files.HandedReader.{HandedReader}
 use Rattle.sfq_web.specs.declared.handing.Missed.{Missed}
@@ -43,7 +43,7 @@ same_bytes (inr same) = inr (ap memory_bytes same)
 pub is_misused : {E : Type 0} (words : List (List ℕ)) (asks : Bool) (misuse : Misuse) (files : Handed) (result : Result Served E)
     → HasKind (fault_of sfq words) misuse.error → IfOk result (IsMisusedAs misuse) → IfOk result (IsServed words asks files)
 is_misused words asks misuse files (Ok (served.Done w)) has said = absurd said
-is_misused words asks misuse files (Ok (served.Misused w)) has said = (misuse, has, said)
+is_misused words asks misuse files (Ok (served.Misused w)) has said = ((misuse, has, said.0), said.1)
 is_misused words asks misuse files (Ok (served.Missing missed)) has said = absurd said
 is_misused words asks misuse files (Err e) has said = said
 
@@ -82,6 +82,19 @@ opened_file files file path found reader standard is isnt same there opens =
 
 -- ---- what is handed out
 
+-- what holds of what a command wrote holds of the texts that were written
+of_written : (Are : ℕ → List ℕ → List ℕ → List ℕ → Type 0) (w : Written)
+    → Are w.status (memory_bytes w.out) (memory_bytes w.err) (memory_bytes w.more)
+    → (status : ℕ) (out err more : List ℕ) → AreWritten w status out err more → Are status out err more
+of_written Are w it status out err more are =
+    let by_status : Are status (memory_bytes w.out) (memory_bytes w.err) (memory_bytes w.more) =
+    subst (λ n. Are n (memory_bytes w.out) (memory_bytes w.err) (memory_bytes w.more)) (sym are.0) it in
+    let by_out : Are status out (memory_bytes w.err) (memory_bytes w.more) =
+    subst (λ t. Are status t (memory_bytes w.err) (memory_bytes w.more)) (sym are.1) by_status in
+    let by_err : Are status out err (memory_bytes w.more) =
+    subst (λ t. Are status out t (memory_bytes w.more)) (sym are.2) by_out in
+    subst (λ t. Are status out err t) (sym are.3) by_err
+
 -- the texts of a command that was done over the files
 given : (words : List (List ℕ)) (asks : Bool) (paths texts : List (List ℕ)) (found : List ℕ) (lent : Option (Bor (List ℕ)))
     (input : Option (List ℕ)) (w : Written)
@@ -96,13 +109,7 @@ given words asks paths texts found lent input w over same status out err more ar
     }) in
     let by_input : Serves input w.status (memory_bytes w.out) (memory_bytes w.err) (memory_bytes w.more) =
     subst (λ i. Serves i w.status (memory_bytes w.out) (memory_bytes w.err) (memory_bytes w.more)) same over.2 in
-    let by_status : Serves input status (memory_bytes w.out) (memory_bytes w.err) (memory_bytes w.more) =
-    subst (λ n. Serves input n (memory_bytes w.out) (memory_bytes w.err) (memory_bytes w.more)) (sym are.0) by_input in
-    let by_out : Serves input status out (memory_bytes w.err) (memory_bytes w.more) =
-    subst (λ t. Serves input status t (memory_bytes w.err) (memory_bytes w.more)) (sym are.1) by_status in
-    let by_err : Serves input status out err (memory_bytes w.more) = subst (λ t. Serves input status out t (memory_bytes
-    w.more)) (sym are.2) by_out in
-    (files, over.1, subst (λ t. Serves input status out err t) (sym are.3) by_err)
+    (files, over.1, of_written (Serves input) w by_input status out err more are)
 
 -- texts that are handed out as these are handed out as those too
 more_texts : (Are Those : ℕ → List ℕ → List ℕ → List ℕ → Type 0) (old new : List ℕ) (said : Said) (code : ℕ)
@@ -134,35 +141,38 @@ pub misused_texts : (words : List (List ℕ)) (asks : Bool) (paths texts : List 
     → IsServedOver words asks paths texts found lent (served.Misused w) → HandsOutTexts (AreWritten w) old new said code
     → HandsOutTexts (IsMisuseOf words) old new said code
 misused_texts words asks paths texts found lent w old new said code over =
-    more_texts (AreWritten w) (IsMisuseOf words) old new said code
-    (λ status out err more are. subst (λ n. IsMisuse words n) (sym are.0) over.2)
+    more_texts (AreWritten w) (IsMisuseOf words) old new said code (of_written (IsMisuseOf words) w over.2)
 
 -- a file that is missed isn't handed in
-not_handed : {Z : Type 0} (files : Handed) (path : Option (String Z)) (text : List ℕ) → option_map string_bytes path ≡ Some text
-    → IfSome path (λ it. IsNotHanded files (string_bytes it)) → IsNotHanded files text
-not_handed files (Some path) text is missing = let same : string_bytes path ≡ text = cc in subst (IsNotHanded files) same missing
-not_handed files None text is missing = let no : ⊥ = cc in absurd no
+not_handed : {Z : Type 0} (files : Handed) (number : ℕ) (path : Option (String Z)) (text : List ℕ)
+    → option_map string_bytes path ≡ Some text → IfSome path (λ it. IsNotHandedAs files number (string_bytes it))
+    → IsNotHandedAs files number text
+not_handed files number (Some path) text is missing =
+    let same : string_bytes path ≡ text = cc in subst (IsNotHandedAs files number) same missing
+not_handed files number None text is missing = let no : ⊥ = cc in absurd no
 
--- the path of a file that is missed, over the files that are handed in
+-- the path of a file that is missed, over the files that are handed in, and the number of what it is for the command
 missed_path : (words : List (List ℕ)) (asks : Bool) (paths texts : List (List ℕ)) (found : List ℕ)
-    (lent : Option (Bor (List ℕ))) (input : Option (List ℕ)) (missed : Missed) (path : List ℕ)
+    (lent : Option (Bor (List ℕ))) (input : Option (List ℕ)) (missed : Missed) (number : ℕ) (path : List ℕ)
     → IsServedOver words asks paths texts found lent (served.Missing missed) → option_map (λ bytes. bytes.now) lent ≡ input
-    → IsPathOf missed path → MissesGiven words asks paths texts found input path
-missed_path words asks paths texts found lent input missed path over same is =
+    → IsPathOf missed number path → MissesGiven words asks paths texts found input number path
+missed_path words asks paths texts found lent input missed number path over same is =
     let files = over.0 in
-    let misses : MissesFile words asks (handed_of files lent) path =
-    (over.2.0, not_handed (handed_of files lent) missed.path path is over.2.1) in
-    (files, over.1, subst (λ i. MissesFile words asks (record { files = files; input = i }) path) same misses)
+    let here : IsNotHandedAs (handed_of files lent) missed.role path =
+    not_handed (handed_of files lent) missed.role missed.path path is.1 over.2.1 in
+    let misses : MissesFile words asks (handed_of files lent) number path =
+    (over.2.0, subst (λ n. IsNotHandedAs (handed_of files lent) n path) (sym is.0) here) in
+    (files, over.1, subst (λ i. MissesFile words asks (record { files = files; input = i }) number path) same misses)
 
 -- the same, as it is handed out
 pub given_path : (words : List (List ℕ)) (asks : Bool) (paths texts : List (List ℕ)) (found : List ℕ)
-    (lent : Option (Bor (List ℕ))) (shown input : Option (List ℕ)) (missed : Missed) (old new : List ℕ) (size code : ℕ)
+    (lent : Option (Bor (List ℕ))) (shown input : Option (List ℕ)) (missed : Missed) (old new : List ℕ) (number size code : ℕ)
     → IsServedOver words asks paths texts found lent (served.Missing missed) → option_map (λ bytes. bytes.now) lent ≡ shown
-    → shown ≡ input → HandsOut (IsPathOf missed) old new size code
-    → HandsOut (MissesGiven words asks paths texts found input) old new size code
-given_path words asks paths texts found lent shown input missed old new size code over is same handed_out = record {
+    → shown ≡ input → HandsOut (IsPathOf missed number) old new size code
+    → HandsOut (MissesGiven words asks paths texts found input number) old new size code
+given_path words asks paths texts found lent shown input missed old new number size code over is same handed_out = record {
   text = handed_out.text;
-  is_one = missed_path words asks paths texts found lent input missed handed_out.text over (is ∙ same) handed_out.is_one;
+  is_one = missed_path words asks paths texts found lent input missed number handed_out.text over (is ∙ same) handed_out.is_one;
   size_of = handed_out.size_of;
   status_of = handed_out.status_of;
   room = handed_out.room;

@@ -1,6 +1,6 @@
 -- Files as a caller hands them in.
 use Rattle.std.specs.Prelude.{◌≡◌, ◌==◌, ◌⊎◌, ℕ, Bool, true, false, if◌then◌else◌, codes, find, List, [], map, Option, Some, None}
-use Rattle.std.specs.Option.{option_and_then, option_map}
+use Rattle.std.specs.Option.{option_and_then, option_map, option_map_or}
 use Rattle.std.specs.Str.{bytes_eq}
 use denote.Ref.{Bor}
 use Rattle.streams.specs.Readers.{reader_under}
@@ -67,6 +67,24 @@ abbrev pub bytes_in : HandedReader → List ℕ
 bytes_in (reader.Records bounded) = (reader_under bounded).rest.now
 bytes_in (reader.Text text) = text.rest.now
 
+-- whether reading a reader fails behind these bytes
+abbrev pub fails_in : HandedReader → Bool
+fails_in (reader.Records bounded) = (reader_under bounded).fails
+fails_in (reader.Text text) = text.fails
+
+-- whether it is of another text than CSV
+abbrev pub is_text : HandedReader → Bool
+is_text (reader.Records bounded) = false
+is_text (reader.Text text) = true
+
+-- whether a file of a command is of another text than CSV, which a table and pairs are (RFC 4180)
+abbrev pub is_text_of : File → Bool
+is_text_of (role.Schema path) = true
+is_text_of (role.Table path) = false
+is_text_of (role.Query path) = true
+is_text_of (role.Geometry path) = true
+is_text_of (role.Pairs path) = false
+
 -- the bytes of a file that can be opened
 abbrev pub opened_text : HandedFile → Option (List ℕ)
 opened_text file = if is_there file.found then Some file.text.now else None
@@ -87,6 +105,10 @@ is_standard (role.Pairs path) = is_dash path.now
 abbrev pub file_at : List HandedFile → List ℕ → Option HandedFile
 file_at files path = find (λ file. bytes_eq file.path.now path) files
 
+-- whether reading a file of a command fails behind its bytes, where reading standard input does or not
+abbrev pub fails_as : List HandedFile → Bool → File → Bool
+fails_as files broken file = if is_standard file then broken else option_map_or (λ it. fails_behind it.found) (file_at files (path_of file)) false
+
 -- the files have these paths and bytes, and these numbers say what was found, in order
 pub record AreFiles (files : List HandedFile) (paths texts : List (List ℕ)) (numbers : List ℕ) : Type 0 where
   pub are_paths : map (λ file. file.path.now) files ≡ paths
@@ -104,9 +126,22 @@ pub record Handed : Type 0 where
 abbrev pub text_at : Handed → List ℕ → Option (List ℕ)
 text_at handed path = option_and_then opened_text (file_at handed.files path)
 
--- no file is handed in at a path; or the path is that of standard input, and that isn't
-abbrev pub IsNotHanded : Handed → List ℕ → Type 0
-IsNotHanded handed path = (file_at handed.files path ≡ None) ⊎ ((is_dash path ≡ true) × (handed.input ≡ None))
+-- standard input isn't handed in; or no file is, at a path
+abbrev pub IsNotThere : Bool → Handed → List ℕ → Type 0
+IsNotThere true handed path = handed.input ≡ None
+IsNotThere false handed path = file_at handed.files path ≡ None
+
+-- a file of a command isn't handed in
+abbrev pub IsNotHanded : Handed → File → Type 0
+IsNotHanded handed file = IsNotThere (is_standard file) handed (path_of file)
+
+-- the file is what this number says for a command, at this path
+abbrev pub IsFileOf : ℕ → List ℕ → File → Type 0
+IsFileOf number path file = (number_of file ≡ number) × (path_of file ≡ path)
+
+-- what this number says for a command, at this path, isn't handed in
+abbrev pub IsNotHandedAs : Handed → ℕ → List ℕ → Type 0
+IsNotHandedAs handed number path = (file : File) × IsFileOf number path file × IsNotHanded handed file
 
 -- what is left of them once standard input was opened, if that is handed in: it has no more bytes
 abbrev pub emptied : Handed → Handed

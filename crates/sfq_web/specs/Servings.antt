@@ -16,7 +16,7 @@ use Rattle.library_calls.specs.Explained.{HandsOut}
 use Rattle.library_calls.specs.Refusals.{too_small}
 use Rattle.streams.specs.MemorySinks.{memory_bytes, memory_failures}
 use Rattle.streams.specs.declared.memory.MemorySink.{MemorySink}
-use Rattle.sfq_web.specs.HandedFiles.{AreFiles, Handed, IsNotHanded, OpensHanded, bytes_in, is_there}
+use Rattle.sfq_web.specs.HandedFiles.{AreFiles, Handed, IsNotHandedAs, OpensHanded, bytes_in, is_there}
 use Rattle.sfq_web.specs.declared.handed_files.Found.{Found}
 use Rattle.sfq_web.specs.declared.handed_files.HandedFile.{HandedFile}
 use Rattle.sfq_web.specs.declared.handed_files.HandedReader.{HandedReader}
@@ -96,19 +96,28 @@ ServesWords words asks files status out err more = (order : Order) × Orders wor
 abbrev pub FailsWords : List (List ℕ) → Bool → Handed → Type 0
 FailsWords words asks files = (order : Order) × Orders words order × FailsOrder (asking asks order) files
 
--- the file that an order misses isn't handed in, if its path is known
+-- the file that an order misses, as what it is for the command, isn't handed in, if its path is known
 abbrev pub IsMissed : Handed → Missed → Type 0
-IsMissed files missed = IfSome missed.path (λ path. IsNotHanded files (string_bytes path))
+IsMissed files missed = IfSome missed.path (λ path. IsNotHandedAs files missed.role (string_bytes path))
 
 -- the words are no order: `clap` names a kind of misuse, whose status this is, or memory ran out
 abbrev pub IsMisuse : List (List ℕ) → ℕ → Type 0
 IsMisuse words status = (misuse : Misuse) × HasKind (fault_of sfq words) misuse.error × (status ≡ status_of (kind_of misuse.error))
 
+-- of what is written with a status in place of an order, help and the version are for standard output, all else is for standard error, and nothing
+-- explains it (the streams: as clap prints)
+abbrev pub IsOnItsStream : ℕ → List ℕ → List ℕ → List ℕ → Type 0
+IsOnItsStream status out err more = (status ≡ 0 → err ≡ []) × (status ≢ 0 → out ≡ []) × (more ≡ [])
+
+-- the words are no order, this is the status of why, and these texts are written in place of it
+abbrev pub IsMisuseOf : List (List ℕ) → ℕ → List ℕ → List ℕ → List ℕ → Type 0
+IsMisuseOf words status out err more = IsMisuse words status × IsOnItsStream status out err more
+
 -- what came of words
 abbrev pub IsServed : List (List ℕ) → Bool → Handed → Served → Type 0
 IsServed words asks files (served.Done w) =
     ServesWords words asks files w.status (memory_bytes w.out) (memory_bytes w.err) (memory_bytes w.more)
-IsServed words asks files (served.Misused w) = IsMisuse words w.status
+IsServed words asks files (served.Misused w) = IsMisuseOf words w.status (memory_bytes w.out) (memory_bytes w.err) (memory_bytes w.more)
 IsServed words asks files (served.Missing missed) = FailsWords words asks files × IsMissed files missed
 
 -- standard input, if that is handed in
@@ -123,18 +132,14 @@ ServesGiven words asks paths texts found input status out err more =
     (files : List HandedFile) × AreFiles files paths texts found
     × ServesWords words asks (record { files = files; input = input }) status out err more
 
--- the words are no order, and this is the status of why
-abbrev pub IsMisuseOf : List (List ℕ) → ℕ → List ℕ → List ℕ → List ℕ → Type 0
-IsMisuseOf words status out err more = IsMisuse words status
-
--- doing the order of the words ends so over the files, and none is handed in at this path
-abbrev pub MissesFile : List (List ℕ) → Bool → Handed → List ℕ → Type 0
-MissesFile words asks files path = FailsWords words asks files × IsNotHanded files path
+-- doing the order of the words ends so over the files, and what this number says for a command isn't handed in at this path
+abbrev pub MissesFile : List (List ℕ) → Bool → Handed → ℕ → List ℕ → Type 0
+MissesFile words asks files number path = FailsWords words asks files × IsNotHandedAs files number path
 
 -- the same of files of these paths, texts and numbers of what was found
-abbrev pub MissesGiven : List (List ℕ) → Bool → List (List ℕ) → List (List ℕ) → List ℕ → Option (List ℕ) → List ℕ → Type 0
-MissesGiven words asks paths texts found input path =
-    (files : List HandedFile) × AreFiles files paths texts found × MissesFile words asks (record { files = files; input = input }) path
+abbrev pub MissesGiven : List (List ℕ) → Bool → List (List ℕ) → List (List ℕ) → List ℕ → Option (List ℕ) → ℕ → List ℕ → Type 0
+MissesGiven words asks paths texts found input number path =
+    (files : List HandedFile) × AreFiles files paths texts found × MissesFile words asks (record { files = files; input = input }) number path
 
 -- one of these texts isn't UTF-8
 abbrev pub HasNoString : List (List ℕ) → Type 0
@@ -160,7 +165,7 @@ abbrev pub LacksRoom : List (List ℕ) → Bool → List (List ℕ) → List (Li
 LacksRoom words asks paths texts found input old new said =
     HandsOutTexts (ServesGiven words asks paths texts found input) old new said too_small
     ⊎ HandsOutTexts (IsMisuseOf words) old new said too_small
-    ⊎ HandsOut (MissesGiven words asks paths texts found input) old new said.size too_small
+    ⊎ HandsOut (MissesGiven words asks paths texts found input said.code) old new said.size too_small
 
 -- ---- steps by which it is found
 
@@ -173,7 +178,8 @@ IsDone order files (served.Missing missed) = FailsOrder order files × IsMissed 
 -- what came of words that are no order
 abbrev pub IsMisusedAs : Misuse → Served → Type 0
 IsMisusedAs misuse (served.Done w) = ⊥
-IsMisusedAs misuse (served.Misused w) = w.status ≡ status_of (kind_of misuse.error)
+IsMisusedAs misuse (served.Misused w) =
+    (w.status ≡ status_of (kind_of misuse.error)) × IsOnItsStream w.status (memory_bytes w.out) (memory_bytes w.err) (memory_bytes w.more)
 IsMisusedAs misuse (served.Missing missed) = ⊥
 
 -- what came of words over files of these paths, texts and numbers
@@ -186,6 +192,6 @@ abbrev pub AreWritten : Written → ℕ → List ℕ → List ℕ → List ℕ �
 AreWritten w status out err more =
     (status ≡ w.status) × (out ≡ memory_bytes w.out) × (err ≡ memory_bytes w.err) × (more ≡ memory_bytes w.more)
 
--- the text is the path of a file that an order misses
-abbrev pub IsPathOf : Missed → List ℕ → Type 0
-IsPathOf missed text = option_map string_bytes missed.path ≡ Some text
+-- the number says what a file that an order misses is for the command, and the text is its path
+abbrev pub IsPathOf : Missed → ℕ → List ℕ → Type 0
+IsPathOf missed number text = (number ≡ missed.role) × (option_map string_bytes missed.path ≡ Some text)

@@ -1,14 +1,14 @@
 //! The files of a command as a caller hands them in, who has read them before.
 
-ghost use Rattle.std.specs.Prelude.{◌≡◌, option_map};
-ghost use Rattle.sfq_web.specs.HandedFiles.{bytes_in, fails_behind, file_at, found_of, is_standard, is_there, opened_text, words_of};
+ghost use Rattle.std.specs.Prelude.{◌≡◌, IfSome, option_map};
+ghost use Rattle.sfq_web.specs.HandedFiles.{bytes_in, fails_behind, fails_in, file_at, found_of, is_standard, is_text, is_text_of, is_there, opened_text, words_of};
 
 use std::io::{self, Error, ErrorKind, Read};
 use streams::BoundedReader;
 use text_commands::File;
 
 /// The path that means standard input, for a query, a geometry and pairs. A file of this name is `./-`.
-pub(crate) const STANDARD_INPUT: &str = "-";
+const STANDARD_INPUT: &str = "-";
 
 /// What a caller found at a path.
 #[derive(Clone, Copy, Debug, PartialEq, Eq)]
@@ -90,7 +90,8 @@ pub struct HandedFile<'f> {
 impl<'f> HandedFile<'f> {
     /// The reader of the file for a command, if it can be opened.
     pub(crate) fn opened(&self, file: File<'_>) -> Option<HandedReader<'f>>
-        ensures { option_map bytes_in result ≡ opened_text self.now }
+        ensures opens { option_map bytes_in result ≡ opened_text self.now }
+        ensures fails { IfSome result (λ reader. fails_in reader ≡ fails_behind self.now.found) }
     {
         if !self.found.is_there() {
             return None;
@@ -136,12 +137,18 @@ pub enum HandedReader<'t> {
 }
 
 impl Read for HandedReader<'_> {
-    ghost use Rattle.std.specs.Prelude.{Some};
-    ghost use Rattle.sfq_web.specs.HandedFiles.{bytes_in};
+    ghost use Rattle.std.specs.Prelude.{◌≡◌, [], IsErr, Some, true};
+    ghost use Rattle.std.specs.Io.{ReadsAtMost};
+    ghost use Rattle.std.specs.Io.KnownBytes.{ReadConsumes};
+    ghost use Rattle.sfq_web.specs.HandedFiles.{bytes_in, fails_in, is_text};
 
     ghost remaining = { λ r. Some (bytes_in r) };
 
-    fn read(&mut self, buffer: &mut [u8]) -> io::Result<usize> {
+    fn read(&mut self, buffer: &mut [u8]) -> io::Result<usize>
+        ensures bound { ReadsAtMost result buffer.new }
+        ensures bytes { ReadConsumes (Some (bytes_in self.old)) (Some (bytes_in self.new)) result buffer.new }
+        ensures fails { is_text self.old ≡ true → fails_in self.old ≡ true → bytes_in self.old ≡ [] → IsErr result }
+    {
         match self {
             HandedReader::Records(reader) => reader.read(buffer),
             HandedReader::Text(reader) => reader.read(buffer),
@@ -151,7 +158,9 @@ impl Read for HandedReader<'_> {
 
 /// The reader of a text for a command.
 pub(crate) fn reader_of<'t>(file: File<'_>, text: &'t [u8], fails: bool) -> HandedReader<'t>
-    ensures { bytes_in result ≡ text.entry.now }
+    ensures bytes { bytes_in result ≡ text.entry.now }
+    ensures fails { fails_in result ≡ fails }
+    ensures bounded { is_text result ≡ is_text_of file.entry }
 {
     let reader = HandedText { rest: text, fails };
     match file {

@@ -31,11 +31,13 @@ pub struct Input<'g> {
 
 impl<'g> Input<'g> {
     ghost use Rattle.std.specs.Prelude.{option_map};
+    ghost use Rattle.sfq_web.specs.HandedFiles.{fails_behind};
     ghost use Rattle.sfq_web.specs.Servings.{input_of};
 
     /// These bytes, where something was found.
     pub fn of(found: Found, text: &'g [u8]) -> Input<'g>
-        ensures { option_map (λ bytes. bytes.now) result.text ≡ input_of found text.entry.now }
+        ensures text { option_map (λ bytes. bytes.now) result.text ≡ input_of found text.entry.now }
+        ensures broken { result.is_broken ≡ fails_behind found }
     {
         Input {
             text: if found.is_there() { Some(text) } else { None },

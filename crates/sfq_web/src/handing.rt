@@ -1,12 +1,10 @@
 //! Opens the files that are handed in, for a command.
 
-ghost use Rattle.std.specs.Prelude.{◌≡◌, true};
-ghost use Rattle.sfq_web.specs.HandedFiles.{IsNotHanded, number_of};
+ghost use Rattle.std.specs.Prelude.{◌≡◌, ◌↔◌, IfSome, is_some, true};
+ghost use Rattle.sfq_web.specs.HandedFiles.{IsFileOf, IsNotHanded, number_of};
 ghost use Rattle.sfq_web.specs.Servings.{handed_of};
 
-use crate::handed_files::{
-    Found, HandedFile, HandedReader, STANDARD_INPUT, file_at, is_standard, reader_of,
-};
+use crate::handed_files::{Found, HandedFile, HandedReader, file_at, is_standard, reader_of};
 use explanations::{file_explained, said_line};
 use std::alloc::{AllocError, Global};
 use streams::{MemorySink, put_all};
@@ -22,15 +20,18 @@ pub struct Missed {
 }
 
 impl Missed {
-    ghost use Rattle.std.specs.Prelude.{◌≡◌, true};
+    ghost use Rattle.std.specs.Prelude.{◌≡◌, ◌↔◌, true};
     ghost use Rattle.sfq_web.specs.Servings.{IsMissed, handed_of};
 
-    /// Whether it is neither among these files nor standard input that is handed in. Without its path nobody knows.
+    /// Whether it isn't handed in, among these files and this standard input. Without its path nobody knows.
     fn is_missing(&self, files: &[HandedFile<'_>], input: Option<&[u8]>) -> bool
-        ensures { result ≡ true → IsMissed (handed_of files.now input.entry) self.now }
+        ensures { (result ≡ true) ↔ IsMissed (handed_of files.now input.entry) self.now }
     {
         match &self.path {
-            Some(path) => is_absent(files, input, path.as_str()),
+            Some(path) => match file_of(self.role, path.as_str()) {
+                Some(file) => is_absent(files, input, file),
+                None => false,
+            },
             None => true,
         }
     }
@@ -50,7 +51,7 @@ pub struct Handing<'f> {
 
 impl<'f> Handing<'f> {
     ghost use Rattle.std.specs.Prelude.{◌≡◌, IfSome, option_map};
-    ghost use Rattle.sfq_web.specs.HandedFiles.{OpensAs, OpensInput};
+    ghost use Rattle.sfq_web.specs.HandedFiles.{OpensAs, OpensInput, fails_as, fails_in};
     ghost use Rattle.sfq_web.specs.Servings.{IsMissed, handed, handed_of};
 
     /// These files, and standard input, whose reading may fail behind its bytes.
@@ -60,7 +61,8 @@ impl<'f> Handing<'f> {
         input: Option<&'f [u8]>,
         is_broken: bool,
     ) -> Handing<'f>
-        ensures { handed result ≡ handed_of files.entry.now input.entry }
+        ensures files { handed result ≡ handed_of files.entry.now input.entry }
+        ensures broken { result.is_broken ≡ is_broken }
     {
         Handing {
             files,
@@ -73,7 +75,9 @@ impl<'f> Handing<'f> {
 
     /// The reader of a file for a command, if it is handed in and can be opened. Standard input is read once, and then has no more bytes.
     pub(crate) fn open(&mut self, alloc: Global, file: File<'_>) -> Option<HandedReader<'f>>
-        ensures { OpensAs (handed self.old) file.entry result (handed self.new) }
+        ensures opens { OpensAs (handed self.old) file.entry result (handed self.new) }
+        ensures fails { IfSome result (λ reader. fails_in reader ≡ fails_as self.old.files.now self.old.is_broken file.entry) }
+        ensures broken { self.new.is_broken ≡ self.old.is_broken }
     {
         if is_standard(file) {
             return self.open_input(alloc, file);
@@ -92,7 +96,8 @@ impl<'f> Handing<'f> {
 
     /// Keeps why the file at a path can't be opened, if it can't.
     fn say_closed(&mut self, alloc: Global, path: &str, found: Found)
-        ensures { handed self.new ≡ handed self.old }
+        ensures files { handed self.new ≡ handed self.old }
+        ensures broken { self.new.is_broken ≡ self.old.is_broken }
     {
         if !found.is_there() {
             self.say(alloc, path, found);
@@ -101,7 +106,8 @@ impl<'f> Handing<'f> {
 
     /// Keeps why the file at a path can't be opened or read, unless that is kept of one before.
     fn say(&mut self, alloc: Global, path: &str, found: Found)
-        ensures { handed self.new ≡ handed self.old }
+        ensures files { handed self.new ≡ handed self.old }
+        ensures broken { self.new.is_broken ≡ self.old.is_broken }
     {
         if self.said.bytes().is_empty()
             && let Some(words) = found.words()
@@ -122,7 +128,9 @@ impl<'f> Handing<'f> {
 
     /// The reader of standard input for a command, if it is handed in.
     fn open_input(&mut self, alloc: Global, file: File<'_>) -> Option<HandedReader<'f>>
-        ensures { OpensInput (handed self.old) result (handed self.new) }
+        ensures opens { OpensInput (handed self.old) result (handed self.new) }
+        ensures fails { IfSome result (λ reader. fails_in reader ≡ self.old.is_broken) }
+        ensures broken { self.new.is_broken ≡ self.old.is_broken }
     {
         match self.input {
             Some(text) => {
@@ -138,7 +146,8 @@ impl<'f> Handing<'f> {
 
     /// Keeps which file is missing, unless one is before.
     fn miss(&mut self, alloc: Global, file: File<'_>)
-        ensures { handed self.new ≡ handed self.old }
+        ensures files { handed self.new ≡ handed self.old }
+        ensures broken { self.new.is_broken ≡ self.old.is_broken }
     {
         if self.missed.is_none() {
             self.missed = Some(Missed {
@@ -168,14 +177,14 @@ impl<'f> Handing<'f> {
     }
 }
 
-/// Whether none of some files is at a path; or it is the path of standard input, and that isn't handed in.
-fn is_absent(files: &[HandedFile<'_>], input: Option<&[u8]>, path: &str) -> bool
-    ensures { result ≡ true → IsNotHanded (handed_of files.now input.entry) path.now }
+/// Whether a file of a command isn't handed in: standard input, if it is that, and else the file at its path.
+fn is_absent(files: &[HandedFile<'_>], input: Option<&[u8]>, file: File<'_>) -> bool
+    ensures { (result ≡ true) ↔ IsNotHanded (handed_of files.now input.entry) file.entry }
 {
-    if file_at(files, path).is_none() {
-        return true;
+    if is_standard(file) {
+        return input.is_none();
     }
-    path == STANDARD_INPUT && input.is_none()
+    file_at(files, file.path()).is_none()
 }
 
 /// The line that says of a file why it isn't opened: its path, and these words behind it. A path that is empty can't be shown.
@@ -196,5 +205,20 @@ fn role_of(file: File<'_>) -> u8
         File::Query(_) => 2,
         File::Geometry(_) => 3,
         File::Pairs(_) => 4,
+    }
+}
+
+/// What this number says for a command, at a path; none for another number.
+fn file_of(role: u8, path: &str) -> Option<File<'_>>
+    ensures file { IfSome result (IsFileOf role path.entry.now) }
+    ensures any { (file : File) → IsFileOf role path.entry.now file → is_some result ≡ true }
+{
+    match role {
+        0 => Some(File::Schema(path)),
+        1 => Some(File::Table(path)),
+        2 => Some(File::Query(path)),
+        3 => Some(File::Geometry(path)),
+        4 => Some(File::Pairs(path)),
+        _ => None,
     }
 }

@@ -60,7 +60,8 @@ pub extern "C" fn sfq_proved_serve(
         → HandsOutTexts (IsMisuseOf (pieces words.now word_lengths.now)) room.old room.new said.new ok }
     ensures missing { result ≡ none_there → HandsOut
         (MissesGiven (pieces words.now word_lengths.now) asks (pieces paths.now path_lengths.now)
-        (pieces texts.now text_lengths.now) found.now (input_of (found_of input_found) input.now)) room.old room.new said.new.size ok }
+        (pieces texts.now text_lengths.now) found.now (input_of (found_of input_found) input.now) said.new.code)
+        room.old room.new said.new.size ok }
     ensures unfit { result ≡ unknown → IsUnfit (pieces words.now word_lengths.now) (pieces paths.now path_lengths.now)
         (pieces texts.now text_lengths.now) found.now }
     ensures kept { result ≢ ok → result ≢ first_refused → result ≢ none_there → room.new ≡ room.old }
@@ -122,10 +123,10 @@ fn hand_out_texts(written: Written, done: u32, room: &mut [u8], said: &mut Said)
 
 /// Hands out the path of a missing file, if the room is large enough.
 fn hand_out_path(missed: &Missed, room: &mut [u8], said: &mut Said) -> u32
-    ensures path { result ≡ none_there → HandsOut (IsPathOf missed.now) room.old room.new said.new.size ok }
+    ensures path { result ≡ none_there → HandsOut (IsPathOf missed.now said.new.code) room.old room.new said.new.size ok }
     ensures kept { result ≢ none_there → room.new ≡ room.old }
     ensures no_room { result ≡ too_small → length room.old < said.new.size }
-    ensures size { result ≡ too_small → HandsOut (IsPathOf missed.now) room.old room.new said.new.size too_small }
+    ensures size { result ≡ too_small → HandsOut (IsPathOf missed.now said.new.code) room.old room.new said.new.size too_small }
     ensures status { (result ≡ none_there) ⊎ (result ≡ out_of_memory) ⊎ (result ≡ too_small) }
 {
     let Some(path) = &missed.path else {

@@ -60,46 +60,7 @@ before_colon (b ∷ bs) = cond (b == 58) [] (b ∷ before_colon bs)
 named : (code : FaultCode) (rest : List ℕ) → before_colon (code_text code ++ (codes ": " ++ rest)) ≡ code_text code
 unfolding before_colon
 named c.W1 rest = refl
-named c.W2 rest = refl
-named c.W3 rest = refl
-named c.W4 rest = refl
-named c.V1 rest = refl
-named c.V2 rest = refl
-named c.V3 rest = refl
-named c.V4 rest = refl
-named c.V5 rest = refl
-named c.V6 rest = refl
-named c.V7 rest = refl
-named c.V8 rest = refl
-named c.S1 rest = refl
-named c.S2 rest = refl
-named c.S3 rest = refl
-named c.S4 rest = refl
-named c.S5 rest = refl
-named c.S6 rest = refl
-named c.L1 rest = refl
-named c.L2 rest = refl
-named c.L3 rest = refl
-named c.L4 rest = refl
-named c.L5 rest = refl
-named c.L6 rest = refl
-named c.L7 rest = refl
-named c.L8 rest = refl
-named c.L9 rest = refl
-named c.L10 rest = refl
-named c.L11 rest = refl
-named c.Q1 rest = refl
-named c.Q2 rest = refl
-named c.Q3 rest = refl
-named c.Q4 rest = refl
-named c.Q5 rest = refl
-named c.Q6 rest = refl
-named c.Q7 rest = refl
-named c.Q8 rest = refl
-named c.Q9 rest = refl
-named c.Q10 rest = refl
-named c.Q11 rest = refl
-named c.Q12 rest = refl
+named _ rest = refl
 
 -- so a text is the page of one code at most
 pub one_page : (a b : FaultCode) (page : List ℕ) → IsPageOf a page → IsPageOf b page → code_text a ≡ code_text b

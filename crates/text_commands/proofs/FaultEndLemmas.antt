@@ -18,11 +18,4 @@ pub unexplained : (words : List (List ℕ)) (failure : Failure) (kept : Option (
     → FaultEnds words (Err failure) kept kept count count
 unexplained words f.UnknownCode kept count why = record { page = (why.0, why.1, Keeps-refl kept); failures = refl }
 unexplained words f.OutOfMemory kept count why = record { page = Keeps-refl kept; failures = refl }
-unexplained words (f.Schema fault) kept count why = absurd why
-unexplained words f.SchemaUnreadable kept count why = absurd why
-unexplained words (f.Load table fault) kept count why = absurd why
-unexplained words (f.Unreadable name) kept count why = absurd why
-unexplained words (f.Query fault) kept count why = absurd why
-unexplained words (f.Refused word fault) kept count why = absurd why
-unexplained words f.PairsRefused kept count why = absurd why
-unexplained words f.WriteFailed kept count why = absurd why
+unexplained words _ kept count why = absurd why

@@ -9,10 +9,12 @@ ghost use Rattle.witnesses.specs.VerdictTexts.{verdict_text};
 ghost use Rattle.witnesses.specs.WitnessTexts.{witnesses_text};
 ghost use Rattle.witnesses.specs.Shown.{witness_at};
 
+use crate::cell_witnesses::witnesses_of_texts;
 use crate::fault_explanations::{explain_text, explain_texts};
 use crate::files::File;
+use crate::geometry_text;
 use crate::given_texts::geometry_texts;
-use crate::{geometry_text, reason_of_text, witnesses_of_texts};
+use crate::text_verdicts::reason_of_text;
 use failures::{Failure, failed};
 use std::alloc::Global;
 use std::io::Read;

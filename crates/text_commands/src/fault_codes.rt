@@ -5,6 +5,10 @@ ghost use Rattle.std.specs.String.{string_bytes};
 ghost use Rattle.text_commands.specs.FaultPages.{HasNoCode, HaveNoCode, IsCode, IsLastIn, IsLastOf, code_text, parts_of};
 ghost use Rattle.text_commands.specs.declared.fault_codes.FaultCode.{FaultCode};
 
+use FaultCode::{
+    L1, L2, L3, L4, L5, L6, L7, L8, L9, L10, L11, Q1, Q2, Q3, Q4, Q5, Q6, Q7, Q8, Q9, Q10, Q11,
+    Q12, S1, S2, S3, S4, S5, S6, V1, V2, V3, V4, V5, V6, V7, V8, W1, W2, W3, W4,
+};
 use std::alloc::{AllocError, Global};
 
 /// The code of a fault, as the program prints it: W of a geometry's text, V of its validity, S of the schema, L of loading a
@@ -56,47 +60,8 @@ pub enum FaultCode {
 
 /// All codes, in the order of the letters and numbers.
 const CODES: [FaultCode; 41] = [
-    FaultCode::W1,
-    FaultCode::W2,
-    FaultCode::W3,
-    FaultCode::W4,
-    FaultCode::V1,
-    FaultCode::V2,
-    FaultCode::V3,
-    FaultCode::V4,
-    FaultCode::V5,
-    FaultCode::V6,
-    FaultCode::V7,
-    FaultCode::V8,
-    FaultCode::S1,
-    FaultCode::S2,
-    FaultCode::S3,
-    FaultCode::S4,
-    FaultCode::S5,
-    FaultCode::S6,
-    FaultCode::L1,
-    FaultCode::L2,
-    FaultCode::L3,
-    FaultCode::L4,
-    FaultCode::L5,
-    FaultCode::L6,
-    FaultCode::L7,
-    FaultCode::L8,
-    FaultCode::L9,
-    FaultCode::L10,
-    FaultCode::L11,
-    FaultCode::Q1,
-    FaultCode::Q2,
-    FaultCode::Q3,
-    FaultCode::Q4,
-    FaultCode::Q5,
-    FaultCode::Q6,
-    FaultCode::Q7,
-    FaultCode::Q8,
-    FaultCode::Q9,
-    FaultCode::Q10,
-    FaultCode::Q11,
-    FaultCode::Q12,
+    W1, W2, W3, W4, V1, V2, V3, V4, V5, V6, V7, V8, S1, S2, S3, S4, S5, S6, L1, L2, L3, L4, L5, L6,
+    L7, L8, L9, L10, L11, Q1, Q2, Q3, Q4, Q5, Q6, Q7, Q8, Q9, Q10, Q11, Q12,
 ];
 
 impl FaultCode {

@@ -5,7 +5,8 @@ ghost use Rattle.text_commands.specs.Explanations.{Explains, IsFirst, MayExplain
 ghost use Rattle.failures.specs.declared.failure.Failure.TheVariants as f;
 ghost use Rattle.geometry_model.specs.declared.geometry_faults.GeometryFault.TheVariants as g;
 
-use crate::{geometry_of, reason_of_text};
+use crate::geometry_of;
+use crate::text_verdicts::reason_of_text;
 use explanations::{file_explained, text_explained, validity_explained};
 use failures::{Failure, GeometryWord};
 use geometry_model::{GeometryFault, TextFault, ValidityFault};

@@ -26,13 +26,11 @@ mod text_pages;
 mod text_verdicts;
 mod validity_pages;
 
-pub use cell_witnesses::witnesses_of_texts;
 pub use explained::{serve_verdict, serve_witnesses};
 pub use fault_codes::FaultCode;
 pub use files::File;
 pub use given_texts::{GEOMETRY_BYTES, geometry_text, query_text};
 pub use pages::page_of;
-pub use relate::{geometry_of, relate_texts, text_failure};
+pub use relate::{geometry_of, relate_texts};
 pub use runs::{Pairs, relate_pairs};
 pub use served::{serve_fault, serve_pairs, serve_relate};
-pub use text_verdicts::reason_of_text;

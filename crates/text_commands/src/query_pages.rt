@@ -1,13 +1,7 @@
 //! The pages of Q1 to Q12. `tools/fault_pages.py` writes them from the tables of docs/FAULTS.md.
 
-ghost use Rattle.text_commands.specs.FaultPages.{IsPageOf};
-ghost use Rattle.text_commands.specs.declared.fault_codes.FaultCode.TheVariants as c;
-
 /// The page of Q1.
-pub(crate) fn q1() -> &'static str
-    ensures { IsPageOf c.Q1 result.now }
-{
-    "\
+pub(crate) const Q1: &str = "\
 Q1: the query (status 5)
 
 sfq: Q1 at 7
@@ -27,14 +21,10 @@ sfq: Q1 at 30
 
 Bytes count from 0. The examples are over the tables t (id, pop, name, geom),
 u (id, pop) and v (id).
-"
-}
+";
 
 /// The page of Q2.
-pub(crate) fn q2() -> &'static str
-    ensures { IsPageOf c.Q2 result.now }
-{
-    "\
+pub(crate) const Q2: &str = "\
 Q2: the query (status 5)
 
 sfq: Q2 at 22
@@ -74,14 +64,10 @@ sfq: Q2 at 15
 
 Bytes count from 0. The examples are over the tables t (id, pop, name, geom),
 u (id, pop) and v (id).
-"
-}
+";
 
 /// The page of Q3.
-pub(crate) fn q3() -> &'static str
-    ensures { IsPageOf c.Q3 result.now }
-{
-    "\
+pub(crate) const Q3: &str = "\
 Q3: the query (status 5)
 
 sfq: Q3 at 15
@@ -92,14 +78,10 @@ sfq: Q3 at 15
 
 Bytes count from 0. The examples are over the tables t (id, pop, name, geom),
 u (id, pop) and v (id).
-"
-}
+";
 
 /// The page of Q4.
-pub(crate) fn q4() -> &'static str
-    ensures { IsPageOf c.Q4 result.now }
-{
-    "\
+pub(crate) const Q4: &str = "\
 Q4: the query (status 5)
 
 sfq: Q4 at 18
@@ -110,14 +92,10 @@ sfq: Q4 at 18
 
 Bytes count from 0. The examples are over the tables t (id, pop, name, geom),
 u (id, pop) and v (id).
-"
-}
+";
 
 /// The page of Q5.
-pub(crate) fn q5() -> &'static str
-    ensures { IsPageOf c.Q5 result.now }
-{
-    "\
+pub(crate) const Q5: &str = "\
 Q5: the query (status 5)
 
 sfq: Q5 at 7
@@ -135,14 +113,10 @@ sfq: Q5 at 7
 
 Bytes count from 0. The examples are over the tables t (id, pop, name, geom),
 u (id, pop) and v (id).
-"
-}
+";
 
 /// The page of Q6.
-pub(crate) fn q6() -> &'static str
-    ensures { IsPageOf c.Q6 result.now }
-{
-    "\
+pub(crate) const Q6: &str = "\
 Q6: the query (status 5)
 
 sfq: Q6 at 7
@@ -153,14 +127,10 @@ sfq: Q6 at 7
 
 Bytes count from 0. The examples are over the tables t (id, pop, name, geom),
 u (id, pop) and v (id).
-"
-}
+";
 
 /// The page of Q7.
-pub(crate) fn q7() -> &'static str
-    ensures { IsPageOf c.Q7 result.now }
-{
-    "\
+pub(crate) const Q7: &str = "\
 Q7: the query (status 5)
 
 sfq: Q7 at 23
@@ -187,14 +157,10 @@ sfq: Q7 at 23
 
 Bytes count from 0. The examples are over the tables t (id, pop, name, geom),
 u (id, pop) and v (id).
-"
-}
+";
 
 /// The page of Q8.
-pub(crate) fn q8() -> &'static str
-    ensures { IsPageOf c.Q8 result.now }
-{
-    "\
+pub(crate) const Q8: &str = "\
 Q8: the query (status 5)
 
 sfq: Q8 at 55 W1 at 9
@@ -218,14 +184,10 @@ sfq: Q8 at 55 V3 0
 
 Bytes count from 0. The examples are over the tables t (id, pop, name, geom),
 u (id, pop) and v (id).
-"
-}
+";
 
 /// The page of Q9.
-pub(crate) fn q9() -> &'static str
-    ensures { IsPageOf c.Q9 result.now }
-{
-    "\
+pub(crate) const Q9: &str = "\
 Q9: the query (status 5)
 
 sfq: Q9 at 45
@@ -238,14 +200,10 @@ sfq: Q9 at 45
 
 Bytes count from 0. The examples are over the tables t (id, pop, name, geom),
 u (id, pop) and v (id).
-"
-}
+";
 
 /// The page of Q10.
-pub(crate) fn q10() -> &'static str
-    ensures { IsPageOf c.Q10 result.now }
-{
-    "\
+pub(crate) const Q10: &str = "\
 Q10: the query (status 5)
 
 sfq: Q10 at 87
@@ -255,14 +213,10 @@ sfq: Q10 at 87
 
 Bytes count from 0. The examples are over the tables t (id, pop, name, geom),
 u (id, pop) and v (id).
-"
-}
+";
 
 /// The page of Q11.
-pub(crate) fn q11() -> &'static str
-    ensures { IsPageOf c.Q11 result.now }
-{
-    "\
+pub(crate) const Q11: &str = "\
 Q11: the query (status 5)
 
 sfq: Q11
@@ -271,14 +225,10 @@ sfq: Q11
 
 Bytes count from 0. The examples are over the tables t (id, pop, name, geom),
 u (id, pop) and v (id).
-"
-}
+";
 
 /// The page of Q12.
-pub(crate) fn q12() -> &'static str
-    ensures { IsPageOf c.Q12 result.now }
-{
-    "\
+pub(crate) const Q12: &str = "\
 Q12: the query (status 5)
 
 sfq: Q12 at 29
@@ -291,5 +241,4 @@ sfq: Q12 at 29
 
 Bytes count from 0. The examples are over the tables t (id, pop, name, geom),
 u (id, pop) and v (id).
-"
-}
+";

@@ -1,13 +1,7 @@
 //! The pages of S1 to S6. `tools/fault_pages.py` writes them from the tables of docs/FAULTS.md.
 
-ghost use Rattle.text_commands.specs.FaultPages.{IsPageOf};
-ghost use Rattle.text_commands.specs.declared.fault_codes.FaultCode.TheVariants as c;
-
 /// The page of S1.
-pub(crate) fn s1() -> &'static str
-    ensures { IsPageOf c.S1 result.now }
-{
-    "\
+pub(crate) const S1: &str = "\
 S1: the schema (status 3)
 
 sfq: S1 at 34
@@ -45,14 +39,10 @@ sfq: S1 at 0
   to do: save the file as UTF-8 without one; a table's file may have one
 
 Bytes count from 0.
-"
-}
+";
 
 /// The page of S2.
-pub(crate) fn s2() -> &'static str
-    ensures { IsPageOf c.S2 result.now }
-{
-    "\
+pub(crate) const S2: &str = "\
 S2: the schema (status 3)
 
 sfq: S2 at 47
@@ -66,14 +56,10 @@ sfq: S2 at 47
   to do: rename one of the two
 
 Bytes count from 0.
-"
-}
+";
 
 /// The page of S3.
-pub(crate) fn s3() -> &'static str
-    ensures { IsPageOf c.S3 result.now }
-{
-    "\
+pub(crate) const S3: &str = "\
 S3: the schema (status 3)
 
 sfq: S3 at 31
@@ -85,14 +71,10 @@ sfq: S3 at 31
   to do: write PRIMARY KEY after the type of one INTEGER column
 
 Bytes count from 0.
-"
-}
+";
 
 /// The page of S4.
-pub(crate) fn s4() -> &'static str
-    ensures { IsPageOf c.S4 result.now }
-{
-    "\
+pub(crate) const S4: &str = "\
 S4: the schema (status 3)
 
 sfq: S4 at 46
@@ -105,14 +87,10 @@ sfq: S4 at 46
   to do: leave PRIMARY KEY out here
 
 Bytes count from 0.
-"
-}
+";
 
 /// The page of S5.
-pub(crate) fn s5() -> &'static str
-    ensures { IsPageOf c.S5 result.now }
-{
-    "\
+pub(crate) const S5: &str = "\
 S5: the schema (status 3)
 
 sfq: S5 at 627
@@ -121,14 +99,10 @@ sfq: S5 at 627
   to do: split the schema or the table
 
 Bytes count from 0.
-"
-}
+";
 
 /// The page of S6.
-pub(crate) fn s6() -> &'static str
-    ensures { IsPageOf c.S6 result.now }
-{
-    "\
+pub(crate) const S6: &str = "\
 S6: the schema (status 3)
 
 sfq: S6
@@ -136,5 +110,4 @@ sfq: S6
   to do: shorten it; comments count too
 
 Bytes count from 0.
-"
-}
+";

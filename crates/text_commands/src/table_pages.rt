@@ -1,13 +1,7 @@
 //! The pages of L1 to L11. `tools/fault_pages.py` writes them from the tables of docs/FAULTS.md.
 
-ghost use Rattle.text_commands.specs.FaultPages.{IsPageOf};
-ghost use Rattle.text_commands.specs.declared.fault_codes.FaultCode.TheVariants as c;
-
 /// The page of L1.
-pub(crate) fn l1() -> &'static str
-    ensures { IsPageOf c.L1 result.now }
-{
-    "\
+pub(crate) const L1: &str = "\
 L1: a table's data (status 4)
 
 sfq: t L1
@@ -25,14 +19,10 @@ sfq: t L1
 
 t is the table's name as the schema spells it. Records count from 1, the first
 record after the header.
-"
-}
+";
 
 /// The page of L2.
-pub(crate) fn l2() -> &'static str
-    ensures { IsPageOf c.L2 result.now }
-{
-    "\
+pub(crate) const L2: &str = "\
 L2: a table's data (status 4)
 
 sfq: t L2
@@ -47,14 +37,10 @@ sfq: t L2
 
 t is the table's name as the schema spells it. Records count from 1, the first
 record after the header.
-"
-}
+";
 
 /// The page of L3.
-pub(crate) fn l3() -> &'static str
-    ensures { IsPageOf c.L3 result.now }
-{
-    "\
+pub(crate) const L3: &str = "\
 L3: a table's data (status 4)
 
 sfq: t L3 record 2
@@ -70,14 +56,10 @@ sfq: t L3 record 2
 
 t is the table's name as the schema spells it. Records count from 1, the first
 record after the header.
-"
-}
+";
 
 /// The page of L4.
-pub(crate) fn l4() -> &'static str
-    ensures { IsPageOf c.L4 result.now }
-{
-    "\
+pub(crate) const L4: &str = "\
 L4: a table's data (status 4)
 
 sfq: t L4 record 2
@@ -87,14 +69,10 @@ sfq: t L4 record 2
 
 t is the table's name as the schema spells it. Records count from 1, the first
 record after the header.
-"
-}
+";
 
 /// The page of L5.
-pub(crate) fn l5() -> &'static str
-    ensures { IsPageOf c.L5 result.now }
-{
-    "\
+pub(crate) const L5: &str = "\
 L5: a table's data (status 4)
 
 sfq: t L5 record 2
@@ -110,14 +88,10 @@ sfq: t L5 record 2
 
 t is the table's name as the schema spells it. Records count from 1, the first
 record after the header.
-"
-}
+";
 
 /// The page of L6.
-pub(crate) fn l6() -> &'static str
-    ensures { IsPageOf c.L6 result.now }
-{
-    "\
+pub(crate) const L6: &str = "\
 L6: a table's data (status 4)
 
 sfq: t L6 record 2 W2 at 9
@@ -147,14 +121,10 @@ sfq: t L6 record 2 V3 0
 
 t is the table's name as the schema spells it. Records count from 1, the first
 record after the header.
-"
-}
+";
 
 /// The page of L7.
-pub(crate) fn l7() -> &'static str
-    ensures { IsPageOf c.L7 result.now }
-{
-    "\
+pub(crate) const L7: &str = "\
 L7: a table's data (status 4)
 
 sfq: t L7 record 2
@@ -170,14 +140,10 @@ sfq: t L7 record 2
 
 t is the table's name as the schema spells it. Records count from 1, the first
 record after the header.
-"
-}
+";
 
 /// The page of L8.
-pub(crate) fn l8() -> &'static str
-    ensures { IsPageOf c.L8 result.now }
-{
-    "\
+pub(crate) const L8: &str = "\
 L8: a table's data (status 4)
 
 sfq: t L8 record 1
@@ -192,14 +158,10 @@ sfq: t L8 record 1
 
 t is the table's name as the schema spells it. Records count from 1, the first
 record after the header.
-"
-}
+";
 
 /// The page of L9.
-pub(crate) fn l9() -> &'static str
-    ensures { IsPageOf c.L9 result.now }
-{
-    "\
+pub(crate) const L9: &str = "\
 L9: a table's data (status 4)
 
 sfq: t L9 record 3
@@ -210,18 +172,14 @@ sfq: t L9 record 3
       \"TEXT);\" > \"$D/schema.sql\"
     printf 'id,pop,name\\n1,,\\n2,,\\n1,,\\n' > \"$D/t.csv\"
     sfq check \"$D/schema.sql\" \"$D\"
-  to do: number one of the two anew
+  to do: give one of the two another key
 
 t is the table's name as the schema spells it. Records count from 1, the first
 record after the header.
-"
-}
+";
 
 /// The page of L10.
-pub(crate) fn l10() -> &'static str
-    ensures { IsPageOf c.L10 result.now }
-{
-    "\
+pub(crate) const L10: &str = "\
 L10: a table's data (status 4)
 
 sfq: t L10
@@ -230,14 +188,10 @@ sfq: t L10
 
 t is the table's name as the schema spells it. Records count from 1, the first
 record after the header.
-"
-}
+";
 
 /// The page of L11.
-pub(crate) fn l11() -> &'static str
-    ensures { IsPageOf c.L11 result.now }
-{
-    "\
+pub(crate) const L11: &str = "\
 L11: a table's data (status 6)
 
 sfq: t L11
@@ -260,5 +214,4 @@ sfq: t L11
 
 t is the table's name as the schema spells it. Records count from 1, the first
 record after the header.
-"
-}
+";

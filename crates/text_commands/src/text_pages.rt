@@ -1,13 +1,7 @@
 //! The pages of W1 to W4. `tools/fault_pages.py` writes them from the tables of docs/FAULTS.md.
 
-ghost use Rattle.text_commands.specs.FaultPages.{IsPageOf};
-ghost use Rattle.text_commands.specs.declared.fault_codes.FaultCode.TheVariants as c;
-
 /// The page of W1.
-pub(crate) fn w1() -> &'static str
-    ensures { IsPageOf c.W1 result.now }
-{
-    "\
+pub(crate) const W1: &str = "\
 W1: the text of a geometry (status 5, or 4 in a table's field)
 
 sfq: first W1 at 9
@@ -31,14 +25,10 @@ sfq: first W1 at 7
   to do: write 1
 
 Bytes count within the geometry's own text. Bytes count from 0.
-"
-}
+";
 
 /// The page of W2.
-pub(crate) fn w2() -> &'static str
-    ensures { IsPageOf c.W2 result.now }
-{
-    "\
+pub(crate) const W2: &str = "\
 W2: the text of a geometry (status 5, or 4 in a table's field)
 
 sfq: first W2 at 6
@@ -49,14 +39,10 @@ sfq: first W2 at 6
     sfq-import does. 1.0 and 1. count as 1
 
 Bytes count within the geometry's own text. Bytes count from 0.
-"
-}
+";
 
 /// The page of W3.
-pub(crate) fn w3() -> &'static str
-    ensures { IsPageOf c.W3 result.now }
-{
-    "\
+pub(crate) const W3: &str = "\
 W3: the text of a geometry (status 5, or 4 in a table's field)
 
 sfq: second W3 at 6
@@ -66,14 +52,10 @@ sfq: second W3 at 6
   to do: scale the coordinates to the grid; sfq-import moves and scales them
 
 Bytes count within the geometry's own text. Bytes count from 0.
-"
-}
+";
 
 /// The page of W4.
-pub(crate) fn w4() -> &'static str
-    ensures { IsPageOf c.W4 result.now }
-{
-    "\
+pub(crate) const W4: &str = "\
 W4: the text of a geometry (status 5, or 4 in a table's field)
 
 sfq: first W4
@@ -81,5 +63,4 @@ sfq: first W4
   to do: split the geometry
 
 Bytes count within the geometry's own text. Bytes count from 0.
-"
-}
+";

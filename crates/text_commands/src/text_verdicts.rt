@@ -5,7 +5,7 @@ ghost use Rattle.text_commands.specs.TextVerdicts.{spelled_geometry};
 ghost use Rattle.text_commands.specs.Relations.{IsFailureOf};
 ghost use Rattle.witnesses.specs.Verdicts.{IsVerdictOf};
 
-use crate::text_failure;
+use crate::relate::text_failure;
 use failures::{Failure, GeometryWord};
 use std::alloc::Global;
 use witnesses::{Verdict, verdict_of};

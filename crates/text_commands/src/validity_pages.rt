@@ -1,13 +1,7 @@
 //! The pages of V1 to V8. `tools/fault_pages.py` writes them from the tables of docs/FAULTS.md.
 
-ghost use Rattle.text_commands.specs.FaultPages.{IsPageOf};
-ghost use Rattle.text_commands.specs.declared.fault_codes.FaultCode.TheVariants as c;
-
 /// The page of V1.
-pub(crate) fn v1() -> &'static str
-    ensures { IsPageOf c.V1 result.now }
-{
-    "\
+pub(crate) const V1: &str = "\
 V1: a geometry that isn't valid (status 5, or 4 in a table's field)
 
 sfq: first V1 0
@@ -28,14 +22,10 @@ sfq: first V1 0
 
 Parts, rings and elements count from 0, and rings count through all polygons
 of a MULTIPOLYGON.
-"
-}
+";
 
 /// The page of V2.
-pub(crate) fn v2() -> &'static str
-    ensures { IsPageOf c.V2 result.now }
-{
-    "\
+pub(crate) const V2: &str = "\
 V2: a geometry that isn't valid (status 5, or 4 in a table's field)
 
 sfq: first V2 0
@@ -46,14 +36,10 @@ sfq: first V2 0
 
 Parts, rings and elements count from 0, and rings count through all polygons
 of a MULTIPOLYGON.
-"
-}
+";
 
 /// The page of V3.
-pub(crate) fn v3() -> &'static str
-    ensures { IsPageOf c.V3 result.now }
-{
-    "\
+pub(crate) const V3: &str = "\
 V3: a geometry that isn't valid (status 5, or 4 in a table's field)
 
 sfq: first V3 0
@@ -64,14 +50,10 @@ sfq: first V3 0
 
 Parts, rings and elements count from 0, and rings count through all polygons
 of a MULTIPOLYGON.
-"
-}
+";
 
 /// The page of V4.
-pub(crate) fn v4() -> &'static str
-    ensures { IsPageOf c.V4 result.now }
-{
-    "\
+pub(crate) const V4: &str = "\
 V4: a geometry that isn't valid (status 5, or 4 in a table's field)
 
 sfq: first V4 1 2
@@ -84,14 +66,10 @@ sfq: first V4 1 2
 
 Parts, rings and elements count from 0, and rings count through all polygons
 of a MULTIPOLYGON.
-"
-}
+";
 
 /// The page of V5.
-pub(crate) fn v5() -> &'static str
-    ensures { IsPageOf c.V5 result.now }
-{
-    "\
+pub(crate) const V5: &str = "\
 V5: a geometry that isn't valid (status 5, or 4 in a table's field)
 
 sfq: first V5 1
@@ -105,14 +83,10 @@ sfq: first V5 1
 
 Parts, rings and elements count from 0, and rings count through all polygons
 of a MULTIPOLYGON.
-"
-}
+";
 
 /// The page of V6.
-pub(crate) fn v6() -> &'static str
-    ensures { IsPageOf c.V6 result.now }
-{
-    "\
+pub(crate) const V6: &str = "\
 V6: a geometry that isn't valid (status 5, or 4 in a table's field)
 
 sfq: first V6 1 2
@@ -127,14 +101,10 @@ sfq: first V6 1 2
 
 Parts, rings and elements count from 0, and rings count through all polygons
 of a MULTIPOLYGON.
-"
-}
+";
 
 /// The page of V7.
-pub(crate) fn v7() -> &'static str
-    ensures { IsPageOf c.V7 result.now }
-{
-    "\
+pub(crate) const V7: &str = "\
 V7: a geometry that isn't valid (status 5, or 4 in a table's field)
 
 sfq: first V7 0 1
@@ -147,14 +117,10 @@ sfq: first V7 0 1
 
 Parts, rings and elements count from 0, and rings count through all polygons
 of a MULTIPOLYGON.
-"
-}
+";
 
 /// The page of V8.
-pub(crate) fn v8() -> &'static str
-    ensures { IsPageOf c.V8 result.now }
-{
-    "\
+pub(crate) const V8: &str = "\
 V8: a geometry that isn't valid (status 5, or 4 in a table's field)
 
 sfq: first V8 0 1
@@ -168,5 +134,4 @@ sfq: first V8 0 1
 
 Parts, rings and elements count from 0, and rings count through all polygons
 of a MULTIPOLYGON.
-"
-}
+";

@@ -1,27 +1,26 @@
--- The reason and the text are those of the file at the path of the table of that name.
-use Rattle.std.proofs.Common.{◌∙◌, subst}
+-- The reason and the record are those of the text that is read again.
+use Rattle.std.proofs.Common.{subst}
 use Rattle.std.proofs.lemmas.Option.{IfSome_then}
 use Rattle.explanations.specs.Tables.{IsTableExplanation}
+use Rattle.engine.specs.Commands.{SaysReason}
 use Rattle.engine.proofs.commands.fault_explained.Goals as goal
 
 pub returns : goal.returns
 returns g c =
+    let line = c.in_ok-said.said.line.items in
     IfSome_then c.explanation_of.result c.explanation_of.ensures
     (λ e is. record {
       place = c.in_ok-place.place;
       named = c.in_ok-place.ensures.named;
       table = c.table-table.result.now;
       there = c.table-table.ensures.value;
-      reader = c.in-Some.reader;
-      middle = c.opener.new.self;
-      opened = record { shown = c.as_str.result; shows = c.as_str.ensures.value ∙ c.in-Ok.ensures; called = c.in-Some.ensures };
-      line = c.in-Some-reason_said.said.line.items;
-      says = c.in-Some-reason_said.ensures;
-      again = c.in-Some-opener.again;
-      after = c.opener-2.new.self;
-      reopened = record { shown = c.as_str-2.result; shows = c.as_str-2.ensures.value ∙ c.in-Ok.ensures; called = c.in-Some-opener.ensures };
-      left = c.table_front.new.reader;
-      text = c.in-Ok-table_front.text.items;
-      front = c.in-Ok-table_front.ensures;
-      explains = subst (λ text. IsTableExplanation text c.args.fault c.in-Some-reason_said.said.line.items e.items) c.as_slice.ensures.value is;
+      after = c.read_again.new.opener;
+      text = c.in_ok-read.read.text.items;
+      whole = c.in_ok-read.read.is_whole;
+      read = c.in_ok-read.ensures.reads;
+      all = c.is_enough.ensures c.if-not-is_enough.false;
+      line = line;
+      says = subst (λ text. SaysReason text c.table-table.result.now c.args.fault line)
+          c.as_slice-text.ensures.value c.in_ok-said.ensures;
+      explains = subst (λ text. IsTableExplanation text c.args.fault line e.items) c.as_slice-text.ensures.value is;
     })

@@ -1,11 +1,11 @@
 -- The line of the reason that was found, or none.
-use Rattle.std.proofs.Common.{IfSome, inr, subst}
+use Rattle.std.proofs.Common.{IfSome, Some, inr, subst}
 use Rattle.record_reasons.specs.Reasons.{IsReasonOf}
 use Rattle.engine.proofs.commands.reason_said.Goals as goal
 
 pub returns : goal.returns
-returns g c =
-    let known = g.R.Read.remaining c.args.reader in
+returns c =
+    let known = Some c.args.text.now in
     let table = c.args.table.now in
     let is : IsReasonOf known table c.args.fault c.in-Some.reason =
     subst (λ found. IfSome found (IsReasonOf known table c.args.fault)) c.in-Some.is

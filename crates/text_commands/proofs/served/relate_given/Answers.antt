@@ -11,7 +11,7 @@ pub returns-in-Err-clause-serves : goal.returns-in-Err-clause-serves
 returns-in-Err-clause-serves g c = record {
   end = Err c.in-Err.failure;
   ends = (
-    relate-refused _ _ _ _ c.in-Err.failure _ _ refl refl c.in-Err.ensures.failure,
+    relate-refused _ _ c.in-Err.failure _ _ c.in-Err.ensures.failure,
     c.explain_texts.ensures.explains,
   );
   returned = c.failed.ensures.status;
@@ -26,7 +26,7 @@ returns-in-Ok-put_parts-clause-serves g c =
         record {
           answers = λ matrix gives. (
             relate_text c.in-Ok.matrix,
-            relate-text matrix _ _ _ _ c.in-Ok.matrix refl refl (c.in-Ok.ensures.ok matrix gives),
+            relate-text matrix _ _ c.in-Ok.matrix (c.in-Ok.ensures.ok matrix gives),
             subst (λ l. Appends (g.S.Sink.taken c.args.out.now) (g.S.Sink.taken c.put_parts.new.sink) l) line c.in-Ok-put_parts.ensures.ok,
           );
           failures = c.in-Ok-put_parts.ensures.failures;
@@ -45,7 +45,7 @@ returns-in-Err-put_parts-clause-serves g c =
         record {
           answers = λ matrix gives. (
             relate_text c.in-Ok.matrix,
-            relate-text matrix _ _ _ _ c.in-Ok.matrix refl refl (c.in-Ok.ensures.ok matrix gives),
+            relate-text matrix _ _ c.in-Ok.matrix (c.in-Ok.ensures.ok matrix gives),
             subst (λ l. AppendsFront (g.S.Sink.taken c.args.out.now) (g.S.Sink.taken c.put_parts.new.sink) l) line c.in-Err-put_parts.ensures.front,
           );
           failures = c.in-Err-put_parts.ensures.failures;
