@@ -2,10 +2,12 @@
 import shutil
 import tempfile
 import unittest
+from unittest import mock
 
-from support import write
+from support import read, write
 
 import edits
+import gate_edits
 
 SOURCE = """//! Numbers.
 
@@ -112,6 +114,58 @@ class Edits(unittest.TestCase):
     def test_only_a_goal_of_the_function_itself_refuses(self):
         refused = {"low::numbers::again", "low::numbers::Number::value", "low::numbers::NumberPartialOrd::partial_cmp"}
         self.assertEqual(edits.refused_in(LOG), refused)
+
+
+class EditsOfTheGate(unittest.TestCase):
+    """Which edits the gate tries, with a stand-in for the check: what it writes of each check in turn."""
+
+    PROVED = 0, "fn low::numbers::twice: proved\nonly=1 proved=1\n"
+    TWICE = "./proofs/numbers/twice/Answers.antt:5:2: error: `r`: `search`: no proof of `it`\nfn low::numbers::twice: not proved\n"
+    NEXT = "./proofs/numbers/Number/next/Answers.antt:5:2: error: `r`: `search`: no proof of `it`\nfn low::numbers::Number::next: not proved\n"
+
+    def setUp(self):
+        self.root = tempfile.mkdtemp()
+        self.addCleanup(shutil.rmtree, self.root)
+        write(f"{self.root}/crates/low/src/numbers.rt", SOURCE)
+        for name, mark, old, new in (("one", True, "2 * number", "3 * number"), ("two", True, "self.value + 1", "0"),
+                                     ("three", True, "2 * number", "number"), ("four", False, "wide.narrow()", "0")):
+            text = f"{'tried by the gate' if mark else ''}\nfile: src/numbers.rt\nold: {old}\nnew: {new}\n"
+            write(f"{self.root}/crates/low/edits/{name}.edit", text)
+
+    def tried(self, *said):
+        """Returns how many edits were refused, those that weren't, and of each check the functions and the source."""
+        checks, answers = [], iter(said)
+
+        def check(crate, place, functions):
+            checks.append((crate, sorted(functions), read(f"{place}/src/numbers.rt")))
+            return next(answers)
+
+        with mock.patch.object(gate_edits, "ROOT", self.root), mock.patch.object(gate_edits, "check", check):
+            found = gate_edits.marked()
+            report = gate_edits.try_crate("low", found["low"])
+        self.assertEqual(list(found), ["low"])
+        return report.passed, [it.name for it in report.failures], checks
+
+    def test_edits_of_different_functions_are_tried_by_one_check(self):
+        both = ["low::numbers::Number::next", "low::numbers::twice"]
+        passed, failed, checks = self.tried(self.PROVED, (1, self.NEXT + self.TWICE), (1, self.TWICE))
+        self.assertEqual((passed, failed), (3, []))
+        changed = SOURCE.replace("2 * number", "3 * number").replace("self.value + 1", "0")
+        self.assertEqual([it[1:] for it in checks], [(both, SOURCE), (both, changed), (both[1:], SOURCE.replace("2 * number", "number"))])
+
+    def test_an_edit_that_is_still_proved(self):
+        passed, failed, _ = self.tried(self.PROVED, (1, self.NEXT), (1, self.TWICE), (0, "fn low::numbers::twice: proved\n"))
+        self.assertEqual((passed, failed), (2, ["edit low/one.edit"]))
+
+    def test_an_edit_that_a_check_of_several_functions_does_not_settle_is_tried_alone(self):
+        calls = "fn low::numbers::twice: not proved; it calls `low::numbers::Number::next`, which is not proved\n"
+        passed, failed, checks = self.tried(self.PROVED, (1, self.NEXT + calls), (1, self.TWICE), (1, self.TWICE))
+        self.assertEqual((passed, failed), (3, []))
+        self.assertEqual(checks[-1][1:], (["low::numbers::twice"], SOURCE.replace("2 * number", "3 * number")))
+
+    def test_nothing_is_taken_as_refused_where_the_crate_itself_is(self):
+        passed, failed, checks = self.tried((1, self.TWICE))
+        self.assertEqual((passed, len(failed), len(checks)), (0, 3, 1))
 
 
 if __name__ == "__main__":

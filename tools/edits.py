@@ -3,12 +3,14 @@
 An edit is a line `file: PATH`, and below it pairs of lines `old: TEXT` and `new: TEXT`. Edits of a crate that change different
 functions are tried together, by one check: each is refused if the check leaves a goal of its function open. An edit that such a
 check doesn't settle is tried alone, by the kit: it changes no function, its change takes away what an answer names, or its
-function calls one that isn't proved with the others.
+function calls one that isn't proved with the others. The gate tries the edits in edits/ that have the line MARK.
 """
+import glob
 import os
 import re
 from typing import Iterable, Optional
 
+MARK = "tried by the gate"
 # How a check says of a function that it has no proof.
 UNPROVED = re.compile(r"fn (\S+): (?:not proved|no proof)(?:: |; )?(.*)")
 ERROR = re.compile(r"\./proofs/(\S+)/\w+\.antt:\d+:\d+: error: (.*)")
@@ -19,15 +21,16 @@ BLOCK = re.compile(r"^(?:pub )?(?:unsafe )?(?:impl|trait)\b")
 
 
 class Edit:
-    """An edit: its path, its name, the file that it changes, and what it replaces there by what."""
+    """An edit: its path, its name, whether it has the mark of the gate, the file that it changes, and what it replaces there by what."""
 
     def __init__(self, path: str) -> None:
-        self.path, self.name = path, os.path.basename(path)
+        self.path, self.name, self.is_marked = path, os.path.basename(path), False
         self.file, self.pairs = "", list[tuple[str, str]]()
         old = ""
         with open(path, encoding="utf-8") as text:
             for line in text.read().split("\n"):
                 word, _, rest = line.partition(": ")
+                self.is_marked = self.is_marked or line == MARK
                 if word == "file":
                     self.file = rest
                 elif word == "old":
@@ -119,6 +122,16 @@ def changed(texts: dict[str, str], edits: Iterable[Edit]) -> Optional[dict[str, 
         if text is None:
             return None
         found[edit.file] = text
+    return found
+
+
+def check(root: str) -> list[tuple[str, int, str]]:
+    """Returns a finding for each edit that the gate is to try but can't, since it changes more than functions."""
+    found = []
+    for path in sorted(glob.glob(f"{root}/crates/*/edits/*.edit")):
+        edit, folder = Edit(path), os.path.dirname(os.path.dirname(path))
+        if edit.is_marked and os.path.isfile(f"{folder}/{edit.file}") and not edit.functions("", texts_of(folder, [edit])[edit.file]):
+            found.append((os.path.relpath(path, root), 1, "the gate can't try this edit: it changes more than functions"))
     return found
 
 

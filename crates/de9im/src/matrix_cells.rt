@@ -71,7 +71,7 @@ impl MatrixCells {
     ghost use Rattle.de9im.specs.Cells as spec;
 
     /// The cells that show only that the exteriors share an area (06-103r4, 6.1.15.2).
-    pub fn of_exteriors() -> MatrixCells
+    pub(crate) fn of_exteriors() -> MatrixCells
         ensures { result ≡ spec.of_exteriors }
     {
         MatrixCells {
@@ -113,7 +113,7 @@ impl MatrixCells {
     }
 
     /// Raises the cell of two parts to this dimension, if it is less (06-103r4, 6.1.15.2).
-    pub fn raise(&mut self, first: Location, second: Location, dimension: Dimension)
+    pub(crate) fn raise(&mut self, first: Location, second: Location, dimension: Dimension)
         ensures { self.new ≡ raised self.old first second dimension }
     {
         let cell = greater(dimension, self.cell(first, second));
@@ -131,7 +131,7 @@ impl MatrixCells {
     }
 
     /// The cells for the two geometries in the other order.
-    pub fn transposed(&self) -> MatrixCells
+    pub(crate) fn transposed(&self) -> MatrixCells
         ensures { result ≡ transposed self.now }
     {
         MatrixCells {

@@ -6,9 +6,10 @@ ghost use Rattle.library_calls.specs.Refusals.{IsRefusalOf};
 ghost use Rattle.library_calls.specs.declared.faults.Refusal.TheVariants as refusal;
 ghost use Rattle.library_calls.specs.Written.{fits, geometry_in_arrays, written_as};
 
+use crate::Coordinates;
 use crate::array_laws::arrays_are_as_texts;
+use crate::checking::read_arrays;
 use crate::faults::Refusal;
-use crate::{Coordinates, read_arrays};
 use geometry_model::GeometryType;
 use std::alloc::Global;
 use text_laws::reading::read_is_spelled;

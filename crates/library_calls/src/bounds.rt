@@ -106,7 +106,10 @@ impl<T: Drop> From<AllocFailed<T>> for Unbuilt {
 }
 
 /// The envelopes with these bounds; or the position of the first that are no bounds.
-pub fn envelopes_within(alloc: Global, bounds: &[Bounds]) -> Result<Vec<Option<Envelope>>, Unbuilt>
+pub(crate) fn envelopes_within(
+    alloc: Global,
+    bounds: &[Bounds],
+) -> Result<Vec<Option<Envelope>>, Unbuilt>
     ensures envelopes { IfOk result (λ found. found.items ≡ map bounded bounds.now) }
     ensures all { IfOk result (λ _. first_unbounded 0 bounds.now ≡ None) }
     ensures refused { IfErr result (IsUnbuilt bounds.now) }

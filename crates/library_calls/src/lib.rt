@@ -25,7 +25,6 @@ mod texts;
 
 pub use arrays::read_positions;
 pub use bounds::{Bounds, Unbuilt};
-pub use checking::read_arrays;
 pub use coordinates::Coordinates;
 pub use de9im::pattern_in;
 pub use explained::{hand_out, write_reason, write_why};
@@ -36,7 +35,7 @@ pub use kept::{
 };
 pub use kept_geometry::KeptGeometry;
 pub use kept_index::{IndexSlot, KeptIndex};
-pub use relations::{Relation, all_hold, holds, relation_of};
+pub use relations::{Relation, all_hold, holds};
 pub use sizes::fitting_type;
 pub use slot::Slot;
 pub use texts::{matrix_of, read_one, read_two};

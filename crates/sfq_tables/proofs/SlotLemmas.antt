@@ -143,6 +143,14 @@ slot_again : (c : Connected) (number : ℕ) → with_slot number (statement_at c
 slot_again c number =
     ap (λ l. record { database = c.database; statements = l }) (set-get_or c.statements number None)
 
+-- where no statement is open under a number, and none is written into its slot, all is as it was
+pub still_none : (old new : Connected) (number : ℕ) (before after : Option Statement) → number < length old.statements
+    → before ≡ get_or old.statements number before → new ≡ with_slot number after old
+    → (before ≡ None → after ≡ None) → statement_at old number ≡ None → new ≡ old
+still_none old new number before after there at changed none is =
+    let was : before ≡ statement_at old number = at ∙ get_or_default old.statements number before None there in
+    changed ∙ ap (λ slot. with_slot number slot old) (none (was ∙ is) ∙ sym is) ∙ slot_again old number
+
 pub slot_now : (c : Connected) (number : ℕ) → c ≡ with_slot number (statement_at c number) c
 slot_now c number = sym (slot_again c number)
 

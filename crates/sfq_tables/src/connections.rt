@@ -85,6 +85,7 @@ impl Connection {
     #[tactic(auto, using(crate::proofs::SlotLemmas::over_at, crate::proofs::SlotLemmas::over_set))]
     pub fn step(&mut self, alloc: Global, number: usize, most: u64) -> u32
         ensures unknown { statement_at self.old number ≡ None → result ≡ unknown }
+        ensures left { statement_at self.old number ≡ None → self.new ≡ self.old }
         ensures stepped { IfSome (statement_at self.old number)
             (λ before. HasStepped most (lent self.old.database) before result (statement_at self.new number)) }
         ensures others { self.new ≡ with_slot number (statement_at self.new number) self.old }
@@ -100,6 +101,7 @@ impl Connection {
     #[tactic(auto, using(crate::proofs::SlotLemmas::over_at, crate::proofs::SlotLemmas::over_set))]
     pub fn reset(&mut self, alloc: Global, number: usize) -> u32
         ensures status { result ≡ status_of_named (statement_at self.old number) }
+        ensures left { statement_at self.old number ≡ None → self.new ≡ self.old }
         ensures begun { IfSome (statement_at self.old number)
             (λ before. HasBegunAnew (lent self.old.database) before (statement_at self.new number)) }
         ensures others { self.new ≡ with_slot number (statement_at self.new number) self.old }

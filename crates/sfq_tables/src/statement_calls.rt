@@ -55,6 +55,7 @@ pub extern "C" fn sfq_proved_step(
     requires { back.old.connection ≡ None }
     ensures there { is_some back.new.connection ≡ true }
     ensures unknown { statement_at kept.connection number ≡ None → result ≡ unknown }
+    ensures left { statement_at kept.connection number ≡ None → back.new.connection ≡ Some kept.connection }
     ensures stepped { IfSome back.new.connection (λ now. IfSome (statement_at kept.connection number)
         (λ before. HasStepped most (lent kept.connection.database) before result (statement_at now number))) }
     ensures others { IfSome back.new.connection
@@ -77,6 +78,7 @@ pub extern "C" fn sfq_proved_reset(
     requires { back.old.connection ≡ None }
     ensures there { is_some back.new.connection ≡ true }
     ensures status { result ≡ status_of_named (statement_at kept.connection number) }
+    ensures left { statement_at kept.connection number ≡ None → back.new.connection ≡ Some kept.connection }
     ensures begun { IfSome back.new.connection (λ now. IfSome (statement_at kept.connection number)
         (λ before. HasBegunAnew (lent kept.connection.database) before (statement_at now number))) }
     ensures others { IfSome back.new.connection

@@ -111,7 +111,7 @@ impl Model for Labels {
 
 impl Labels {
     /// The labels with these lists: of the nodes, of the pieces, and of the sides of each piece, none for a vertical one.
-    pub fn of_lists(
+    pub(crate) fn of_lists(
         points: Vec<Label>,
         pieces: Vec<Label>,
         sides: Vec<Option<SideLabels>>,

@@ -1,6 +1,6 @@
 //! Texts that contracts see as their bytes.
 
-ghost use Rattle.std.specs.Prelude.{◌≡◌, IfOk, string_bytes};
+ghost use Rattle.std.specs.Prelude.{◌≡◌, IfOk};
 ghost use Rattle.table_model.specs.Texts as spec;
 
 use std::alloc::{AllocError, Global};
@@ -70,13 +70,6 @@ impl OwnedText {
     {
         let text = String::from_str(alloc, text)?;
         Ok(OwnedText { text })
-    }
-
-    /// The text that a `String` holds. It takes no memory.
-    pub fn from_string(text: String) -> OwnedText
-        ensures { result ≡ string_bytes text }
-    {
-        OwnedText { text }
     }
 
     /// Lends the text.

@@ -5,10 +5,11 @@ ghost use Rattle.geometry_model.specs.Validity.{HasFault, ElementsShare, inside_
 ghost use Rattle.witnesses.specs.FaultPlaces.{IsPlaceOf, IsMeetingOfPolygons, IsMeetingWithOne, MeetsOne, IsPolygonInsideAt};
 ghost use Rattle.witnesses.specs.FirstPlaces.{IsFirstMeetingOfPolygons, IsFirstMeetingWithOne, IsFirstPlaceOf};
 
+use crate::SharedPlace;
 use crate::insides::is_inside;
 use crate::parts::first_position;
 use crate::places::Place;
-use crate::{SharedPlace, meeting_place};
+use crate::rings::meeting_place;
 use fraction::GridPoint;
 use geometry_model::ValidityFault;
 use wkt::{Geometry, LineString};

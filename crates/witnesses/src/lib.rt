@@ -34,7 +34,6 @@ pub use geometry_model::Location;
 pub use heights::Side;
 pub use noding::Meet;
 pub use places::{Place, place_of};
-pub use rings::{clash_place, meeting_place};
 pub use shared::SharedPlace;
 pub use verdict::{Verdict, verdict_of};
 pub use verdict_lines::put_verdict;

@@ -7,8 +7,8 @@ ghost use Rattle.geometry_model.specs.Validity.{HasFault, is_short};
 ghost use Rattle.witnesses.specs.FaultPlaces.{IsPlaceOf};
 ghost use Rattle.witnesses.specs.FirstPlaces.{IsFirstPlaceOf};
 
-use crate::clash_place;
 use crate::places::Place;
+use crate::rings::clash_place;
 use fraction::GridPoint;
 use geometry_model::{GeometryType, Kind, ValidityFault};
 use wkt::{Geometry, LineString};

@@ -6,10 +6,10 @@ ghost use Rattle.witnesses.specs.FaultPlaces.{IsPlaceOf, IsInsideAt};
 ghost use Rattle.witnesses.specs.FirstPlaces.{IsFirstPlaceOf};
 
 use crate::insides::is_inside_ring;
-use crate::meeting_place;
 use crate::numbers::{RingNumbers, numbers_around};
 use crate::parts::{first_position, ring};
 use crate::places::Place;
+use crate::rings::meeting_place;
 use fraction::GridPoint;
 use geometry_model::ValidityFault;
 use wkt::{Geometry, LineString};
