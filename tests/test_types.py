@@ -65,7 +65,7 @@ class Types(unittest.TestCase):
 
 # What catches each exception and goes on, with why: the file and the function.
 CATCHES_ALL = {
-    ("bindings/python/sfq/_apart.py", "of_child"): "what a child raises is never its parent's: it is printed, and the child ends",
+    ("bindings/python/sfq/commands/child.py", "of_child"): "what a child raises is never its parent's: it is printed, and the child ends",
     ("bindings/python/sfq_scale/cluster.py", "submit"): "Dask raises Exception itself where its connection is closed; others are raised again",
 }
 
@@ -104,7 +104,38 @@ class Handlers(unittest.TestCase):
         self.assertEqual(catching_all("def one():\n    with contextlib.suppress(Exception):\n        two()\n"), ["one"])
 
 
+# The packages within sfq: each uses those before it alone.
+PACKAGES = ("geometry", "tables", "layers", "commands")
+
+
+def packages_of(path):
+    """Returns which packages within sfq a file of one of them uses."""
+    found, own = set(), os.path.basename(os.path.dirname(path))
+    for it in ast.walk(ast.parse(read(path))):
+        if isinstance(it, ast.ImportFrom):
+            full = ["sfq", own] if it.level == 1 else ["sfq"] if it.level == 2 else []
+            full += (it.module or "").split(".") if it.module else []
+            found |= {full[1]} if len(full) > 1 else {each.name for each in it.names} if full == ["sfq"] else set()
+        elif isinstance(it, ast.Import):
+            found |= {each.name.split(".")[1] for each in it.names if each.name.startswith("sfq.")}
+    return found & set(PACKAGES)
+
+
 class Modules(unittest.TestCase):
+    def test_each_package_of_sfq_uses_those_before_it_alone(self):
+        """And a module's name has no underscore in front: what lies directly in sfq is public, and the packages are private as they are."""
+        for at, name in enumerate(PACKAGES):
+            folder = f"{ROOT}/bindings/python/sfq/{name}"
+            files = [it for it in os.listdir(folder) if it.endswith(".py")]
+            self.assertGreater(len(files), 5, name)
+            self.assertEqual([it for it in files if it.startswith("_")], ["__init__.py"])
+            for it in files:
+                self.assertLessEqual(packages_of(f"{folder}/{it}"), set(PACKAGES[: at + 1]), f"{name}/{it}")
+        self.assertEqual(packages_of(f"{ROOT}/bindings/python/sfq/commands/ask.py"), {"geometry", "tables", "layers", "commands"})
+        self.assertEqual({it for it in os.listdir(f"{ROOT}/bindings/python/sfq") if it.endswith(".py")}, {
+            "__init__.py", "ask.py", "exports.py", "geopandas.py", "imports.py", "schemas.py", "shell.py",
+        })
+
     def test_one_file_says_where_modules_are(self):
         word = "sys." + "path"
         found = [it for it in sources("tools", "bindings", "tests", "bench", "docs", "examples") if word in read(f"{ROOT}/{it}")]

@@ -24,9 +24,10 @@ File = tuple[str, str, int]
 
 
 def of_package(name: str, to: str) -> list[File]:
-    """Returns the files of a package of Python's, for a folder under the prefix."""
-    found = sorted(it for it in glob.glob(f"{repository.ROOT}/bindings/python/{name}/*") if os.path.isfile(it))
-    return [(os.path.relpath(it, repository.ROOT), f"{to}/{name}/{os.path.basename(it)}", 0o644) for it in found]
+    """Returns the files of a package of Python's and of those within it, for a folder under the prefix."""
+    top = f"{repository.ROOT}/bindings/python"
+    found = sorted(it for it in glob.glob(f"{top}/{name}/**", recursive=True) if os.path.isfile(it) and "__pycache__" not in it)
+    return [(os.path.relpath(it, repository.ROOT), f"{to}/{os.path.relpath(it, top)}", 0o644) for it in found]
 
 
 def files() -> list[File]:
@@ -120,4 +121,5 @@ def made(prefix: str) -> list[str]:
 
 def remove_compiled(prefix: str) -> None:
     """Removes what Python leaves beside the package when it is used."""
-    shutil.rmtree(os.path.join(prefix, PACKAGES, "sfq", "__pycache__"), ignore_errors=True)
+    for it in glob.glob(os.path.join(glob.escape(os.path.join(prefix, PACKAGES, "sfq")), "**", "__pycache__"), recursive=True):
+        shutil.rmtree(it, ignore_errors=True)

@@ -22,7 +22,8 @@ import calls
 import repository
 import wasm
 from calls import Failure
-from sfq import _errors, _faults
+from sfq.geometry import faults
+from sfq.tables import errors
 
 OUT = f"{HERE}/out"
 # The files of the package beside the modules, and those of them that are its JavaScript, each after those that it imports.
@@ -46,7 +47,7 @@ Modules = Mapping[str, bytes]
 
 def sentences_script() -> str:
     """Returns the script with what each fault means and what to do, as Python has it."""
-    shown = json.dumps({**_faults.MEANINGS, **_errors.MEANINGS}, indent=2, ensure_ascii=False)
+    shown = json.dumps({**faults.MEANINGS, **errors.MEANINGS}, indent=2, ensure_ascii=False)
     return f"// What each fault means, and what to do. Made by javascript_package.py.\nexport const SENTENCES = {shown};\n"
 
 

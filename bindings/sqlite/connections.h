@@ -26,11 +26,26 @@ struct listed {
     struct listed *next;
 };
 
-/* What functions and the module of a connection share. It is freed when none of them is left. */
+/* So many statements that run are remembered at most. */
+#define RUNNING 4
+
+/* Whether the index of a table may be asked by a plan, as it was found after so many plans, while these statements ran. */
+struct looked {
+    const void *table;
+    int plan;
+    size_t plans, count;
+    sqlite3_stmt *running[RUNNING];
+    bool may_search;
+};
+
+/* What functions and the module of a connection share: `plans` is how many plans its tables were asked for. It is freed when none of
+ * them is left. */
 struct connection {
     sqlite3 *sqlite;
     int users;
     struct listed *tables;
+    size_t plans;
+    struct looked looked;
     size_t count;
     struct function functions[];
 };

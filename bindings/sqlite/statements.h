@@ -4,11 +4,14 @@
  * the answer. Nothing that xBestIndex is handed tells such a relation from one of WHERE. So with an earlier SQLite the statements that
  * run are looked at when rows are asked for: where one has an outer join, the index serves the right table of LEFT JOIN alone, to which
  * SQLite offers only relations of its own ON. Other tables then give all rows. Nothing here is proved.
+ *
+ * What was found is remembered until another plan is asked for or other statements run. A statement that uses a table asks for a plan
+ * when it is prepared, and again after a view or a trigger was made. So the same statements, after no further plan, say the same.
  */
 #ifndef SFQ_STATEMENTS_H
 #define SFQ_STATEMENTS_H
 
-#include "rows.h"
+#include "connections.h"
 
 /* The first version in whose source a table on the left of an outer join was seen to be offered no relation of ON. */
 #define OFFERS_NO_ON 3053004
@@ -70,15 +73,11 @@ static bool are_of_right_tables(sqlite3 *sqlite, const char *sql, const char *st
  * that run are looked at, and those of temporary views and triggers; no others may ask (sqlite3_vtab_config). A statement without a text
  * may be any.
  */
-static bool may_search(sqlite3 *sqlite, int plan, const char *name)
+static bool look_at_statements(sqlite3 *sqlite, int plan, const char *name)
 {
     char *step = NULL;
     sqlite3_stmt *at = NULL;
-    bool may = true, in_view;
-    if (sqlite3_libversion_number() >= OFFERS_NO_ON) {
-        return true;
-    }
-    in_view = has_outer_view(sqlite);
+    bool may = true, in_view = has_outer_view(sqlite);
     while (may && (at = sqlite3_next_stmt(sqlite, at)) != NULL) {
         const char *sql = sqlite3_sql(at);
         if (sqlite3_stmt_busy(at) && (sql == NULL || in_view || has_outer_word(sql))) {
@@ -88,6 +87,46 @@ static bool may_search(sqlite3 *sqlite, int plan, const char *name)
     }
     sqlite3_free(step);
     return may;
+}
+
+/* Notes the statements that run, as many as there is room for, and returns how many there are. */
+static size_t running_statements(sqlite3 *sqlite, sqlite3_stmt *running[RUNNING])
+{
+    sqlite3_stmt *at = NULL;
+    size_t count = 0;
+    while ((at = sqlite3_next_stmt(sqlite, at)) != NULL) {
+        if (sqlite3_stmt_busy(at)) {
+            if (count < RUNNING) {
+                running[count] = at;
+            }
+            count++;
+        }
+    }
+    return count;
+}
+
+/* Whether what was found last is of the same table and plan, while the same statements ran, and no plan was asked for since. */
+static bool is_known(const struct looked *last, const struct looked *now)
+{
+    return now->count <= RUNNING && last->count == now->count && last->table == now->table && last->plan == now->plan &&
+           last->plans == now->plans && memcmp(last->running, now->running, sizeof now->running) == 0;
+}
+
+/* Whether a relation of a table with this plan may leave out rows: what was found last, where that is known of these statements. */
+static bool may_search(struct connection *connection, const void *table, int plan, const char *name)
+{
+    struct looked now = { table, plan, connection->plans, 0, { NULL }, true };
+    if (sqlite3_libversion_number() >= OFFERS_NO_ON) {
+        return true;
+    }
+    now.count = running_statements(connection->sqlite, now.running);
+    if (!is_known(&connection->looked, &now)) {
+        now.may_search = look_at_statements(connection->sqlite, plan, name);
+        /* To look at a statement asks for its plans. */
+        now.plans = connection->plans;
+        connection->looked = now;
+    }
+    return connection->looked.may_search;
 }
 
 #endif

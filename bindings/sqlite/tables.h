@@ -226,6 +226,7 @@ static int best_index(sqlite3_vtab *base, sqlite3_index_info *info)
     struct usable usable = { -1, -1, -1, -1 };
     double count = (double)rows->count + 1;
     int at, status = SQLITE_OK;
+    ((struct table *)base)->connection->plans++;
     if (((struct table *)base)->fault != NULL) {
         base->zErrMsg = sqlite3_mprintf("%s", ((struct table *)base)->fault);
         return base->zErrMsg == NULL ? SQLITE_NOMEM : SQLITE_ERROR;
@@ -352,11 +353,11 @@ static int search_tree(struct cursor *cursor, const struct rows *rows, size_t co
 }
 
 /* Whether a cursor may ask the index by this plan. Statements are looked at when it is another one than before: OR has several. */
-static bool searches(struct cursor *cursor, sqlite3 *sqlite, int plan, const char *name)
+static bool searches(struct cursor *cursor, struct connection *connection, int plan, const char *name)
 {
     if (cursor->plan != plan) {
         cursor->plan = plan;
-        cursor->may_search = may_search(sqlite, plan, name);
+        cursor->may_search = may_search(connection, cursor->base.pVtab, plan, name);
     }
     return cursor->may_search;
 }
@@ -370,7 +371,7 @@ static int filter(sqlite3_vtab_cursor *base, int plan, const char *name, int cou
     int how = plan & 7;
     (void)count;
     cursor->is_backwards = (plan & BACKWARDS) != 0;
-    if (how == TREE && searches(cursor, connection->sqlite, plan, name)) {
+    if (how == TREE && searches(cursor, connection, plan, name)) {
         struct function *function = &connection->functions[relation_numbered(plan >> RELATION_SHIFT & 15)];
         return search_tree(cursor, rows, (size_t)(plan >> COLUMN_SHIFT), values[0], function);
     }

@@ -1,6 +1,6 @@
 /*
  * What each fault means and what to do, of a geometry by FAULT, of a schema, a table or a query by TABLE_FAULT. C takes the lines by
- * these macros (faults.h, and files.h of bindings/sqlite), and Python reads them (_faults.py). tools/fault_pages.py writes them from
+ * these macros (faults.h, and files.h of bindings/sqlite), and Python reads them (faults.py). tools/fault_pages.py writes them from
  * the tables of docs/FAULTS.md.
  */
 FAULT('W', 1, "the text can't go on like this at this byte, or ends too soon")
@@ -29,7 +29,7 @@ TABLE_FAULT('L', 5, "a value of an INTEGER column isn't a whole number of 64 bit
 TABLE_FAULT('L', 6, "a geometry is refused")
 TABLE_FAULT('L', 7, "a geometry isn't of the column's type: declare the column GEOMETRY, which takes every type")
 TABLE_FAULT('L', 8, "the key or a NOT NULL column is empty: give the field a value, or take NOT NULL out of the schema")
-TABLE_FAULT('L', 9, "an earlier record has this key: number one of the two anew")
+TABLE_FAULT('L', 9, "an earlier record has this key: give one of the two another key")
 TABLE_FAULT('L', 10, "the table has more than 100,000 records: split the table, or ask by sfq-scale")
 TABLE_FAULT('L', 11, "reading the table failed on the way, or a record is past the limits: check the disk, and whether each quote is closed")
 TABLE_FAULT('Q', 1, "the byte begins no token, or a string isn't closed: write names without quotes and texts in single quotes")

@@ -23,8 +23,9 @@ import numpy
 import pandas
 from shapely.geometry.base import BaseGeometry
 
-from . import Cell, _library
-from ._frames import (
+from .geometry import library
+from .geometry.shapes import Cell
+from .layers.frames import (
     AUTO, Column, LeftOutWarning, Options, Origin, RefusedError, RoundingWarning, Step, in_source, need_one_system, refuse, report, taken,
 )
 
@@ -51,9 +52,9 @@ class Index:
 
     def query(self, _geometry: Any, predicate: Optional[str] = None, **_words: Any) -> Any:
         """Returns the places of the other geometries and of those here of which the predicate holds, ascending."""
-        relation = _library.RELATIONS.index(predicate or self.predicate)
+        relation = library.RELATIONS.index(predicate or self.predicate)
         found = [numpy.zeros((0, 2), dtype=numpy.intp)]
-        for room, count in _library.joined(relation, self.others.kept, self.tree.kept):
+        for room, count in library.joined(relation, self.others.kept, self.tree.kept):
             found.append(numpy.frombuffer(room, dtype=numpy.uintp, count=2 * count).reshape(-1, 2).astype(numpy.intp))
         return numpy.concatenate(found).T
 
@@ -88,8 +89,8 @@ def sjoin(
     for name, frame in (("left_df", left_df), ("right_df", right_df)):
         if not isinstance(frame, geopandas.GeoDataFrame):
             raise ValueError(f"'{name}' should be GeoDataFrame, got {type(frame)}")
-    if predicate not in _library.RELATIONS:
-        raise ValueError(f"sfq: a predicate is one of {', '.join(_library.RELATIONS)}, not {predicate!r}")
+    if predicate not in library.RELATIONS:
+        raise ValueError(f"sfq: a predicate is one of {', '.join(library.RELATIONS)}, not {predicate!r}")
     options = Options(step, origin, flat, on_invalid)
     need_one_system(left_df, right_df)
     series = left_df.geometry
@@ -158,11 +159,11 @@ def aligned(left: Any, right: Any, align: Optional[bool]) -> tuple[Any, Any]:
 
 def predicate_of(name: str, says: str) -> Callable[..., Any]:
     """Returns the function of a predicate of two GeoSeries, or of a GeoSeries and one geometry."""
-    relation = _library.RELATIONS.index(name)
+    relation = library.RELATIONS.index(name)
 
     def ask(firsts: Any, seconds: Any) -> Any:
         answers = numpy.zeros(len(firsts), dtype=numpy.bool_)
-        _library.holds_many(relation, firsts.ctypes.data, seconds.ctypes.data, len(firsts), answers.ctypes.data)
+        library.holds_many(relation, firsts.ctypes.data, seconds.ctypes.data, len(firsts), answers.ctypes.data)
         return answers
 
     def holds(
@@ -200,7 +201,7 @@ def relate(
     """
 
     def ask(firsts: Any, seconds: Any) -> Any:
-        return _library.relate_addresses(firsts.ctypes.data, seconds.ctypes.data, len(firsts))
+        return library.relate_addresses(firsts.ctypes.data, seconds.ctypes.data, len(firsts))
 
     return Pairs(left, right, align, Options(step, origin, flat, on_invalid)).series(ask, None, object)
 
@@ -217,7 +218,7 @@ def why(
 
     def cells(first: int, second: int) -> list[Cell]:
         most_pairs = pairs.left.most_positions(first) * pairs.right.most_positions(second)
-        lines = _library.why_addresses(first, second, most_pairs).splitlines()
+        lines = library.why_addresses(first, second, most_pairs).splitlines()
         return [Cell(*in_source(line, pairs.left.grid).split(" ", 3)) for line in lines]
 
     def ask(firsts: Any, seconds: Any) -> Any:
@@ -249,7 +250,7 @@ def is_valid(shapes: Any, *, step: Step = AUTO, origin: Origin = None, flat: boo
 def is_valid_reason(shapes: Any, *, step: Step = AUTO, origin: Origin = None, flat: bool = False) -> Any:
     """Returns for each geometry `valid`, or why it is refused and where, in the source's coordinates; None for a missing one."""
     series, column, said = checked(shapes, Options(step, origin, flat, "warn"))
-    reasons = [None if status == _library.NONE else column.shown(at) for at, status in enumerate(column.statuses)]
+    reasons = [None if status == library.NONE else column.shown(at) for at, status in enumerate(column.statuses)]
     found = pandas.Series(reasons, index=series.index, dtype=object)
     found.attrs["sfq"] = said
     return found

@@ -12,9 +12,9 @@ import tempfile
 import time
 from typing import Any, NamedTuple, Optional, Sequence
 
-from sfq import _checking
-from sfq._endings import Stopped
-from sfq._faults import LibraryError
+from sfq.commands import checking
+from sfq.commands.endings import Stopped
+from sfq.geometry.faults import LibraryError
 
 from .engines import AT_ONCE, ENGINES, JTS, JTS_NG, Lacking, Two, jts_words, listed
 
@@ -235,11 +235,11 @@ class Sfq:
 
     def __init__(self, program: str = "") -> None:
         """Stopped where it isn't there, or isn't proved."""
-        found = shutil.which(program) if program else _checking.beside()
+        found = shutil.which(program) if program else checking.beside()
         if not found:
             raise Stopped(f"no program {program}" if program else "no program sfq is beside this command or on the path; --sfq names one", LACKING)
         try:
-            self.run = _checking.by_program(os.path.abspath(found)).run
+            self.run = checking.by_program(os.path.abspath(found)).run
         except LibraryError as error:
             raise failed(error) from None
 

@@ -14,9 +14,10 @@ import math
 import sys
 from typing import Iterable, Optional
 
-from sfq import __version__, _endings
-from sfq._endings import DATA, DONE, USAGE, Stopped
-from sfq._outputs import Output, are_one
+from sfq import __version__
+from sfq.commands import endings
+from sfq.commands.endings import DATA, DONE, USAGE, Stopped
+from sfq.commands.outputs import Output, are_one
 
 from . import families, reports, sources, writing
 from .asking import LACKING, Engine, Sfq
@@ -32,7 +33,7 @@ STATUSES = ("exit status: 0 all agree, 1 an engine differs, 2 the command line, 
             "found before")
 OF_WRITING = ("exit status: 0 all pairs are written, 2 the command line, 4 a record that isn't a pair, or pairs that sfq refuses are left out, 6 a "
               "file, a database or the output, 7 out of memory, 8 sfq isn't there or fails, 130 interrupted")
-say = functools.partial(_endings.say, NAME)
+say = functools.partial(endings.say, NAME)
 
 
 def whole(least: int, most: Optional[int] = None) -> "functools.partial[int]":
@@ -157,7 +158,7 @@ def run(options: argparse.Namespace) -> int:
                 deliver(finding, report, reports.FORMATS[options.format](finding, source, cases))
     for error in (finding.ended_by, finding.failed):
         if error:
-            text, status = _endings.outcome(error)
+            text, status = endings.outcome(error)
             say(text)
             return status
     if not finding.compared:
@@ -235,7 +236,7 @@ def run_words(words: Optional[list[str]]) -> int:
 
 def main(words: Optional[list[str]] = None) -> int:
     """Runs the command, and returns its status."""
-    return _endings.ended(NAME, lambda: run_words(words))
+    return endings.ended(NAME, lambda: run_words(words))
 
 
 if __name__ == "__main__":

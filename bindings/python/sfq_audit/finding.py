@@ -9,9 +9,9 @@ import time
 from collections import Counter
 from typing import Any, Callable, Iterable, Iterator, NamedTuple, Optional, TypeVar
 
-from sfq._endings import FILES, Stopped, outcome
-from sfq._outputs import Output
-from sfq._progress import Progress
+from sfq.commands.endings import FILES, Stopped, outcome
+from sfq.commands.outputs import Output
+from sfq.commands.progress import Progress
 
 from . import comparing
 from .asking import Engine, Failure, Sfq

@@ -6,13 +6,13 @@ from __future__ import annotations
 
 from typing import NamedTuple
 
-from sfq import _texts
+from sfq.geometry import texts
 
 Position = tuple[int, int]
 Line = list[Position]
 # The parts of an element: of a point or a line itself, of a polygon its rings, the outer one first.
 Element = list[Line]
-WORDS = tuple(_texts.OF_WORD)
+WORDS = tuple(texts.OF_WORD)
 POINT, MULTIPOINT, LINESTRING, MULTILINESTRING, POLYGON, MULTIPOLYGON = WORDS
 # What a type with one element is in the type with many.
 MANY = {POINT: MULTIPOINT, LINESTRING: MULTILINESTRING, POLYGON: MULTIPOLYGON}
@@ -63,7 +63,7 @@ def spelled(word: str, elements: list[Element]) -> str:
 
 def read(text: str) -> Shape:
     """Returns the shape of the well-known text of a geometry that sfq takes."""
-    name, parts = _texts.coordinates(text)
+    name, parts = texts.coordinates(text)
     word = name.upper()
     if not parts:
         return Shape(word, [])

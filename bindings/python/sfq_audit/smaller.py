@@ -3,7 +3,7 @@ from __future__ import annotations
 
 from typing import Any, Iterator, NamedTuple, Optional, TypeVar
 
-from sfq._endings import Stopped
+from sfq.commands.endings import Stopped
 
 from . import comparing
 from .asking import Engine, Sfq

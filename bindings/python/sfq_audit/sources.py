@@ -12,9 +12,9 @@ import tempfile
 import urllib.parse
 from typing import Iterable, Iterator
 
-from sfq import _texts
-from sfq._endings import DATA, FILES, MISSING, Stopped, say
-from sfq._streams import standard_input
+from sfq.commands.endings import DATA, FILES, MISSING, Stopped, say
+from sfq.commands.streams import standard_input
+from sfq.geometry import texts
 
 from .asking import LACKING, environment
 from .families import Pair
@@ -123,7 +123,7 @@ def placed(source: str, grid: str, program: str) -> list[Placed]:
                 with open(f"{room}/tables/{name}", encoding="utf-8", newline="") as file:
                     for row in csv.reader(file):
                         # The geometry is the last column.
-                        if "(" in row[-1] and row[-1].partition("(")[0].strip().upper() in _texts.OF_WORD:
+                        if "(" in row[-1] and row[-1].partition("(")[0].strip().upper() in texts.OF_WORD:
                             found.append(bounded(row[-1]))
         return found
 

@@ -14,9 +14,10 @@ import sys
 from typing import Callable, Iterable, Iterator, NamedTuple, Optional, Protocol, Sequence, Union
 from xml.sax.saxutils import escape
 
-from sfq import _texts, exports
-from sfq._outputs import Output
-from sfq._progress import Progress
+from sfq.commands import exports
+from sfq.commands.outputs import Output
+from sfq.commands.progress import Progress
+from sfq.geometry import texts
 
 from . import families
 from .asking import Sfq
@@ -128,7 +129,7 @@ class GeoJson:
 
     def add(self, case: Case) -> None:
         pair = case.pair
-        both = ",".join([exports.geometry_text(_texts.coordinates(it), "[{0[0]},{0[1]}]".format) for it in (pair.first, pair.second)])
+        both = ",".join([exports.geometry_text(texts.coordinates(it), "[{0[0]},{0[1]}]".format) for it in (pair.first, pair.second)])
         known = {"family": pair.family, "number": pair.number, "matrix": case.matrix, **dict(zip(PREDICATES, map("1".__eq__, case.held)))}
         listed = json.dumps(known, separators=(",", ":"))
         self.file.write("\n" if self.is_first else ",\n")

@@ -9,10 +9,10 @@ import sys
 import tempfile
 from typing import Any, NoReturn, Optional, Union
 
-from sfq import _endings
-from sfq._endings import held, say
-from sfq._progress import Progress
-from sfq._streams import Unwritten, standard_input
+from sfq.commands import endings
+from sfq.commands.endings import held, say
+from sfq.commands.progress import Progress
+from sfq.commands.streams import Unwritten, standard_input
 
 from . import VERSION, cluster, merging, plans, programs, query, words
 from .faults import CLUSTER, FILES, QUERY, Ended, ended
@@ -215,7 +215,7 @@ def answer(given: argparse.Namespace) -> int:
 
 def main(given: Optional[list[str]] = None) -> NoReturn:
     try:
-        status = _endings.ended(NAME, lambda: answer(read_words(given)))
+        status = endings.ended(NAME, lambda: answer(read_words(given)))
     except SystemExit as it:
         status = int(it.code or 0)
     # No thread of Dask's is waited for.

@@ -1,5 +1,5 @@
 """How a run ends before its answer."""
-from sfq._endings import spelled
+from sfq.commands.endings import spelled
 
 # The statuses that sfq has too, and the cluster's own.
 MISUSE, TABLE, QUERY, FILES, MEMORY, CLUSTER = 2, 4, 5, 6, 7, 8

@@ -2,7 +2,7 @@
 import re
 from typing import Iterable, NamedTuple, Optional
 
-from sfq._tables import RESERVED
+from sfq.tables.rules import RESERVED
 
 # White space, a comment up to the end of its line, or a token. Words are of ASCII letters, so lower() is sfq's comparison.
 PATTERN = re.compile(

@@ -7,7 +7,7 @@ from typing import Any, Iterator
 from qgis.core import QgsProcessingParameterEnum, QgsProcessingParameterString
 
 from sfq import Geometry
-from sfq._library import RELATIONS
+from sfq.geometry.library import RELATIONS
 
 from .basis import Grounds, OfTwo, candidates
 from .layers import Row

@@ -11,7 +11,10 @@ from qgis.core import (
 )
 from qgis.PyQt.QtGui import QIcon
 
-from sfq import Index, LibraryError, _grid, _library, _proposing
+from sfq import Index, LibraryError
+from sfq.geometry import library
+from sfq.geometry.grids import Grid
+from sfq.layers import proposing
 
 from . import grids
 from .layers import Layer, Pair, Row, metres_of
@@ -43,7 +46,7 @@ def icon() -> Any:
 def missing_library() -> str:
     """Returns why the library can't be loaded, nothing where it is there."""
     try:
-        _library.library()
+        library.library()
     except LibraryError as error:
         return ("The proved library libsfq isn't there. The plugin's zip has it for Linux on x86-64; elsewhere set SFQ_LIBRARY to its path. "
                 + str(error))
@@ -53,7 +56,7 @@ def missing_library() -> str:
 class Grounds(NamedTuple):
     """What an algorithm works on: the grid, the layers on it, and the feedback for the work itself."""
 
-    grid: _grid.Grid
+    grid: Grid
     layers: list[Layer]
     feedback: Any
 
@@ -155,7 +158,7 @@ class Algorithm(QgsProcessingAlgorithm):
         """Reads the layers, chooses the grid, and brings the layers to it."""
         many = QgsProcessingMultiStepFeedback(2 * len(self.LAYERS) + 1, feedback)
         layers = self.read(parameters, context, many)
-        extent = _proposing.joined(it.extent for it in layers)
+        extent = proposing.joined(it.extent for it in layers)
         try:
             step, origin = (self.text(parameters, it, context) for it in ("STEP", "ORIGIN"))
             grid = grids.chosen(extent, metres_of(layers[0].system), step, origin)

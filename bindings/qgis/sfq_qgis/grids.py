@@ -3,7 +3,8 @@ from __future__ import annotations
 
 from typing import Optional
 
-from sfq import _grid, _proposing
+from sfq.geometry import grids
+from sfq.layers import proposing
 
 
 class NoFit(ValueError):
@@ -22,27 +23,27 @@ def parts_of(origin: str) -> Optional[tuple[str, str]]:
 
 def check(step: str, origin: str) -> None:
     """ValueError where the step or the origin isn't one. Both may be empty."""
-    _grid.Grid(step.strip() or "1", parts_of(origin) or ("0", "0"))
+    grids.Grid(step.strip() or "1", parts_of(origin) or ("0", "0"))
 
 
-def chosen(extent: Optional[_proposing.Extent], metres: Optional[float], step: str, origin: str) -> _grid.Grid:
+def chosen(extent: Optional[proposing.Extent], metres: Optional[float], step: str, origin: str) -> grids.Grid:
     """Returns the grid of the step and the origin, each proposed where it is empty, in a unit of so many metres.
 
     NoFit where it doesn't take all positions.
     """
     step, given = step.strip(), parts_of(origin)
-    grid = _proposing.proposed(extent, metres, step, ",".join(given or ()))
-    if extent is None or _proposing.fits(extent, grid):
+    grid = proposing.proposed(extent, metres, step, ",".join(given or ()))
+    if extent is None or proposing.fits(extent, grid):
         return grid
     where = f"x goes from {extent.left:.10g} to {extent.right:.10g}, y from {extent.low:.10g} to {extent.high:.10g}"
     raise NoFit(f"a grid with the step {step} and the origin {','.join(grid.spelled[1])} doesn't take all positions: {where}; "
                 + remedy(extent, metres, step))
 
 
-def remedy(extent: _proposing.Extent, metres: Optional[float], step: str) -> str:
+def remedy(extent: proposing.Extent, metres: Optional[float], step: str) -> str:
     """Returns what does take an extent: an origin for this step, or where none does, a step."""
-    same = _proposing.proposed(extent, metres, step)
-    if _proposing.fits(extent, same):
+    same = proposing.proposed(extent, metres, step)
+    if proposing.fits(extent, same):
         return f"the origin {','.join(same.spelled[1])} does"
-    larger = _proposing.proposed(extent, metres)
+    larger = proposing.proposed(extent, metres)
     return f"no origin does with this step: the step {larger.spelled[0]} with the origin {','.join(larger.spelled[1])} does"

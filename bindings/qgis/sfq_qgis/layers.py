@@ -10,8 +10,10 @@ from typing import Any, Iterator, Optional
 
 from qgis.core import QgsCoordinateTransform, QgsCsException, QgsFeatureRequest, QgsProcessingFeatureSource, QgsUnitTypes
 
-from sfq import Geometry, _grid, _proposing, _wkb
-from sfq._passes import kind
+from sfq import Geometry
+from sfq.commands.passes import kind
+from sfq.geometry import binary, grids
+from sfq.layers import proposing
 
 from .progress import counted
 
@@ -22,7 +24,7 @@ def metres_of(system: Any) -> Optional[float]:
     if unit == QgsUnitTypes.DistanceUnknownUnit:
         return None
     if unit == QgsUnitTypes.DistanceDegrees:
-        return _proposing.DEGREES
+        return proposing.DEGREES
     return float(QgsUnitTypes.fromUnitToUnitFactor(unit, QgsUnitTypes.DistanceMeters))
 
 
@@ -47,7 +49,7 @@ class Row:
 
     def __init__(self, feature: Any) -> None:
         self.feature = feature
-        self.shape: Optional[_wkb.Shape] = None
+        self.shape: Optional[binary.Shape] = None
         self.geometry: Optional[Geometry] = None
         self.reason = ""
 
@@ -81,8 +83,8 @@ class Layer:
         if source.sourceCrs().isValid() and system.isValid() and source.sourceCrs() != system:
             self.transform = QgsCoordinateTransform(source.sourceCrs(), system, context.transformContext())
         self.rows: list[Row] = []
-        self.extent: Optional[_proposing.Extent] = None
-        self.shift, self.flattened = _grid.Shift(), 0
+        self.extent: Optional[proposing.Extent] = None
+        self.shift, self.flattened = grids.Shift(), 0
 
     def read(self, feedback: Any) -> None:
         """Reads the features, and the extent of their shapes."""
@@ -102,32 +104,32 @@ class Layer:
                 geometry.get().dropZValue()
                 geometry.get().dropMValue()
                 self.flattened += 1
-            shape = _wkb.shape(bytes(geometry.asWkb()))
+            shape = binary.shape(bytes(geometry.asWkb()))
         except QgsCsException:
             row.reason = "W1: a position can't be transformed to the reference system of the other layer"
-        except _wkb.NoText as it:
+        except binary.NoText as it:
             row.reason = reason_of_form(it.form)
         else:
             self.reach(row, shape, geometry.boundingBox())
 
-    def reach(self, row: Row, shape: _wkb.Shape, box: Any) -> None:
+    def reach(self, row: Row, shape: binary.Shape, box: Any) -> None:
         """Keeps a shape, and has the extent reach to the bounds of it."""
         if shape.parts:
-            extent = _proposing.Extent(box.xMinimum(), box.xMaximum(), box.yMinimum(), box.yMaximum())
+            extent = proposing.Extent(box.xMinimum(), box.xMaximum(), box.yMinimum(), box.yMaximum())
             if not all(map(math.isfinite, extent)):
                 row.reason = "W1: a coordinate is infinite or no number"
                 return
-            self.extent = _proposing.joined((extent, self.extent))
+            self.extent = proposing.joined((extent, self.extent))
         row.shape = shape
 
-    def bring_to(self, grid: _grid.Grid, feedback: Any) -> None:
+    def bring_to(self, grid: grids.Grid, feedback: Any) -> None:
         """Brings the shapes to a grid, and has the library check each."""
         for row in counted(self.rows, len(self.rows), feedback):
             if row.shape is None:
                 continue
             try:
-                made = Geometry(_wkb.text(row.shape, grid, self.shift))
-            except _grid.NotANumber as it:
+                made = Geometry(binary.text(row.shape, grid, self.shift))
+            except grids.NotANumber as it:
                 row.reason = f"W1: {it}"
             else:
                 row.geometry, row.reason = (made, "") if made.is_valid else (None, made.reason)

@@ -7,7 +7,7 @@ from typing import Any, Optional
 
 from qgis.core import QgsGeometry, QgsPointXY
 
-from sfq import _grid
+from sfq.geometry import grids
 
 NUMBER = r"(-?\d+(?:/\d+)?)"
 # A point, or a stretch by its ends, behind the word that says what it is.
@@ -23,13 +23,13 @@ def middle(shown: str) -> Optional[tuple[Fraction, Fraction]]:
     return ((x + end[0]) / 2, (y + end[1]) / 2) if end else (x, y)
 
 
-def on_map(point: tuple[Fraction, Fraction], grid: _grid.Grid) -> Any:
+def on_map(point: tuple[Fraction, Fraction], grid: grids.Grid) -> Any:
     """Returns a point of the grid as a geometry in coordinates of the layer."""
     x, y = point
     return QgsGeometry.fromPointXY(QgsPointXY(float(grid.x.origin + x * grid.x.step), float(grid.y.origin + y * grid.y.step)))
 
 
-def shown_on_map(shown: str, grid: _grid.Grid) -> Any:
+def shown_on_map(shown: str, grid: grids.Grid) -> Any:
     """Returns the point that a text shows, as a geometry; a null geometry where it shows none."""
     found = middle(shown)
     return QgsGeometry() if found is None else on_map(found, grid)

@@ -6,7 +6,7 @@ from typing import Any
 from qgis.core import QgsProcessing, QgsProcessingOutputNumber, QgsProcessingParameterFeatureSink, QgsWkbTypes
 from qgis.PyQt.QtCore import QVariant
 
-from sfq._library import RELATIONS
+from sfq.geometry.library import RELATIONS
 
 from .basis import Grounds, OfTwo, fields_of, pairs
 

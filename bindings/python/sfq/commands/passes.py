@@ -1,0 +1,370 @@
+"""One pass of an import over a layer: it reads, rounds and checks the records, writes a table, and lists what is left out or mended."""
+from __future__ import annotations
+
+import csv
+import os
+import re
+import sys
+from collections import Counter
+from typing import Any, Callable, Mapping, NamedTuple, Optional, Sequence
+
+from ..geometry import binary, grids
+from ..geometry.faults import MEANINGS
+from ..layers import parting, reading
+from ..layers.columns import Refused
+from ..tables import rules
+from . import checking
+from .endings import DATA, Stopped
+from .progress import Progress
+
+# How much is checked at a time: records, and characters of their geometries.
+BATCH, BATCH_SIZE = 2_000, 1_000_000
+# How often a geometry is mended, since what is mended is rounded again.
+TIMES = 3
+# What a reason ends with that is the record's own: the value of a field.
+VALUE = re.compile(r": (['\"]).*\1$", re.S)
+
+
+class NotAscending(Exception):
+    """A key isn't greater than the one before it."""
+
+
+class HasParts(Exception):
+    """A record has to be parted, and its table has no columns for that."""
+
+
+class Record:
+    """A record on its way: its number in the layer, its FID, its fields, its geometries' texts, and why it is refused or was mended."""
+
+    __slots__ = ("number", "fid", "fields", "texts", "parts", "reasons")
+
+    def __init__(self, number: int, fid: int, fields: list[str], texts: list[Optional[str]]) -> None:
+        self.number, self.fid, self.fields, self.texts = number, fid, fields, texts
+        # The texts of the parts of the one geometry of a record that is parted.
+        self.parts: list[str] = []
+        # Each with what is before it in the list: the column, where a layer has several geometries.
+        self.reasons: tuple[tuple[str, str], ...] = ()
+
+
+class Means(NamedTuple):
+    """What an import works with."""
+
+    modules: reading.Modules
+    checker: checking.Checker
+    grid: grids.Grid
+    invalid: str
+    is_flat: bool
+    # Whether records with more positions than sfq takes are parted.
+    parts: bool
+    # The size of a step of each column whose numbers are to be whole.
+    steps: Mapping[str, str]
+    # The name of the command, for the line that says how far it is.
+    name: str
+
+
+class Key(NamedTuple):
+    """The key of a table: the column of the source, or `` for the FID and `#` for a counter."""
+
+    source: str
+    is_checked: bool = False
+
+
+class Pass:
+    """One pass over a layer, which writes its table."""
+
+    def __init__(
+        self, means: Means, layer: reading.Layer, key: Key, name: str, files: tuple[Any, Any], has_parts: bool = False,
+    ) -> None:
+        self.means, self.layer, self.key, self.name, self.has_parts = means, layer, key, name, has_parts
+        self.table, self.left_out = files
+        self.shift, self.rows, self.records, self.kept, self.flattened = grids.Shift(), 0, 0, 0, 0
+        # Records that are parted, their parts, and what cuts put in.
+        self.parted, self.parts, self.put_in, self.bend = 0, 0, 0, 0.0
+        self.counts: Counter[Any] = Counter()
+        self.empty: Counter[str] = Counter()
+        self.words: list[set[str]] = [set() for _ in layer.shapes]
+        self.columns = columns(layer, key, means.steps, has_parts)
+        self.scales = {it.source: grids.Scale(it.step) for it in self.columns if it.step}
+        self.readers, self.key_of, self.takes = self.in_order(), self.key_reader(), [it.read for it in layer.shapes]
+        self.forms: dict[str, str] = {}
+        self.last_key = -1
+
+    def in_order(self) -> list[Callable[[Any], str]]:
+        """Returns the readers of the columns after the key: a FID that has a name of its own first."""
+        found = [self.reader(at, name) for at, name in self.layer.columns() if name != self.key.source]
+        if self.key.source and self.layer.layer.GetFIDColumn():
+            found.insert(0, lambda it: str(it.GetFID()))
+        return found
+
+    def reader(self, at: int, name: str) -> Callable[[Any], str]:
+        """Returns the reader of a column. It raises Refused where a number isn't one, or is too large for its steps."""
+        read, scale = self.layer.reader(at, self.empty), self.scales.get(name)
+        if scale is None:
+            return read
+        whole = scale.field
+
+        def scaled(it: Any) -> str:
+            try:
+                return whole(read(it))
+            except grids.NotANumber as error:
+                raise Refused(f"L5: {name}: {error}") from None
+
+        return scaled
+
+    def key_reader(self) -> Optional[Callable[[Any], Optional[int]]]:
+        """Returns what reads the key, None where it is the FID."""
+        if self.key.source == "#":
+            return lambda _: self.records
+        return self.layer.whole(self.layer.described.GetFieldIndex(self.key.source)) if self.key.source else None
+
+    def run(self) -> None:
+        """Reads all records. NotAscending where the key hasn't been looked at and doesn't ascend."""
+        progress, total = Progress(self.means.name, wait=0.5), self.layer.count()
+        of = f" of {total:,}" if total >= 0 else ""
+        self.table.write(",".join(it.name for it in self.columns).encode() + b"\n")
+        batch, size = [], 0
+        try:
+            for feature in self.layer:
+                self.records += 1
+                record = self.taken(feature, feature.GetFID())
+                batch.append(record)
+                for text in record.texts:
+                    size += len(text) if text else 0
+                if size > BATCH_SIZE or len(batch) == BATCH:
+                    self.write(batch)
+                    batch, size = [], 0
+                    progress.show(f"{self.layer.label} {self.records:,}{of}")
+            self.write(batch)
+        finally:
+            progress.clear()
+
+    def taken(self, feature: Any, fid: int) -> Record:
+        """Returns the record of a feature, its geometries not yet checked."""
+        key = self.key_of(feature) if self.key_of else fid
+        if not self.key.is_checked:
+            if fid < 0 or fid <= self.last_key:
+                raise NotAscending()
+            self.last_key = fid
+        fields = [str(key)]
+        record = Record(self.records, fid, fields, [])
+        try:
+            for read in self.readers:
+                fields.append(read(feature))
+        except Refused as it:
+            record.reasons, record.fields = (("", str(it)),), []
+            return record
+        for at, read in enumerate(self.takes):
+            try:
+                geometry = read(feature)
+                record.texts.append(None if geometry is None else self.text(geometry, record, at))
+            except Refused as it:
+                record.reasons += ((self.column(at), str(it)),)
+                record.texts.append(None)
+                record.fields = []
+        return record
+
+    def column(self, at: int) -> str:
+        """Returns what a reason begins with: the column, where a layer has several geometries."""
+        return "" if len(self.takes) == 1 else f"{self.layer.shapes[at].name}: "
+
+    def text(self, geometry: Any, record: Record, at: int) -> str:
+        """Returns the text of a geometry on the grid. Refused where sfq has none for its form, unless that is mended."""
+        if self.means.is_flat and (geometry.Is3D() or geometry.IsMeasured()):
+            geometry.FlattenTo2D()
+            self.flattened += 1
+        try:
+            shape = binary.shape(reading.binary_of(geometry))
+        except binary.NoText as it:
+            reason = self.reason_of_form(it.form)
+            if self.means.invalid != "mend":
+                raise Refused(reason) from None
+            try:
+                shape = binary.shape(reading.flat(geometry), drops_empty=True)
+            except binary.NoText:
+                raise Refused(reason) from None
+            record.reasons += ((self.column(at), reason),)
+        try:
+            return binary.text(shape, self.means.grid, self.shift)
+        except grids.NotANumber as it:
+            raise Refused(f"W1: {it}") from None
+
+    def reason_of_form(self, form: str) -> str:
+        """Returns sfq's reason against the beginning of a text, and the words of it."""
+        if form not in self.forms:
+            self.forms[form] = f"{self.means.checker.reason(form)}: {form.rstrip(' (')}"
+        return self.forms[form]
+
+    def write(self, batch: list[Record]) -> None:
+        """Checks records, and writes them or what they are refused for."""
+        asked = [(record, at) for record in batch if record.fields for at, it in enumerate(record.texts) if it]
+        reasons = self.means.checker.reasons([record.texts[at] or "" for record, at in asked])
+        for (record, at), reason in zip(asked, reasons):
+            if reason:
+                self.refuse(record, at, reason)
+        for record in batch:
+            rows = self.lines(record) if record.fields else None
+            if record.reasons:
+                self.note(record, "left out" if rows is None else "mended")
+            if rows is not None:
+                self.table.writelines(rows)
+                self.rows += len(rows)
+                self.kept += 1
+
+    def refuse(self, record: Record, at: int, reason: str) -> None:
+        """Mends a geometry that sfq refuses where that is wanted and can be done; else refuses the record."""
+        if self.means.parts and reason[:2] == "W4" and len(self.takes) == 1:
+            self.part(record, reason)
+            return
+        if self.means.invalid == "mend" and reason[0] == "V":
+            text, behind = self.mended(record.texts[at] or "")
+            if text is None:
+                record.fields = []
+            else:
+                record.texts[at] = text
+            reason += behind
+        else:
+            record.fields = []
+        record.reasons += ((self.column(at), reason),)
+
+    def mended(self, text: str) -> tuple[Optional[str], str]:
+        """Returns what make-valid makes of a text, on the grid and valid there; else None and what is said of it."""
+        behind = ""
+        for _ in range(TIMES):
+            made = reading.mended(self.means.modules, text)
+            if made is None:
+                return None, behind or "; make-valid leaves nothing of it"
+            reason = self.means.checker.reasons([made])[0]
+            if reason is None:
+                return made, ""
+            text, behind = made, f"; after make-valid {reason}"
+        return None, behind
+
+    def part(self, record: Record, reason: str) -> None:
+        """Parts a record, or refuses it. HasParts where the table has no columns for parts."""
+        text = record.texts[0] or ""
+        found, behind = self.parts_of(text)
+        if found is None and self.means.invalid == "mend":
+            made = reading.mended(self.means.modules, text)
+            found, further = self.parts_of(made) if made else (None, "; make-valid leaves nothing of it")
+            behind = f"{behind}{further}"
+        if behind:
+            record.reasons += (("", reason + behind),)
+        if found is None:
+            record.fields = []
+            return
+        if not self.has_parts:
+            raise HasParts()
+        record.parts = found.texts
+        self.parted, self.parts = self.parted + 1, self.parts + len(found.texts)
+        self.put_in, self.bend = self.put_in + found.put_in, max(self.bend, found.greatest)
+
+    def parts_of(self, text: str) -> tuple[Optional[parting.Parted], str]:
+        """Returns the parts of a text, each valid; else None and what is said of it."""
+        behind = ""
+        for choice in range(TIMES):
+            try:
+                found = parting.parted(self.means.modules.ogr, text, choice)
+            except parting.Undivided as it:
+                return None, f"; it can't be parted: {it}"
+            refused = [it for it in self.means.checker.reasons(found.texts) if it]
+            if not refused:
+                return found, ""
+            behind = f"; one of its {len(found.texts):,} parts {refused[0]}"
+        return None, behind
+
+    def lines(self, record: Record) -> Optional[list[bytes]]:
+        """Returns the lines of a record, one unless it is parted; None where it is refused."""
+        try:
+            "".join(record.fields).encode()
+        except UnicodeEncodeError:
+            record.reasons += (("", "L4: a text isn't UTF-8"),)
+            if self.means.invalid != "mend":
+                return None
+            record.fields = [it.encode("utf-8", "replace").decode() for it in record.fields]
+        found = []
+        rows: list[list[Optional[str]]] = [[it] for it in record.parts] or [record.texts]
+        for number, texts in enumerate(rows):
+            line = self.line(record, [str(self.rows + number + 1)] if self.has_parts else [], texts)
+            if line is None:
+                return None
+            found.append(line)
+        return found
+
+    def line(self, record: Record, first: list[str], texts: Sequence[Optional[str]]) -> Optional[bytes]:
+        """Returns a line of a record behind its first fields, or None where it is refused."""
+        fields = first + record.fields
+        for text in texts:
+            fields.append("" if text is None else f'"{text}"' if "," in text else text)
+        found = (",".join(fields) + "\n").encode()
+        if len(found) > rules.MOST_BYTES:
+            reason = rules.too_long(found, [it.name for it in self.columns], fields)
+            if reason:
+                record.reasons += (("", reason),)
+                return None
+        for words, text in zip(self.words, texts):
+            if text is not None:
+                words.add(text.partition("(")[0])
+        return found
+
+    def note(self, record: Record, done: str) -> None:
+        """Lists a record that is left out or was mended. Stopped where that ends the import."""
+        for column, reason in record.reasons:
+            if self.means.invalid == "stop":
+                raise Stopped(f"{self.layer.label} record {record.number} (FID {record.fid}): {column}{reason}", DATA)
+            fields = [self.layer.name, str(record.number), str(record.fid), column + reason, done, self.name]
+            self.left_out.write(",".join(map(rules.quoted, fields)).encode("utf-8", "replace") + b"\n")
+        for it in {kind(reason) for _, reason in record.reasons}:
+            self.counts[done, it] += 1
+
+
+def kind(reason: str) -> str:
+    """Returns what a reason has in common with others of its kind, and what it means."""
+    code, text = re.split(r"\W", reason, maxsplit=1)[0], VALUE.sub("", reason.partition(": ")[2])
+    return f"{code}: {MEANINGS[code] if code[0] == 'V' or code in ('W3', 'W4') else text}"
+
+
+def columns(layer: reading.Layer, key: Key, steps: Mapping[str, str], has_parts: bool) -> list[rules.Column]:
+    """Returns the columns of a table: the key, those of the layer in their order, and the geometries.
+
+    Where a record may be several rows the key is a number of the row, and the record's own key is in a column `whole`.
+    """
+    names, fid = rules.Names(), layer.layer.GetFIDColumn()
+    if has_parts:
+        source = "" if key.source == "#" else key.source or fid
+        found = [rules.Column(names.of("part", "part"), "", "INTEGER"), rules.Column(names.of("whole", "whole"), source, "INTEGER")]
+    elif key.source == "#":
+        found = [rules.Column(names.of("id", "id"), "", "INTEGER")]
+    elif not key.source:
+        found = [rules.Column(names.of(fid or "fid", "fid"), fid, "INTEGER")]
+    else:
+        found = [rules.Column(names.of(key.source, "key"), key.source, "INTEGER")]
+    if key.source and fid:
+        found.append(rules.Column(names.of(fid, "fid"), fid, "INTEGER"))
+    for _, name in layer.columns():
+        if name != key.source:
+            step = steps.get(name, "")
+            kind = "INTEGER" if step or layer.is_whole(name) else "TEXT"
+            found.append(rules.Column(names.of(name, "field"), name, kind, not step and layer.is_real(name), step))
+    for it in layer.shapes:
+        found.append(rules.Column(names.of(it.name or "geom", "geom"), it.name, "GEOMETRY"))
+    return found
+
+
+def type_of(words: set[str], said: str) -> str:
+    """Returns the type of a geometry column by the types that are in it; `said` where it has none."""
+    words = {it.removesuffix(" EMPTY") for it in words}
+    if not words:
+        return said
+    of_many = {it if it.startswith("MULTI") else f"MULTI{it}" for it in words}
+    return next(iter(words if len(words) == 1 else of_many)) if len(of_many) == 1 else "GEOMETRY"
+
+
+def written_as_multi(path: str, places: set[int]) -> None:
+    """Writes a table anew, with each geometry in these columns as one of its MULTI type."""
+    csv.field_size_limit(sys.maxsize)
+    with open(path, newline="", encoding="utf-8") as old, open(f"{path}.new", "w", newline="", encoding="utf-8") as new:
+        for row in csv.reader(old):
+            for at in places:
+                row[at] = binary.as_multi(row[at]) if row[at] and "(" in row[at] or row[at].endswith(" EMPTY") else row[at]
+            new.write(",".join(map(rules.quoted, row)) + "\n")
+    os.replace(f"{path}.new", path)

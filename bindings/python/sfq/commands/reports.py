@@ -1,0 +1,92 @@
+"""What an import says of each layer, on standard error and in grid.json."""
+from __future__ import annotations
+
+from typing import Any, Callable
+
+from ..geometry import grids
+from ..layers import reading, systems
+from ..tables import rules
+from . import passes
+
+# Of a record that is parted: it intersects another where any part does, and is disjoint from it where all parts are.
+PREDICATES = {"ST_Intersects": "any", "ST_Disjoint": "all"}
+
+
+def described(layer: reading.Layer, name: str, found: passes.Pass) -> dict[str, Any]:
+    """Returns what grid.json says of a layer."""
+    shift = found.shift
+    made = {
+        "source": layer.source.name, "layer": layer.name, "table": name, "key": found.columns[0].name, "records": found.records,
+        "rows": found.rows, "invalid": found.means.invalid,
+        "columns": [it.described() for it in found.columns], "coordinate_system": systems.described(layer.reference),
+        "shift": {"greatest": float(f"{shift.greatest:.3g}"), "mean": float(f"{shift.mean:.3g}"), "positions": shift.positions},
+        "merged": shift.merged, "flattened": found.flattened, "left_out": found.records - found.kept,
+        "empty_texts": dict(found.empty),
+    }
+    if found.has_parts:
+        made["parted"] = {
+            "part": found.columns[0].name, "whole": found.columns[1].name, "records": found.parted, "rows": found.parts, "predicates": PREDICATES,
+            "put_in": found.put_in, "greatest": bend(found),
+        }
+    return made
+
+
+def bend(found: passes.Pass) -> float:
+    """Returns how far the farthest position that a cut put in is from its edge, in units of the source."""
+    return float(f"{found.bend * float(found.means.grid.x.step):.3g}")
+
+
+def report(layer: reading.Layer, name: str, found: passes.Pass, say: Callable[[str], None]) -> None:
+    """Says what became of a layer: a line for the table, and one for each kind of thing that isn't as in the source."""
+    label, shift = layer.label, found.shift
+    say(f"{label}: {found.kept:,} of {found.records:,} records in {name}.csv; {shift.positions:,} positions moved by at most "
+        f"{shift.greatest:.3g}, {shift.mean:.3g} in the mean, {shift.merged:,} merged")
+    for (done, what), count in sorted(found.counts.items()):
+        say(f"{label}: {count:,} {done}: {what}{beyond(layer, found.means.grid) if what.startswith('W3') else ''}")
+    for column, scale in found.scales.items():
+        say(f"{label}: {column} counts steps of {scale.spelled}: {scale.moved:,} numbers moved by at most {float(scale.greatest):.3g}")
+    reals = [it.source for it in found.columns if it.is_real]
+    if reals:
+        say(f"{label}: numbers with a point are TEXT, which sfq compares as texts: {', '.join(reals)}; --scale {reals[0]}=STEP makes whole ones")
+    for column, count in found.empty.items():
+        say(f"{label}: {count:,} empty texts in {column}: sfq reads an empty field as NULL")
+    renamed = [f"{it.source} is {it.name}" for it in found.columns if it.source and it.source != it.name]
+    renamed = [f"the layer is {name}"] * (name != label) + renamed
+    if renamed:
+        say(f"{label}: {', '.join(renamed)}")
+    for it in further(layer, found):
+        say(f"{label}: {it}")
+
+
+def further(layer: reading.Layer, found: passes.Pass) -> list[str]:
+    """Returns what is said of a layer besides."""
+    lines = []
+    if found.has_parts:
+        lines.append(f"{found.parted:,} records are parted into {found.parts:,} rows: {found.columns[0].name} is the key, {found.columns[1].name} that "
+                     f"of the record; {found.put_in:,} positions were put in at cuts, at most {bend(found):.3g} from their edges; of parts "
+                     "ST_Intersects and ST_Disjoint alone say what they say of the whole")
+    if found.flattened:
+        lines.append(f"{found.flattened:,} geometries without their Z or M")
+    if len(found.columns) > rules.MOST_COLUMNS:
+        lines.append(f"schema.sql has {rules.MOST_COLUMNS} of {len(found.columns)} columns, and the CSV all: sfq takes no more")
+    if found.rows > rules.MOST_ROWS:
+        lines.append(f"one run of sfq takes at most {rules.MOST_ROWS:,} rows; sfq-scale takes more (docs/SCALE.md)")
+    seeming = layer.seeming()
+    if seeming:
+        lines.append(f"it has no geometry; {seeming} makes some of its columns")
+    return lines
+
+
+def beyond(layer: reading.Layer, grid: grids.Grid) -> str:
+    """Returns where a layer lies, and which origin or step would take it."""
+    found = reading.extent([layer])
+    if found is None:
+        return ""
+    left, right, low, high = found
+    step = float(grid.x.step)
+    middle = [round((a + b) / 2 / (1000 * step)) * 1000 * grid.x.step for a, b in ((left, right), (low, high))]
+    half = max(right - left, high - low) / 2 / (grids.MOST - 1000)
+    where = f" (x from {left:.10g} to {right:.10g}, y from {low:.10g} to {high:.10g}; "
+    if half <= step:
+        return where + "--origin " + ",".join(rules.real(float(it)) for it in middle) + " takes all)"
+    return where + f"no origin takes all with a step below {half:.3g})"

@@ -1,0 +1,321 @@
+"""Columns of geometries of GeoPandas on a grid, what becomes of them, and what is said of it. None of it is proved."""
+from __future__ import annotations
+
+import ctypes
+import re
+import warnings
+from decimal import Decimal
+from fractions import Fraction
+from typing import Any, NamedTuple, Optional, Sequence, Union
+
+import numpy
+import pandas
+import shapely
+
+from ..geometry import binary, grids, library
+from ..geometry.shapes import Geometry
+from . import proposing
+
+# The step that stands for one that is proposed.
+AUTO = "auto"
+# An empty geometry as shapely before 2.0 may write it, whatever its type: a collection of nothing.
+NOTHING = b"\x01\x07\0\0\0\0\0\0\0"
+# How many refused rows a message names.
+NAMED = 3
+# A position in a line that says what shows something, a coordinate as n or n/d.
+POSITION = re.compile(r"(-?\d+(?:/\d+)?) (-?\d+(?:/\d+)?)")
+UNITS = grids.Grid("1")
+# A point in well-known binary, least byte first (06-103r4, 8.2).
+POINT = numpy.dtype([("order", "u1"), ("kind", "<u4"), ("position", "<f8", 2)])
+
+Step = Union[str, float, None]
+Origin = Optional[Sequence[Union[str, float]]]
+
+
+class RoundingWarning(UserWarning):
+    """Positions moved when they were rounded to the grid."""
+
+
+class LeftOutWarning(UserWarning):
+    """Geometries were refused, and count as missing."""
+
+
+class RefusedError(ValueError):
+    """Geometries are refused.
+
+    `rows` is a DataFrame of them: on which side each is, the label of its row, and the reason. `remedy` is a grid that takes positions
+    that are past the limit, or empty.
+    """
+
+    def __init__(self, rows: Any, remedy: str = "") -> None:
+        self.rows, self.remedy = rows, remedy
+        super().__init__(f"sfq: {listed(rows)}{remedy}; on_invalid='warn' takes what is refused as missing")
+
+    def __reduce__(self) -> tuple[type[RefusedError], tuple[Any, str]]:
+        return type(self), (self.rows, self.remedy)
+
+
+class Options(NamedTuple):
+    """How geometries are taken: the step and the origin as they were given, whether a Z is dropped, and what becomes of refused ones."""
+
+    step: Step
+    origin: Origin
+    flat: bool
+    on_invalid: str
+
+
+# ---- columns ----
+
+
+class Points(library.Binaries):
+    """Points that each have a position, in well-known binary."""
+
+    def __init__(self, positions: Any) -> None:
+        self.points = numpy.empty(len(positions), dtype=POINT)
+        self.points["order"], self.points["kind"], self.points["position"] = 1, 1, positions
+        self.lengths = numpy.full(len(positions), POINT.itemsize, dtype=numpy.uintp)
+
+    def __len__(self) -> int:
+        return len(self.points)
+
+    def __getitem__(self, place: int) -> bytes:
+        return bytes(self.points[place].tobytes())
+
+    def part(self, first: int, end: int) -> tuple[Any, Any]:
+        return self.points[first:].ctypes.data, self.lengths[first:].ctypes.data
+
+    def extent(self) -> Optional[tuple[float, float, float, float]]:
+        positions = self.points["position"]
+        if not len(positions) or not numpy.isfinite(positions).all():
+            return super().extent()
+        (left, low), (right, high) = positions.min(axis=0), positions.max(axis=0)
+        return float(left), float(right), float(low), float(high)
+
+
+def positions_of(shapes: Any, flat: bool) -> Any:
+    """Returns the positions of shapely's geometries, where each is a point with one; None where one isn't, or has more than an x and a y
+    that isn't to be dropped.
+    """
+    if not (shapely.get_type_id(shapes) == 0).all() or not (flat or (shapely.get_coordinate_dimension(shapes) == 2).all()):
+        return None
+    found = shapely.get_coordinates(shapes)
+    return found if len(found) == len(shapes) else None
+
+
+def binaries(shapes: Any, flat: bool) -> library.Binaries:
+    """Returns the well-known binary of shapely's geometries, least byte first, and no bytes for a missing one."""
+    if hasattr(shapely, "to_wkb"):
+        positions = positions_of(shapes, flat)
+        if positions is not None:
+            return Points(positions)
+        dimensions = {"output_dimension": 2} if flat else {}
+        return library.Binaries([it or b"" for it in shapely.to_wkb(shapes, byte_order=1, **dimensions)])
+    from shapely import geos
+
+    writer = geos.WKBWriter(geos.lgeos, big_endian=False, output_dimension=2 if flat else 3)
+    found = [b"" if it is None else writer.write(it) for it in shapes]
+    return library.Binaries([it if it != NOTHING else empty(shape) for it, shape in zip(found, shapes)])
+
+
+def empty(shape: Any) -> bytes:
+    """Returns the well-known binary of an empty geometry by its class."""
+    name = type(shape).__name__.replace("LinearRing", "LineString").upper()
+    kind = next((it for it, word in binary.WORDS.items() if word == name), 7)
+    head = b"\x01" + kind.to_bytes(4, "little")
+    return head + (binary.PAIR.pack(float("nan"), float("nan")) if kind == 1 else bytes(4))
+
+
+class Column:
+    """The geometries of a GeoSeries on a grid: those that the library keeps, those that it refuses, and those that are missing."""
+
+    def __init__(self, side: str, series: Any, flat: bool) -> None:
+        self.side, self.series, self.shapes = side, series, numpy.asarray(series.values, dtype=object)
+        self.binaries = binaries(self.shapes, flat)
+
+    def keep(self, grid: Optional[grids.Grid]) -> None:
+        """Reads the geometries, rounded to a grid, or as they are where that is None."""
+        self.grid, self.kept = grid, library.KeptMany(self.binaries, parts_of(grid))
+        self.statuses = numpy.array(self.kept.statuses, dtype=numpy.uint32)
+        self.is_kept = self.statuses == library.OK
+        self.refused = numpy.flatnonzero(~self.is_kept & (self.statuses != library.NONE))
+
+    def reason(self, place: int) -> str:
+        """Returns why a geometry is refused."""
+        if self.statuses[place] == library.UNKNOWN:
+            return f"W1: {form(self.binaries[place])}"
+        fault = self.kept.fault(place)
+        return "W1: a coordinate is infinite or no number" if fault.code == "W1" else str(fault)
+
+    def shown(self, place: int) -> str:
+        """Returns `valid`, or why a geometry is refused with the place of the fault."""
+        if self.is_kept[place]:
+            return "valid"
+        if self.statuses[place] == library.UNKNOWN or self.kept.fault(place).code[0] == "W":
+            return self.reason(place)
+        text = binary.text(binary.shape(self.binaries[place]), self.grid or UNITS, grids.Shift())
+        code, colon, shown = Geometry(text).reason.partition(": ")
+        return code + colon + in_source(shown, self.grid)
+
+    def addresses(self, places: Any) -> Any:
+        """Returns where the geometries at these places are."""
+        return places.astype(numpy.uintp) * ctypes.sizeof(library.CGeometry) + self.kept.address(0)
+
+    def most_positions(self, address: int) -> int:
+        """Returns a number of positions that the geometry at an address hasn't more of."""
+        return binary.most_positions(self.binaries[(address - self.kept.address(0)) // ctypes.sizeof(library.CGeometry)])
+
+    def has_shape(self) -> bool:
+        """Whether a geometry is kept that isn't empty."""
+        return any(not it.is_empty for it in self.shapes[self.is_kept])
+
+    def said(self) -> dict[str, Any]:
+        """Returns what became of the positions and of the geometries."""
+        shift = self.kept.shift
+        mean = shift.total / shift.positions if shift.positions else 0.0
+        return {
+            "positions": shift.positions, "moved": shift.moved, "greatest": shift.greatest, "mean": mean, "merged": shift.merged,
+            "left_out": len(self.refused),
+        }
+
+
+def parts_of(grid: Optional[grids.Grid]) -> Optional[tuple[int, int, int, int]]:
+    """Returns the numbers of a grid as the library takes them. ValueError where they have too many digits."""
+    if grid is None:
+        return None
+    found = grid.in_parts()
+    if max(found[0], found[3]) > 10**15 or any(abs(it) > min(10**14 * found[0], 2**63 - 1) for it in found[1:3]):
+        raise ValueError("sfq: the step or the origin has too many digits, or the origin is too many steps from 0")
+    return found
+
+
+def form(found: bytes) -> str:
+    """Returns the beginning of the text that a geometry of a form would have that sfq doesn't take."""
+    try:
+        binary.shape(found)
+    except binary.NoText as it:
+        word = it.form.rstrip(" (")
+        return f"{word}: flat=True drops it" if word.endswith((" Z", " ZM", " M")) else word
+    return "a ring without positions"
+
+
+def in_source(text: str, grid: Optional[grids.Grid]) -> str:
+    """Returns a line with its positions in the coordinates of the source."""
+    if grid is None:
+        return text
+    axes = grid.x, grid.y
+
+    def number(axis: grids.Axis, word: str) -> str:
+        return proposing.spelled(Decimal(repr(float(axis.origin + Fraction(word) * axis.step))))
+
+    return POSITION.sub(lambda it: " ".join(number(axis, word) for axis, word in zip(axes, it.groups())), text)
+
+
+# ---- the grid ----
+
+
+def metres(system: Any) -> Optional[float]:
+    """Returns how many metres the unit of a reference system has, as a grid is proposed by: None where there is no system."""
+    if system is None or not system.axis_info:
+        return None
+    return proposing.DEGREES if system.is_geographic else float(system.axis_info[0].unit_conversion_factor)
+
+
+def need_known(options: Options) -> None:
+    """ValueError where an option has no meaning."""
+    origin = options.origin
+    if options.on_invalid not in ("raise", "warn"):
+        raise ValueError(f"sfq: on_invalid is 'raise' or 'warn', not {options.on_invalid!r}")
+    if origin is not None and (isinstance(origin, str) or len(origin) != 2):
+        raise ValueError(f"sfq: an origin is an x and a y, not {origin!r}")
+    if options.step is None and origin is not None:
+        raise ValueError("sfq: an origin needs a step")
+
+
+def extent_of(columns: Sequence[Column]) -> Optional[proposing.Extent]:
+    """Returns the extent of columns, None where they have no position."""
+    found = (it.binaries.extent() for it in columns)
+    return proposing.joined(proposing.Extent(*it) if it else None for it in found)
+
+
+def grid_for(columns: Sequence[Column], step: Step, origin: Origin) -> Optional[grids.Grid]:
+    """Returns the grid of columns, None where nothing is rounded. ValueError where the step or the origin is none."""
+    if step is None:
+        return None
+    spelled, given = "" if step == AUTO else str(step), [] if origin is None else [str(it) for it in origin]
+    system = next((it.series.crs for it in columns if it.series.crs), None)
+    try:
+        if spelled and given:
+            return grids.Grid(spelled, given)
+        return proposing.proposed(extent_of(columns), metres(system), spelled, ",".join(given))
+    except ValueError as error:
+        raise ValueError(f"sfq: {error}") from None
+
+
+def remedy_for(columns: Sequence[Column], options: Options) -> str:
+    """Returns which grid takes all positions: with the same step where one does."""
+    extent = extent_of(columns)
+    for step in (options.step, AUTO):
+        grid = grid_for(columns, step, None)
+        if grid and extent and proposing.fits(extent, grid):
+            return f"; the step {grid.spelled[0]} from the origin {','.join(grid.spelled[1])} takes all positions"
+    return ""
+
+
+def need_one_system(left: Any, right: Any) -> None:
+    """ValueError where two GeoSeries have different reference systems. GeoPandas warns where one has none."""
+    if left.crs and right.crs and left.crs != right.crs:
+        raise ValueError(
+            f"sfq: the reference systems differ, {left.crs.to_string()} and {right.crs.to_string()}: bring one to the other by to_crs"
+        )
+
+
+def taken(sides: dict[str, Any], options: Options) -> dict[str, Column]:
+    """Returns the columns of GeoSeries on one grid, by their sides. A GeoSeries on two sides has one column, named for the first."""
+    need_known(options)
+    found: dict[str, Column] = {}
+    for side, series in sides.items():
+        same = next((it for it in found.values() if it.series is series), None)
+        found[side] = same or Column(side, series, options.flat)
+    grid = grid_for(list(found.values()), options.step, options.origin)
+    for column in dict.fromkeys(found.values()):
+        column.keep(grid)
+    return found
+
+
+# ---- what is said ----
+
+
+def listed(rows: Any) -> str:
+    """Returns how many rows are refused on each side, and the first of them."""
+    found = []
+    for side, its in rows.groupby("side", sort=False):
+        named = [f"row {row.label!r}: {row.reason}" for row in its.head(NAMED).itertuples()]
+        more = f"; and {len(its) - NAMED:,} more" if len(its) > NAMED else ""
+        found.append(f"{side}: {len(its):,} refused: {'; '.join(named)}{more}")
+    return ". ".join(found)
+
+
+def refuse(columns: dict[str, Column], options: Options, level: int) -> None:
+    """RefusedError where a column refuses a geometry, or a warning to the frame of this level."""
+    each = list(dict.fromkeys(columns.values()))
+    rows = [(it.side, it.series.index[at], it.reason(at)) for it in each for at in it.refused]
+    if rows:
+        found = pandas.DataFrame(rows, columns=["side", "label", "reason"])
+        remedy = remedy_for(each, options) if any(it[2].startswith("W3") for it in rows) else ""
+        if options.on_invalid == "raise":
+            raise RefusedError(found, remedy)
+        warnings.warn(f"sfq: {listed(found)}{remedy}", LeftOutWarning, stacklevel=level)
+
+
+def report(columns: dict[str, Column], options: Options, level: int) -> dict[str, Any]:
+    """Returns what is said of columns on one grid, and warns the frame of this level where a position moved."""
+    each = list(dict.fromkeys(columns.values()))
+    step, origin = each[0].grid.spelled if each[0].grid else (None, None)
+    if any(it.kept.shift.moved for it in each):
+        proposed = "proposed " * (options.step == AUTO)
+        words = [f"rounded to the {proposed}step {step} from the origin {','.join(origin or ())}"]
+        for side, it in ((column.side, column.said()) for column in each):
+            words.append(f"{side}: {it['moved']:,} of {it['positions']:,} positions moved by at most {it['greatest']:.3g}, "
+                         f"{it['mean']:.3g} in the mean, {it['merged']:,} merged")
+        warnings.warn(f"sfq: {'; '.join(words)}", RoundingWarning, stacklevel=level)
+    return {"step": step, "origin": origin and list(origin), **{side: it.said() for side, it in columns.items()}}

@@ -1,0 +1,366 @@
+"""Reads the layers of a source by GDAL: fields, keys and geometries of its records, and GEOS's make-valid. None of it is proved.
+
+The geometries of a layer are those that GDAL has of it, or points and texts that are in its columns; and they may be moved to another
+reference system.
+"""
+from __future__ import annotations
+
+import contextlib
+import os
+import re
+import sys
+from collections import Counter
+from typing import Any, Callable, Iterable, Iterator, NamedTuple, Optional, Sequence
+
+from ..geometry import binary, grids
+from ..tables import rules
+from . import columns, offline, proposing, systems
+from .columns import Refused
+
+# Words of a source that are nobody's business but its own.
+SECRET = re.compile(r"(password\s*=\s*)('[^']*'|\S+)|(//[^/:@\s]*:)[^/@\s]*(?=@)", re.I)
+
+# What is past this is no coordinate that a grid could take.
+FARTHEST = 1e15
+
+
+class Missing(Exception):
+    """What an import needs isn't there."""
+
+
+class Modules(NamedTuple):
+    """GDAL's modules."""
+
+    gdal: Any
+    ogr: Any
+    osr: Any
+
+
+def modules() -> Modules:
+    """Returns GDAL's modules, with errors as exceptions. Missing where they aren't there."""
+    try:
+        from osgeo import gdal, ogr, osr
+    except ImportError as error:
+        raise Missing(f"GDAL's module osgeo can't be loaded by {sys.executable}: install the package python3-gdal ({error})") from None
+    found = Modules(gdal, ogr, osr)
+    for it in found:
+        it.UseExceptions()
+    return found
+
+
+def without_secrets(source: str) -> str:
+    """Returns the name of a source without its password."""
+    return SECRET.sub(lambda it: f"{it[1] or it[3]}***", source)
+
+
+class Unreadable(Exception):
+    """A text of GDAL isn't UTF-8."""
+
+
+UNREADABLE = Unreadable()
+
+
+class Warnings:
+    """Keeps GDAL's warnings, and says each once. Errors are exceptions besides."""
+
+    def __init__(self, say: Callable[[str], None]) -> None:
+        self.say, self.most = say, 10
+        self.said: set[str] = set()
+
+    def __call__(self, level: int = 0, _number: int = 0, text: str = "") -> None:
+        if not level:
+            # GDAL's text isn't UTF-8, and its module calls with that exception pending. One that is there already takes its place, as
+            # nothing can be called before, and is caught.
+            try:
+                raise UNREADABLE
+            except Unreadable:
+                text, level = "it says what isn't UTF-8", 2
+        if level == 2 and text not in self.said and len(self.said) < self.most:
+            self.said.add(text)
+            self.say(f"GDAL: {text}")
+
+
+@contextlib.contextmanager
+def warnings_said(found: Modules, say: Callable[[str], None]) -> Iterator[None]:
+    """Has GDAL's warnings said meanwhile."""
+    found.gdal.PushErrorHandler(Warnings(say))
+    try:
+        yield
+    finally:
+        found.gdal.PopErrorHandler()
+
+
+class Source:
+    """A source that is open for reading."""
+
+    def __init__(self, found: Modules, path: str) -> None:
+        self.modules, self.path = found, path
+        # What a message and grid.json call it.
+        self.name = without_secrets(path)
+        gdal = found.gdal
+        try:
+            with offline.offline(os.path.exists(path)):
+                self.file = gdal.OpenEx(path, gdal.OF_VECTOR | gdal.OF_READONLY)
+        except RuntimeError as error:
+            raise OSError(without_secrets(f"{path}: {str(error).removeprefix(f'{path}: ')}")) from None
+        self.is_of_texts = self.file.GetDriver().ShortName == "CSV"
+
+    def layers(self, names: Sequence[str]) -> list[Layer]:
+        """Returns the layers of those names that the source has, in their order, or all."""
+        there = {it.GetName(): it for it in (self.file.GetLayer(at) for at in range(self.file.GetLayerCount()))}
+        found = [there.get(it) or self.unlisted(it) for it in names] if names else list(there.values())
+        return [Layer(self, it) for it in found if it is not None]
+
+    def names(self) -> list[str]:
+        """Returns the names of the layers that the source lists."""
+        return [self.file.GetLayer(at).GetName() for at in range(self.file.GetLayerCount())]
+
+    def unlisted(self, name: str) -> Any:
+        """Returns a layer that the source doesn't list, as those of PostGIS may be, or None."""
+        try:
+            return self.file.GetLayerByName(name)
+        except RuntimeError:
+            return None
+
+
+class Geometries(NamedTuple):
+    """The geometries of a layer: their column's name, the type that the source says they have, and what reads that of a record.
+
+    What reads it raises Refused where a record has none that can be read.
+    """
+
+    name: str
+    word: str
+    read: Callable[[Any], Any]
+
+
+class Layer:
+    """A layer of a source."""
+
+    def __init__(self, source: Source, layer: Any) -> None:
+        self.source, self.modules, self.layer, self.described = source, source.modules, layer, layer.GetLayerDefn()
+        self.name = self.label = layer.GetName()
+        self.fields = [self.described.GetFieldDefn(it) for it in range(self.described.GetFieldCount())]
+        self.shapes = [self.own(it) for it in range(self.described.GetGeomFieldCount())]
+        # The reference system, and the column that is read as geometries and is none of the others.
+        self.reference, self.hidden = layer.GetSpatialRef(), ""
+
+    def own(self, at: int) -> Geometries:
+        """Returns the geometries of a column that GDAL has of the layer."""
+        column, take = self.described.GetGeomFieldDefn(at), self.modules.ogr.Feature.GetGeomFieldRef
+        word = binary.WORDS.get(self.modules.ogr.GT_Flatten(column.GetType()), "GEOMETRY")
+        return Geometries(column.GetName(), word, lambda it: take(it, at))
+
+    def columns(self) -> list[tuple[int, str]]:
+        """Returns the place and the name of each column that isn't read as geometries."""
+        return [(at, it.GetName()) for at, it in enumerate(self.fields) if it.GetName() != self.hidden]
+
+    def take_points(self, x: str, y: str) -> None:
+        """Has the layer's geometries be points, whose coordinates are in these two columns."""
+        places = [self.described.GetFieldIndex(it) for it in (x, y)]
+        self.shapes = [Geometries("geom", "POINT", columns.points(self.modules.ogr, self.fields, places))]
+
+    def take_texts(self, column: str) -> None:
+        """Has the layer's geometries be those that a column has as well-known text."""
+        self.hidden = column
+        self.shapes = [Geometries(column, "GEOMETRY", columns.texts(self.modules.ogr, column, self.described.GetFieldIndex(column)))]
+
+    def take_reference(self, system: Any) -> None:
+        """Has the layer be in this reference system."""
+        self.reference = system
+
+    def move(self, target: Any) -> None:
+        """Has the geometries be moved to another reference system."""
+        moved, name = systems.mover(self.modules.osr, self.reference, target), systems.label(target)
+
+        def moving(read: Callable[[Any], Any]) -> Callable[[Any], Any]:
+            def found(it: Any) -> Any:
+                geometry = read(it)
+                try:
+                    if geometry is not None:
+                        moved(geometry)
+                except RuntimeError as error:
+                    raise Refused(f"W1: it can't be moved to {name}: {error}") from None
+                return geometry
+
+            return found
+
+        self.shapes = [it._replace(read=moving(it.read)) for it in self.shapes]
+        self.reference = target
+
+    def __iter__(self) -> Iterator[Any]:
+        """Reads the records. OSError where GDAL can't: what it would do behind such a record depends on the driver."""
+        self.layer.ResetReading()
+        take, count = self.layer.GetNextFeature, 0
+        while True:
+            try:
+                feature = take()
+            except RuntimeError as error:
+                raise OSError(f"{self.name} record {count + 1}: GDAL can't read it{f': {error}' if str(error) else ''}") from None
+            if feature is None:
+                return
+            count += 1
+            yield feature
+
+    def count(self) -> int:
+        """Returns how many records there are, or -1 where counting takes a pass."""
+        return int(self.layer.GetFeatureCount(0))
+
+    def may_take(self, *names: str) -> bool:
+        """Whether geometries may be made of these columns: they are there, and the layer has no geometries but those of a file of texts."""
+        return all(self.described.GetFieldIndex(it) >= 0 for it in names) and (not self.shapes or self.source.is_of_texts)
+
+    def has(self, name: str) -> bool:
+        """Whether there is a column of this name, that of the FID too."""
+        return name == self.layer.GetFIDColumn() or any(it.GetName() == name for it in self.fields)
+
+    def is_whole(self, name: str) -> bool:
+        """Whether a column of this name has whole numbers."""
+        ogr = self.modules.ogr
+        return any(it.GetName() == name and it.GetType() in (ogr.OFTInteger, ogr.OFTInteger64) for it in self.fields)
+
+    def is_real(self, name: str) -> bool:
+        """Whether a column of this name has numbers with a point."""
+        return any(it.GetName() == name and it.GetType() == self.modules.ogr.OFTReal for it in self.fields)
+
+    def without_geometries(self) -> Iterator[Any]:
+        """Reads the records without their geometries, where the driver can."""
+        can = self.layer.TestCapability(self.modules.ogr.OLCIgnoreFields)
+        if can:
+            self.layer.SetIgnoredFields(["OGR_GEOMETRY", "OGR_STYLE"])
+        try:
+            yield from self
+        finally:
+            if can:
+                self.layer.SetIgnoredFields([])
+
+    def repeated(self, key: Callable[[Any], Optional[int]]) -> Optional[str]:
+        """Returns why a key can't be one, or None. Keys are kept, in a second pass, only where they don't ascend."""
+        before = None
+        for feature in self.without_geometries():
+            found = key(feature)
+            if found is None:
+                return "a record has none"
+            if before is not None and found <= before:
+                break
+            before = found
+        else:
+            return None
+        kept = set()
+        for feature in self.without_geometries():
+            found = key(feature)
+            if found is None or found in kept:
+                return "a record has none" if found is None else f"{found} comes twice"
+            kept.add(found)
+        return None
+
+    def seeming(self) -> str:
+        """Returns the option that makes geometries of columns of a layer that has none, where their names look so; else nothing."""
+        return "" if self.shapes else columns.seeming([name for _, name in self.columns()])
+
+    def whole(self, at: int) -> Callable[[Any], Optional[int]]:
+        """Returns what reads a whole number of a record."""
+        feature = self.modules.ogr.Feature
+        take, is_there = feature.GetFieldAsInteger64, feature.IsFieldSetAndNotNull
+        return lambda it: take(it, at) or (0 if is_there(it, at) else None)
+
+    def reader(self, at: int, empty: Counter[str]) -> Callable[[Any], str]:
+        """Returns what reads the field of a record as CSV has it, and counts empty texts by their column."""
+        ogr, field = self.modules.ogr, self.fields[at]
+        name, kind, feature, quoted = field.GetName(), field.GetType(), ogr.Feature, rules.quoted
+        is_there = feature.IsFieldSetAndNotNull
+        if kind in (ogr.OFTInteger, ogr.OFTInteger64):
+            number = feature.GetFieldAsInteger64
+            return lambda it: str(number(it, at) or (0 if is_there(it, at) else ""))
+        if kind == ogr.OFTReal:
+            double, shown = feature.GetFieldAsDouble, rules.single if field.GetSubType() == ogr.OFSTFloat32 else rules.real
+            return lambda it: shown(double(it, at)) if is_there(it, at) else ""
+        take, shows = self.taking(kind)
+
+        def read(it: Any) -> str:
+            if not is_there(it, at):
+                return ""
+            found = shows(take(it, at)) if shows else take(it, at)
+            if not found:
+                empty[name] += 1
+            return quoted(found)
+
+        return read
+
+    def taking(self, kind: int) -> tuple[Callable[..., Any], Optional[Callable[[Any], str]]]:
+        """Returns what reads a value of a type that isn't a number, and what writes it as a text; None where it is one."""
+        ogr = self.modules.ogr
+        feature = ogr.Feature
+        known: dict[int, tuple[Callable[..., Any], Callable[[Any], str]]] = {
+            ogr.OFTDate: (feature.GetFieldAsDateTime, rules.date),
+            ogr.OFTTime: (feature.GetFieldAsDateTime, rules.time),
+            ogr.OFTDateTime: (feature.GetFieldAsDateTime, rules.date_time),
+            ogr.OFTBinary: (feature.GetFieldAsBinary, rules.coded),
+            ogr.OFTIntegerList: (feature.GetFieldAsIntegerList, rules.listed),
+            ogr.OFTInteger64List: (feature.GetFieldAsInteger64List, rules.listed),
+            ogr.OFTRealList: (feature.GetFieldAsDoubleList, rules.listed),
+            ogr.OFTStringList: (feature.GetFieldAsStringList, rules.listed),
+        }
+        return known.get(kind, (feature.GetFieldAsString, None))
+
+
+def extents(layer: Layer) -> Iterator[proposing.Extent]:
+    """Returns the extent of each geometry of a layer, but for those that have no finite one."""
+    if not layer.shapes:
+        return
+    for feature in layer:
+        for column in layer.shapes:
+            try:
+                geometry = column.read(feature)
+            except Refused:
+                continue
+            if geometry is not None and not geometry.IsEmpty():
+                it = proposing.Extent(*geometry.GetEnvelope())
+                if all(-FARTHEST < value < FARTHEST for value in it):
+                    yield it
+
+
+def extent(layers: Iterable[Layer]) -> Optional[proposing.Extent]:
+    """Returns the extent of all geometries of some layers; None where there are none."""
+    return proposing.joined(it for layer in layers for it in extents(layer))
+
+
+def flat(geometry: Any) -> bytes:
+    """Returns the binary form of a geometry without Z and M, its curves as lines."""
+    copy = geometry.GetLinearGeometry() if geometry.HasCurveGeometry() else geometry.Clone()
+    copy.FlattenTo2D()
+    return binary_of(copy)
+
+
+def binary_of(geometry: Any) -> bytes:
+    """Returns the binary form of a geometry, least byte first."""
+    return bytes(geometry.ExportToIsoWkb(1))
+
+
+def made_valid(found: Modules, text: str) -> Optional[bytes]:
+    """Returns the binary form of what GEOS's make-valid makes of a text, or None where it makes nothing of the same dimension."""
+    found.gdal.PushErrorHandler("CPLQuietErrorHandler")
+    try:
+        geometry = found.ogr.CreateGeometryFromWkt(text)
+        geometry.CloseRings()
+        made = geometry.MakeValid(["METHOD=STRUCTURE", "KEEP_COLLAPSED=NO"])
+        if made is None or made.IsEmpty() or made.GetDimension() != geometry.GetDimension():
+            return None
+        made.FlattenTo2D()
+        return binary_of(made)
+    except RuntimeError:
+        return None
+    finally:
+        found.gdal.PopErrorHandler()
+
+
+UNITS = grids.Grid("1")
+
+
+def mended(found: Modules, text: str) -> Optional[str]:
+    """Returns the text of what make-valid makes of a text on the grid, rounded to the grid again, or None."""
+    made = made_valid(found, text)
+    try:
+        return None if made is None else binary.text(binary.shape(made, drops_empty=True), UNITS, grids.Shift())
+    except (binary.NoText, grids.NotANumber):
+        return None
