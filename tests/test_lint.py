@@ -24,7 +24,16 @@ CLEAN = {
 }
 
 # What ./lint counts with.
-TOOLS = ["antt", "common_facts", "counts", "paths", "proved_page", "recorded", "repository", "twins"]
+TOOLS = ["antt", "common_facts", "contracts", "counts", "edits", "paths", "proved_page", "recorded", "repository", "twins", "unused"]
+
+
+def tool(name):
+    """The text of a tool, without the line for the shell: a file that is written here can't be executed."""
+    return (ROOT / f"tools/{name}.py").read_text().removeprefix("#!/usr/bin/env python3\n")
+
+
+# The only function of the clean repository is one that nothing uses.
+STAYS = {"tools/unused.txt": "It is an example.\ncrates/one/src/lib.rt one\n"}
 # A stand-in for `rt`, whose layout is that no line ends with a space.
 LAYS_OUT = f"""#!{sys.executable}
 import pathlib
@@ -49,6 +58,8 @@ class Refused(unittest.TestCase):
             (room / "bin").mkdir(exist_ok=True)
             for program in (room / "bin").iterdir():
                 program.chmod(0o755)
+            if shutil.which("pyflakes3"):
+                (room / "bin/pyflakes3").symlink_to(shutil.which("pyflakes3"))
             environment = {**os.environ, "PATH": str(room / "bin")}
             ran = subprocess.run(
                 [sys.executable, room / "lint"], env=environment, capture_output=True, text=True
@@ -100,6 +111,23 @@ class Refused(unittest.TestCase):
         self.refused("crates/one/must-fail/two.edit", edit, 2, "0 times")
         self.refused("crates/one/edits/three.edit", edit, 2, "0 times")
 
+    def test_an_edit_that_the_gate_cannot_try(self):
+        tools = {**{f"tools/{it}.py": tool(it) for it in TOOLS}, **STAYS}
+        marked = "tried by the gate\nfile: src/lib.rt\n"
+        status, lines = self.found("crates/one/edits/three.edit", marked + "old:     1\nnew:     2\n", tools)
+        self.assertEqual((status, lines[0].split()[:2]), (0, ["crates", "1"]), lines)
+        status, lines = self.found("crates/one/edits/three.edit", marked + "old: -> u64\nnew: -> u32\n", tools)
+        self.assertEqual((status, lines[0].rpartition(": ")[2]), (1, "it changes more than functions"), lines)
+
+    def test_a_script_that_cannot_be_called(self):
+        self.refused("tools/one.py", "#!/usr/bin/env python3\n", 1, "chmod +x")
+        self.assertEqual(self.found("tools/one.py", "ONE = 1\n"), (0, []))
+
+    @support.needs("pyflakes3", "pyflakes3")
+    def test_an_import_that_nothing_uses_and_a_name_that_is_not_there(self):
+        self.refused("tools/one.py", "import os\nimport support\n", 1, "'os' imported but unused")
+        self.refused("tools/one.py", "import os\n\nprint(os.sep, nothing)\n", 3, "undefined name 'nothing'")
+
     def test_a_crate_that_is_not_listed(self):
         status, lines = self.found("crates.txt", "# Each crate.\n")
         self.assertEqual((status, lines), (1, ["crates/one:1: a crate that isn't in crates.txt"]))
@@ -148,7 +176,7 @@ class Refused(unittest.TestCase):
         self.refused("docs/DEFINITIONS.md", "Twos.antt\n", 1, "docs/definitions.py", more)
 
     def test_counts_at_the_end(self):
-        tools = {f"tools/{it}.py": (ROOT / f"tools/{it}.py").read_text() for it in TOOLS}
+        tools = {**{f"tools/{it}.py": tool(it) for it in TOOLS}, **STAYS}
         status, lines = self.found(more=tools)
         self.assertEqual((status, lines[0].split()[:2]), (0, ["crates", "1"]), lines)
         walk = {"tools/walks.txt": "a way, at most 1 crates:\none::lib::one\n"}
@@ -158,8 +186,13 @@ class Refused(unittest.TestCase):
         status, lines = self.found(more={**tools, **walk})
         self.assertEqual((status, lines[0]), (1, "tools/walks.txt:2: no function one::lib::two"))
 
+    def test_a_function_that_nothing_uses(self):
+        tools = {f"tools/{it}.py": tool(it) for it in TOOLS}
+        status, lines = self.found(more=tools)
+        self.assertEqual((status, lines[0].partition(";")[0]), (1, "crates/one/src/lib.rt:5: one: nothing uses it"))
+
     def test_more_than_is_recorded(self):
-        tools = {f"tools/{it}.py": (ROOT / f"tools/{it}.py").read_text() for it in TOOLS}
+        tools = {**{f"tools/{it}.py": tool(it) for it in TOOLS}, **STAYS}
         more = {**tools, "tools/long_lines.txt": "# Long.\none 1\n", "tools/common_facts.txt": "# Facts.\n"}
         long = "long : One\nlong = " + "x" * 124 + "\n"
         status, lines = self.found("crates/one/proofs/Ones.antt", long, more)

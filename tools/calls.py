@@ -71,17 +71,22 @@ def prove(jobs: int = 0, name: str = CRATE) -> None:
         raise Failure(f"the crate {name} isn't proved")
 
 
-def words_of_build(kit: str, toolchain: str, archive: str, keeps: bool, name: str, root: str) -> list[str]:
-    """Returns the words by which the kit builds the crate with a toolchain of our own. `rt lib` has no word for one."""
+def words_over(kit: str, name: str, root: str) -> list[str]:
+    """Returns the words by which the kit reads a library crate over the libraries that are proved below it."""
     crates = repository.read_crates(root)
-    words = [f"{kit}/bin/rattle", "build", "--crate-name", name, "src/lib.rt", "--extern", f"std={kit}/rlibs/std.rlib"]
+    words = ["--crate-name", name, "src/lib.rt", "--extern", f"std={kit}/rlibs/std.rlib"]
     for it in crates[name]:
         at = f"{root}/crates/{it}/out/rlib" if it in crates else f"{kit}/rlibs"
         words += ["--extern", f"{it}={at}/{it}.rlib"]
     for it in below(crates, name):
         words += ["-L", f"dependency={root}/crates/{it}/out/rlib"]
     words += ["-L", f"dependency={kit}/rlibs", "--antt-project", f"{kit}/rattle/logic/antt-project.json"]
-    words += ["--logic-built", f"{kit}/logic_built", "--links", f"{name}=", "--crate-type", "staticlib"]
+    return words + ["--logic-built", f"{kit}/logic_built"]
+
+
+def words_of_build(kit: str, toolchain: str, archive: str, keeps: bool, name: str, root: str) -> list[str]:
+    """Returns the words by which the kit builds the crate with a toolchain of our own. `rt lib` has no word for one."""
+    words = [f"{kit}/bin/rattle", "build", *words_over(kit, name, root), "--links", f"{name}=", "--crate-type", "staticlib"]
     words += ["--incremental", "out/incremental"] if keeps else []
     return words + ["--backend", "llvm", "--toolchain", toolchain, "-o", archive]
 

@@ -74,4 +74,5 @@ def main(words: list[str]) -> None:
 
 
 if __name__ == "__main__":
+    repository.print_help(__doc__)
     main(sys.argv[1:])

@@ -212,7 +212,7 @@ def source_of_words(rows: list[Row]) -> str:
     ]
     return (
         "/*\n * What each fault means and what to do, of a geometry by FAULT, of a schema, a table or a query by TABLE_FAULT. C takes the lines by\n"
-        " * these macros (faults.h, and files.h of bindings/sqlite), and Python reads them (_faults.py). tools/fault_pages.py writes them from\n"
+        " * these macros (faults.h, and files.h of bindings/sqlite), and Python reads them (faults.py). tools/fault_pages.py writes them from\n"
         " * the tables of docs/FAULTS.md.\n */\n" + "".join(lines)
     )
 
@@ -261,16 +261,9 @@ def literal(text: str) -> str:
 
 def source_of(letter: str, texts: dict[str, str]) -> str:
     """Returns the file of the pages of one letter."""
-    parts = [
-        f"//! The pages of {letter}1 to {list(texts)[-1]}. `tools/fault_pages.py` writes them from the tables of docs/FAULTS.md.\n",
-        "ghost use Rattle.text_commands.specs.FaultPages.{IsPageOf};\n"
-        "ghost use Rattle.text_commands.specs.declared.fault_codes.FaultCode.TheVariants as c;\n",
-    ]
+    parts = [f"//! The pages of {letter}1 to {list(texts)[-1]}. `tools/fault_pages.py` writes them from the tables of docs/FAULTS.md.\n"]
     for code, text in texts.items():
-        parts.append(
-            f"/// The page of {code}.\npub(crate) fn {code.lower()}() -> &'static str\n"
-            f"    ensures {{ IsPageOf c.{code} result.now }}\n{{\n    \"\\\n{literal(text)}\"\n}}\n"
-        )
+        parts.append(f"/// The page of {code}.\npub(crate) const {code}: &str = \"\\\n{literal(text)}\";\n")
     return "\n".join(parts)
 
 
@@ -323,4 +316,5 @@ def main() -> int:
 
 
 if __name__ == "__main__":
+    repository.print_help(__doc__)
     sys.exit(main())

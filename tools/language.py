@@ -106,7 +106,7 @@ CODES = [(letter, str(sum(it[0] == letter for it in FAULTS))) for letter in "SLQ
 SQL_RELATIONS = [f"ST_{it}" for it in RELATIONS]
 # The types by their words, as definitions name both.
 TYPED = [(name, word) for word, name in SHAPES.items()]
-HEADER, LIBRARY, PAGE = "bindings/c/sfq.h", "bindings/python/sfq/_library.py", "bindings/web/page.js"
+HEADER, LIBRARY, PAGE = "bindings/c/sfq.h", "bindings/python/sfq/geometry/library.py", "bindings/web/page.js"
 LISTS = [
     Place(HEADER, r"^enum sfq_relation", r"(SFQ_\w+) = (\d+)", [(it, str(at)) for at, it in enumerate(CONSTANTS)]),
     Place(HEADER, r"^#define SFQ_RELATIONS", r"(\d+)$", [str(len(RELATIONS))]),
@@ -122,14 +122,14 @@ LISTS = [
     ),
     Place(LIBRARY, r"^TYPES = ", r'"(\w+)"', NUMBERED, r"\)\n"),
     Place(LIBRARY, r"^RELATIONS = ", r'"(\w+)"', [lower(it) for it in RELATIONS], r"\)\n"),
-    Place("bindings/python/sfq/__init__.py", r"^    def _holds", r'_holds\("(\w+)"', [lower(it) for it in RELATIONS], r"\n\n\n"),
+    Place("bindings/python/sfq/geometry/shapes.py", r"^    def _holds", r'_holds\("(\w+)"', [lower(it) for it in RELATIONS], r"\n\n\n"),
     Place("bindings/python/sfq/geopandas.py", r"^equals = ", r'predicate_of\("(\w+)"', [lower(it) for it in RELATIONS]),
-    Place("bindings/python/sfq/_texts.py", r"^TYPES = ", r'"(\w+)":', list(SHAPES.values()), r"\}\n", True),
+    Place("bindings/python/sfq/geometry/texts.py", r"^TYPES = ", r'"(\w+)":', list(SHAPES.values()), r"\}\n", True),
     Place(
-        "bindings/python/sfq/_wkb.py", r"^WORDS = ", r'(\d): "(\w+)"', [(str(at), it.upper()) for at, it in enumerate(NUMBERED, 1)], r"\}\n"
+        "bindings/python/sfq/geometry/binary.py", r"^WORDS = ", r'(\d): "(\w+)"', [(str(at), it.upper()) for at, it in enumerate(NUMBERED, 1)], r"\}\n"
     ),
-    Place("bindings/python/sfq/_prompt.py", r"^FUNCTIONS = ", r'"(ST_\w+)"', FUNCTIONS, r"\)\n", True),
-    Place("bindings/python/sfq/_tables.py", r"^RESERVED = ", r'"(\w+)"', [it.lower() for it in RESERVED], r"\}\n"),
+    Place("bindings/python/sfq/commands/prompt.py", r"^FUNCTIONS = ", r'"(ST_\w+)"', FUNCTIONS, r"\)\n", True),
+    Place("bindings/python/sfq/tables/rules.py", r"^RESERVED = ", r'"(\w+)"', [it.lower() for it in RESERVED], r"\}\n"),
     Place(
         "bindings/sqlite/functions.h", r'^ +\{ "ST_Equals"', r'"(\w+)", 2, relation, (\w+)',
         list(zip(SQL_RELATIONS, CONSTANTS)), r"\n\};",
@@ -153,7 +153,7 @@ LISTS = [
         "bindings/javascript/faults.js", r"^const USED", r"(\w\d): (\d)", [(it, str(count)) for it, count in GEOMETRY_FAULTS.items()], r";"
     ),
     Place("bindings/javascript/faults.js", r"^const WITHOUT_PLACE", r'"(\w+)"', WITHOUT_PLACE, r"\];", True),
-    Place("bindings/python/sfq/_errors.py", r"^WITHOUT_PLACE", r'"(\w+)"', WITHOUT_PLACE, r"\)\n", True),
+    Place("bindings/python/sfq/tables/errors.py", r"^WITHOUT_PLACE", r'"(\w+)"', WITHOUT_PLACE, r"\)\n", True),
     Place("bindings/web/shapes.js", r"^  const NESTING", r"(\w+):", SHAPE_WORDS, r"\};"),
     Place(PAGE, r"^const SPOKEN", r"(\w+): \"", [it.removeprefix("ST_") for it in PREDICATES], r"\};"),
     Place("packaging/completions/sfq.bash", r"relate:2", r"([A-Z]+\()", OPENED, r";;"),

@@ -56,17 +56,17 @@ def version() -> Optional[str]:
     return f"sfq {found[1]}\n" if found else None
 
 
-def literal_of(function: str, name: str) -> Optional[str]:
-    """Returns the text that a function of a file of the program's source returns; None where there is no such function."""
+def literal_of(item: str, name: str) -> Optional[str]:
+    """Returns the text of a function or a constant of a file of the program's source; None where there is no such item."""
     text = read(f"{ROOT}/crates/text_commands/src/{name}.rt")
-    found = re.search(rf'^pub\(crate\) fn {function}\(\) -> .*?^    "\\\n(.*?)^"$', text, re.M | re.S)
+    found = re.search(rf'^pub\(crate\) (?:fn|const) {item}\b.*?"\\\n(.*?)^";?$', text, re.M | re.S)
     return re.sub(r'\\(["\\])', r"\1", found[1]) if found else None
 
 
 def page(code: str) -> Optional[str]:
     """Returns the page of a code, in any case, as the program's source has it; None where there is none."""
     name = PAGES.get(code[:1].upper())
-    return literal_of(code.lower(), name) if name and re.fullmatch(r"[a-zA-Z][0-9]+", code) else None
+    return literal_of(code.upper(), name) if name and re.fullmatch(r"[a-zA-Z][0-9]+", code) else None
 
 
 def fault_text(words: Sequence[str]) -> Optional[Text]:
@@ -167,4 +167,7 @@ def main() -> int:
 
 
 if __name__ == "__main__":
+    import repository
+
+    repository.print_help(__doc__)
     sys.exit(main())

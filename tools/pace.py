@@ -138,4 +138,7 @@ def main() -> int:
 
 
 if __name__ == "__main__":
+    import repository
+
+    repository.print_help(__doc__)
     sys.exit(main())

@@ -111,11 +111,14 @@ def main() -> int:
     making.add_argument("words", metavar="PACKAGE", nargs="*")
     adding.add_argument("words", metavar="PACKAGE", nargs="+")
     running.add_argument("words", metavar="COMMAND", nargs=argparse.REMAINDER)
-    options = parser.parse_args()
+    # argparse takes no packages behind an option: those are left over.
+    options, left = parser.parse_known_args()
+    if left and (options.command != "make" or any(it.startswith("-") for it in left)):
+        parser.error(f"unrecognized arguments: {' '.join(left)}")
     if options.command == "make":
         if os.geteuid() != 0:
             fail("needs root, which mounts and changes the root folder")
-        return make(options.folder, options.suite, options.mirror, options.words)
+        return make(options.folder, options.suite, options.mirror, [*options.words, *left])
     if missing := lacking_to_run(options.folder):
         fail(missing)
     if options.command == "add":

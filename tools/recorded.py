@@ -103,4 +103,5 @@ def main() -> int:
 
 
 if __name__ == "__main__":
+    repository.print_help(__doc__)
     sys.exit(main())

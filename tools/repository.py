@@ -9,7 +9,7 @@ import stat
 import subprocess
 import sys
 import tempfile
-from typing import NoReturn
+from typing import NoReturn, Optional
 
 ROOT = os.path.dirname(os.path.dirname(os.path.realpath(__file__)))
 PROGRAM = f"{ROOT}/crates/sfq/out/sfq"
@@ -20,6 +20,13 @@ Row = tuple[str, float, str]
 
 def fail(text: str) -> NoReturn:
     sys.exit(f"sfq: {text}")
+
+
+def print_help(text: Optional[str]) -> None:
+    """Prints a script's docstring and ends, where the script is asked for help alone."""
+    if sys.argv[1:] in (["--help"], ["-h"]):
+        print((text or "").strip())
+        sys.exit(0)
 
 
 def read(path: str) -> str:

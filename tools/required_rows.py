@@ -141,4 +141,5 @@ def main(words: list[str]) -> int:
 
 
 if __name__ == "__main__":
+    repository.print_help(__doc__)
     sys.exit(main(sys.argv[1:]))

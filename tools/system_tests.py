@@ -124,6 +124,7 @@ def main(words: list[str]) -> int:
 
 
 if __name__ == "__main__":
+    repository.print_help(__doc__)
     # A signal is an exception, so that tests remove what they made. SIGINT too: a shell has what it runs in the background ignore it,
     # and programs that are tested would do so as well.
     for number in (signal.SIGINT, signal.SIGTERM, signal.SIGHUP):

@@ -15,6 +15,7 @@ import calls
 import cost
 import edits
 import front_door
+import gate_edits
 import library
 import repository
 import tiles
@@ -27,6 +28,8 @@ PLAYING = "600"
 # The name of the part that builds the program without proof, for which the files of tests wait that ask it.
 PROGRAM = "the unproved program"
 LIBRARIES = "the C libraries, the package for JavaScript and the web page"
+# What a file of Python imports, by its first word.
+IMPORTED = re.compile(r"(?m)^(?:import|from) (\w+)")
 
 
 def outcome(name: str, is_well: bool, text: str, part: str, number: int = 1) -> Report:
@@ -85,17 +88,31 @@ def run_file(name: str, choice: str) -> Report:
 
 
 def files_of_tests() -> dict[str, str]:
-    """Returns the text of each file of tests/ by its name."""
-    return {os.path.basename(it)[:-3]: read(it) for it in sorted(glob.glob(f"{ROOT}/tests/test_*.py"))}
+    """Returns the text of each file of tests/ by its name, those without tests as well."""
+    return {os.path.basename(it)[:-3]: read(it) for it in sorted(glob.glob(f"{ROOT}/tests/*.py"))}
+
+
+def with_imported(name: str, files: dict[str, str]) -> str:
+    """Returns the text of a file of tests/ with those of the files there that it imports, which may have the marks of its classes."""
+    found: dict[str, str] = {}
+    left = [name]
+    while left:
+        it = left.pop()
+        if it in files and it not in found:
+            found[it] = files[it]
+            left += IMPORTED.findall(found[it])
+    return "".join(found.values())
 
 
 def file_parts(choice: str, program: Optional[str] = None, libraries: Optional[str] = None) -> list[Part]:
-    """Returns a part for each file of tests/: those that ask the program come after that part, those that call the libraries after that."""
-    found = []
-    for name, text in files_of_tests().items():
-        after = [program] if program and "ASKS_PROGRAM" in text else []
-        after += [libraries] if libraries and "ASKS_LIBRARY" in text else []
-        found.append(Part(name, functools.partial(run_file, name, choice), tuple(after)))
+    """Returns a part for each file of tests: those that ask the program come after that part, those that call the libraries after that."""
+    found, files = [], files_of_tests()
+    for name in files:
+        if name.startswith("test_"):
+            text = with_imported(name, files)
+            after = [program] if program and "ASKS_PROGRAM" in text else []
+            after += [libraries] if libraries and "ASKS_LIBRARY" in text else []
+            found.append(Part(name, functools.partial(run_file, name, choice), tuple(after)))
     return found
 
 
@@ -170,26 +187,45 @@ def stamp_programs(total: str) -> None:
         tiles.stamp()
 
 
-def make_library() -> Report:
-    """Makes the C libraries, and where binaryen is there the package for JavaScript and the web page, of the libraries that `rt ci` left proved."""
+def compile_part(folder: str, compiled: dict[str, calls.Compiled], crate: str) -> Report:
+    """Compiles the calls of a crate over the libraries that `rt ci` left proved."""
     try:
-        with tempfile.TemporaryDirectory(prefix="sfq-calls-") as folder:
-            compiled = {it.crate: calls.compile_calls(folder, keeps=False, name=it.crate) for it in library.ALL}
-            for it in library.ALL:
-                library.link(compiled[it.crate].archive, it)
-            if shutil.which("wasm-opt"):
-                import javascript_package
-                import web_page
+        compiled[crate] = calls.compile_calls(folder, keeps=False, name=crate)
+    except calls.Failure as it:
+        return Report(failures=[Failure(f"the calls of {crate}", str(it), "./build --library, --javascript and --web")])
+    return Report(1)
 
-                for name in (name for it in javascript_package.MODULES for name in it.crates):
-                    if name not in compiled:
-                        compiled[name] = calls.compile_calls(folder, keeps=False, name=name)
-                modules = javascript_package.modules_of(compiled)
-                javascript_package.write_package(modules)
-                web_page.write_page(modules)
+
+def link_part(compiled: dict[str, calls.Compiled], crates: int) -> Report:
+    """Makes the C libraries, and where binaryen is there the package for JavaScript and the web page, once the calls of so many crates are compiled."""
+    if len(compiled) < crates:
+        return Report(skipped=[Skipped(LIBRARIES, "needs calls that couldn't be compiled")])
+    try:
+        for it in library.ALL:
+            library.link(compiled[it.crate].archive, it)
+        if shutil.which("wasm-opt"):
+            import javascript_package
+            import web_page
+
+            modules = javascript_package.modules_of(compiled)
+            javascript_package.write_package(modules)
+            web_page.write_page(modules)
     except calls.Failure as it:
         return Report(failures=[Failure(LIBRARIES, str(it), "./build --library, --javascript and --web")])
     return Report(1)
+
+
+def library_parts(folder: str) -> list[Part]:
+    """Returns the parts that make the libraries, in a folder: one for the calls of each crate, and behind these what links them."""
+    crates = [it.crate for it in library.ALL]
+    if shutil.which("wasm-opt"):
+        import javascript_package
+
+        crates += [name for it in javascript_package.MODULES for name in it.crates]
+    compiled: dict[str, calls.Compiled] = {}
+    # The calls of sfq_c take the least time, so they come last.
+    makes = [Part(f"the calls of {it}", functools.partial(compile_part, folder, compiled, it)) for it in reversed(dict.fromkeys(crates))]
+    return [*makes, Part(LIBRARIES, functools.partial(link_part, compiled, len(makes)), tuple(it.name for it in makes))]
 
 
 def take_door(counts: Counts) -> None:
@@ -213,8 +249,10 @@ def with_proof() -> int:
         side_by_side(counts, lints + file_parts("before"))
     is_new = not glob.glob(f"{ROOT}/crates/*/out/rlib")
     is_left = prove_all(counts) and is_new
-    makes = [Part(LIBRARIES, make_library)] if is_left and calls.CRATE in repository.read_crates() else []
-    side_by_side(counts, makes + file_parts("after", libraries=LIBRARIES))
+    with tempfile.TemporaryDirectory(prefix="sfq-calls-") as folder:
+        # What is made of the proved libraries, and the edits, fill the processors until the tests of the libraries can begin.
+        makes = [*library_parts(folder), *gate_edits.parts_of_gate()] if is_left and calls.CRATE in repository.read_crates() else []
+        side_by_side(counts, makes + file_parts("after", libraries=LIBRARIES))
     return counts.close()
 
 

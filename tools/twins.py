@@ -108,10 +108,10 @@ class Group(NamedTuple):
     lines: dict[str, int]
 
 
-def groups_of(root: str = repository.ROOT) -> list[Group]:
-    """Returns the groups of the list: a line with a reason, and below it one for each unit; an empty line between groups."""
+def groups_of(root: str = repository.ROOT, listed: str = LIST) -> list[Group]:
+    """Returns the groups of a list: a line with a reason, and below it one for each unit; an empty line between groups."""
     groups: list[Group] = []
-    path = f"{root}/{LIST}"
+    path = f"{root}/{listed}"
     begins = True
     for number, line in enumerate(repository.read(path).splitlines() if os.path.isfile(path) else [], 1):
         if not line.strip():
