@@ -20,7 +20,8 @@ from shapely.geometry import GeometryCollection, LineString, MultiPoint, MultiPo
 
 import sfq
 import sfq.geopandas
-from sfq import _frames, _grid, _library, _wkb
+from sfq.geometry import binary, grids, library
+from sfq.layers import frames
 
 # The predicates that GeoPandas joins by. It has `covered_by` too, which fails in version 0.12 over rtree.
 SHARED = ("intersects", "within", "contains", "overlaps", "crosses", "touches", "covers", "contains_properly")
@@ -72,9 +73,9 @@ def geometries(series):
 
 def rounded(series, step, origin=("0", "0")):
     """Returns a GeoSeries as it is on the grid, in steps, as sfq-import rounds it, without what sfq refuses."""
-    grid, found = _grid.Grid(step, origin), []
+    grid, found = grids.Grid(step, origin), []
     for it in series:
-        text = None if it is None else _wkb.text(_wkb.shape(it.wkb), grid, _grid.Shift())
+        text = None if it is None else binary.text(binary.shape(it.wkb), grid, grids.Shift())
         found.append(wkt.loads(text) if text and sfq.Geometry(text).is_valid else None)
     return GeoSeries(found, index=series.index)
 
@@ -141,7 +142,7 @@ class Joins(unittest.TestCase):
 
     def test_each_predicate_as_a_look_at_each_pair(self):
         chance = random.Random(13)
-        for name in _library.RELATIONS:
+        for name in library.RELATIONS:
             left, right = (frame(shapes(chance, 40)) for _ in "ab")
             ones, others = (geometries(side.geometry) for side in (left, right))
             wanted = [(i, j) for i, one in enumerate(ones) for j, other in enumerate(others) if one and other and getattr(one, name)(other)]
@@ -201,8 +202,8 @@ class Grids(unittest.TestCase):
     def test_what_is_said_of_rounding(self):
         """The counts are those of sfq-import."""
         numbers = [(1.004, 2), (3, 4.0051), (7.11, 8.22), (0.005, 0)]
-        shift = _grid.Shift()
-        _grid.Grid("0.01").rounded([it for pair in numbers for it in pair], shift)
+        shift = grids.Shift()
+        grids.Grid("0.01").rounded([it for pair in numbers for it in pair], shift)
         left = frame([Point(*it) for it in numbers] + [LineString([(0, 0), (0.001, 0), (5, 5)])])
         found, (said,) = warned(sfq.geopandas.sjoin, left, frame([box(0, 0, 9, 9)]), step=0.01)
         self.assertIs(said.category, sfq.geopandas.RoundingWarning)
@@ -342,7 +343,7 @@ class LaterShapely(unittest.TestCase):
         for place, shape in enumerate(shapes):
             given[place] = shape
         written = [it or b"" for it in shapely.to_wkb(given, byte_order=1, output_dimension=2 if flat else 3)]
-        return _frames.binaries(given, flat), _library.Binaries(written)
+        return frames.binaries(given, flat), library.Binaries(written)
 
     def test_points_are_taken_as_one_array(self):
         infinite, none = math.inf, math.nan
@@ -352,18 +353,18 @@ class LaterShapely(unittest.TestCase):
         ):
             with self.subTest(positions=positions, flat=flat):
                 packed, each = self.both([Point(it) for it in positions], flat)
-                self.assertIs(type(packed), _frames.Points)
+                self.assertIs(type(packed), frames.Points)
                 self.assertEqual([packed[it] for it in range(len(packed))], list(each.each))
                 self.assertEqual(repr(packed.extent()), repr(each.extent()))
-                for grid in (None, _grid.Grid("0.5").in_parts()):
-                    one, other = _library.KeptMany(packed, grid), _library.KeptMany(each, grid)
+                for grid in (None, grids.Grid("0.5").in_parts()):
+                    one, other = library.KeptMany(packed, grid), library.KeptMany(each, grid)
                     for field in ("statuses", "faults", "shift"):
                         self.assertEqual(bytes(getattr(one, field)), bytes(getattr(other, field)), field)
 
     def test_other_geometries_are_taken_one_by_one(self):
         for given in ([Point(1, 2), None], [Point(1, 2), Point()], [Point(1, 2, 3)], [Point(1, 2), LineString([(0, 0), (1, 1)])]):
             packed, each = self.both(given)
-            self.assertEqual((type(packed), packed.each), (_library.Binaries, each.each))
+            self.assertEqual((type(packed), packed.each), (library.Binaries, each.each))
 
 
 class Rows(unittest.TestCase):
@@ -375,7 +376,7 @@ class Rows(unittest.TestCase):
         ones, others = (geometries(side) for side in (left, right))
         wanted = [one.relate(other) if one and other else None for one, other in zip(ones, others)]
         assert_series_equal(sfq.geopandas.relate(left, right), pandas.Series(wanted, dtype=object))
-        for name in _library.RELATIONS:
+        for name in library.RELATIONS:
             ask = getattr(sfq.geopandas, name)
             self.assertEqual(ask.__name__, name)
             held = [bool(one and other and getattr(one, name)(other)) for one, other in zip(ones, others)]

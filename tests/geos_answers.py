@@ -12,7 +12,7 @@ from osgeo import ogr
 from shapely import wkt
 from shapely.ops import unary_union
 
-from sfq import _grid, _wkb
+from sfq.geometry import binary, grids
 
 PREDICATES = ("intersects", "touches", "crosses", "within", "overlaps", "equals")
 
@@ -44,11 +44,11 @@ def relations(folder, one, key, other, other_key):
 def texts(source, folder):
     """Returns the text of each record of a source on the grid of a folder, by its FID."""
     with open(f"{folder}/grid.json", encoding="utf-8") as file:
-        grid = _grid.Grid.of_file(json.load(file))
+        grid = grids.Grid.of_file(json.load(file))
     opened = ogr.Open(source)
     # A geometry is gone with its feature.
-    binary = {it.GetFID(): bytes(it.GetGeometryRef().ExportToIsoWkb(1)) for it in opened.GetLayer(0) if it.GetGeometryRef()}
-    return {number: _wkb.text(_wkb.shape(it), grid, _grid.Shift()) for number, it in binary.items()}
+    of_records = {it.GetFID(): bytes(it.GetGeometryRef().ExportToIsoWkb(1)) for it in opened.GetLayer(0) if it.GetGeometryRef()}
+    return {number: binary.text(binary.shape(it), grid, grids.Shift()) for number, it in of_records.items()}
 
 
 def meetings(source, folder):

@@ -10,7 +10,8 @@ import sys
 
 from osgeo import ogr
 from shapely import wkt
-from sfq import Geometry, _grid, _wkb
+from sfq import Geometry
+from sfq.geometry import binary, grids
 
 
 def texts_of(source, layer, grid):
@@ -23,14 +24,14 @@ def texts_of(source, layer, grid):
             continue
         geometry.FlattenTo2D()
         try:
-            yield feature.GetFID(), _wkb.text(_wkb.shape(bytes(geometry.ExportToIsoWkb(ogr.wkbNDR))), grid, _grid.Shift())
-        except _wkb.NoText:
+            yield feature.GetFID(), binary.text(binary.shape(bytes(geometry.ExportToIsoWkb(ogr.wkbNDR))), grid, grids.Shift())
+        except binary.NoText:
             yield feature.GetFID(), None
 
 
 def main(source, layer, step, origin):
     refused, shapes = {}, {}
-    for fid, text in texts_of(source, layer, _grid.Grid(step, origin.split(","))):
+    for fid, text in texts_of(source, layer, grids.Grid(step, origin.split(","))):
         fault = Geometry(text).fault if text is not None else None
         if text is None or fault:
             refused[fid] = fault.code if fault else "W1"

@@ -10,7 +10,7 @@ import tempfile
 import time
 import unittest
 
-from support import ROOT, python_command, python_with, write
+from support import python_command, python_with, write
 
 # The program in the commands: it says the same of each query and each pair. Where WAITS names a file it makes that, and waits.
 STAND_IN = """#!/bin/sh

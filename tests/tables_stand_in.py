@@ -8,7 +8,7 @@ import ctypes
 import io
 import re
 
-from sfq import _databases
+from sfq.tables import databases
 
 OK, REFUSED, UNKNOWN, TOO_SMALL, NONE, BUSY, NOT_LOADED, OPEN, UNREADABLE, NO_ROW = 0, 1, 4, 5, 6, 8, 9, 10, 11, 12
 QUERY = re.compile(r"SELECT (.*?) FROM (\w+)(?: WHERE (\w+) ([=>]) +(-?\d+|'(?:[^']|'')*')\s*)?")
@@ -54,9 +54,9 @@ class Calls:
 
     def use(self, case):
         """Has the package call this stand-in until the end of a test."""
-        before = _databases.library
-        _databases.library = lambda: self
-        case.addCleanup(lambda: setattr(_databases, "library", before))
+        before = databases.library
+        databases.library = lambda: self
+        case.addCleanup(lambda: setattr(databases, "library", before))
         return self
 
     @staticmethod

@@ -19,16 +19,18 @@ import xml.etree.ElementTree as tree
 from fractions import Fraction
 from unittest import mock
 
-from support import ROOT, needs, python_command, python_with, read, write
+from support import ROOT, python_command, python_with, read, write
 
 import engine_rows
 import library
 import test_databases_python as databases
 from shell_sessions import Program
-from sfq import _asking, _cache, _conditions, _constants, _endings, _errors, _grid, _units, ask, imports
-from sfq._faults import MEANINGS
+from sfq.commands import ask, asking, caches, conditions, constants, endings, imports, units
+from sfq.geometry import grids
+from sfq.geometry.faults import MEANINGS
+from sfq.tables import errors
 
-GRID = _grid.Grid("0.5", ("100", "-50"))
+GRID = grids.Grid("0.5", ("100", "-50"))
 PYTHON, SHAPELY = python_with("osgeo.ogr"), python_with("shapely")
 SHAPES = {it: f"/usr/lib/R/site-library/{it}" for it in ("sf", "spData")}
 csv.field_size_limit(sys.maxsize)
@@ -36,7 +38,7 @@ csv.field_size_limit(sys.maxsize)
 
 def made(query, grid=GRID):
     """Returns the query that sfq gets."""
-    return _constants.Written(query, grid).made
+    return constants.Written(query, grid).made
 
 
 class Constants(unittest.TestCase):
@@ -67,8 +69,8 @@ class Constants(unittest.TestCase):
     def test_off_the_grid(self):
         for number, nearest, shown in (("100.25", "POINT(100.5 -50)", "100.25"), ("99.8", "POINT(100.0 -50)", "99.8"), ("100.0000000000000000001", "POINT(100.0 -50)", "100.0000000000000000001")):
             query = f"SELECT é FROM t WHERE\n  ST_Within(geom, ST_GeomFromText('POINT({number} -50)'))"
-            with self.assertRaises(_asking.Refused) as met:
-                _constants.Written(query, GRID).need_on_grid("sfq-ask")
+            with self.assertRaises(asking.Refused) as met:
+                constants.Written(query, GRID).need_on_grid("sfq-ask")
             line = query.splitlines()[1]
             self.assertEqual(met.exception.text, (
                 f"sfq-ask: {shown} isn't on the grid, which has steps of 0.5 from 100 -50\n  2 | {line}\n    | {' ' * line.index(number)}^\n"
@@ -77,31 +79,31 @@ class Constants(unittest.TestCase):
 
     def test_the_nearest_constant_is_taken_and_is_nearest(self):
         query = "ST_GeomFromText('LINESTRING(100.2 -50.3, 7 7, 1e3 2, 100.74 -49.76)')"
-        nearest = _constants.Written(query, GRID).constants[0].value.off.nearest
+        nearest = constants.Written(query, GRID).constants[0].value.off.nearest
         self.assertEqual(nearest, "LINESTRING(100.0 -50.5, 7 7, 1e3 2, 100.5 -50.0)")
-        _constants.Written(f"ST_GeomFromText('{nearest}')", GRID).need_on_grid("sfq-ask")
+        constants.Written(f"ST_GeomFromText('{nearest}')", GRID).need_on_grid("sfq-ask")
 
     def test_past_the_limit_and_long_numbers(self):
         for number, wanted in (("1" * 5000, 10**12), ("-" + "1" * 5000, -(10**12)), ("-5000001", -10_000_202), ("5000101." + "9" * 6000, 10_000_004),
                                ("0" * 9000 + "100", 0), ("100." + "0" * 9000, 0)):
             self.assertEqual(made(f"ST_GeomFromText('POINT({number} -50)')"), f"ST_GeomFromText('POINT({wanted} 0)')", number[:9])
-            self.assertTrue(abs(wanted) > _grid.MOST or not wanted)
+            self.assertTrue(abs(wanted) > grids.MOST or not wanted)
 
     def test_exactly_as_fractions(self):
         for step, origin in (("0.01", "564000"), ("0.0000001", "-79.9"), ("0.00002", "0"), ("3", "0.1")):
-            grid = _grid.Grid(step, (origin, "0"))
+            grid = grids.Grid(step, (origin, "0"))
             for whole in (-10_000_000, -1, 0, 1, 7_654_321, 10_000_000):
-                value, is_on = _constants.on(grid.x.text(whole), grid.x)
+                value, is_on = constants.on(grid.x.text(whole), grid.x)
                 self.assertEqual((value, is_on), (whole, True))
                 self.assertEqual(Fraction(grid.x.text(whole)), grid.x.origin + whole * grid.x.step)
 
     def test_places(self):
         """Each byte that sfq gets has its byte in what the user wrote: of what is copied the same one, of a number its first."""
         query = "SELECT é, ST_GeomFromText('POLYGON((100 -50,100.5  -50,1é 2))') FROM t -- ST_GeomFromText('POINT(1 1)')\nWHERE x = 'é' AND 'POINT(1 1)' = y"
-        written = _constants.Written(query, GRID)
-        before, bytes_made, bytes_written = 0, _asking.encoded(written.made), _asking.encoded(query)
+        written = constants.Written(query, GRID)
+        before, bytes_made, bytes_written = 0, asking.encoded(written.made), asking.encoded(query)
         for at in range(len(bytes_made) + 1):
-            place = _constants.place(written.pieces, at)
+            place = constants.place(written.pieces, at)
             self.assertGreaterEqual(place, before)
             before = place
             if at < len(bytes_made) and bytes_made[at] not in b"-.0123456789":
@@ -110,26 +112,26 @@ class Constants(unittest.TestCase):
 
     def test_bytes_that_are_not_utf_8(self):
         query = "'\udce4' ST_GeomFromText('POINT(100 -50 \udce4)')"
-        written = _constants.Written(query, GRID)
+        written = constants.Written(query, GRID)
         self.assertEqual(written.made, query.replace("100 -50", "0 0"))
-        self.assertEqual(_constants.place(written.constants[0].value.pieces, 10), 14)
+        self.assertEqual(constants.place(written.constants[0].value.pieces, 10), 14)
 
     def test_on_a_grid_of_units_faults_stay(self):
         """Those of all queries of the scripts: a grid of steps of 1 from 0 0 changes no number but for how it is spelled."""
-        grid, count = _grid.Grid("1"), 0
+        grid, count = grids.Grid("1"), 0
         for name in databases.Engine.SCRIPTS:
             for row in engine_rows.rows_of(name):
-                written = _constants.Written(row.command, grid)
+                written = constants.Written(row.command, grid)
                 if re.match("SELECT|EXPLAIN", row.command) and re.match("! sfq: Q", row.output) and written.made == row.command:
                     count += 1
                     line = row.output.removeprefix("! ").partition("\n")[0]
-                    self.assertEqual(written.refused(_asking.Refused(f"{line}\nsfq: x\n", 5), "sfq-ask").text.partition("\n")[0], line)
+                    self.assertEqual(written.refused(asking.Refused(f"{line}\nsfq: x\n", 5), "sfq-ask").text.partition("\n")[0], line)
         self.assertGreaterEqual(count, 30)
 
     def test_faults_of_other_things_stay(self):
-        written = _constants.Written("SELECT 1", GRID)
+        written = constants.Written("SELECT 1", GRID)
         for it in ("sfq: t L6 record 2 W2 at 9\n  2 | x\n", "sfq: Q11\nsfq: the query is longer than 65,536 bytes\n", "sfq: S1 at 3\n", "sfq: out of memory\n"):
-            fault = _asking.Refused(it, 4)
+            fault = asking.Refused(it, 4)
             self.assertIs(written.refused(fault, "sfq-ask"), fault)
 
 
@@ -204,7 +206,7 @@ class Conditions(WithRoom):
     """What is found in conditions by tokens."""
 
     def conditions(self, query, **more):
-        return _conditions.Conditions(query, _units.Folder(folder_of(self.room, **more)))
+        return conditions.Conditions(query, units.Folder(folder_of(self.room, **more)))
 
     def test_notes(self):
         for query, wanted in (
@@ -220,7 +222,7 @@ class Conditions(WithRoom):
             ("SELECT id FROM u WHERE st_within -- of parts\n (ST_GeomFromText('POINT(1 1)'), GEOM)", "ST_Within"), ("SELECT a.id FROM t a JOIN u b ON ST_Relate(a.geom, b.geom, 'T********')", "ST_Relate"),
             ("SELECT a.id FROM t a, u b WHERE NOT (ST_Touches(b.geom, a.geom))", "ST_Touches"), ("SELECT * FROM u x JOIN u y ON ST_Intersects(x.geom, y.geom) AND ST_Equals(x.geom, y.geom)", "ST_Equals"),
         ):
-            with self.assertRaises(_asking.Refused) as met:
+            with self.assertRaises(asking.Refused) as met:
                 self.conditions(query, **parted).need_lawful("sfq-ask")
             self.assertEqual(met.exception.status, 5)
             first, shown, caret = met.exception.text.splitlines()
@@ -228,13 +230,13 @@ class Conditions(WithRoom):
             self.assertEqual(shown[caret.index("^") :][: len(predicate)].lower(), predicate.lower())
         for query in ("SELECT id FROM u WHERE ST_Intersects(geom, geom) OR ST_Disjoint(geom, geom)", "SELECT a.id FROM t a JOIN u b ON ST_Within(a.geom, ST_GeomFromText('POINT(1 1)')) AND a.id = b.id",
                       "SELECT id FROM u WHERE ST_IsEmpty(geom) AND ST_Within = 'ST_Within(geom, geom)'", "SELECT id FROM u WHERE"):
-            conditions = self.conditions(query, **parted)
-            conditions.need_lawful("sfq-ask")
-            self.assertEqual(conditions.notes()[:1], ["2 records of u are in 31 parts, each a row: those of one have the same number in whole, and one is disjoint from another where all its parts are"])
+            found = self.conditions(query, **parted)
+            found.need_lawful("sfq-ask")
+            self.assertEqual(found.notes()[:1], ["2 records of u are in 31 parts, each a row: those of one have the same number in whole, and one is disjoint from another where all its parts are"])
 
     def test_two_reference_systems(self):
         other = {"u": {"coordinate_system": {"authority": "EPSG:4326", "wkt": "EPSG:4326"}}}
-        with self.assertRaises(_asking.Refused) as met:
+        with self.assertRaises(asking.Refused) as met:
             self.conditions("SELECT * FROM t, u WHERE ST_Intersects(t.geom, u.geom)", **other).need_lawful("sfq-ask")
         self.assertIn("t is in EPSG:25832, and u is in EPSG:4326: --to EPSG:N moves all to one system\n", met.exception.text)
         self.conditions("SELECT * FROM t, u WHERE t.id = u.id AND ST_Intersects(t.geom, t.geom)", **other).need_lawful("sfq-ask")
@@ -247,7 +249,7 @@ class Cache(WithRoom):
 
     def setUp(self):
         super().setUp()
-        self.cache = _cache.Cache(f"{self.room}/cache")
+        self.cache = caches.Cache(f"{self.room}/cache")
 
     def entry(self, text="a"):
         """Returns a folder that was made in a room."""
@@ -258,7 +260,7 @@ class Cache(WithRoom):
     def test_where_it_is(self):
         for known, wanted in (("/x", "/x/sfq/tables"), ("", "~/.cache/sfq/tables"), ("relative", "~/.cache/sfq/tables")):
             with mock.patch.dict(os.environ, {"XDG_CACHE_HOME": known}):
-                self.assertEqual(_cache.root(), os.path.expanduser(wanted))
+                self.assertEqual(caches.root(), os.path.expanduser(wanted))
         self.assertEqual(stat.S_IMODE(os.stat(self.cache.folder).st_mode), 0o700)
 
     def test_an_entry(self):
@@ -297,7 +299,7 @@ class Cache(WithRoom):
 
     def test_sums(self):
         def found(*more):
-            return _cache.sum_of([f"{self.room}/s/a.shp"], ["said", *more])
+            return caches.sum_of([f"{self.room}/s/a.shp"], ["said", *more])
 
         for it in ("a.shp", "a.dbf", "b.shp"):
             write(f"{self.room}/s/{it}", it)
@@ -312,9 +314,9 @@ class Cache(WithRoom):
             self.assertNotIn(found(), sums)
             sums.add(found())
         shutil.copytree(f"{self.room}/s", f"{self.room}/copy")
-        self.assertEqual(found(), _cache.sum_of([f"{self.room}/copy/a.shp"], ["said"]))
-        self.assertNotEqual(_cache.sum_of([f"{self.room}/s"], 1), _cache.sum_of([f"{self.room}/s", f"{self.room}/s"], 1))
-        self.assertIsNone(_cache.sum_of([f"{self.room}/s/a.shp", "PG:dbname=x"], 1))
+        self.assertEqual(found(), caches.sum_of([f"{self.room}/copy/a.shp"], ["said"]))
+        self.assertNotEqual(caches.sum_of([f"{self.room}/s"], 1), caches.sum_of([f"{self.room}/s", f"{self.room}/s"], 1))
+        self.assertIsNone(caches.sum_of([f"{self.room}/s/a.shp", "PG:dbname=x"], 1))
 
 
 class Kept(WithRoom):
@@ -377,7 +379,7 @@ class Kept(WithRoom):
         self.meanwhile = lambda path: write(self.source, "b")
         for words in ([], ["--no-cache"]):
             write(self.source, "a")
-            with self.assertRaises(_endings.Stopped) as met:
+            with self.assertRaises(endings.Stopped) as met:
                 self.made(*words)
             self.assertEqual((str(met.exception), met.exception.status), ("a source changed while it was read: ask again", 6))
         self.assertEqual(self.entries(), [])
@@ -426,13 +428,13 @@ class Kept(WithRoom):
     def test_too_few_records(self):
         folder_of(self.room, t={"records": 6, "left_out": 2})
         self.assertEqual(self.made()[1], True)
-        with self.assertRaises(_endings.Stopped) as met:
+        with self.assertRaises(endings.Stopped) as met:
             self.made("--strict")
         self.assertEqual((str(met.exception), met.exception.status), ("2 of 7 records were left out", 4))
         none = {"rows": 0, "left_out": 1, "records": 1}
         folder_of(self.room, t=none, u=none)
         write(self.source, "b")
-        with self.assertRaises(_endings.Stopped) as met:
+        with self.assertRaises(endings.Stopped) as met:
             self.made()
         self.assertEqual((str(met.exception), met.exception.status), ("no record was kept; --allow-empty takes that", 4))
         self.assertTrue(self.made("--allow-empty")[1])
@@ -690,11 +692,11 @@ class Faults(OverTheLibrary):
 
     def fault(self, query):
         """Returns the lines of a query's fault, asked as the command does."""
-        folder = _units.Folder(self.folder)
-        written = _constants.Written(query, folder.grid)
+        folder = units.Folder(self.folder)
+        written = constants.Written(query, folder.grid)
         written.need_on_grid("sfq-ask")
-        asker = _asking.asker("sfq-ask", "", [folder.schema_file, folder.path], folder.schema)
-        with self.assertRaises(_asking.Refused) as met:
+        asker = asking.asker("sfq-ask", "", [folder.schema_file, folder.path], folder.schema)
+        with self.assertRaises(asking.Refused) as met:
             asker.ask(written.made)
         self.assertEqual(met.exception.status, 5)
         return written.refused(met.exception, "sfq-ask").text
@@ -707,7 +709,7 @@ class Faults(OverTheLibrary):
         for code, marked in FAULTS:
             query, at = byte_of(marked)
             text = self.fault(query)
-            shown = f"sfq: {code} at {at}\n{_asking.placed(_asking.encoded(query), at)}sfq: "
+            shown = f"sfq: {code} at {at}\n{asking.placed(asking.encoded(query), at)}sfq: "
             self.assertEqual(text[: len(shown)], shown)
             self.assertEqual(text.count("\n"), 4, text)
         self.assertEqual(len({code for code, _ in FAULTS}), 10)
@@ -724,7 +726,7 @@ class Faults(OverTheLibrary):
             place = f" at {at}" if code in ("W1", "W3") else ""
             first, _, more = self.fault(query).partition("\n")
             self.assertEqual(first, f"sfq: Q8 at {quote} {code}{place}", text[:80])
-            shown = f"{_asking.placed(_asking.encoded(query), quote)}sfq: {_errors.MEANINGS['Q8']}: {MEANINGS[code[:2]]}\n"
+            shown = f"{asking.placed(asking.encoded(query), quote)}sfq: {errors.MEANINGS['Q8']}: {MEANINGS[code[:2]]}\n"
             self.assertEqual(more, shown + ("sfq-ask: the grid reaches from -4999900.0 -5000050.0 to 5000100.0 4999950.0\n" if code == "W3" else ""))
         self.assertEqual({code[:2] for code, _ in OF_TEXTS}, {*MEANINGS} - {"W2"})
 
@@ -880,7 +882,7 @@ class Hostile(OverTheLibrary):
             broken.communicate()
         out, err, status = self.run_words(self.source, self.QUERY, python=PYTHON)
         self.assertEqual((status, int(out.split()[1]) > 300), (0, True), err)
-        self.assertEqual(len([it for it in self.entries() if not it.startswith(_cache.NEW)]), 1)
+        self.assertEqual(len([it for it in self.entries() if not it.startswith(caches.NEW)]), 1)
 
 
 class Document(OverTheLibrary):

@@ -12,7 +12,7 @@ from support import needs
 import engine_rows
 import library
 import test_library
-from sfq import _grid, _library
+from sfq.geometry import grids, library as border
 
 # The orders of bytes, as struct has them.
 LITTLE, BIG = "<", ">"
@@ -209,12 +209,12 @@ class Rounding(engine_rows.WithLibrary):
     def test_as_the_import_rounds(self):
         chance = random.Random(8)
         for step, origin in self.GRIDS:
-            grid = _grid.Grid(step, origin)
+            grid = grids.Grid(step, origin)
             pairs = list(zip(self.numbers(chance, grid.x, 3_000), self.numbers(chance, grid.y, 3_000)))
-            shift = _grid.Shift()
+            shift = grids.Shift()
             wanted = grid.rounded([it for pair in pairs for it in pair], shift, merges=False)
-            kept = _library.KeptMany(_library.Binaries([point(*it) for it in pairs]), grid.in_parts())
-            self.assertEqual(set(kept.statuses), {_library.OK})
+            kept = border.KeptMany(border.Binaries([point(*it) for it in pairs]), grid.in_parts())
+            self.assertEqual(set(kept.statuses), {border.OK})
             texts = [self.text(kept, at) for at in range(kept.count)]
             self.assertEqual(texts, ["POINT(%d %d)" % it for it in wanted], (step, origin))
             self.assertEqual(kept.shift.positions, shift.positions)
@@ -223,8 +223,8 @@ class Rounding(engine_rows.WithLibrary):
 
     @staticmethod
     def text(kept, place):
-        geometry = _library.CGeometry.from_address(kept.address(place))
-        return _library.handed_out(lambda *room: _library.library().sfq_text(geometry, *room))
+        geometry = border.CGeometry.from_address(kept.address(place))
+        return border.handed_out(lambda *room: border.library().sfq_text(geometry, *room))
 
     def test_the_most_positions_and_parts(self):
         """Positions that are merged don't count."""
@@ -235,21 +235,21 @@ class Rounding(engine_rows.WithLibrary):
             many(4, *[point(1, 1)] * 10_001), many(5, *(head(2) + it for it in rings)), many(6, *(many(3, it) for it in rings)),
             many(6, *(many(3, it) for it in rings[:1_000])), many(3, *rings),
         ]
-        kept = _library.KeptMany(_library.Binaries(given), None)
+        kept = border.KeptMany(border.Binaries(given), None)
         found = ["valid" if not status else kept.fault(at).place for at, status in enumerate(kept.statuses)]
         self.assertEqual(found, ["valid", "W4", "valid", "W4", "W4", "W4", "valid", "W4"])
 
     def test_more_than_one_call_takes(self):
         """Values are read, and pairs found, in several calls."""
-        count = _library.AT_ONCE + 5
-        kept = _library.KeptMany(_library.Binaries([point(it, 0) if it % 7 else b"" for it in range(count)]), None)
-        self.assertEqual([kept.statuses[it] for it in (0, 1, count - 1)], [_library.NONE, _library.OK, _library.OK])
+        count = border.AT_ONCE + 5
+        kept = border.KeptMany(border.Binaries([point(it, 0) if it % 7 else b"" for it in range(count)]), None)
+        self.assertEqual([kept.statuses[it] for it in (0, 1, count - 1)], [border.NONE, border.OK, border.OK])
         found = []
-        for room, pairs in _library.joined(_library.RELATIONS.index("equals"), kept, kept):
+        for room, pairs in border.joined(border.RELATIONS.index("equals"), kept, kept):
             found += [(room[2 * at], room[2 * at + 1]) for at in range(pairs)]
         self.assertEqual(found, [(it, it) for it in range(count) if it % 7])
-        with self.assertRaises(_library.LibraryError):
-            list(_library.joined(99, kept, kept))
+        with self.assertRaises(border.LibraryError):
+            list(border.joined(99, kept, kept))
 
 
 if __name__ == "__main__":

@@ -35,7 +35,7 @@ class Installed(engine_rows.WithLibrary):
     def test_python_finds_the_library_of_its_prefix(self):
         known = {name: value for name, value in os.environ.items() if name != "SFQ_LIBRARY"}
         known |= {"PYTHONPATH": f"{self.prefix}/{bindings.PACKAGES}", "PYTHONDONTWRITEBYTECODE": "1"}
-        text = "import sfq; from sfq import _library; print(sfq.relate('POINT(1 2)', 'POINT(1 2)'), _library.library()._name)"
+        text = "import sfq; from sfq.geometry import library; print(sfq.relate('POINT(1 2)', 'POINT(1 2)'), library.library()._name)"
         ran = subprocess.run([sys.executable, "-c", text], env=known, cwd="/", capture_output=True, text=True)
         self.assertEqual((ran.stdout, ran.stderr), (f"0FFFFFFF2 {os.path.realpath(self.prefix)}/lib/libsfq.so.0\n", ""))
 
@@ -61,7 +61,8 @@ class Installed(engine_rows.WithLibrary):
             packages.copy(library.FILES + bindings.files(), f"{room}/prefix")
             library.install_made(f"{room}/prefix", "0")
             bindings.install_made(f"{room}/prefix")
-            os.makedirs(f"{room}/prefix/{bindings.PACKAGES}/sfq/__pycache__")
+            for it in ("", "/tables"):
+                os.makedirs(f"{room}/prefix/{bindings.PACKAGES}/sfq{it}/__pycache__")
             packages.uninstall(f"{room}/prefix")
             self.assertEqual(os.listdir(f"{room}/prefix"), [])
 

@@ -605,8 +605,8 @@ class Packages(WithBuild):
         subprocess.run(["dpkg-deb", "-x", next(it for name, it in made.items() if name.endswith(".deb")), folder], check=True)
         with tarfile.open(next(it for name, it in made.items() if name.endswith(".tar.gz"))) as archive:
             listed = {it.partition("/share/doc/sfq/")[2] for it in archive.getnames()}
-        shown = ["crates/command_line/src/command_words.rt", "crates/explanations/src/*.rt", "bindings/python/sfq*/*.py"]
-        sources = [read(it) for pattern in shown for it in sorted(glob.glob(f"{ROOT}/{pattern}"))]
+        shown = ["crates/command_line/src/command_words.rt", "crates/explanations/src/*.rt", "bindings/python/sfq*/**/*.py"]
+        sources = [read(it) for pattern in shown for it in sorted(glob.glob(f"{ROOT}/{pattern}", recursive=True))]
         names = {it for text in sources for it in re.findall(r"(?:examples|docs)/[\w./-]*\w", text)}
         self.assertLessEqual({"docs/FAULTS.md", "docs/LIBRARY.md", "docs/SCALE.md"}, names)
         for it in sorted(names):
@@ -665,7 +665,11 @@ class OfLibraries(unittest.TestCase):
         self.assertIn(f"{at}/libsfq.so.0", shared)
         self.assertLessEqual(shared, listed["libsfq0"])
         self.assertLessEqual({"./usr/include/sfq.h", f"{at}/libsfq.a", f"{at}/libsfq.so", f"{at}/pkgconfig/sfq.pc"}, listed["libsfq-dev"])
-        modules = {f"./usr/lib/python3/dist-packages/sfq/{it}" for it in os.listdir(f"{ROOT}/bindings/python/sfq") if "." in it}
+        modules = {
+            f"./usr/lib/python3/dist-packages/{os.path.relpath(it, f'{ROOT}/bindings/python')}"
+            for it in glob.glob(f"{ROOT}/bindings/python/sfq/**/*.*", recursive=True) if "__pycache__" not in it
+        }
+        self.assertIn("./usr/lib/python3/dist-packages/sfq/geometry/shapes.py", modules)
         self.assertLessEqual(modules, listed["python3-sfq"])
         self.assertFalse(any("/bin/" in it or "sfq_scale" in it for it in listed["python3-sfq"]))
         self.assertEqual(os.readlink(f"{self.room}/root/usr/lib/x86_64-linux-gnu/libsfq.so"), "libsfq.so.0")

@@ -4,10 +4,10 @@ import sys
 import unittest
 from unittest import mock
 
-from support import python_command, write
+from support import ROOT, python_command, write
 
 import surroundings
-from sfq import _cache, _endings, _places, _prompt
+from sfq.commands import caches, endings, places, prompt
 from surroundings import COMMANDS, words_of
 
 FAILED = "write failed"
@@ -61,7 +61,7 @@ class Streams(surroundings.Room):
 
     def test_help_and_misuse(self):
         for name in (*COMMANDS, "./sfq", "./build", "./test"):
-            words = python_command(sys.executable, name) if name in COMMANDS else [f"{surroundings.ROOT}/{name}"]
+            words = python_command(sys.executable, name) if name in COMMANDS else [f"{ROOT}/{name}"]
             # Not the Python of a launcher that fails itself.
             environment = self.environment(PATH=f"{os.path.dirname(sys.executable)}:{os.environ['PATH']}", SFQ_QUIET="1")
             with self.subTest(name=name), open("/dev/full", "wb") as full, mock.patch.object(self, "environment", lambda: environment):
@@ -100,14 +100,14 @@ class Homes(unittest.TestCase):
         for known in ({}, {"HOME": ""}, {"HOME": "here"}, {"XDG_CACHE_HOME": "here", "XDG_STATE_HOME": "here"}):
             with mock.patch.dict(os.environ, known, clear=True), mock.patch.object(os.path, "expanduser", lambda it: it):
                 with self.assertRaisesRegex(OSError, "there is no home folder: set HOME or XDG_CACHE_HOME"):
-                    _cache.root()
-                self.assertIsNone(_prompt.history_file())
+                    caches.root()
+                self.assertIsNone(prompt.history_file())
         with mock.patch.dict(os.environ, {"HOME": "/home/a"}, clear=True):
-            self.assertEqual((_cache.root(), _prompt.history_file()), ("/home/a/.cache/sfq/tables", "/home/a/.local/state/sfq/shell-history"))
-            self.assertEqual(_places.of_user("XDG_CACHE_HOME", ".cache"), "/home/a/.cache")
+            self.assertEqual((caches.root(), prompt.history_file()), ("/home/a/.cache/sfq/tables", "/home/a/.local/state/sfq/shell-history"))
+            self.assertEqual(places.of_user("XDG_CACHE_HOME", ".cache"), "/home/a/.cache")
 
     def test_outcomes_without_a_path(self):
-        self.assertEqual(_endings.outcome(OSError(28, "No space left on device")), ("No space left on device", 6))
+        self.assertEqual(endings.outcome(OSError(28, "No space left on device")), ("No space left on device", 6))
 
 
 @unittest.skipUnless(os.geteuid() == 0, "needs a user who may become another")

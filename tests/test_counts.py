@@ -102,18 +102,9 @@ class Counts(unittest.TestCase):
             subprocess.run(["git", "-C", name, "add", "-A"], check=True)
             self.assertEqual([it[2] for it in counts.count(name)[1]], [f"{counts.MOST_ENTRIES + 1} tracked entries of the root, of at most {counts.MOST_ENTRIES}"])
 
-    def test_bounds_that_can_be_switched_on(self):
-        edits = {f"crates/low/must-fail/{it}.edit": "\n" for it in range(counts.MOST_EDITS)}
-        lines = {"crates/low/data": "\n" * counts.MOST_LINES}
-        more = {**edits, **lines}
-        bounds = counts.EDITS_ARE_BOUNDED, counts.LINES_ARE_BOUNDED
-        try:
-            counts.EDITS_ARE_BOUNDED = counts.LINES_ARE_BOUNDED = False
-            self.assertEqual(self.counted(more)[1], [])
-            counts.EDITS_ARE_BOUNDED = counts.LINES_ARE_BOUNDED = True
-            self.assertEqual(len(self.counted(more)[1]), 2)
-        finally:
-            counts.EDITS_ARE_BOUNDED, counts.LINES_ARE_BOUNDED = bounds
+    def test_too_many_edits(self):
+        _, found = self.counted({f"crates/low/must-fail/{it}.edit": "\n" for it in range(counts.MOST_EDITS)})
+        self.assertEqual([(path, what.partition(" of ")[0]) for path, _, what in found], [("crates", f"{counts.MOST_EDITS + 1} edits in must-fail/")])
 
     def test_how_they_are_shown(self):
         lines = counts.shown([("crates", 42, "at most 46"), ("in the median", 19.5, ""), ("lines", 148652.0, "")])

@@ -19,7 +19,7 @@ import engine_rows
 import library
 import sfq
 import tables_stand_in
-from sfq import _connections, _databases, _errors, _parameters, _sources, _tables
+from sfq.tables import connections, databases, errors, placeholders, rules, sources
 
 SCHEMA = "CREATE TABLE t (id INTEGER PRIMARY KEY, name TEXT)"
 SHAPES = "CREATE TABLE t (id INTEGER PRIMARY KEY, pop INTEGER, name TEXT, geom GEOMETRY)"
@@ -45,7 +45,7 @@ def interrupted(text):
     head = """
         import signal, sys, time
         import sfq, tables_stand_in
-        from sfq import _databases
+        from sfq.tables import databases
         for it in (signal.SIGALRM, signal.SIGPROF):
             signal.signal(it, signal.default_int_handler)
         def interrupt(call, timer=signal.ITIMER_PROF, clock=time.process_time, most=0.2):
@@ -76,8 +76,8 @@ class Texts(unittest.TestCase):
     """What is for `?`, and what tables are written as: no library is asked."""
 
     def filled(self, text, *values):
-        constants = [_parameters.of_value(it, at) for at, it in enumerate(values, 1)]
-        return _parameters.query(text), constants
+        constants = [placeholders.of_value(it, at) for at, it in enumerate(values, 1)]
+        return placeholders.query(text), constants
 
     def test_values_are_constants_of_their_types(self):
         shape = sfq.Geometry("point(1 1)")
@@ -130,19 +130,19 @@ class Texts(unittest.TestCase):
     def test_what_is_no_value(self):
         for value, name in ((1.5, "float"), (b"a", "bytes"), ([1], "list"), (datetime.timedelta(1), "timedelta")):
             with self.assertRaisesRegex(sfq.InterfaceError, f"the value for \\? 2 is a {name}: sfq has whole numbers, texts"):
-                _parameters.of_value(value, 2)
+                placeholders.of_value(value, 2)
 
     def test_a_schema_is_a_path_or_a_text(self):
         for text in (SCHEMA, f"-- mine\n{SCHEMA}", " create\ttable t (id int primary key)", "", b"x"):
-            self.assertEqual(_sources.read_schema(text), (text if isinstance(text, bytes) else text.encode(), None))
+            self.assertEqual(sources.read_schema(text), (text if isinstance(text, bytes) else text.encode(), None))
         with tempfile.TemporaryDirectory(prefix="sfq-connect-") as room:
             write(f"{room}/schema.sql", SCHEMA)
-            self.assertEqual(_sources.read_schema(f"{room}/schema.sql"), (SCHEMA.encode(), room))
+            self.assertEqual(sources.read_schema(f"{room}/schema.sql"), (SCHEMA.encode(), room))
             with self.assertRaisesRegex(sfq.OperationalError, "^sfq: the schema can't be read: .*nope.sql: No such file"):
-                _sources.read_schema(f"{room}/nope.sql")
+                sources.read_schema(f"{room}/nope.sql")
 
     def csv_of(self, source, columns=(("id", "INTEGER"), ("name", "TEXT"), ("geom", "GEOMETRY"))):
-        return _sources.csv_of("t", source, columns)
+        return sources.csv_of("t", source, columns)
 
     def test_tables_of_columns(self):
         class Shape:
@@ -159,7 +159,7 @@ class Texts(unittest.TestCase):
     def test_tables_of_texts_and_files(self):
         self.assertEqual(self.csv_of(ROWS), ROWS.encode())
         self.assertEqual(self.csv_of(bytearray(b"id")), b"id")
-        self.assertEqual([self.csv_of("a.csv"), self.csv_of(_sources.FilePath("a\n.csv"))], ["a.csv", "a\n.csv"])
+        self.assertEqual([self.csv_of("a.csv"), self.csv_of(sources.FilePath("a\n.csv"))], ["a.csv", "a\n.csv"])
 
     def test_what_is_no_table(self):
         class Half:
@@ -175,17 +175,17 @@ class Texts(unittest.TestCase):
                 self.csv_of(source)
             self.assertEqual((met.exception.table, met.exception.code), ("t", None))
         with self.assertRaisesRegex(sfq.ProgrammingError, "^sfq: u: the schema has no such table; there are t$"):
-            _sources.by_name({"u": ROWS}, ["t"])
+            sources.by_name({"u": ROWS}, ["t"])
 
     @unittest.skipUnless(NUMPY, "needs the package python3-numpy")
     def test_arrays_of_numpy(self):
         text = (
-            "import numpy\nfrom sfq import _sources\n"
+            "import numpy\nfrom sfq.tables import sources\n"
             "columns = [('id', 'INTEGER'), ('pop', 'INTEGER')]\n"
             "for it in (numpy.array([[1, 2], [3, numpy.nan]]), numpy.array([(1, 'a')], dtype=[('id', 'int64'), ('pop', 'U3')]),\n"
             "           {'id': numpy.arange(2), 'pop': [numpy.float32(2), numpy.int8(3)]}):\n"
-            "    print(_sources.csv_of('t', it, columns))\n"
-            "try:\n    _sources.csv_of('t', numpy.zeros((1, 3)), columns)\nexcept Exception as error:\n    print(error)\n"
+            "    print(sources.csv_of('t', it, columns))\n"
+            "try:\n    sources.csv_of('t', numpy.zeros((1, 3)), columns)\nexcept Exception as error:\n    print(error)\n"
         )
         self.assertEqual(self.by(NUMPY, text), (
             "b'id,pop\\n1,2\\n3,\\n'\nb'id,pop\\n1,a\\n'\nb'id,pop\\n0,2\\n1,3\\n'\n"
@@ -195,9 +195,9 @@ class Texts(unittest.TestCase):
     @unittest.skipUnless(PANDAS, "needs the package python3-pandas")
     def test_dataframes_in(self):
         text = (
-            "import pandas\nfrom sfq import _sources\n"
+            "import pandas\nfrom sfq.tables import sources\n"
             "it = pandas.DataFrame({'id': [1, 2], 'pop': pandas.array([None, 5], dtype='Int64'), 'name': ['a,b', None]})\n"
-            "print(_sources.csv_of('t', it, [('id', 'INTEGER'), ('pop', 'INTEGER'), ('name', 'TEXT')]))\n"
+            "print(sources.csv_of('t', it, [('id', 'INTEGER'), ('pop', 'INTEGER'), ('name', 'TEXT')]))\n"
         )
         self.assertEqual(self.by(PANDAS, text), "b'id,pop,name\\n1,,\"a,b\"\\n2,5,\\n'\n")
 
@@ -205,8 +205,8 @@ class Texts(unittest.TestCase):
     def test_dataframes_out(self):
         """NULL stays NULL, and the other integers stay integers; of no rows too."""
         text = (
-            "import sfq, tables_stand_in\nfrom sfq import _databases\n"
-            "calls = tables_stand_in.Calls()\n_databases.library = lambda: calls\n"
+            "import sfq, tables_stand_in\nfrom sfq.tables import databases\n"
+            "calls = tables_stand_in.Calls()\ndatabases.library = lambda: calls\n"
             "db = sfq.connect('CREATE TABLE t (id INTEGER, name TEXT)', {'t': {'id': [2**62 + 1, None], 'name': ['a', None]}})\n"
             "for query in ('SELECT name, id, id FROM t', 'SELECT id FROM t WHERE id = 5'):\n"
             "    it = db.execute(query).df()\n"
@@ -228,19 +228,19 @@ class Texts(unittest.TestCase):
     def test_each_fault_has_its_words(self):
         """The codes of docs/FAULTS.md, and which of its lines have a place."""
         lines = re.findall(r"^\| `sfq: (?:t )?([SLQ]\d+)([^`]*)`", read(f"{ROOT}/docs/FAULTS.md"), re.M)
-        self.assertEqual(sorted(_errors.MEANINGS), sorted({it[0] for it in lines}))
-        self.assertEqual(sorted(_errors.WITHOUT_PLACE), sorted({it[0] for it in lines if not re.match(" (at|record) ", it[1])}))
+        self.assertEqual(sorted(errors.MEANINGS), sorted({it[0] for it in lines}))
+        self.assertEqual(sorted(errors.WITHOUT_PLACE), sorted({it[0] for it in lines if not re.match(" (at|record) ", it[1])}))
 
     def test_errors_have_code_place_and_reason(self):
         fault = sfq.Fault("V3", 0, 0)
-        error = _errors.of_fault("L6", 2, "parcel", fault)
+        error = errors.of_fault("L6", 2, "parcel", fault)
         self.assertEqual((type(error), error.code, error.at, error.table, error.fault), (sfq.DataError, "L6", 2, "parcel", fault))
         self.assertEqual(error.place, "parcel L6 record 2 V3 0")
         self.assertEqual(str(error), f"sfq: {error.place}: a geometry is refused: {fault.meaning}")
         again = pickle.loads(pickle.dumps(error))
         self.assertEqual((type(again), str(again), again.place), (type(error), str(error), error.place))
         for code, at, place in (("S1", 0, "S1 at 0"), ("S6", 0, "S6"), ("Q10", 5, "Q10 at 5"), ("Q11", 0, "Q11")):
-            self.assertEqual(_errors.of_fault(code, at, None, None).place, place)
+            self.assertEqual(errors.of_fault(code, at, None, None).place, place)
 
     def test_the_hierarchy_of_pep_249(self):
         for name, above in (
@@ -378,10 +378,10 @@ class StandIn(unittest.TestCase):
 
     def test_statements_that_nobody_needs_are_ended(self):
         db = self.connect()
-        for at in range(3 * _connections.MOST_KEPT):
+        for at in range(3 * connections.MOST_KEPT):
             db.execute(f"SELECT id FROM t WHERE id = {at}").fetchone()
             gc.collect()
-        self.assertLessEqual(len(self.calls.statements), _connections.MOST_KEPT + 2)
+        self.assertLessEqual(len(self.calls.statements), connections.MOST_KEPT + 2)
         cursor = db.execute("SELECT id FROM t")
         del db
         gc.collect()
@@ -394,21 +394,21 @@ class StandIn(unittest.TestCase):
         db = self.connect(rows={"id": range(5_000), "name": ["a"] * 5_000})
         self.assertEqual(db.execute("SELECT id FROM t WHERE id > ?", [4_998]).fetchall(), [(4_999,)])
         steps = self.calls.seen.count("sfq_step")
-        self.assertGreater(steps, 5_000 // _databases.MOST_CANDIDATES)
-        self.assertLess(steps, 5_000 // _databases.MOST_CANDIDATES + 10)
+        self.assertGreater(steps, 5_000 // databases.MOST_CANDIDATES)
+        self.assertLess(steps, 5_000 // databases.MOST_CANDIDATES + 10)
 
     def test_steps_become_short_where_they_take_long(self):
         db = self.connect(rows={"id": range(200), "name": ["a"] * 200})
         self.calls.before_step = lambda: time.sleep(0.03)
         cursor = db.execute("SELECT id FROM t WHERE id > 50")
         self.assertEqual(cursor.fetchone(), (51,))
-        self.assertLess(cursor._statement.candidates, _databases.FIRST_CANDIDATES)
+        self.assertLess(cursor._statement.candidates, databases.FIRST_CANDIDATES)
 
     def test_ctrl_c_ends_a_query(self):
         """Within 0.2 seconds: the cursor has no rows from then on, and can execute a query again."""
         ran = interrupted("""
             calls = tables_stand_in.Calls()
-            _databases.library = lambda: calls
+            databases.library = lambda: calls
             db = sfq.connect("CREATE TABLE t (id INTEGER)", {"t": {"id": range(2_000)}}, load_all=True)
             calls.before_step = lambda: time.sleep(0.01)
             cursor = db.execute("SELECT id FROM t WHERE id > 1999")
@@ -467,7 +467,7 @@ class WithTables(engine_rows.WithLibrary):
     @classmethod
     def setUpClass(cls):
         super().setUpClass()
-        if not os.path.isfile(f"{library.OUT}/{_databases.NAME}"):
+        if not os.path.isfile(f"{library.OUT}/{databases.NAME}"):
             raise unittest.SkipTest("needs libsfq_tables of ./build --library")
         os.environ["SFQ_LIBRARY"] = library.SHARED
 
@@ -539,7 +539,7 @@ class Engine(WithTables):
                 rows = [["" if it is None else str(it) for it in row] for row in cursor]
                 if row.command.startswith("EXPLAIN"):
                     return "".join(f"{it}\n" for it, in rows)
-                lines = [",".join(map(_tables.quoted, it)) or '""' for it in [[it[0] for it in cursor.description], *rows]]
+                lines = [",".join(map(rules.quoted, it)) or '""' for it in [[it[0] for it in cursor.description], *rows]]
                 return "".join(f"{it}\n" for it in lines)
         except sfq.Error as error:
             return f"! sfq: {error.place}\nstatus 5\n"

@@ -8,7 +8,8 @@ from unittest import mock
 
 from support import ROOT, needs_build, read
 import fault_pages
-from sfq import _errors, _faults
+from sfq.geometry import faults
+from sfq.tables import errors
 import printed
 import repository
 
@@ -59,7 +60,7 @@ class Pages(unittest.TestCase):
 
     def test_words_of_the_bindings(self):
         """The words of a code hold of each of its faults, and end without a stop."""
-        words = {**_faults.MEANINGS, **_errors.MEANINGS}
+        words = {**faults.MEANINGS, **errors.MEANINGS}
         self.assertEqual(list(words), list(fault_pages.pages()))
         for code, it in words.items():
             self.assertRegex(it, r"\A[a-z0-9][^;`|]*[^.;:,]\Z", code)
@@ -68,8 +69,8 @@ class Pages(unittest.TestCase):
     def test_each_code_of_the_document_has_a_page_and_no_other(self):
         codes = set(re.findall(r"`sfq: [^`]*?\b([SLQWV]\d+)\b", read(f"{ROOT}/docs/FAULTS.md")))
         self.assertEqual(set(fault_pages.pages()), codes)
-        listed = re.findall(r"^    FaultCode::([A-Z]\d+),$", read(f"{ROOT}/crates/text_commands/src/fault_codes.rt"), re.M)
-        self.assertEqual(sorted(listed), sorted(codes))
+        listed = re.search(r"const CODES: \[FaultCode; 41\] = \[([^]]+)\];", read(f"{ROOT}/crates/text_commands/src/fault_codes.rt"))
+        self.assertEqual(sorted(re.findall(r"\w+", listed[1])), sorted(codes))
         self.assertEqual(len(codes), 41)
 
     def test_each_page_has_the_words_of_its_rows(self):

@@ -1,6 +1,7 @@
 """The program where memory, reading, writing and opening fail, one call after another."""
 import subprocess
 import sys
+import time
 import unittest
 from concurrent.futures import ThreadPoolExecutor
 
@@ -17,6 +18,8 @@ ERRORS = ("EIO", "ENOSPC", "EPIPE", "EAGAIN")
 SWEPT = {"malloc", "calloc", "realloc", "read", "write", "open", "open64", "openat", "openat64", "fstat", "fstat64", "statx"}
 HARMLESS = {"free", "close", "isatty", "clock_gettime", "memcpy", "memmove", "memset", "memcmp", "bcmp", "strlen"}
 HARMLESS |= {"environ", "getenv"}
+# Under --why a table is read again from its begin. If it can't go back, what was read of it is kept, as of a pipe.
+HARMLESS |= {"lseek", "lseek64"}
 # What the toolchain's start of a program calls; __write is for a processor that lacks an instruction.
 OF_EACH_PROGRAM = {"__errno_location", "__libc_start_main", "__cxa_finalize", "__sysv_signal", "signal"}
 OF_EACH_PROGRAM |= {"__write", "__x86_get_cpuid_feature_leaf"}
@@ -59,15 +62,10 @@ class Sweep:
 
     @needs_build
     @needs("gcc", "cc")
-    def test_each_fstat_failing(self):
-        self.sweep("fstat", [(it, 1) for it in ERRORS])
-
-    @needs_build
-    @needs("gcc", "cc")
-    def test_each_statx_failing(self):
-        """What kind a file has is asked where it is opened once more, to explain a fault."""
-        self.assertGreater(sweeps.whole("check --why").counts["statx"], 0)
-        self.sweep("statx", [(it, times) for it in (*ERRORS, "EACCES") for times in (1, 0)])
+    def test_each_fstat_and_statx_failing(self):
+        """No command makes such a call where each file can be opened and read."""
+        for call in ("fstat", "statx"):
+            self.sweep(call, [(it, 1) for it in ERRORS])
 
     @needs_build
     @needs("gcc", "cc")
@@ -120,6 +118,24 @@ class Calls(unittest.TestCase):
         self.assertEqual(called - SWEPT - HARMLESS - OF_EACH_PROGRAM, set())
 
 
+class Once(unittest.TestCase):
+    """Files that several tests need are written once, whichever thread asks for them first."""
+
+    def test_threads_wait_for_the_one_that_makes_it(self):
+        made = []
+
+        @sweeps.once
+        def make(name):
+            made.append(name)
+            time.sleep(0.05)
+            return [name]
+
+        with ThreadPoolExecutor(8) as pool:
+            found = list(pool.map(make, "aabbaabb"))
+        self.assertEqual((sorted(made), found), (["a", "b"], [[it] for it in "aabbaabb"]))
+        self.assertIs(found[0], found[1])
+
+
 class Judging(unittest.TestCase):
     """What the sweeps take for a mistake."""
 
@@ -160,7 +176,7 @@ class Judging(unittest.TestCase):
                 self.assertFalse(self.allows(call, how, out, err, status, path))
 
     def test_a_table_that_is_read_twice(self):
-        """After a fault its line is there, and only what a second reading adds may be missing."""
+        """After a fault its line is there, and only what needs the table's text may be missing."""
         line, reason, note = b"sfq: t record 1: L5\n", b"sfq: reason: n holds x\n", b"sfq: note: u record 2: field 1 holds a line end\n"
         faulty, noted = (sweeps.Ran(b"", line + reason, 4, {}, 0, -1, -1, ""), sweeps.Ran(b"t 1\n", note + reason, 0, {}, 0, -1, -1, ""))
         for well, err, status, is_fine in (

@@ -16,7 +16,8 @@ DUE = 60
 HEAD = """
     import os, sys, threading, time
     import sfq, tables_stand_in
-    from sfq import _databases, _forks
+    from sfq.geometry import forks
+    from sfq.tables import databases
 
     def in_child(work):
         # Returns the status of a child that does the work, or the signal that ends one that waits.
@@ -54,7 +55,7 @@ class Locks(unittest.TestCase):
     """What one thread at a time holds, without a library."""
 
     HELD = """
-        class Held(_forks.Held):
+        class Held(forks.Held):
             def renew(self):
                 raise ValueError("lost")
         def hold(begun):
@@ -119,7 +120,7 @@ class Locks(unittest.TestCase):
     def test_a_connection_over_a_stand_in(self):
         self.assertEqual(ran("""
             calls = tables_stand_in.Calls()
-            _databases.library = lambda: calls
+            databases.library = lambda: calls
             one, other = (sfq.connect("CREATE TABLE t (id INTEGER)", {"t": {"id": [1, 2]}}, load_all=True) for _ in range(2))
             def ask(begun):
                 calls.before_step = lambda: (begun.set(), time.sleep(60)) if threading.current_thread() is not main else None

@@ -10,7 +10,8 @@ from support import read
 
 import sfq
 from import_calls import SHAPELY, WithGeos, feature, square
-from sfq import _parting, _texts
+from sfq.geometry import texts
+from sfq.layers import parting
 
 
 def coast(count, size, seed=11):
@@ -33,11 +34,11 @@ class Cuts(unittest.TestCase):
             ((0, 0), (4, 4), 0, 1, (1, 0)), ((4, 4), (0, 0), 0, 1, (1, 0)), ((0, 0), (4, 2), 0, 1, (1, 0.5)), ((0, 0), (4, -2), 0, 1, (0, 0.5)),
             ((0, 0), (3, 1), 0, 1, (0, 1 / 3)), ((0, 0), (3, 1), 0, 2, (1, 1 / 3)), ((0, 0), (1, 3), 1, 2, (1, 1 / 3)), ((5, -2), (5, 9), 1, 0, (5, 0)),
         ):
-            self.assertEqual(_parting.crossing(a, b, axis, at), wanted)
-            self.assertEqual(_parting.crossing(b, a, axis, at), wanted)
+            self.assertEqual(parting.crossing(a, b, axis, at), wanted)
+            self.assertEqual(parting.crossing(b, a, axis, at), wanted)
 
     def test_positions_that_are_put_in(self):
-        found = _parting.with_crossings([[(0, 0), (3, 0), (3, 3), (0, 2), (0, 0)]], 0, 1)
+        found = parting.with_crossings([[(0, 0), (3, 0), (3, 3), (0, 2), (0, 0)]], 0, 1)
         self.assertEqual(found, ([[(0, 0), (1, 0), (3, 0), (3, 3), (1, 2), (0, 2), (0, 0)]], 1, 1 / 3))
 
     def test_pieces_are_whole_only_where_nothing_is_missing_or_twice(self):
@@ -48,36 +49,36 @@ class Cuts(unittest.TestCase):
             ([left, right], True), ([right, left], True), ([left, cut], True), ([left], False), ([left, right, right], False), ([left, left], False),
             ([left, [[(2, 0), (2, 4), (4, 4), (4, 1), (2, 0)]]], False), ([], False),
         ):
-            self.assertEqual(_parting.are_whole(whole, pieces, 0, 2), is_whole, pieces)
+            self.assertEqual(parting.are_whole(whole, pieces, 0, 2), is_whole, pieces)
 
     def test_lines_that_bend_nothing_come_first(self):
         teeth = [(it, it % 2 * 7) for it in range(1, 40)]
-        found = _parting.lines([[(0, -9), (40, -9), *reversed(teeth), (0, -9)]], 0)
+        found = parting.lines([[(0, -9), (40, -9), *reversed(teeth), (0, -9)]], 0)
         self.assertEqual(found[0], 20)
         ring = [[(0, 0), (100, 2), (100, 50), (50, 60), (0, 50), (0, 0)]]
-        self.assertEqual(_parting.lines(ring, 0)[0], 50)
+        self.assertEqual(parting.lines(ring, 0)[0], 50)
 
     def test_lines_and_points_are_parted_at_their_positions(self):
         line = [(it, it * it % 7) for it in range(25_000)]
-        found = _parting.parted(None, _texts.spelled("LineString", line))
-        parts = [_texts.coordinates(it)[1] for it in found.texts]
+        found = parting.parted(None, texts.spelled("LineString", line))
+        parts = [texts.coordinates(it)[1] for it in found.texts]
         self.assertEqual([len(it) for it in parts], [10_000, 10_000, 5_002])
         self.assertEqual([*parts[0], *parts[1][1:], *parts[2][1:]], line)
         points = [(it, -it) for it in range(20_001)]
-        found = _parting.parted(None, _texts.spelled("MultiPoint", points))
-        self.assertEqual([it for text in found.texts for it in _texts.coordinates(text)[1]], points)
+        found = parting.parted(None, texts.spelled("MultiPoint", points))
+        self.assertEqual([it for text in found.texts for it in texts.coordinates(text)[1]], points)
         self.assertEqual((len(found.texts), found.put_in, found.greatest), (3, 0, 0.0))
         # A line that would end with one position has it in the part before.
-        self.assertEqual(len(_parting.parted(None, _texts.spelled("LineString", line[:19_999])).texts), 2)
+        self.assertEqual(len(parting.parted(None, texts.spelled("LineString", line[:19_999])).texts), 2)
 
     def test_lines_and_polygons_of_many_elements(self):
         lines = [[(it, 0), (it, 1)] for it in range(2_500)]
-        found = _parting.parted(None, _texts.spelled("MultiLineString", [*lines, [(it, 5) for it in range(10_001)]]))
-        parts = [_texts.coordinates(it)[1] for it in found.texts]
+        found = parting.parted(None, texts.spelled("MultiLineString", [*lines, [(it, 5) for it in range(10_001)]]))
+        parts = [texts.coordinates(it)[1] for it in found.texts]
         self.assertEqual([len(it) for it in parts], [1_000, 1_000, 500, 1, 1])
         self.assertEqual([it for each in parts[:3] for it in each], [tuple(it) for it in lines])
         squares = [[[(10 * it, 0), (10 * it + 4, 0), (10 * it + 4, 4), (10 * it, 0)]] for it in range(2_001)]
-        found = _parting.parted(None, _texts.spelled("MultiPolygon", squares))
+        found = parting.parted(None, texts.spelled("MultiPolygon", squares))
         self.assertEqual([it.count("((") for it in found.texts], [1_000, 1_000, 1])
 
 
@@ -166,7 +167,7 @@ class Parts(WithGeos):
             source, folder, _, layer = self.parted([feature((name, given))], "--origin", "5000,5000", grid="1")
             self.assertEqual((layer["parted"]["put_in"], layer["left_out"]), (0, 0))
             wanted = given if name == "MultiPoint" else [[tuple(sorted((a, b))) for a, b in zip(it, it[1:])] for it in ([walk] if name == "LineString" else given)]
-            found = [_texts.coordinates(it) for it in self.column(folder)]
+            found = [texts.coordinates(it) for it in self.column(folder)]
             self.assertEqual({kind for kind, _ in found}, {name})
             self.assertGreater(len(found), 1)
             if name == "MultiPoint":

@@ -18,8 +18,11 @@ from unittest import mock
 from support import ROOT, python_command, read, write
 
 import library
-from import_calls import PYTHON, WithImports, collection, feature, square
-from sfq import _columns, _endings, _folders, _grid, _proposing, _statements, _systems, imports
+from import_calls import PYTHON, WithImports, feature
+from sfq.commands import endings, folders, imports
+from sfq.geometry import grids
+from sfq.layers import columns, proposing, systems
+from sfq.tables import statements
 
 DEGREES, METRES, FEET, KILOMETRES = (None, 1.0, 0.3048006096, 1000.0)
 
@@ -51,7 +54,7 @@ class Proposals(unittest.TestCase):
 
     def proposed(self, extent, length=METRES, *given):
         system = None if length == "none" else System(length)
-        return _proposing.proposed(_proposing.Extent(*extent), _systems.metres(system), *given).spelled
+        return proposing.proposed(proposing.Extent(*extent), systems.metres(system), *given).spelled
 
     def test_each_unit(self):
         for length, extent, wanted in (
@@ -70,29 +73,29 @@ class Proposals(unittest.TestCase):
         self.assertEqual(self.proposed((0, 300_000, 0, 5), METRES, "", "0,0"), ("0.05", ("0", "0")))
 
     def test_documents_have_the_rule(self):
-        rule = " ".join(_proposing.__doc__.partition("\n\n")[2].split())
+        rule = " ".join(proposing.__doc__.partition("\n\n")[2].split())
         self.assertRegex(rule, r"^The step is the finest .* The origin is 0,0 where .* as metres\.$")
         for it in ("docs/DATA.md", "docs/LIBRARY.md", "packaging/man/sfq-import.1", "bindings/qgis/sfq_qgis/basis.py"):
             self.assertEqual(" ".join(read(f"{ROOT}/{it}").split()).count(rule), 1, it)
 
     def test_nothing_to_go_by(self):
-        self.assertEqual(_proposing.proposed(None, 1.0).spelled, ("0.01", ("0", "0")))
+        self.assertEqual(proposing.proposed(None, 1.0).spelled, ("0.01", ("0", "0")))
 
     def test_everything_fits_and_no_finer_step_does(self):
         chance = random.Random(5)
         for _ in range(500):
             x, y, wide, high = (chance.uniform(-1, 1) * 10 ** chance.uniform(-3, 9) for _ in range(4))
-            extent = _proposing.Extent(*sorted((x, x + wide)), *sorted((y, y + high)))
+            extent = proposing.Extent(*sorted((x, x + wide)), *sorted((y, y + high)))
             length = chance.choice((DEGREES, METRES, FEET))
-            metres = _systems.metres(System(length))
-            grid = _proposing.proposed(extent, metres)
+            metres = systems.metres(System(length))
+            grid = proposing.proposed(extent, metres)
             for it in ((extent.left, extent.low), (extent.right, extent.high)):
-                self.assertTrue(all(-10_000_000 <= n <= 10_000_000 for n in grid.rounded(it, _grid.Shift())[0]), (extent, grid.spelled))
-            step, first = Decimal(grid.spelled[0]), _proposing.finest(metres, extent)
-            before = [it for it in _until(step, _proposing.steps(first))]
+                self.assertTrue(all(-10_000_000 <= n <= 10_000_000 for n in grid.rounded(it, grids.Shift())[0]), (extent, grid.spelled))
+            step, first = Decimal(grid.spelled[0]), proposing.finest(metres, extent)
+            before = [it for it in _until(step, proposing.steps(first))]
             for it in before:
-                for origin in ((Decimal(0), Decimal(0)), _proposing.middle(extent, it)):
-                    self.assertFalse(_proposing.fits(extent, _grid.Grid(str(it), list(map(str, origin)))))
+                for origin in ((Decimal(0), Decimal(0)), proposing.middle(extent, it)):
+                    self.assertFalse(proposing.fits(extent, grids.Grid(str(it), list(map(str, origin)))))
 
 
 def _until(last, values):
@@ -111,7 +114,7 @@ class Names(unittest.TestCase):
             (["id", "Lon", "LAT"], "--xy Lon,LAT"), (["latitude", "longitude"], "--xy longitude,latitude"), (["X", "Y", "z"], "--xy X,Y"),
             (["id", "wkt"], "--wkt wkt"), (["the_geom"], "--wkt the_geom"), (["lon"], ""), (["lat", "y"], ""), ([], ""), (["name", "geometry"], "--wkt geometry"),
         ):
-            self.assertEqual(_columns.seeming(names), wanted)
+            self.assertEqual(columns.seeming(names), wanted)
 
 
 class Folders(unittest.TestCase):
@@ -127,11 +130,11 @@ class Folders(unittest.TestCase):
             (f"-- mine;\n\n{first};\n\n{second};\n", "a", f"-- mine;\n\n{second};\n"), (f"{first} ; {second}", "b", f"{first} ;\n"),
             (f"{first};\n{second}", "a", f"\n{second}"),
         ):
-            table = next(it for it in _statements.tables(schema) if it.name.lower() == name)
-            found = _folders.without(schema, table)
+            table = next(it for it in statements.tables(schema) if it.name.lower() == name)
+            found = folders.without(schema, table)
             self.assertEqual(found.replace("\n", ""), wanted.replace("\n", ""))
-            self.assertEqual([it.name.lower() for it in _statements.tables(found)], ["b" if name == "a" else "a"])
-        self.assertEqual([_folders.ended(it) for it in ("", "-- a;\n", f"{second};\n", f"{second}\n", f"{second}\n-- b\n")],
+            self.assertEqual([it.name.lower() for it in statements.tables(found)], ["b" if name == "a" else "a"])
+        self.assertEqual([folders.ended(it) for it in ("", "-- a;\n", f"{second};\n", f"{second}\n", f"{second}\n-- b\n")],
                          ["", "-- a;\n", f"{second};\n", f"{second};\n", f"{second};\n-- b\n"])
 
     def test_folders_change_places(self):
@@ -141,15 +144,15 @@ class Folders(unittest.TestCase):
                 os.makedirs(f"{self.room}/{it}", exist_ok=True)
                 write(f"{self.room}/{it}/name", it)
             call = mock.Mock(return_value=-1)
-            with mock.patch.object(_folders.ctypes, "CDLL", return_value=mock.Mock(renameat2=call)) if number else mock.MagicMock():
-                with mock.patch.object(_folders.ctypes, "get_errno", return_value=number):
-                    _folders.exchange(f"{self.room}/a", f"{self.room}/b")
+            with mock.patch.object(folders.ctypes, "CDLL", return_value=mock.Mock(renameat2=call)) if number else mock.MagicMock():
+                with mock.patch.object(folders.ctypes, "get_errno", return_value=number):
+                    folders.exchange(f"{self.room}/a", f"{self.room}/b")
             self.assertEqual((read(f"{self.room}/a/name"), read(f"{self.room}/b/name"), len(os.listdir(self.room))), ("b", "a", 2))
 
     def test_one_that_cannot_change(self):
         os.makedirs(f"{self.room}/a")
         with self.assertRaises(OSError):
-            _folders.exchange(f"{self.room}/a", f"{self.room}/none")
+            folders.exchange(f"{self.room}/a", f"{self.room}/none")
         self.assertEqual(os.listdir(self.room), ["a"])
 
 
@@ -194,7 +197,7 @@ class Sources(WithImports):
         self.assertNotIn("--grid", said)
         self.assertEqual((self.column(folder, table="one"), self.column(folder, table="other")), (["POINT(1 4)"], ["POINT(6 8)"]))
         self.assertIn("geom GEOMETRY -- any", read(f"{folder}/schema.sql"))
-        self.assertEqual([it.name for it in _statements.tables(read(f"{folder}/schema.sql"))], ["one", "other"])
+        self.assertEqual([it.name for it in statements.tables(read(f"{folder}/schema.sql"))], ["one", "other"])
         self.assertEqual(self.left_out(folder), [("other", "2", "W1 at 6: POINT Z", "left out")])
         self.assertEqual({it: text for it, text in contents_of(folder).items() if it in ("one.csv", "notes/mine.txt")},
                          {it: before[it] for it in ("one.csv", "notes/mine.txt")})
@@ -212,7 +215,7 @@ class Sources(WithImports):
         self.folder("there", other, words=("--replace",))
         self.assertEqual(sorted(os.listdir(folder)), ["WELL.csv", "grid.json", "left-out.csv", "other.csv", "schema.sql"])
         self.assertEqual((self.column(folder, table="WELL"), self.left_out(folder)), (["POINT(5 5)"], []))
-        self.assertEqual([it.name for it in _statements.tables(read(f"{folder}/schema.sql"))], ["other", "WELL"])
+        self.assertEqual([it.name for it in statements.tables(read(f"{folder}/schema.sql"))], ["other", "WELL"])
         self.assertEqual([it["table"] for it in json.loads(read(f"{folder}/grid.json"))["layers"]], ["other", "WELL"])
 
     def test_a_grid_that_is_another(self):
@@ -390,7 +393,7 @@ class Sources(WithImports):
         shutil.copytree(folder, f"{self.room}/done")
         self.folder("done", more, words=())
         takes, after = time.monotonic() - begun, contents_of(f"{self.room}/done")
-        chance, endings = random.Random(2), []
+        chance, statuses = random.Random(2), []
         for _ in range(6):
             child = subprocess.Popen([*python_command(PYTHON, "sfq-import"), more, "--out", "broken", "--replace"], cwd=self.room,
                                      env={**os.environ, "PYTHONDONTWRITEBYTECODE": "1"}, stderr=subprocess.PIPE, text=True)
@@ -398,7 +401,7 @@ class Sources(WithImports):
             time.sleep(0.2 + takes * chance.uniform(0, 1))
             child.send_signal(signal.SIGINT)
             said = child.communicate()[1]
-            endings.append(child.returncode)
+            statuses.append(child.returncode)
             if child.returncode == 0:
                 self.assertEqual(contents_of(folder), after)
                 shutil.rmtree(folder)
@@ -407,42 +410,42 @@ class Sources(WithImports):
                 continue
             self.assertIn(child.returncode, (130, -signal.SIGINT, 1), said)
             self.is_as_it_was(folder, before)
-        self.assertTrue(any(endings), endings)
+        self.assertTrue(any(statuses), statuses)
 
     def test_two_imports_into_one_folder_at_once(self):
         folder, _ = self.folder("once", self.points("a", (1, 2)))
         held = os.open(folder, os.O_RDONLY)
         self.addCleanup(os.close, held)
-        _folders.fcntl.flock(held, _folders.fcntl.LOCK_EX)
+        folders.fcntl.flock(held, folders.fcntl.LOCK_EX)
         before = contents_of(folder)
         self.assertIn("another import is adding to once: wait for its end", self.ran(6, self.points("b", (1, 2)), "--out", "once"))
         self.is_as_it_was(folder, before)
-        _folders.fcntl.flock(held, _folders.fcntl.LOCK_UN)
+        folders.fcntl.flock(held, folders.fcntl.LOCK_UN)
         # Each of several at once is done as a whole, or refused.
-        endings = {}
+        statuses = {}
 
         def run(name):
-            endings[name] = self.command("sfq-import", self.points(name, (1, 2)), "--out", "once").returncode
+            statuses[name] = self.command("sfq-import", self.points(name, (1, 2)), "--out", "once").returncode
 
         threads = [threading.Thread(target=run, args=(it,)) for it in ("c", "d", "e", "f")]
         for it in threads:
             it.start()
         for it in threads:
             it.join()
-        self.assertLessEqual(set(endings.values()), {0, 6})
-        self.assertIn(0, endings.values())
-        wanted = ["a", *sorted(it for it, status in endings.items() if status == 0)]
+        self.assertLessEqual(set(statuses.values()), {0, 6})
+        self.assertIn(0, statuses.values())
+        wanted = ["a", *sorted(it for it, status in statuses.items() if status == 0)]
         self.assertEqual(sorted(it["table"] for it in json.loads(read(f"{folder}/grid.json"))["layers"]), wanted)
-        self.assertEqual(sorted(it.name for it in _statements.tables(read(f"{folder}/schema.sql"))), wanted)
+        self.assertEqual(sorted(it.name for it in statements.tables(read(f"{folder}/schema.sql"))), wanted)
 
     def test_two_imports_that_make_one_folder_at_once(self):
         """The second finds the folder when it is done, and leaves it as it is."""
         made = f"{self.room}/first"
-        found = _folders.Folder(made)
+        found = folders.Folder(made)
         found.begin(set())
         write(f"{found.room}/t.csv", "new")
         write(f"{made}/t.csv", "other")
-        with self.assertRaisesRegex(_endings.Stopped, "was made by another meanwhile"):
+        with self.assertRaisesRegex(endings.Stopped, "was made by another meanwhile"):
             found.put()
         found.close()
         self.assertEqual((read(f"{made}/t.csv"), [it for it in os.listdir(self.room) if it.startswith(".first-")]), ("other", []))
@@ -494,7 +497,7 @@ class Calls(WithImports):
             "print(found.grid.spelled, [it['table'] for it in found.layers], found.count('rows'), found.count('left_out'), len(said))\n"
         )
         paths = [self.source([feature(("Point", [1, 2]))], it) for it in ("a", "b")]
-        known = {**os.environ, "PYTHONPATH": os.path.dirname(os.path.dirname(imports.__file__)), "SFQ_LIBRARY": library.SHARED}
+        known = {**os.environ, "PYTHONPATH": f"{ROOT}/bindings/python", "SFQ_LIBRARY": library.SHARED}
         ran = subprocess.run([PYTHON, "-B", "-c", script, f"{self.room}/called", *paths], env=known, capture_output=True, text=True)
         self.assertEqual((ran.stdout, ran.stderr), ("('0.5', ('0', '0')) ['a', 'b'] 2 0 2\n", ""))
 
@@ -503,7 +506,7 @@ class Calls(WithImports):
             (imports.Options(grid="0"), "--grid or --origin: the step 0 isn't greater than 0"), (imports.Options(origin="3"), "--origin: '3' isn't X,Y"),
             (imports.Options(to="x"), "--to: 'x' isn't the code"), (imports.Options(of="a b:1"), "--from: 'a b:1' isn't the code"),
         ):
-            with self.assertRaisesRegex(_endings.Stopped, wanted) as raised:
+            with self.assertRaisesRegex(endings.Stopped, wanted) as raised:
                 imports.import_sources(["a"], f"{self.room}/none", options)
             self.assertEqual(raised.exception.status, 2)
 

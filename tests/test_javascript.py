@@ -20,7 +20,7 @@ import browsers
 import javascript_package
 import language
 from browsers import PATIENCE, databases_of, limited, printed_of, random_pairs, rows_of_scripts, rows_that_ask, rows_that_relate, with_answers
-from sfq import _grid
+from sfq.geometry import grids
 from test_web import carried, needs_page, relations
 
 HERE = f"{ROOT}/tests/javascript"
@@ -131,8 +131,8 @@ class Trials:
     def compare_queries(self, databases, found):
         self.assertIsInstance(found, dict, found)
         self.assertEqual(found["lost"], 0, "memory isn't given back")
-        for asked, answers in zip(databases.values(), found["found"], strict=True):
-            for (query, printed), answer in zip(asked, answers, strict=True):
+        for asked, given in zip(databases.values(), found["found"], strict=True):
+            for (query, printed), answer in zip(asked, given, strict=True):
                 with self.subTest(query):
                     self.assertEqual(answer["text"] if isinstance(answer, dict) else answer, printed)
                     if isinstance(answer, dict):
@@ -344,12 +344,12 @@ class InNode(SharedTrials, unittest.TestCase):
         chance, given, wanted = random.Random(7), [], []
         for _ in range(300):
             step, origin = chance.choice(["1", "0.01", "0.5", "1e-3", "0.3", "250"]), [chance.choice(["0", "0.005", "-1234.5", "3e2"]) for _ in range(2)]
-            grid = _grid.Grid(step, origin)
+            grid = grids.Grid(step, origin)
             numbers = [
                 (float(origin[at % 2]) + chance.randint(-5000, 5000) * float(step) / 2) if chance.random() < 0.5 else chance.uniform(-900, 900)
                 for at in range(8)
             ]
-            positions = grid.rounded(numbers, _grid.Shift(), merges=False)
+            positions = grid.rounded(numbers, grids.Shift(), merges=False)
             given.append({"shape": {"type": "MultiPoint", "coordinates": list(zip(numbers[::2], numbers[1::2]))}, "step": step, "origin": origin})
             back = [[float(axis.text(it)) for axis, it in zip((grid.x, grid.y), position)] for position in positions]
             wanted.append(["MULTIPOINT(" + ",".join("(%d %d)" % it for it in positions) + ")", back, [list(it) for it in positions]])

@@ -5,8 +5,8 @@ import support
 
 import language
 from fuzz import changes, outcomes
-from sfq import exports
-from sfq._faults import MEANINGS, Fault
+from sfq.commands import exports
+from sfq.geometry.faults import MEANINGS, Fault
 
 
 class Words(unittest.TestCase):

@@ -15,7 +15,9 @@ from support import write
 
 import sfq
 import tables_stand_in
-from sfq import _asking, _conditions, _parameters, _statements, _tables, _texts, _units, exports, schemas, shell
+from sfq.commands import asking, conditions, exports, schemas, shell, units
+from sfq.geometry import texts
+from sfq.tables import placeholders, rules, statements
 
 # A text of more digits than Python makes a number of.
 DIGITS = "9" * 5_000
@@ -54,7 +56,7 @@ class Numbers(unittest.TestCase):
             ("0", 0), ("-0", 0), ("+007", 7), (str(2**63 - 1), 2**63 - 1), (str(-(2**63)), -(2**63)), (str(2**63), None), (DIGITS, None),
             ("0" * 5_000 + "5", 5), ("", None), ("-", None), ("1 ", None), ("1.0", None), ("\u0663", None),
         ):
-            self.assertEqual(_tables.integer(text), wanted, text[:30])
+            self.assertEqual(rules.integer(text), wanted, text[:30])
 
     def test_a_proposal_of_a_schema(self):
         with tempfile.TemporaryDirectory(prefix="sfq-long-") as room:
@@ -81,7 +83,7 @@ class Geometries(unittest.TestCase):
             ("LINESTRING(1 1,1 1,2 2)", ("LineString", ((1, 1), (2, 2)))), (f"POINT({'0' * 5_000}9 1)", ("Point", (9, 1))),
             ("MULTIPOLYGON(((0 0,1 0,0 1,0 0)))", ("MultiPolygon", ((((0, 0), (1, 0), (0, 1), (0, 0)),),))),
         ):
-            self.assertEqual(_texts.coordinates(text), wanted)
+            self.assertEqual(texts.coordinates(text), wanted)
 
     def test_what_spells_none(self):
         for text in (
@@ -90,40 +92,40 @@ class Geometries(unittest.TestCase):
             "MULTIPOLYGON((0 0,1 0,0 1,0 0))", f"POINT({DIGITS} 1)", "(" * 5_000,
         ):
             with self.assertRaises(ValueError, msg=text[:30]):
-                _texts.coordinates(text)
+                texts.coordinates(text)
 
 
 class Schemas(unittest.TestCase):
     ONE = "CREATE TABLE t{} (id INTEGER PRIMARY KEY, g POINT);\n"
 
     def test_as_many_tables_as_sfq_takes(self):
-        found = _statements.tables("".join(self.ONE.format(it) for it in range(20)))
+        found = statements.tables("".join(self.ONE.format(it) for it in range(20)))
         self.assertEqual([it.name for it in found], [f"t{it}" for it in range(16)])
         columns = ", ".join(f"c{it} INT" for it in range(40))
-        (table,) = _statements.tables(f"CREATE TABLE t ({columns})")
+        (table,) = statements.tables(f"CREATE TABLE t ({columns})")
         self.assertEqual(table.columns, [(f"c{it}", "INTEGER") for it in range(32)])
 
     def test_a_long_schema_is_read_in_one_pass(self):
         for text in ("CREATE TABLE t (a POINT " * 2_700, "CREATE TABLE " * 5_000, "CREATE TABLE t (" * 4_000 + ")", self.ONE.format("") * 1_300):
-            self.assertLess(took(lambda text=text: _statements.tables(text)), SECONDS, text[:30])
-        self.assertEqual(_statements.tables(self.ONE.format(1) + "-" * 65_536), [])
+            self.assertLess(took(lambda text=text: statements.tables(text)), SECONDS, text[:30])
+        self.assertEqual(statements.tables(self.ONE.format(1) + "-" * 65_536), [])
 
     def test_comments_between_tokens(self):
-        (table,) = _statements.tables("CREATE -- a\n table -- b (\n t ( -- c )\n id INT primary key, g point ) ; x")
+        (table,) = statements.tables("CREATE -- a\n table -- b (\n t ( -- c )\n id INT primary key, g point ) ; x")
         self.assertEqual((table.name, table.columns, table.text[-4:]), ("t", [("id", "INTEGER"), ("g", "POINT")], " );\n"))
 
 
 class Queries(unittest.TestCase):
     def test_a_query_is_taken_apart_in_one_pass(self):
         for text in ("SELECT a FROM t WHERE " + "a=1 OR " * 9_000, "()" * 32_000, "f(" * 16_000 + ")" * 30_000, "?" * 65_000, "'" * 65_535):
-            self.assertLess(took(lambda text=text: _parameters.Query(text)), SECONDS, text[:30])
+            self.assertLess(took(lambda text=text: placeholders.Query(text)), SECONDS, text[:30])
 
     def test_a_query_that_is_too_long_is_not_read(self):
         for text in ("SELECT ? FROM t" + " " * 65_536, "?" * 1_000_000, "\u00e9" * 40_000):
             with self.assertRaises(sfq.ProgrammingError) as met:
-                _parameters.query(text)
+                placeholders.query(text)
             self.assertEqual((met.exception.code, met.exception.at), ("Q11", None))
-        self.assertEqual(len(_parameters.query("?" + " " * 65_535).parts), 2)
+        self.assertEqual(len(placeholders.query("?" + " " * 65_535).parts), 2)
 
     def test_calls_of_predicates_are_found_in_one_pass(self):
         text = "SELECT id FROM t WHERE " + "ST_Equals(geom, " * 4_000
@@ -135,8 +137,8 @@ class Queries(unittest.TestCase):
 
     def conditions(self, text):
         """Returns the conditions of a query over the table of GRID."""
-        layer = _units.layer_of(GRID["layers"][0])
-        return _conditions.Conditions(text, types.SimpleNamespace(layers_of=lambda _text: {"t": layer}))
+        layer = units.layer_of(GRID["layers"][0])
+        return conditions.Conditions(text, types.SimpleNamespace(layers_of=lambda _text: {"t": layer}))
 
 
 class Prompt(unittest.TestCase):
@@ -144,9 +146,9 @@ class Prompt(unittest.TestCase):
 
     def said(self, line):
         """Returns what is said of a line at the prompt."""
-        asker = types.SimpleNamespace(tables=_statements.tables(Schemas.ONE.format("")))
+        asker = types.SimpleNamespace(tables=statements.tables(Schemas.ONE.format("")))
         with contextlib.redirect_stderr(io.StringIO()) as said:
-            shell.Shell(asker, "", "", "csv").take(line, _statements.Splitter())
+            shell.Shell(asker, "", "", "csv").take(line, statements.Splitter())
         return said.getvalue()
 
     def test_a_nul_in_a_command(self):
@@ -160,8 +162,8 @@ class Prompt(unittest.TestCase):
         with tempfile.TemporaryDirectory(prefix="sfq-long-") as room:
             schema = "CREATE TABLE t (id INTEGER)"
             write(f"{room}/t.csv", "id\n1\n")
-            asker = _asking.ByLibrary("sfq-shell", [f"{room}/schema.sql", room], schema)
-            with self.assertRaises(_asking.Refused) as met:
+            asker = asking.ByLibrary("sfq-shell", [f"{room}/schema.sql", room], schema)
+            with self.assertRaises(asking.Refused) as met:
                 asker.ask("SELECT id FROM t WHERE id = '\udcff'")
             self.assertEqual((met.exception.text, met.exception.status),
                              ("sfq: query unreadable\nsfq: the query isn't UTF-8: byte 29 is none of a character\n", 6))

@@ -5,7 +5,7 @@ import unittest
 import support  # noqa: F401
 
 from sfq import OperationalError
-from sfq._sources import Given, read_schema
+from sfq.tables.sources import Given, read_schema
 
 
 class OfTables(unittest.TestCase):

@@ -2,6 +2,7 @@
 import json
 import os
 import pty
+import re
 import shutil
 import signal
 import subprocess
@@ -113,10 +114,16 @@ class InOneProcess(Node):
             with self.subTest(case=case.name):
                 self.assertEqual((one.out.decode(), one.err.decode(), one.more, one.status), (case.out, case.fault, b"", case.status))
                 self.assertEqual(more, again)
-                if not case.is_later and not self.names_a_folder(case):
+                if not case.is_later and not self.names_a_folder(case) and not self.has_many_fields(case):
                     added = "".join(f"{it}\n" for it in case.added).replace("$DIR", f"{room}/{at}")
                     self.assertEqual((more.out.decode(), (more.err + more.more).decode(), more.status), (case.out, case.fault + added, case.status))
 
+
+    @staticmethod
+    def has_many_fields(case):
+        """Whether a record has more than 100,000 fields: the program in Node reads such a table within that bound again, and explains L11 alone."""
+        found = re.search(r"the record has (\d+) fields", "".join(case.added))
+        return found is not None and int(found[1]) > 100_000
 
     @staticmethod
     def names_a_folder(case):

@@ -8,10 +8,10 @@ import sys
 import tempfile
 import unittest
 
-from support import python_command, write
+from support import ROOT, python_command, write
 
 import surroundings
-from sfq import _outputs
+from sfq.commands import outputs
 from surroundings import WRITE, contents, words_of
 
 SIGNALS = {signal.SIGINT: ("interrupted", 130), signal.SIGTERM: ("terminated", 143), signal.SIGHUP: ("hung up", 129)}
@@ -26,7 +26,7 @@ class OneFile(unittest.TestCase):
         self.room, self.path = room.name, f"{room.name}/out"
 
     def written(self, path, text="new"):
-        output = _outputs.Output(path)
+        output = outputs.Output(path)
         output.file.write(text)
         return output
 
@@ -77,34 +77,34 @@ class OneFile(unittest.TestCase):
     def test_a_folder_is_refused_before_anything_is_written(self):
         for it in (self.room, f"{self.room}/new/", f"{self.room}/none/out"):
             with self.assertRaises(OSError) as raised:
-                _outputs.Output(it)
+                outputs.Output(it)
             self.assertEqual(raised.exception.filename, it)
         self.assertEqual(os.listdir(self.room), [])
 
     def test_several_take_their_places_together(self):
-        outputs = [self.written(f"{self.room}/{it}") for it in "ab"]
-        os.dup2(os.open("/dev/full", os.O_WRONLY), outputs[1].file.fileno())
+        both = [self.written(f"{self.room}/{it}") for it in "ab"]
+        os.dup2(os.open("/dev/full", os.O_WRONLY), both[1].file.fileno())
         with self.assertRaises(OSError) as raised:
-            _outputs.keep(outputs)
+            outputs.keep(both)
         self.assertEqual(raised.exception.filename, f"{self.room}/b")
-        for it in outputs:
+        for it in both:
             it.drop()
         self.assertEqual(os.listdir(self.room), [])
 
     def test_what_a_library_writes_by_name(self):
-        output = _outputs.Output(self.path, True)
+        output = outputs.Output(self.path, True)
         write(output.new, "new")
         write(f"{output.new}-journal", "more")
         self.assertEqual(os.path.basename(output.new), "out")
         output.keep()
         self.assertEqual((os.listdir(self.room), contents(self.path)), (["out"], "new"))
         with self.assertRaises(OSError):
-            _outputs.Output("/dev/null", True)
+            outputs.Output("/dev/null", True)
 
     def test_an_open_file_is_written_where_it_is(self):
         write(self.path, "old\n")
-        script = "from sfq import _outputs\nit = _outputs.Output('/dev/stdout')\nit.file.write('new')\nit.keep()\n"
-        package = os.path.dirname(os.path.dirname(_outputs.__file__))
+        script = "from sfq.commands import outputs\nit = outputs.Output('/dev/stdout')\nit.file.write('new')\nit.keep()\n"
+        package = f"{ROOT}/bindings/python"
         with open(self.path, "ab") as file:
             subprocess.run([sys.executable, "-B", "-c", script], stdout=file, check=True, env={**os.environ, "PYTHONPATH": package})
         self.assertEqual((contents(self.path), os.listdir(self.room)), ("old\nnew", ["out"]))

@@ -54,6 +54,17 @@ class PeerFolder(unittest.TestCase):
                 said = self.refused(lambda: peer_folder.make(self.room, "sid", peer_folder.MIRROR, []))
                 self.assertEqual(said, f"peer_folder.py: {self.room} is there already, and isn't an empty folder")
 
+    def test_packages_come_before_options_or_behind_them(self):
+        made = []
+        for words in (["make", "X", "gcc", "jq", "--suite", "trixie"], ["make", "X", "--suite", "trixie", "gcc", "jq"]):
+            with mock.patch.object(sys, "argv", ["peer_folder.py", *words]), mock.patch.object(os, "geteuid", lambda: 0):
+                with mock.patch.object(peer_folder, "make", lambda *them: made.append(them) or 0):
+                    self.assertEqual(peer_folder.main(), 0)
+        self.assertEqual(made, 2 * [("X", "trixie", peer_folder.MIRROR, ["gcc", "jq"])])
+        for words in (["make", "X", "--suit"], ["add", "X", "gcc", "--new"]):
+            with mock.patch.object(sys, "argv", ["peer_folder.py", *words]):
+                self.assertEqual(self.refused(peer_folder.main), "2")
+
     def test_signatures_are_checked(self):
         asked = []
 

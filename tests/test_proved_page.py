@@ -157,7 +157,7 @@ class Page(unittest.TestCase):
             self.assertEqual(len(proved_page.wrong_sentences({**texts, "docs/DATA.md": said})), 1, said)
         # Where the proof ends is said wherever somebody may look for it.
         for path in texts:
-            if re.search(r"bindings/(?:c/sfq\.h|sqlite/(?:sfq0\.c|asking\.h)|postgresql/(?:sfq\.c|asking\.h)|python/sfq/(?:__init__|_library)\.py)", path):
+            if re.search(r"bindings/(?:c/sfq\.h|sqlite/(?:sfq0\.c|asking\.h)|postgresql/(?:sfq\.c|asking\.h)|python/sfq/(?:__init__|geometry/library)\.py)", path):
                 self.assertRegex(proved_page.plain_words(texts[path]).replace(" * ", " "), r"\bcalls of the crates? sfq_c\b", path)
 
     def test_functions_of_a_source(self):

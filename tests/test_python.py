@@ -24,7 +24,8 @@ import pairs as drawing
 import repository
 import sfq
 import wheels
-from sfq import _faults, _library, _progress, _texts
+from sfq.commands import progress
+from sfq.geometry import faults, library as border, texts
 
 SQUARE = "POLYGON((0 0,4 0,4 4,0 4,0 0))"
 # The methods of a Geometry, by the names that SQL has for them.
@@ -64,11 +65,11 @@ for it in ([none[:3] + [1]], [[0, 0, 0.5, 1]], [[1, 2, 3]], [[1, 0, 0, 0]], [[0,
 
 def taken_apart(text):
     """Returns the type, positions, and sizes of lines and polygons of a text without blanks but between x and y."""
-    name = next(it for it in _library.TYPES if it.upper() == re.match("[A-Z]+", text)[0])
+    name = next(it for it in border.TYPES if it.upper() == re.match("[A-Z]+", text)[0])
     if name == "MultiPoint":
         text = text.replace("((", "(").replace("))", ")").replace("),(", ",")
     parts = [[tuple(map(int, it.split())) for it in part.split(",")] for part in re.findall(r"\(([-\d, ]+)\)", text)]
-    lines = [len(it) for it in parts] if _texts.TYPES[name] > 1 else []
+    lines = [len(it) for it in parts] if texts.TYPES[name] > 1 else []
     polygons = [it.count("),(") + 1 for it in text.split(")),((")] if name == "MultiPolygon" and parts else []
     return name, [it for part in parts for it in part], lines, polygons
 
@@ -200,6 +201,7 @@ class Package(engine_rows.WithLibrary):
         square = sfq.Geometry.from_positions("Polygon", [(0, 0), (4, 0), (4, 0), (4, 4), (0, 4), (0, 0)], [6])
         self.assertEqual((square, square.touches("POINT(4 1)"), square.is_valid), (sfq.Geometry(SQUARE), True, True))
         self.assertEqual(pickle.loads(pickle.dumps(square)), square)
+        self.assertIn(b"sfq\nGeometry\n", pickle.dumps(square, 0))
         self.assertEqual(square.__geo_interface__, sfq.Geometry(SQUARE).__geo_interface__)
         for words, error, said in (
             (("Polygon", [(0, 0)], [2]), ValueError, "the parts don't have these positions"),
@@ -215,7 +217,7 @@ class Package(engine_rows.WithLibrary):
 
     def test_positions_are_as_texts(self):
         """Random geometries, of which many have a fault."""
-        chance, faults = random.Random(41), set()
+        chance, codes = random.Random(41), set()
         for _ in range(2_000):
             text = drawing.draw(chance, chance.choice(drawing.TYPES))
             wanted = sfq.Geometry(text)
@@ -223,8 +225,8 @@ class Package(engine_rows.WithLibrary):
                 self.assertEqual(sfq.Geometry.from_positions(*taken_apart(text)).text, wanted.text)
             except sfq.FaultError as error:
                 self.assertEqual(error.fault, wanted.fault, text)
-                faults.add(error.fault.code)
-        self.assertGreaterEqual(len(faults), 2)
+                codes.add(error.fault.code)
+        self.assertGreaterEqual(len(codes), 2)
 
     def test_dimension_emptiness_and_bounds(self):
         for text, wanted in (
@@ -360,7 +362,7 @@ class Package(engine_rows.WithLibrary):
 
     def test_out_of_memory_is_an_error(self):
         with self.assertRaisesRegex(MemoryError, "out of memory"):
-            _library.is_refused(_library.OUT_OF_MEMORY)
+            border.is_refused(border.OUT_OF_MEMORY)
 
     def test_a_wheel_has_the_library_within(self):
         """The same bytes each time, installed by pip without a network, and asked where no other library is named."""
@@ -375,7 +377,7 @@ class Package(engine_rows.WithLibrary):
                 self.assertEqual(file.read(), first)
             clean = {name: value for name, value in environment().items() if not name.startswith(("PIP_", "PYTHON", "SFQ_"))}
             python = f"{room}/venv/bin/python"
-            text = "import sfq; print(sfq.relate('POINT(1 1)', 'POINT(1 1)'), sfq._library.library()._name)"
+            text = "import sfq; print(sfq.relate('POINT(1 1)', 'POINT(1 1)'), sfq.geometry.library.library()._name)"
             pip = [python, "-m", "pip", "install", "-q", "--no-index", "--disable-pip-version-check", path]
             for words in ([DEBIAN, "-m", "venv", f"{room}/venv"], pip):
                 ran = subprocess.run(words, env=clean, cwd=room, capture_output=True, text=True)
@@ -406,7 +408,7 @@ class Lines(unittest.TestCase):
 
     def shown(self, stream, calls, **how):
         with contextlib.redirect_stderr(stream):
-            line = _progress.Progress("it", **how)
+            line = progress.Progress("it", **how)
             for text, is_last in calls:
                 line.show(text, is_last)
             line.clear()
@@ -485,13 +487,13 @@ class Installation(unittest.TestCase):
 
     def test_where_the_library_is_looked_for(self):
         """In the lib of the prefix, whether the package is in site-packages or in share/sfq; in a checkout; then where the system has it."""
-        text = "from sfq import _library; print(*_library.places())"
+        text = "from sfq.geometry import library; print(*library.places())"
         known = {**environment(PYTHONPATH=f"{ROOT}/bindings/python"), "SFQ_LIBRARY": ""}
         self.assertIn(f"{ROOT}/bindings/c/out/libsfq.so.0", subprocess.run([sys.executable, "-c", text], env=known, capture_output=True, text=True).stdout.split())
         for at in ("lib/python3.11/site-packages/sfq", "share/sfq/sfq"):
             with tempfile.TemporaryDirectory(prefix="sfq-python-") as room:
                 shutil.copytree(f"{self.PROJECT}/sfq", f"{room}/{at}")
-                text = "from sfq import _library; print(*_library.places())"
+                text = "from sfq.geometry import library; print(*library.places())"
                 known = {**environment(PYTHONPATH=os.path.dirname(f"{room}/{at}")), "SFQ_LIBRARY": ""}
                 found = subprocess.run([sys.executable, "-c", text], env=known, cwd=room, capture_output=True, text=True).stdout.split()
                 self.assertIn(f"{room}/lib/libsfq.so.0", found)
@@ -511,7 +513,7 @@ class Installation(unittest.TestCase):
     def test_c_gives_the_same_words(self):
         """The header of the extensions, of each fault and of what is none."""
         codes = [f"{letter}{number}" for letter, most in (("W", 4), ("V", 8)) for number in range(1, most + 1)]
-        self.assertEqual(list(_faults.MEANINGS), codes)
+        self.assertEqual(list(faults.MEANINGS), codes)
         calls = "".join(f"    show('{it[0]}', {it[1:]});\n" for it in [*codes, "W0", "W5", "V9", "X1"])
         with tempfile.TemporaryDirectory(prefix="sfq-python-") as room:
             write(f"{room}/words.c", (
@@ -524,7 +526,7 @@ class Installation(unittest.TestCase):
             words = ["cc", "-std=c99", "-Wall", "-Wextra", "-Werror", f"-I{ROOT}/bindings/c", f"{room}/words.c", "-o", f"{room}/words"]
             subprocess.run(words, check=True)
             shown = subprocess.run([f"{room}/words"], capture_output=True, text=True, check=True).stdout.splitlines()
-        self.assertEqual(shown[:len(codes)], [str(_faults.Fault(it, 3, 5)) for it in codes])
+        self.assertEqual(shown[:len(codes)], [str(faults.Fault(it, 3, 5)) for it in codes])
         self.assertEqual([it.partition(": ")[2] for it in shown[len(codes):]], ["an unknown fault"] * 4)
 
 

@@ -22,7 +22,7 @@ import qgis_plugin
 import wheels
 from engine_rows import WithLibrary
 from sfq_qgis import grids
-from sfq import _proposing
+from sfq.layers import proposing
 
 PLUGIN, PROGRAM = "sfq_qgis", "qgis_process.bin"
 PARCELS = {"memory": "Polygon?crs=EPSG:25832", "name": "parcel", "shapes": [
@@ -64,7 +64,7 @@ class Grids(unittest.TestCase):
     """Which grid is proposed, and what is said where the one that is given doesn't do. The values are computed by hand."""
 
     def chosen(self, extent, step="", origin="", metres=1.0):
-        return grids.chosen(extent and _proposing.Extent(*extent), metres, step, origin).spelled
+        return grids.chosen(extent and proposing.Extent(*extent), metres, step, origin).spelled
 
     def test_what_is_given_is_taken(self):
         self.assertEqual(self.chosen((0, 4, 0, 4), "0.25", " 1, -2 "), ("0.25", ("1", "-2")))
@@ -93,7 +93,10 @@ class Packing(WithLibrary):
         files = qgis_plugin.files()
         names = list(files)
         self.assertEqual(names[0], f"{PLUGIN}/__init__.py")
-        of_package = {f"{PLUGIN}/package/sfq/{os.path.basename(it)}" for it in glob.glob(f"{ROOT}/bindings/python/sfq/*.*")}
+        top = f"{ROOT}/bindings/python"
+        found = [it for it in glob.glob(f"{top}/sfq/**/*.*", recursive=True) if "__pycache__" not in it]
+        of_package = {f"{PLUGIN}/package/{os.path.relpath(it, top)}" for it in found}
+        self.assertIn(f"{PLUGIN}/package/sfq/layers/proposing.py", of_package)
         self.assertLessEqual({f"{PLUGIN}/metadata.txt", f"{PLUGIN}/icon.svg", f"{PLUGIN}/package/sfq/{library.NAME}", *of_package}, set(names))
         with mock.patch("time.time", side_effect=itertools.count(1_000_000_000, 100_000)):
             made, again = (wheels.zipped(it, packages.released()[1]) for it in (files, qgis_plugin.files()))

@@ -16,7 +16,8 @@ import repository
 import sfq
 import test_web
 from fuzz import cases
-from sfq import _asking, _databases, _parameters, _showing
+from sfq.commands import asking, showing
+from sfq.tables import databases, placeholders
 
 # The runs that are compared: an answer, or a fault of the schema, of a table or of the query. Of files that can't be read the library
 # says nothing.
@@ -34,7 +35,7 @@ class Kept:
         self.schema, self.fault = case.parts.get("schema", b""), None
         self.room, self.database = room, None
         try:
-            self.database = _databases.Database(self.schema)
+            self.database = databases.Database(self.schema)
             self.database.source = self.source
             for table in range(len(self.database.tables)):
                 self.database.load(table)
@@ -54,7 +55,7 @@ class Kept:
 def by_calls(kept, query):
     """Returns what is written by the calls for the texts of the header and of each row."""
     try:
-        statement = _databases.Statement(kept.database, query, str)
+        statement = databases.Statement(kept.database, query, str)
     except sfq.Error as error:
         return f"sfq: {error.place}\n"
     written = rows_by_calls(kept, statement.number)
@@ -65,16 +66,16 @@ def by_calls(kept, query):
 def rows_by_calls(kept, number):
     """Returns the texts of the header and of each row of a statement, which is before its first row."""
     calls, it = kept.database.calls, kept.database.it
-    room, lines = _databases.Room(), []
+    room, lines = databases.Room(), []
     for name in ("sfq_header_text", "sfq_row_text"):
-        getattr(calls, name).argtypes = [ctypes.POINTER(_databases.CDatabase), ctypes.c_size_t, *_databases.KINDS["r"]]
+        getattr(calls, name).argtypes = [ctypes.POINTER(databases.CDatabase), ctypes.c_size_t, *databases.KINDS["r"]]
     lines.append(room.text(calls.sfq_header_text, it, number))
     status = calls.sfq_step(it, number, 1)
-    while status in (_databases.OK, _databases.BUSY):
-        if status == _databases.OK:
+    while status in (databases.OK, databases.BUSY):
+        if status == databases.OK:
             lines.append(room.text(calls.sfq_row_text, it, number))
         status = calls.sfq_step(it, number, len(lines))
-    assert status == _databases.NONE, status
+    assert status == databases.NONE, status
     return "".join(lines)
 
 
@@ -88,16 +89,16 @@ def by_connection(kept, query, values=()):
             return f"sfq: {error.place}\n"
     if query.lstrip()[:7].upper() == "EXPLAIN":
         return "".join(f"{it}\n" for it, in found[1:])
-    return "".join(_showing.record(["" if it is None else str(it) for it in row]) for row in found)
+    return "".join(showing.record(["" if it is None else str(it) for it in row]) for row in found)
 
 
 def by_shell(room, schema, query):
     """Returns what sfq-shell writes, all tables being loaded."""
     text = io.StringIO()
-    asker = _asking.ByLibrary("sfq-shell", [f"{room}/s", f"{room}/d"], schema)
+    asker = asking.ByLibrary("sfq-shell", [f"{room}/s", f"{room}/d"], schema)
     try:
-        _showing.show(asker.ask(query), "csv", _showing.Place(text, None, room))
-    except _asking.Refused as error:
+        showing.show(asker.ask(query), "csv", showing.Place(text, None, room))
+    except asking.Refused as error:
         return f"{error.text.partition(chr(10))[0]}\n"
     return text.getvalue()
 
@@ -130,7 +131,7 @@ def is_utf8(text):
 def tables_of(case, room):
     """Returns the bytes of a case's tables, none where its schema is refused."""
     try:
-        names = _databases.Database(case.parts["schema"]).tables
+        names = databases.Database(case.parts["schema"]).tables
     except sfq.ProgrammingError:
         return []
     found = []
@@ -218,15 +219,15 @@ class RandomQueries(AsksBoth):
                 except sfq.Error:
                     pass
                 rows = db.execute(query, [value]).fetchall()
-                written = "".join(_showing.record(["" if it is None else str(it) for it in row]) for row in rows)
+                written = "".join(showing.record(["" if it is None else str(it) for it in row]) for row in rows)
                 self.assertEqual(wanted.partition("\n")[2], written, query)
         return len(found)
 
     def bind_by_calls(self, kept, text, found, wanted):
         """The same by the calls: each constant of one statement after another. Returns how many were bound."""
-        statement, bound = _databases.Statement(kept.database, text.encode(), str), 0
+        statement, bound = databases.Statement(kept.database, text.encode(), str), 0
         for query, _, value in found:
-            constants = _parameters.query(query).constants([_parameters.of_value(value, 1)])
+            constants = placeholders.query(query).constants([placeholders.of_value(value, 1)])
             self.assertEqual([kind for kind, _ in constants], statement.constants, query)
             for at, (kind, mark) in enumerate(constants):
                 if mark == 0:
@@ -255,12 +256,12 @@ class RandomQueriesOfThePage(AsksBoth):
     @test_web.needs_page
     @needs_build
     def test_the_page_writes_what_run_writes(self):
-        databases, wanted = [], []
+        given, wanted = [], []
         for number, case, room, query, ran in asked_cases(self.SEED, self.COUNT):
             if is_utf8(query):
-                databases.append((case.parts["schema"], tables_of(case, room), [query]))
+                given.append((case.parts["schema"], tables_of(case, room), [query]))
                 wanted.append((number, query, ran.returncode, (ran.stdout or ran.stderr.rstrip(b"\n")).decode("utf-8", "replace")))
-        found, lost = test_web.asked_in_node(databases)
+        found, lost = test_web.asked_in_node(given)
         self.assertEqual(lost, 0, "memory isn't given back")
         for (number, query, _, printed), ([answer], _) in zip(wanted, found, strict=True):
             with self.subTest(case=number, query=query):

@@ -9,7 +9,7 @@ import unittest
 from support import ROOT, python_command, read, write
 
 import surroundings
-from sfq import _systems
+from sfq.layers import systems
 
 WGS84 = ('GEOGCRS["WGS 84",DATUM["World Geodetic System 1984",ELLIPSOID["WGS 84",6378137,298.257223563]],CS[ellipsoidal,2],'
          'AXIS["latitude",north],AXIS["longitude",east],ANGLEUNIT["degree",0.0174532925199433]{}]')
@@ -26,13 +26,13 @@ OF_JSON = {"type": "GeographicCRS", "name": "WGS 84", "datum": {"type": "Geodeti
 # Reads texts, and says of each what it is: a system that may be used, or why not.
 SCRIPT = """
 import json, sys
-from sfq import _reading, _systems
-osr = _reading.modules().osr
+from sfq.layers import reading, systems
+osr = reading.modules().osr
 found = []
 for it in json.load(sys.stdin):
     try:
-        system = _systems.of_text(osr, it)
-        _systems.transformation(osr, system, _systems.named(osr, "EPSG:4326"))
+        system = systems.of_text(osr, it)
+        systems.transformation(osr, system, systems.named(osr, "EPSG:4326"))
         found.append([True, system.GetName()])
     except ValueError as error:
         found.append([False, str(error)])
@@ -161,8 +161,8 @@ class OneCall(unittest.TestCase):
         found = []
         for at, _, names in os.walk(f"{ROOT}/bindings"):
             found += [os.path.relpath(f"{at}/{it}", ROOT) for it in names if it.endswith(".py") and "SetFromUserInput" in read(f"{at}/{it}")]
-        self.assertEqual(found, [os.path.relpath(_systems.__file__, ROOT)])
-        self.assertEqual(read(_systems.__file__).count("SetFromUserInput"), 1)
+        self.assertEqual(found, [os.path.relpath(systems.__file__, ROOT)])
+        self.assertEqual(read(systems.__file__).count("SetFromUserInput"), 1)
 
 
 if __name__ == "__main__":

@@ -23,7 +23,9 @@ import repository
 import tables_stand_in
 import test_databases_python as databases
 from shell_sessions import FOLDER, SCHEMA, Program, Terminal, shown
-from sfq import LibraryError, _asking, _databases, _endings, _errors, _prompt, _showing, _statements, shell
+from sfq import LibraryError
+from sfq.commands import asking, endings, prompt, shell, showing
+from sfq.tables import databases as border, errors, statements
 
 ORDERED = "SELECT name FROM parcel ORDER BY id"
 ORDERED_FAULT = (
@@ -49,9 +51,9 @@ KNOWN = {
 }
 
 
-def statements(*lines):
+def statements_of(*lines):
     """Returns the queries that end in lines, with the numbers of their first lines, and what is left."""
-    splitter = _statements.Splitter()
+    splitter = statements.Splitter()
     found = [tuple(it) for line in lines for it in splitter.add(line)]
     left = splitter.taken()
     return found, left and left.text
@@ -73,19 +75,19 @@ class Statements(unittest.TestCase):
             (["a - -b;\n", "a --b;\n", "c;"], ([("a - -b", 1), ("a --b;\nc", 2)], None)),
             (['a "b;c";\n'], ([('a "b', 1), ('c"', 1)], None)),
         ):
-            self.assertEqual(statements(*lines), wanted, lines)
+            self.assertEqual(statements_of(*lines), wanted, lines)
 
     def test_tables_of_a_schema(self):
-        found = _statements.tables(read(SCHEMA))
+        found = statements.tables(read(SCHEMA))
         self.assertEqual([it.name for it in found], ["owner", "parcel", "building", "water", "path", "well"])
         self.assertEqual(found[0].columns, [("id", "INTEGER"), ("name", "TEXT"), ("since", "INTEGER")])
         text = "-- CREATE TABLE no (x INT)\ncreate table A (b BIGINT primary key, -- )\n c POINT not null);CREATE TABLE z (y"
-        self.assertEqual([tuple(it)[:2] for it in _statements.tables(text)], [("A", [("b", "INTEGER"), ("c", "POINT")])])
+        self.assertEqual([tuple(it)[:2] for it in statements.tables(text)], [("A", [("b", "INTEGER"), ("c", "POINT")])])
         for it in ("", "CREATE", "CREATE TABLE", "CREATE TABLE ()", "\ufeff';"):
-            self.assertEqual(_statements.tables(it), [], it)
+            self.assertEqual(statements.tables(it), [], it)
 
     def test_types_by_headers(self):
-        known = _statements.tables(read(SCHEMA))
+        known = statements.tables(read(SCHEMA))
         for query, headers, wanted in (
             ("SELECT * FROM owner", ["id", "name", "since"], ["INTEGER", "TEXT", "INTEGER"]),
             ("select x from Parcel AS p, building where 1", ["p.name", "building.geom", "p.geom"], ["TEXT", "POLYGON", "GEOMETRY"]),
@@ -94,11 +96,11 @@ class Statements(unittest.TestCase):
             ("SELECT .. FROM well", ["ST_Dimension(geom)", "ST_IsEmpty(geom)", "ST_AsText(geom)"], ["INTEGER", "INTEGER", "POINT"]),
             ("SELECT nothing", ["x", "a.b"], ["TEXT", "TEXT"]),
         ):
-            self.assertEqual(_statements.types(headers, query, known), wanted, query)
+            self.assertEqual(statements.types(headers, query, known), wanted, query)
 
     def test_plans(self):
-        self.assertTrue(_statements.is_plan("-- x\n explain SELECT"))
-        self.assertFalse(_statements.is_plan("SELECT 'EXPLAIN'"))
+        self.assertTrue(statements.is_plan("-- x\n explain SELECT"))
+        self.assertFalse(statements.is_plan("SELECT 'EXPLAIN'"))
 
 
 class Written(unittest.TestCase):
@@ -106,17 +108,17 @@ class Written(unittest.TestCase):
 
     def text(self, mode, headers, types, rows, width=None, folder="/none", is_plan=False):
         room = io.StringIO()
-        _showing.show(_asking.Answer(headers, types, iter(rows), is_plan), mode, _showing.Place(room, width, folder))
+        showing.show(asking.Answer(headers, types, iter(rows), is_plan), mode, showing.Place(room, width, folder))
         return room.getvalue()
 
     def test_widths(self):
         for text, wanted in (("", 0), ("abc", 3), ("Mühle", 5), ("u\u0308", 1), ("水道", 4), ("ｗ", 2), ("\u1112\u1161\u11ab", 2), ("a\u200bb", 2)):
-            self.assertEqual(_showing.width(text), wanted, text)
+            self.assertEqual(showing.width(text), wanted, text)
         for text, room, wanted in (("abcd", 4, "abcd"), ("abcde", 4, "abc…"), ("水道水", 5, "水道…"), ("水道水", 4, "水…"), ("ab", 1, "…"), ("ab", 0, "")):
-            self.assertEqual(_showing.cut(text, room), wanted)
-            self.assertLessEqual(_showing.width(_showing.cut(text, room)), room)
+            self.assertEqual(showing.cut(text, room), wanted)
+            self.assertLessEqual(showing.width(showing.cut(text, room)), room)
         for widths, room, wanted in (([3, 5], 8, [3, 5]), ([3, 50, 50], 23, [3, 10, 10]), ([50, 2, 50], 23, [10, 2, 11]), ([9, 9], 1, [1, 1]), ([], 9, [])):
-            self.assertEqual(_showing.fitted(widths, room), wanted)
+            self.assertEqual(showing.fitted(widths, room), wanted)
 
     def test_table(self):
         headers, types = ["id", "name"], ["INTEGER", "TEXT"]
@@ -128,7 +130,7 @@ class Written(unittest.TestCase):
         self.assertEqual(self.text("table", headers, types, rows, 11), cut)
         for width in (1, 2, 5, 8):
             for line in self.text("table", headers, types, rows, width).splitlines()[:-1]:
-                self.assertLessEqual(_showing.width(line), width)
+                self.assertLessEqual(showing.width(line), width)
 
     def test_a_table_of_many_rows_grows_wider(self):
         rows = [["1"]] * 1_500 + [["x" * 30]]
@@ -150,7 +152,7 @@ class Written(unittest.TestCase):
         self.assertEqual([it["geometry"] for it in found["features"]], [
             {"type": "Polygon", "coordinates": [[[0, 0], [4, 4], [0, 4], [0, 0]]]}, None, {"type": "Polygon", "coordinates": []}])
         self.assertEqual([it["properties"] for it in found["features"]], [{"id": 1, "second": "POINT(1 2)"}, {"id": 2, "second": None}, {"id": 3, "second": None}])
-        with self.assertRaises(_endings.Stopped) as met:
+        with self.assertRaises(endings.Stopped) as met:
             self.text("geojson", ["id"], ["INTEGER"], [["1"]])
         self.assertIn("no column of the answer is a geometry", str(met.exception))
 
@@ -172,7 +174,7 @@ class Written(unittest.TestCase):
 
 class Completing(unittest.TestCase):
     def setUp(self):
-        self.completer = _prompt.Completer(_statements.tables(read(SCHEMA)), [it.name for it in shell.COMMANDS])
+        self.completer = prompt.Completer(statements.tables(read(SCHEMA)), [it.name for it in shell.COMMANDS])
 
     def test_names(self):
         of = self.completer.of
@@ -200,14 +202,14 @@ class Completing(unittest.TestCase):
             self.assertEqual(self.completer.of(".output ", f"{room}/q["), [f"{room}/q[1].sql"])
 
     def test_lines_of_a_query_are_kept_as_one(self):
-        self.assertEqual(_prompt.joined(["SELECT id ", "  FROM t;"]), ["SELECT id FROM t;"])
+        self.assertEqual(prompt.joined(["SELECT id ", "  FROM t;"]), ["SELECT id FROM t;"])
         for lines in (["SELECT id -- key", "FROM t;"], ["SELECT 'a", "b' FROM t;"]):
-            self.assertEqual(_prompt.joined(lines), lines)
+            self.assertEqual(prompt.joined(lines), lines)
 
     def test_where_the_file_of_what_was_typed_is(self):
         for state, wanted in (("/x", "/x/sfq/shell-history"), ("", "~/.local/state/sfq/shell-history"), ("relative", "~/.local/state/sfq/shell-history")):
             with mock.patch.dict(os.environ, {"XDG_STATE_HOME": state}):
-                self.assertEqual(_prompt.history_file(), os.path.expanduser(wanted))
+                self.assertEqual(prompt.history_file(), os.path.expanduser(wanted))
 
 
 class WithProgram(unittest.TestCase):
@@ -448,11 +450,11 @@ class Library(unittest.TestCase):
         self.schema = "CREATE TABLE t (id INTEGER, name TEXT);\nCREATE TABLE u (id INTEGER, name TEXT)"
 
     def asker(self):
-        return _asking.asker("sfq-shell", "", [f"{self.room}/schema.sql", self.room], self.schema)
+        return asking.asker("sfq-shell", "", [f"{self.room}/schema.sql", self.room], self.schema)
 
     def test_rows(self):
         asker = self.asker()
-        self.assertIsInstance(asker, _asking.ByLibrary)
+        self.assertIsInstance(asker, asking.ByLibrary)
         answer = asker.ask("SELECT name, id FROM t")
         self.assertEqual((answer.headers, answer.types, answer.is_plan), (["name", "id"], ["TEXT", "INTEGER"], False))
         self.assertEqual(list(answer.rows), [["a", "1"], ["", "2"], ["b,c", "3"]])
@@ -466,11 +468,11 @@ class Library(unittest.TestCase):
             ("SELECT id FROM nothing", "sfq: Q3 at 15\n  1 | SELECT id FROM nothing\n    |                ^\nsfq: the schema has no table of this name: name a table of the schema\n", 5),
             ("SELECT id FROM u", f"sfq: u unreadable\nsfq: {self.room}/u.csv: No such file or directory\n", 6),
         ):
-            with self.assertRaises(_asking.Refused) as met:
+            with self.assertRaises(asking.Refused) as met:
                 asker.ask(query)
             self.assertEqual((met.exception.text, met.exception.status), (wanted, status))
         self.schema, self.calls = "CREATE", tables_stand_in.Calls().use(self)
-        with self.assertRaises(_asking.Refused) as met:
+        with self.assertRaises(asking.Refused) as met:
             self.asker()
         self.assertEqual((met.exception.code, met.exception.status), ("S1", 3))
 
@@ -478,12 +480,12 @@ class Library(unittest.TestCase):
         """The program is asked then."""
         program = Program(KNOWN)
         self.addCleanup(program.remove)
-        missing = mock.patch.object(_databases, "library", side_effect=LibraryError("sfq: no library"))
+        missing = mock.patch.object(border, "library", side_effect=LibraryError("sfq: no library"))
         missing.start()
         self.addCleanup(missing.stop)
         with only(program.room):
             asker = self.asker()
-        self.assertEqual((type(asker), asker.program), (_asking.ByProgram, f"{program.room}/sfq"))
+        self.assertEqual((type(asker), asker.program), (asking.ByProgram, f"{program.room}/sfq"))
         with only("/nothing"), self.assertRaises(LibraryError) as met:
             self.asker()
         self.assertIn("and no program sfq is beside this command or on the path", str(met.exception))
@@ -491,7 +493,7 @@ class Library(unittest.TestCase):
     def test_why(self):
         """The program's words for the same query, where it is there."""
         asker, query = self.asker(), "SELECT id FROM nothing"
-        with self.assertRaises(_asking.Refused) as met:
+        with self.assertRaises(asking.Refused) as met:
             asker.ask(query)
         program = Program({query: ("", "sfq: Q3 at 15\nsfq: did you mean t?\n", 5)})
         self.addCleanup(program.remove)
@@ -499,14 +501,14 @@ class Library(unittest.TestCase):
             found = asker.why(query, met.exception)
         self.assertTrue(found.startswith("sfq: Q3 at 15\nsfq: did you mean t?\nQ3: the query (status 5)\n"), found)
         with only("/nothing"):
-            self.assertEqual(asker.why(query, met.exception), f"{met.exception.text}Q3: {_errors.MEANINGS['Q3']}\n")
-            self.assertEqual(_asking.page("x9"), "X9: there is no such code\n")
+            self.assertEqual(asker.why(query, met.exception), f"{met.exception.text}Q3: {errors.MEANINGS['Q3']}\n")
+            self.assertEqual(asking.page("x9"), "X9: there is no such code\n")
 
     def test_memory(self):
         asker = self.asker()
         for call in ("sfq_prepare", "sfq_step"):
-            self.calls.refused[call] = _databases.OUT_OF_MEMORY
-            with self.assertRaises(_asking.Refused) as met:
+            self.calls.refused[call] = border.OUT_OF_MEMORY
+            with self.assertRaises(asking.Refused) as met:
                 list(asker.ask("SELECT id FROM t").rows)
             self.assertEqual((met.exception.text, met.exception.status), ("sfq: out of memory\n", 7))
 
@@ -519,7 +521,7 @@ class Library(unittest.TestCase):
             ("\udce4\t x", 3, "  1 | \\xe4\\t x\n    |        ^\n"),
             ("a" * 120 + "b" * 80, 120, f"  1 | ..{'a' * 98}{'b' * 58}..\n    | {' ' * 100}^\n"),
         ):
-            self.assertEqual(_asking.placed(_asking.encoded(text), at), wanted)
+            self.assertEqual(asking.placed(asking.encoded(text), at), wanted)
 
 
 def session(case, *more, **environment):
@@ -551,11 +553,11 @@ class ByTheLibrary(databases.WithTables):
                 file.write(text)
         text = io.StringIO()
         try:
-            asker = _asking.ByLibrary("sfq-shell", [f"{room}/schema.sql", room], row.files["schema"])
+            asker = asking.ByLibrary("sfq-shell", [f"{room}/schema.sql", room], row.files["schema"])
             for it in asker.tables:
                 list(asker.ask(f"SELECT COUNT(*) FROM {it.name}").rows)
-            _showing.show(asker.ask(row.command), "csv", _showing.Place(text, None, room))
-        except _asking.Refused as error:
+            showing.show(asker.ask(row.command), "csv", showing.Place(text, None, room))
+        except asking.Refused as error:
             return f"! {error.text.partition(chr(10))[0]}\n"
         return text.getvalue()
 
@@ -586,12 +588,12 @@ class Document(WithProgram):
             typed, after = lines[at], at + 1
             while after < len(lines) and not re.match(r"sfq> |  -> ", lines[after]):
                 after += 1
-            prompt = lines[after][:5] if after < len(lines) else ""
+            following = lines[after][:5] if after < len(lines) else ""
             if typed == "sfq> .quit":
                 terminal.type(".quit\r")
                 self.assertEqual((terminal.ended(), after), (0, len(lines)))
                 return
-            self.assertEqual(terminal.ask(typed[5:], prompt).splitlines(), lines[at + 1 : after], typed)
+            self.assertEqual(terminal.ask(typed[5:], following).splitlines(), lines[at + 1 : after], typed)
             at = after
         self.fail("the session doesn't end by .quit")
 

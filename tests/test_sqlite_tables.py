@@ -252,6 +252,11 @@ class OuterJoins(WithFolders):
                         "SELECT * FROM log ORDER BY 1;")
         self.assertEqual(out.split(), ["1,7", "2,", "3,"])
 
+    def test_statements_that_run_in_turn(self):
+        """What was found of the statements that run is used again only while the same ones run."""
+        ran = subprocess.run([self.program("turns"), f"{self.room.name}/sfq0", self.folder("in_turn", self.FILES), "20"], capture_output=True, text=True)
+        self.assertEqual((ran.stdout, ran.stderr, ran.returncode), ("280 run, 0 differ\n", "", 0))
+
     def test_right_and_full_joins(self):
         version = self.rows("SELECT sqlite_version();").strip()
         if tuple(map(int, version.split("."))) < (3, 39):
@@ -379,7 +384,7 @@ class Faults(WithFolders):
         for at, (text, wanted) in enumerate((
             ('id,geom\n7,"POLYGON((0 0,4 4,4 0,0 4,0 0))"\n',
              "t L6 record 1 V3 0: a geometry is refused: this ring touches or crosses itself"),
-            ("id,geom\n7,\n7,\n", "t L9 record 2: an earlier record has this key: number one of the two anew"),
+            ("id,geom\n7,\n7,\n", "t L9 record 2: an earlier record has this key: give one of the two another key"),
             ("id\n7\n", "t L1: the table lacks a column of the schema: add the column, or take it out of the schema"),
         )):
             folder = self.folder(f"words{at}", {"schema.sql": schema, "t.csv": text})

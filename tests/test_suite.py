@@ -22,7 +22,7 @@ from support import ROOT, needs_build, python_command, python_with, read
 
 import exact_cells
 import repository
-from sfq import _texts
+from sfq.geometry import texts
 from sfq_audit import families, writing
 from sfq_audit.engines import PREDICATES
 
@@ -142,7 +142,7 @@ class Suite(unittest.TestCase):
     def test_each_type_and_many_matrices_are_in_it(self):
         found = suite().values()
         words = Counter(re.match("[A-Z]+", text)[0] for it in found for text in (it.first, it.second))
-        self.assertEqual(set(words), {it.upper() for it in _texts.TYPES})
+        self.assertEqual(set(words), {it.upper() for it in texts.TYPES})
         self.assertGreater(min(words.values()), 100)
         self.assertGreater(len({it.matrix for it in found}), 100)
         for name in PREDICATES:
@@ -211,11 +211,11 @@ class Program(unittest.TestCase):
         features = json.loads(write("--format", "geojson", *words, given=given).stdout)["features"]
         self.assertEqual([it["properties"]["matrix"] for it in features], wanted)
         for it, pair in zip(features, pairs):
-            both = [_texts.of_interface(each) for each in it["geometry"]["geometries"]]
+            both = [texts.of_interface(each) for each in it["geometry"]["geometries"]]
             # Rings are turned and repeats left out, which changes no set of points.
             again = subprocess.run([repository.PROGRAM, "relate", *both], capture_output=True, text=True).stdout.strip()
             self.assertEqual(again, it["properties"]["matrix"])
-            self.assertEqual(*([set(re.findall(r"-?\d+ -?\d+", each)) for each in texts] for texts in (both, pair)))
+            self.assertEqual(*([set(re.findall(r"-?\d+ -?\d+", each)) for each in lists] for lists in (both, pair)))
         none = cases_of(write("--format", "jts-xml", "--predicates", "none", *words, given=given).stdout.decode())
         self.assertEqual([it.held for it in none], [{}] * len(pairs))
 

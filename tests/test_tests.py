@@ -12,6 +12,7 @@ from support import BUILDS, ROOT, WithCheckout, read, write
 
 import front_door
 import parts
+import testing
 
 # A crate's tests pass, `rt ci` leaves a program, edits whose name has `kept` aren't refused.
 BEHAVES = """
@@ -302,6 +303,18 @@ class OneUserOfTheDoor(unittest.TestCase):
         self.assertEqual(count("[3 of 9, 2 s] skipped: test_x, 1 test: needs ./build --library"), 0)
         self.assertEqual(count("[3 of 9, 2 s] skipped: test_x, 1 test: needs rt test in crates/fault_tests, or rt ci"), 0)
         self.assertEqual(count("needs the package qgis: 3 tests skipped"), 0)
+
+
+class Waits(unittest.TestCase):
+    """What a file of tests waits for: also what a class asks for that it takes from another file."""
+
+    def test_files_that_call_the_libraries(self):
+        waits = {it.name: it.after for it in testing.file_parts("after", testing.PROGRAM, testing.LIBRARIES)}
+        for name in ("test_library", "test_python", "test_rims", "test_sqlite", "test_web"):
+            self.assertIn(testing.LIBRARIES, waits[name], name)
+        self.assertEqual(waits["test_pairs"], (testing.PROGRAM,))
+        self.assertEqual(waits["test_common_facts"], ())
+        self.assertNotIn("support", waits)
 
 
 class Boards(unittest.TestCase):

@@ -11,7 +11,8 @@ from support import ROOT, python_with
 
 import sfq
 import tables_stand_in
-from sfq import _bounds, _library, _parameters, _positions, _sources, _texts
+from sfq.geometry import boxes, library, points, texts
+from sfq.tables import placeholders, sources
 
 HUGE, DIGITS = 10**400, 10**5_000
 HALF = fractions.Fraction(2**60 + 1, 2)
@@ -20,7 +21,8 @@ NUMPY = python_with("numpy")
 HEAD = """
     import numpy, warnings
     import sfq
-    from sfq import _bounds, _parameters, _positions, _sources
+    from sfq.geometry import boxes, points
+    from sfq.tables import placeholders, sources
     warnings.simplefilter("error")
     just_more = numpy.longdouble(1) + numpy.longdouble(2) ** -60
     def tell(call, *words):
@@ -29,7 +31,7 @@ HEAD = """
         except (sfq.Error, ValueError) as error:
             print(type(error).__name__, str(error)[:60])
     def buffer(values):
-        return list(_positions.buffer(values)[0])
+        return list(points.buffer(values)[0])
 """
 
 
@@ -51,27 +53,27 @@ def by_numpy(text):
 class Coordinates(unittest.TestCase):
     def test_whole_numbers_of_any_type(self):
         for value in (5, 5.0, True + 4, fractions.Fraction(10, 2), decimal.Decimal("5.0")):
-            self.assertEqual((_texts.whole(value), type(_texts.whole(value))), (5, int))
-        self.assertEqual(_texts.whole(HUGE), HUGE)
+            self.assertEqual((texts.whole(value), type(texts.whole(value))), (5, int))
+        self.assertEqual(texts.whole(HUGE), HUGE)
 
     def test_others_are_refused(self):
         for value in (0.5, HALF, decimal.Decimal("1e-30"), decimal.Decimal("NaN"), float("nan"), float("inf"), "5", fractions.Fraction(DIGITS + 1, 2)):
             with self.assertRaisesRegex(sfq.GridError, "^sfq: the coordinate .* isn't whole"):
-                _texts.whole(value)
+                texts.whole(value)
 
     def test_numbers_past_the_limit_stay_past_it(self):
-        self.assertEqual(list(_positions.buffer([(HUGE, -DIGITS)])[0]), [2**31 - 1, -(2**31)])
-        self.assertEqual(list(_bounds.window((-HUGE, -1, 1, HUGE))), [-(2**31), 1, -1, 2**31 - 1])
-        self.assertEqual(_texts.spelled("Point", (HUGE, 1)), f"POINT({HUGE} 1)")
+        self.assertEqual(list(points.buffer([(HUGE, -DIGITS)])[0]), [2**31 - 1, -(2**31)])
+        self.assertEqual(list(boxes.window((-HUGE, -1, 1, HUGE))), [-(2**31), 1, -1, 2**31 - 1])
+        self.assertEqual(texts.spelled("Point", (HUGE, 1)), f"POINT({HUGE} 1)")
         with self.assertRaisesRegex(sfq.GridError, "more digits than Python writes"):
-            _texts.spelled("Point", (DIGITS, 1))
+            texts.spelled("Point", (DIGITS, 1))
 
     def test_sizes_of_parts(self):
-        room, count = _library.sizes_of([5, 2**64 - 1])
+        room, count = library.sizes_of([5, 2**64 - 1])
         self.assertEqual((list(room), count), ([5, 2**64 - 1], 2))
         for sizes in ([2**64 + 5], [-1], [5, DIGITS]):
             with self.assertRaisesRegex(ValueError, "the parts don't have these positions"):
-                _library.sizes_of(sizes)
+                library.sizes_of(sizes)
 
     @unittest.skipUnless(NUMPY, "needs the package python3-numpy")
     def test_arrays_of_numpy(self):
@@ -98,7 +100,7 @@ class Coordinates(unittest.TestCase):
     def test_envelopes_of_numpy(self):
         self.assertEqual(by_numpy("""
             def bounds(values):
-                return list(_bounds.buffer(values)[0])
+                return list(boxes.buffer(values)[0])
             tell(bounds, numpy.array([[1, 2, 3, 4], [numpy.nan] * 4]))
             tell(bounds, numpy.array([[1, 2, 3, 2**63]], dtype="uint64"))
             tell(bounds, numpy.array([[1, 2, 3, just_more]], dtype="longdouble"))
@@ -113,7 +115,7 @@ class Parameters(unittest.TestCase):
     def test_whole_numbers_of_more_than_64_bits(self):
         """Each is a number of more than 64 bits in the query too, so that its fault is Q12."""
         for value, text in ((HUGE, str(2**63)), (-DIGITS, str(-(2**63) - 1)), (2**63 - 1, str(2**63 - 1)), (-(2**63), str(-(2**63)))):
-            constant = _parameters.of_value(value, 1)
+            constant = placeholders.of_value(value, 1)
             self.assertEqual((constant.type, constant.text, constant.value), ("INTEGER", text, value))
 
     def test_what_is_refused(self):
@@ -125,14 +127,14 @@ class Parameters(unittest.TestCase):
             (datetime.timedelta(1), sfq.InterfaceError), ("a\udcff", sfq.DataError), (Half(), sfq.DataError),
         ):
             with self.assertRaisesRegex(kind, r"^sfq: the value for \? 3"):
-                _parameters.of_value(value, 3)
+                placeholders.of_value(value, 3)
 
     @unittest.skipUnless(NUMPY, "needs the package python3-numpy")
     def test_values_of_numpy(self):
         self.assertEqual(by_numpy("""
             for it in (numpy.uint64(2**64 - 1), numpy.int8(-3), numpy.array(5), numpy.ma.array(5), numpy.ma.array(5, mask=True), numpy.ma.masked,
                        just_more, numpy.timedelta64(5, "s"), numpy.float64(5)):
-                tell(lambda: _parameters.of_value(it, 1).text)
+                tell(lambda: placeholders.of_value(it, 1).text)
         """), [
             str(2**63), "-3", "5", "5",
             *(error("InterfaceError", f"sfq: the value for ? 1 is a {name}: sfq has whole numbers, texts, geometries")
@@ -143,7 +145,7 @@ class Parameters(unittest.TestCase):
 class Tables(unittest.TestCase):
     def field(self, value):
         """Returns the field of a value in a column."""
-        return _sources.csv_of("t", {"id": [value]}, [("id", "TEXT")]).decode().removeprefix("id\n").removesuffix("\n")
+        return sources.csv_of("t", {"id": [value]}, [("id", "TEXT")]).decode().removeprefix("id\n").removesuffix("\n")
 
     def test_numbers_are_exact(self):
         for value, wanted in (
@@ -163,14 +165,14 @@ class Tables(unittest.TestCase):
 
     def test_texts_that_are_not_utf_8_are_left_to_the_library(self):
         """Its fault is L4, with the record."""
-        made = _sources.csv_of("t", {"id": ["a\udcff"]}, [("id", "TEXT")])
+        made = sources.csv_of("t", {"id": ["a\udcff"]}, [("id", "TEXT")])
         self.assertEqual(made, b"id\na\xed\xb3\xbf\n")
 
     @unittest.skipUnless(NUMPY, "needs the package python3-numpy")
     def test_columns_of_numpy(self):
         self.assertEqual(by_numpy("""
             def column(values):
-                return _sources.csv_of("t", {"id": values}, [("id", "TEXT")])
+                return sources.csv_of("t", {"id": values}, [("id", "TEXT")])
             tell(column, numpy.ma.array([1, 2, 3], mask=[False, True, False]))
             tell(column, [numpy.ma.masked, numpy.float32("nan"), numpy.longdouble("nan"), numpy.float32(0.5)])
             tell(column, numpy.array([just_more]))

@@ -1,5 +1,4 @@
 """What takes the most stack, and how much that is."""
-import functools
 import resource
 
 from faults import sweeps
@@ -30,7 +29,7 @@ def multipolygon(count):
     return f"MULTIPOLYGON({','.join(f'(({9 * k} 0,{9 * k + 5} 0,{9 * k + 5} 5,{9 * k} 0))' for k in range(count))})"
 
 
-@functools.lru_cache(maxsize=None)
+@sweeps.once
 def folder():
     """Writes the schemas and tables of the cases."""
     path = f"{sweeps.room()}/deep"

@@ -25,7 +25,7 @@ def table(head, rows):
 
 
 def calls():
-    """Returns the table of how many calls of each kind each command makes. None calls fstat, and statx only what opens a file once more."""
+    """Returns the table of how many calls of each kind each command makes. None calls fstat or statx."""
     kinds = [it for it in sweeps.CALLS if it not in ("fstat", "statx")]
     rows = ([it, *(sweeps.whole(it).counts[kind] for kind in kinds)] for it in sweeps.COMMANDS)
     return table(["command", "growths of memory", "reads", "writes", "opens"], rows)

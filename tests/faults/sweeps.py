@@ -9,6 +9,7 @@ import shutil
 import struct
 import subprocess
 import tempfile
+import threading
 from typing import NamedTuple
 
 import repository
@@ -55,7 +56,19 @@ class Ran(NamedTuple):
         return self.out, self.err, self.status
 
 
-@functools.lru_cache(maxsize=None)
+def once(make):
+    """Keeps what a function returned for its arguments. Where threads call it at the same time, one makes it and the others wait."""
+    kept, lock = functools.lru_cache(maxsize=None)(make), threading.RLock()
+
+    @functools.wraps(make)
+    def wait(*arguments):
+        with lock:
+            return kept(*arguments)
+
+    return wait
+
+
+@once
 def room():
     """Returns a folder that anybody may read, which is removed at the end."""
     path = tempfile.mkdtemp(prefix="sfq-faults-")
@@ -64,7 +77,7 @@ def room():
     return path
 
 
-@functools.lru_cache(maxsize=None)
+@once
 def program():
     """Returns a copy of the program that stays the same while tests run."""
     path = f"{room()}/sfq"
@@ -73,7 +86,7 @@ def program():
     return path
 
 
-@functools.lru_cache(maxsize=None)
+@once
 def library():
     """Builds the library by the system's compiler, and returns its path."""
     path = f"{room()}/faults.so"
@@ -174,7 +187,7 @@ def square(x, y, side):
     return f"POLYGON(({','.join(f'{a} {b}' for a, b in corners)}))"
 
 
-@functools.lru_cache(maxsize=None)
+@once
 def tables():
     """Writes a schema and its tables, 300 places, 60 areas and 2 long shores.
 
@@ -240,7 +253,7 @@ COMMANDS = {
 }
 
 
-@functools.lru_cache(maxsize=None)
+@once
 def whole(name):
     """Returns what a command writes where no call fails."""
     return run(COMMANDS[name])
@@ -260,7 +273,7 @@ def line_of(fault, path):
 
 
 def says_less(ran, well):
-    """Whether a run did all but write some of the lines that need a second reading of a table.
+    """Whether a run did all but write some of the lines that need the text of a table.
 
     They come after the line of a fault, or on their own at status 0.
     """

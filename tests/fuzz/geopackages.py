@@ -25,7 +25,7 @@ import traceback
 ROOT = os.path.dirname(os.path.dirname(os.path.dirname(os.path.realpath(__file__))))
 runpy.run_path(f"{ROOT}/tools/paths.py")
 
-from sfq import imports
+from sfq.commands import imports
 
 # The statuses of sfq-import that a source may lead to: done, no layer to choose, no record kept, a file, memory.
 DONE, USAGE, DATA, FILES, MEMORY = 0, 2, 4, 6, 7
