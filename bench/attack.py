@@ -2,42 +2,55 @@
 """Looks for queries and shapes on which `sfq` grows faster than their size, or takes longer than a peer, by drawing them at random.
 
 Each input has a number, and is drawn from the seed and this number: a query of the language over one table or two with its forms of
-data (columns of numbers and texts, geometries of a kind), or one or two shapes, of those of `bad_shapes.py`, moved, sheared, shuffled
-or turned round. It is made larger and larger until `sfq` takes some hundredths of a second. Then its growth is the exponent by which
-processor time grows from a quarter of the last size, a size being what is read and what is printed. Peers that can run the same are
-asked at that size: sqlite3 and DuckDB for queries of numbers and texts, SpatiaLite with an R*-tree and GEOS by its C interface for
-those of geometries, GEOS for shapes. What is printed is compared with what they print.
+data (columns of numbers and texts, geometries of a kind), or one or two shapes, of those of `bad_shapes.py` and of some more, moved,
+sheared, shuffled or turned round. It is made larger and larger until `sfq` takes some hundredths of a second. Then its growth is the
+exponent by which processor time grows from a quarter of the last size, a size being what is read and what is printed. Peers that can
+run the same are asked at that size: sqlite3 and DuckDB for queries of numbers and texts, SpatiaLite with an R*-tree and GEOS by its C
+interface for those of geometries, GEOS for shapes. What is printed is compared with what they print.
 
-It prints a row for each input that grows by more than `--growth` or takes longer than `--behind` times the best peer, or whose answer
-differs from a peer's; with `--all` a row for each. `--only NUMBER` shows one again, and keeps its files in the folder that `--keep`
-names. It ends after `--minutes`, or with the last number of `--numbers`. A row is a place to look at: what else runs on the machine
-makes times vary, so measure it again by `--only`.
+An input is noted that grows by more than `--growth`, takes longer than `--behind` times the best peer, or whose answer differs from a
+peer's. Times vary with what else runs on the machine, so valgrind counts the instructions of `sfq` and of the best peer for such an
+input, at a size and a quarter of it, and the input stays where its growth or its ratio is still above these. At the end comes a table,
+what is furthest behind first, and then for each number the commands that make its files and run `sfq` on them. What was noted so far is
+shown too where the program is interrupted.
+
+It ends after `--minutes`, or with the last number of `--numbers`. `--list` says what would be drawn. `--only NUMBER` shows one again,
+and keeps its files in the folder that `--keep` names.
 
 It needs Python's standard library and the built program, or the one that `--program` names. Peers that aren't there are left out: run
 it in a folder of newer ones by `--peers`. It is no test: the gate doesn't run it. Its small parts are tested by tests/test_attack.py.
 """
 
 import argparse
+import csv
+import io
 import os
 import pathlib
 import random
 import re
+import shlex
 import shutil
+import signal
 import sys
 import tempfile
 import time
 from typing import Callable, NamedTuple, Optional
 
+import bad_shapes
 import worst
 from peers import SEPARATOR, SHAPES, TABLES, compiled
-from timing import PROGRAM, Table, exponent, figure, probe, read_options
+from timing import PROGRAM, Table, exponent, figure, instructions, probe, read_options
 
 # How many rows or positions an input has at first, by what it grows, and at which seconds it is large enough.
 ROWS, MOST_ROWS, POSITIONS, MOST_POSITIONS, TIMES, ENOUGH = 500, 64_000, 150, 9_900, 4, 0.06
 SPAN = 1_000_000
 # The seconds below which a time is of no use, and the processor seconds of one run of `sfq`.
 LEAST = 0.002
-SECONDS = 20
+SECONDS = 5
+# The processor seconds of a run at most of which instructions are counted, which takes some fifty times as long.
+COUNTED = 0.5
+# The ratio of time to a peer from which on the peer's instructions are counted.
+NEAR = 0.6
 
 
 # ---- forms of data ----
@@ -113,8 +126,37 @@ GEOMETRIES = {
     "level lines of one height": lambda dice, rows: [line((2 * at, 0), (2 * at + 3, 0)) for at in shuffled(dice, range(rows))],
     "twelve corners": lambda dice, rows: in_cells(rows, lambda x, y, side: star(x + side // 2, y + side // 2, side // 2)),
     "three points each": lambda dice, rows: ["MULTIPOINT((%d %d),(%d %d),(%d %d))" % (*around(dice), *around(dice), *around(dice)) for _ in range(rows)],
+    "three squares each": lambda dice, rows: [bad_shapes.polygons([[square(*around(dice), 900)] for _ in range(3)]) for _ in range(rows)],
+    "three lines each": lambda dice, rows: [bad_shapes.lines([[around(dice), around(dice)] for _ in range(3)]) for _ in range(rows)],
+    "combs side by side": lambda dice, rows: in_cells(rows, lambda x, y, side: bad_shapes.polygon(comb(x, y, side // 24, 5))),
+    "L-shapes in one another": lambda dice, rows: [bad_shapes.polygon(bad_shapes.ell(at, rows)) for at in shuffled(dice, range(rows))],
+    "long lines of ten positions": lambda dice, rows: [line(*(around(dice) for _ in range(10))) for _ in range(rows)],
+    "one star among small squares": lambda dice, rows: beside(dice, rows, bad_shapes.polygon(bad_shapes.star_ring(max(4, min(rows, 4_000))))),
+    "one of many squares among small squares": lambda dice, rows: beside(dice, rows, bad_shapes.squares_shuffled(min(rows, 900))),
+    "one of many points among small squares": lambda dice, rows: beside(dice, rows, bad_shapes.points([around(dice) for _ in range(min(rows, 4_000))])),
+    "one line of many among small squares": lambda dice, rows: beside(dice, rows, line(*(around(dice) for _ in range(max(2, min(rows, 900)))))),
     "NULL but for a tenth": lambda dice, rows: ["" if dice.random() < 0.9 else "POINT(%d %d)" % around(dice) for _ in range(rows)],
+    "EMPTY but for a tenth": lambda dice, rows: ["POINT EMPTY" if dice.random() < 0.9 else "POINT(%d %d)" % around(dice) for _ in range(rows)],
 }
+
+
+def square(x, y, side):
+    """The corners of a square from its lower left one on."""
+    return [(x, y), (x + side, y), (x + side, y + side), (x, y + side)]
+
+
+def comb(x, y, step, teeth):
+    """The corners of a comb whose teeth point up, from its lower left one on."""
+    corners = [(x, y), (x + 4 * step * teeth, y), (x + 4 * step * teeth, y + step)]
+    for at in reversed(range(teeth)):
+        left, right = x + (4 * at + 1) * step, x + (4 * at + 3) * step
+        corners += [(right, y + step), (right, y + 9 * step), (left, y + 9 * step), (left, y + step)]
+    return [*corners, (x, y + step)]
+
+
+def beside(dice, rows, large):
+    """A large shape in one row, and small squares in the others."""
+    return shuffled(dice, [large, *GEOMETRIES["small squares anywhere"](dice, rows - 1)])
 
 
 def star(x, y, far):
@@ -134,9 +176,12 @@ PREDICATES = {
     "ST_Intersects": True, "ST_Within": True, "ST_Contains": True, "ST_Touches": True, "ST_Crosses": True, "ST_Overlaps": True,
     "ST_Equals": True, "ST_Disjoint": False,
 }  # fmt: skip
+PATTERNS = ("T********", "T*F**F***", "FF*FF****", "****1****")
 COMPARISONS = ("=", "=", "=", "<", ">", "<=", "<>")
-# A predicate in a query, and its two arguments.
-CALL = re.compile(r"(ST_(?:%s))\(([^()]*|\w+\.g, ST_GeomFromText\('[^']*'\))\)" % "|".join(it[3:] for it in PREDICATES))
+# A predicate in a query, and its arguments.
+CALL = re.compile(r"(ST_(?:Relate|%s))\(([^()]*|\w+\.g, ST_GeomFromText\('[^']*'\)(?:, '[^']*')?)\)" % "|".join(it[3:] for it in PREDICATES))
+ITEMS_OF_ONE = ("COUNT(*)", "a.id", "a.id, ST_AsText(a.g)", "a.id, ST_Dimension(a.g), ST_IsEmpty(a.g)")
+ITEMS_OF_TWO = ("COUNT(*)", "a.id, b.id", "a.id, b.id", "b.t, a.id", "b.id, ST_Dimension(a.g), ST_AsText(b.g)")
 
 
 class Query(NamedTuple):
@@ -174,6 +219,8 @@ def atom(dice, tables):
     kind = dice.random()
     if kind < 0.4:
         second = f"{other}.g" if one != other and dice.random() < 0.85 else f"ST_GeomFromText('{dice.choice(WINDOWS)}')"
+        if dice.random() < 0.12:
+            return f"ST_Relate({one}.g, {second}, '{dice.choice(PATTERNS)}')"
         return f"{dice.choice(list(PREDICATES))}({one}.g, {second})"
     if kind < 0.65 and one != other:
         return f"{one}.{dice.choice(('n', 'id'))} {dice.choice(COMPARISONS)} {other}.{dice.choice(('n', 'n', 'id'))}"
@@ -181,7 +228,8 @@ def atom(dice, tables):
         return f"{one}.t {dice.choice(COMPARISONS)} {other}.t"
     if kind < 0.9:
         return dice.choice((f"{one}.n {dice.choice(COMPARISONS)} {dice.choice((0, 7, 300))}", f"{one}.t {dice.choice(COMPARISONS)} 't7'"))
-    return dice.choice((f"{one}.n IS NULL", f"{one}.t IS NOT NULL", f"ST_IsEmpty({one}.g)", f"ST_Dimension({one}.g) = 0", f"ST_AsText({one}.g) = {other}.t"))
+    more = (f"ST_AsText({one}.g) = {other}.t", f"ST_Dimension({one}.g) = {other}.n", f"ST_AsText({one}.g) = ST_AsText({other}.g)")
+    return dice.choice((f"{one}.n IS NULL", f"{one}.t IS NOT NULL", f"ST_IsEmpty({one}.g)", f"ST_Dimension({one}.g) = 0", *more))
 
 
 def conjunct(dice, tables):
@@ -196,7 +244,7 @@ def drawn_query(dice):
     """A query at random."""
     tables = 1 if dice.random() < 0.2 else 2
     conjuncts = [conjunct(dice, tables) for _ in range(dice.choice((1, 1, 2, 2, 3)))]
-    items = dice.choice(("COUNT(*)", "a.id, b.id" if tables == 2 else "a.id", "a.id, ST_AsText(a.g)" if tables == 1 else "b.t, a.id"))
+    items = dice.choice(ITEMS_OF_ONE if tables == 1 else ITEMS_OF_TWO)
     limit = f" LIMIT {dice.choice((1, 5, 100))}" if dice.random() < 0.2 and items != "COUNT(*)" else ""
     forms = {f"{it}.{column}": dice.choice(list(kinds)) for it in "ab" for column, kinds in (("n", NUMBERS), ("t", TEXTS), ("g", GEOMETRIES))}
     return Query(tables, items, conjuncts, limit, forms)
@@ -213,19 +261,29 @@ def write_tables(query, dice, rows, folder):
         (folder / f"{it}.csv").write_text("\n".join(["id,n,t,g", *lines]) + "\n")
 
 
+def in_spatialite(text):
+    """A condition or items in the SQL of SpatiaLite: there a NULL argument makes a predicate -1, and texts have blanks behind commas."""
+    text = re.sub(r"ST_IsEmpty\((\w\.g)\)", r"NULLIF(ST_IsEmpty(\1), -1)", text)
+    return re.sub(r"ST_AsText\((\w\.g)\)", r"replace(ST_AsText(\1), ', ', ',')", text)
+
+
+def forces_meeting(text):
+    """Whether a text is a predicate of both tables that holds of geometries alone whose envelopes meet."""
+    if not CALL.fullmatch(text) or "FromText" in text:
+        return False
+    return ", 'T" in text if text.startswith("ST_Relate") else PREDICATES[text.split("(")[0]]
+
+
 def of_sqlite(query):
-    """The query in the SQL of sqlite3, and of SpatiaLite, of which a NULL argument makes a predicate -1."""
-    text = CALL.sub(r"(NULLIF(\1(\2), -1) = 1)", query.condition)
-    text = re.sub(r"ST_IsEmpty\((\w\.g)\)", r"(NULLIF(ST_IsEmpty(\1), -1) = 1)", text)
-    text = re.sub(r"ST_AsText\((\w\.g)\)", r"replace(ST_AsText(\1), ', ', ',')", text)
+    """The query in the SQL of sqlite3 or of SpatiaLite, and whether it searches a tree."""
+    text = in_spatialite(CALL.sub(r"(NULLIF(\1(\2), -1) = 1)", query.condition))
     names = "ab"[: query.tables]
-    tree = query.tables == 2 and next((it for it in query.conjuncts if CALL.fullmatch(it) and PREDICATES[it.split("(")[0]] and "FromText" not in it), "")
-    items = re.sub(r"(\w\.\w+)", r'\1 AS "\1"', query.items) if "ST_" not in query.items else query.items.replace("ST_AsText(a.g)", "replace(ST_AsText(a.g), ', ', ',')")
+    has_tree = query.tables == 2 and any(map(forces_meeting, query.conjuncts))
     from_ = "a a CROSS JOIN tree t ON {} CROSS JOIN b b ON b.id = t.id".format(
         " AND ".join(f"t.{low} <= Mbr{high}(a.g) AND t.{high} >= Mbr{low}(a.g)" for low, high in (("MinX", "MaxX"), ("MinY", "MaxY")))
-    ) if tree else ", ".join(f"{it} {it}" for it in names)
+    ) if has_tree else ", ".join(f"{it} {it}" for it in names)
     order = "" if query.items == "COUNT(*)" else " ORDER BY " + ", ".join(f"{it}.id" for it in names)
-    return f"SELECT {items} FROM {from_} WHERE {text}{order}{query.limit};", bool(tree)
+    return f"SELECT {in_spatialite(query.items)} FROM {from_} WHERE {text}{order}{query.limit};", has_tree
 
 
 def sqlite_words(query):
@@ -252,12 +310,30 @@ def duckdb_words(query):
     return ["duckdb", ":memory:", *(word for it in script for word in ("-c", it))]
 
 
+# What GEOS is asked in place of a predicate, and of which of both geometries.
+OF_GEOS = {"ST_Within": "within", "ST_Touches": "touches", "ST_Crosses": "crosses", "ST_Overlaps": "overlaps", "ST_Intersects": "intersects",
+           "ST_Contains": "within"}  # fmt: skip
+
+
 def geos_words(query, program):
     """The words of the program over GEOS, where the query is one that it knows; else nothing."""
-    found = re.fullmatch(r"ST_(Within|Touches|Crosses|Overlaps|Intersects)\(a\.g, b\.g\)", query.condition)
-    if not found or query.items != "a.id, b.id" or query.limit:
+    found = re.fullmatch(r"(ST_\w+)\((\w)\.g, (?:(\w)\.g|ST_GeomFromText\('([^']*)'\))\)", query.condition)
+    if not found or found[1] not in OF_GEOS or query.limit or query.items not in ("a.id, b.id", "a.id", "COUNT(*)"):
         return []
-    return ["sh", "-c", 'for it in a b; do cut -d, -f1,4- $it.csv > $it.pairs; done; exec "$0" join "$1" a.pairs b.pairs', program, found[1].lower()]
+    if found[4]:
+        is_known = query.tables == 1 and found[1] != "ST_Contains"
+        return [program, "window", OF_GEOS[found[1]], f"{found[2]}.pairs", "window"] if is_known else []
+    names = (found[3], found[2]) if found[1] == "ST_Contains" else (found[2], found[3])
+    return [program, "join", OF_GEOS[found[1]], *(f"{it}.pairs" for it in names)] if names[0] != names[1] else []
+
+
+def write_for_geos(query, folder):
+    """Writes the tables and the constant of a query as the program over GEOS reads them."""
+    for it in "ab"[: query.tables]:
+        records = ([*line.split(",", 3)] for line in (folder / f"{it}.csv").read_text().splitlines())
+        (folder / f"{it}.pairs").write_text("".join(f"{record[0]},{record[3]}\n" for record in records))
+    constant = re.search(r"ST_GeomFromText\('([^']*)'\)", query.condition)
+    (folder / "window").write_text(f"{constant[1] if constant else ''}\n")
 
 
 # ---- shapes ----
@@ -275,6 +351,32 @@ class Shapes(NamedTuple):
         return f"{self.asked}: " + " beside ".join(f"{bad.label} ({which + 1}{''.join(f', {it}' for it in changes)})" for bad, which, changes in self.made)
 
 
+def of_squares(count):
+    """So many closed lines round the squares of a grid, in no order."""
+    across = max(1, int(count**0.5 + 0.999))
+    rings = [square(10 * (at % across), 10 * (at // across), 6) for at in range(count)]
+    return bad_shapes.lines([[*it, it[0]] for it in shuffled(random.Random(count), rings)])
+
+
+def long_lines(count):
+    """So many long lines side by side and askew, in no order."""
+    return bad_shapes.lines([[(3 * at, 0), (SPAN + 3 * at, SPAN)] for at in shuffled(random.Random(count), range(count))])
+
+
+def star_in_pieces(count):
+    """The edges of a star, each a line of its own, in no order."""
+    ring = bad_shapes.star_ring(count)
+    return bad_shapes.lines(shuffled(random.Random(count), [[it, ring[at - 1]] for at, it in enumerate(ring)]))
+
+
+# Shapes beside those of worst.py.
+MORE = (
+    worst.Input("comb", lambda count: bad_shapes.polygon(comb(0, 0, 3, count)), 600, 60),
+    worst.Input("squares of a grid in no order", bad_shapes.squares_shuffled, 249, 60),
+    worst.Input("closed lines of a grid in no order", of_squares, 249, 60),
+    worst.Input("long lines in no order", long_lines, 249, 60),
+    worst.Input("edges of a star in no order", star_in_pieces, 249, 60),
+)
 CHANGES = ("moved", "sheared", "turned round", "shuffled", "mirrored")
 
 
@@ -307,7 +409,7 @@ def word_of(text):
 
 def drawn_shapes(dice):
     """Shapes at random: one that is checked, or two that are related."""
-    known = [(it, which) for it in worst.PAIRS for which in (0, 1)] + [(it, 0) for it in worst.SINGLES]
+    known = [(it, which) for it in worst.PAIRS for which in (0, 1)] + [(it, 0) for it in worst.SINGLES + 3 * MORE]
     asked = "relate" if dice.random() < 0.7 else "check"
 
     def one():
@@ -335,31 +437,35 @@ def texts_of(shapes, dice, size):
 # ---- measuring ----
 
 class Task(NamedTuple):
-    """An input in a folder: the words of each program, and how many bytes it has."""
+    """An input in a folder: the words of each program, how many bytes it has, what is on standard input, how what a program prints is
+    read as its answer."""
 
     words: dict
     size: int
-    given: str = os.devnull
+    given: str
+    answer: Callable
 
 
 class Drawn(NamedTuple):
-    """An input of a number: what it is, the first and the greatest size, and what makes a task of a size in a folder."""
+    """An input of a number: what it is, the first and the greatest size, what makes a task of a size in a folder, and what `sfq` is run
+    with there."""
 
     label: str
     first: int
     most: int
     task: Callable
+    words: tuple
 
 
 class Programs(NamedTuple):
     """The programs: `sfq`, and those of the peers that are there."""
 
     sfq: str
-    geos: Optional[str]
-    tables: Optional[str]
-    sqlite: bool
-    spatialite: bool
-    duckdb: bool
+    geos: Optional[str] = None
+    tables: Optional[str] = None
+    sqlite: bool = False
+    spatialite: bool = False
+    duckdb: bool = False
 
 
 def found_programs(sfq, folder):
@@ -373,16 +479,26 @@ def found_programs(sfq, folder):
 
 
 def query_task(query, seed, programs, rows, folder):
-    """The tables of a query in a folder, and the words of each program."""
+    """The tables of a query in a folder, and the words of each program. SpatiaLite has no empty points."""
     write_tables(query, random.Random(f"{seed} {rows}"), rows, folder)
-    words = {"sfq": [programs.sfq, "run", "schema.sql", ".", query.text]}
-    if programs.spatialite if query.is_spatial else programs.sqlite:
-        words["SpatiaLite" if query.is_spatial else "sqlite3"] = sqlite_words(query)
+    size = sum(it.stat().st_size for it in folder.glob("*.csv"))
+    words = {"sfq": [programs.sfq, *words_of_query(query)]}
+    has_empty = any(form.startswith("EMPTY") and it in query.text for it, form in query.forms.items())
+    if programs.spatialite and query.is_spatial and not has_empty:
+        words["SpatiaLite"] = sqlite_words(query)
+    if programs.sqlite and not query.is_spatial:
+        words["sqlite3"] = sqlite_words(query)
     if programs.duckdb and not query.is_spatial:
         words["DuckDB"] = duckdb_words(query)
     if programs.tables and geos_words(query, programs.tables):
+        write_for_geos(query, folder)
         words["GEOS"] = geos_words(query, programs.tables)
-    return Task(words, sum(it.stat().st_size for it in folder.glob("*.csv")))
+    return Task(words, size, os.devnull, lambda who, printed: answer_of_query(query, who, printed))
+
+
+def words_of_query(query):
+    """What `sfq` is run with for a query."""
+    return "run", "schema.sql", ".", query.text
 
 
 def shapes_task(shapes, seed, programs, size, folder):
@@ -394,12 +510,15 @@ def shapes_task(shapes, seed, programs, size, folder):
     if shapes.asked == "check":
         (folder / "schema.sql").write_text("CREATE TABLE one (id INTEGER PRIMARY KEY, geom GEOMETRY);\n")
         (folder / "one.csv").write_text(f'id,geom\n1,"{texts[0]}"\n')
-        words = {"sfq": [programs.sfq, "check", "schema.sql", "."]}
-    else:
-        words = {"sfq": [programs.sfq, "relate", "@first", "@second"]}
+    words = {"sfq": [programs.sfq, *words_of_shapes(shapes)]}
     if programs.geos:
         words["GEOS"] = [programs.geos, shapes.asked, "0" if shapes.asked == "relate" else "1"]
-    return Task(words, sum(map(len, texts)), "input")
+    return Task(words, sum(map(len, texts)), "input", answer_of_shapes)
+
+
+def words_of_shapes(shapes):
+    """What `sfq` is run with for shapes."""
+    return ("check", "schema.sql", ".") if shapes.asked == "check" else ("relate", "@first", "@second")
 
 
 def drawn(seed, number, programs):
@@ -407,18 +526,69 @@ def drawn(seed, number, programs):
     dice = random.Random(f"{seed} {number}")
     if dice.random() < 2 / 3:
         query = drawn_query(dice)
-        return Drawn(query.label, ROWS, MOST_ROWS, lambda rows, folder: query_task(query, f"{seed} {number}", programs, rows, folder))
+        make = lambda rows, folder: query_task(query, f"{seed} {number}", programs, rows, folder)
+        return Drawn(query.label, ROWS, MOST_ROWS, make, words_of_query(query))
     shapes = drawn_shapes(dice)
     most = min(MOST_POSITIONS, *(4 * bad.size for bad, _, _ in shapes.made))
-    return Drawn(shapes.label, POSITIONS, most, lambda size, folder: shapes_task(shapes, f"{seed} {number}", programs, size, folder))
+    make = lambda size, folder: shapes_task(shapes, f"{seed} {number}", programs, size, folder)
+    return Drawn(shapes.label, POSITIONS, most, make, words_of_shapes(shapes))
 
 
 class Ran(NamedTuple):
-    """What a run took: seconds beyond start-up, None where it was ended or failed; the status; and what it printed."""
+    """What a run took: seconds beyond start-up, None where it was ended or failed; the status; and its answer."""
 
     seconds: Optional[float]
     status: int
-    printed: bytes
+    answer: list
+
+
+class At(NamedTuple):
+    """What a program takes at a size, the bytes that are read and printed, and the peers that can be asked."""
+
+    size: int
+    ran: Ran
+    weight: int
+    others: list
+
+
+class Noted(NamedTuple):
+    """What is noted of an input: seconds and growth of `sfq`; the best peer, its seconds and growth, and the ratio to it, all beyond
+    start-up; whether growth and ratio are of instructions; and what is seen."""
+
+    number: int
+    it: Drawn
+    size: int
+    seconds: Optional[float]
+    growth: float = 0
+    best: str = ""
+    best_seconds: float = 0
+    best_growth: float = 0
+    ratio: float = 0
+    counted_ratio: float = 0
+    is_counted: bool = False
+    seen: tuple = ()
+
+    @property
+    def order(self):
+        """By what rows are sorted: what is furthest behind comes first, then what grows most."""
+        return -(self.counted_ratio or self.ratio), -self.growth
+
+    def cells(self):
+        """The cells of its row."""
+        took = figure(self.seconds * 1e3) if self.seconds else f"> {SECONDS:,}000"
+        best = [f"{self.best} {figure(self.best_seconds * 1e3)}", f"{self.best_growth:.2f}" if self.best_growth else ""] if self.best else ["", ""]
+        ratios = [f"{it:.2g}" if it else "" for it in (self.ratio, self.counted_ratio)]
+        shown = [f"{self.growth:.2f}" if self.growth else "", *best, *ratios, ", ".join(self.seen)]
+        return [f"{self.number}", self.it.label.replace("|", "\\|"), f"{self.size:,}", took, *shown]
+
+    def commands(self, seed):
+        """The commands that make its files and run `sfq` on them."""
+        kept = f"attack-{self.number}"
+        again = f"bench/attack.py --seed {seed} --only {self.number} --keep {kept}"
+        return f"{self.number}: {again}; cd {kept}/{self.size}; {shlex.join(('sfq', *self.it.words))}"
+
+
+HEADS = ["number", "input", "size", "sfq ms", "growth", "best peer, ms", "its growth", "ratio", "ratio of instructions", "what is seen"]
 
 
 class Measures:
@@ -426,71 +596,112 @@ class Measures:
 
     def __init__(self, options, room, programs):
         self.options, self.room, self.programs = options, room, programs
-        self.starts = {}
+        self.starts, self.counts = {}, shutil.which("valgrind") is not None and not options.times
 
-    def ran(self, words, folder, given, repeats=2, seconds=SECONDS):
+    def in_folder(self, it, size, run):
+        """What a function of a folder and the task there returns, for an input at a size. The folder is kept where that is asked for."""
+        with tempfile.TemporaryDirectory(dir=self.room) as name:
+            folder = pathlib.Path(name)
+            found = run(folder, it.task(size, folder))
+            if self.options.keep:
+                shutil.copytree(folder, f"{self.options.keep}/{size}", dirs_exist_ok=True)
+            return found
+
+    def ran(self, who, folder, task, repeats=2, seconds=SECONDS):
         """The least of some runs of a program."""
-        least = None
+        least, answer = None, []
         for _ in range(repeats):
-            _, processor, _, status = probe(words, folder, folder / given, seconds)
-            printed = (folder / "output").read_bytes()
+            _, processor, _, status = probe(task.words[who], folder, folder / task.given, seconds)
             if status != 0:
-                return Ran(None, status, printed)
+                return Ran(None, status, answer)
             least = processor if least is None else min(least, processor)
-        return Ran(least, 0, printed)
+        printed = (folder / "output").read_bytes()
+        return Ran(least, 0, task.answer(who, printed))
 
-    def start(self, who, it):
-        """What a program takes of the smallest input of a kind."""
-        kind = who, it.first, "ST_" in it.label
+    def start(self, who, it, is_counted=False):
+        """What a program takes of the smallest input of a kind: seconds, or instructions."""
+        kind = who, it.first, it.words[:1], "ST_" in it.label, is_counted
+
+        def taken(folder, task):
+            if who not in task.words:
+                return 0
+            return instructions(task.words[who], folder, folder / task.given) if is_counted else self.ran(who, folder, task, 3).seconds or 0
+
         if kind not in self.starts:
-            with tempfile.TemporaryDirectory(dir=self.room) as name:
-                folder = pathlib.Path(name)
-                task = it.task(4 if it.first == ROWS else 8, folder)
-                self.starts[kind] = self.ran(task.words[who], folder, task.given, 3).seconds or 0 if who in task.words else 0
+            self.starts[kind] = self.in_folder(it, 4 if it.first == ROWS else 8, taken)
         return self.starts[kind]
 
     def at(self, it, size, who="sfq", seconds=SECONDS):
-        """What a program takes of an input at a size, and the input's size in bytes with what is printed."""
-        with tempfile.TemporaryDirectory(dir=self.room) as name:
-            folder = pathlib.Path(name)
-            task = it.task(size, folder)
-            ran = self.ran(task.words[who], folder, task.given, 2, seconds)
-            if self.options.keep:
-                shutil.copytree(folder, f"{self.options.keep}/{size}", dirs_exist_ok=True)
+        """What a program takes of an input at a size."""
+
+        def taken(folder, task):
+            ran = self.ran(who, folder, task, 2, seconds)
             beyond = None if ran.seconds is None else max(ran.seconds - self.start(who, it), 1e-4)
-            return ran._replace(seconds=beyond), task.size + len(ran.printed), [it for it in task.words if it != "sfq"]
+            weight = task.size + (folder / "output").stat().st_size
+            return At(size, ran._replace(seconds=beyond), weight, [it for it in task.words if it != "sfq"])
+
+        return self.in_folder(it, size, taken)
 
     def sizes(self, it):
-        """What `sfq` takes of an input at each size, until that is enough or it refuses a size: the size, the run, the bytes, the peers."""
+        """What `sfq` takes of an input at each size, until that is enough or it refuses a size."""
         found, size = [], it.first
         while size <= it.most:
-            ours, weight, others = self.at(it, size)
-            if ours.status > 0:
+            at = self.at(it, size)
+            if at.ran.status > 0:
                 break
-            found.append((size, ours, weight, others))
-            if ours.seconds is None or ours.seconds >= ENOUGH:
+            found.append(at)
+            if at.ran.seconds is None or at.ran.seconds >= ENOUGH:
                 break
             size *= TIMES
         return found
 
-    def row(self, number):
-        """Measures the input of a number: returns its row, and whether it is to be shown; None where it isn't valid."""
+    def counted(self, who, it, sizes):
+        """The instructions of a program beyond start-up at some sizes."""
+        taken = lambda folder, task: instructions(task.words[who], folder, folder / task.given)
+        return [max(self.in_folder(it, size, taken) - self.start(who, it, True), 1) for size in sizes]
+
+    def noted(self, number):
+        """What is noted of the input of a number, by time; None where no size of it is valid. And what was measured of it."""
         it = drawn(self.options.seed, number, self.programs)
         measured = self.sizes(it)
         if not measured:
-            return None
-        size, ours, weight, others = measured[-1]
-        growth = growth_of(*((of, ran.seconds) for _, ran, of, _ in measured[-2:])) if len(measured) > 1 else 0
-        peers = {who: self.at(it, size, who, int(2 + 2 * (ours.seconds or SECONDS)))[0] for who in others}
+            return None, []
+        last = measured[-1]
+        ours = last.ran
+        growth = growth_of(*((at.weight, at.ran.seconds) for at in measured[-2:])) if len(measured) > 1 else 0
+        peers = {who: self.at(it, last.size, who, int(2 + 2 * (ours.seconds or SECONDS))).ran for who in last.others}
         answered = {who: ran.seconds for who, ran in peers.items() if ran.seconds}
         best = min(answered, key=answered.__getitem__, default="")
-        ratio = ours.seconds / answered[best] if best and ours.seconds else 0
-        differ = [who for who, ran in peers.items() if ran.seconds and ours.seconds and lines_of(ran.printed) != lines_of(ours.printed)]
-        seen = ["grows"] * (growth > self.options.growth) + ["behind"] * (ratio > self.options.behind and ours.seconds > 0.01)
-        seen += [f"differs from {who}" for who in differ] + ["is ended"] * (ours.seconds is None)
-        shown = [f"{number}", it.label.replace("|", "\\|"), f"{size:,}", figure(ours.seconds * 1e3) if ours.seconds else f"> {SECONDS:,}000"]
-        shown += [f"{growth:.2f}" if growth else "", f"{best} {figure(answered[best] * 1e3)}" if best else "", f"{ratio:.2g}" if ratio else "", ", ".join(seen)]
-        return shown, bool(seen)
+        ratio = (ours.seconds or SECONDS) / answered[best] if best else 0
+        differ = [f"differs from {who}" for who, ran in peers.items() if ran.seconds and ours.seconds and ran.answer != ours.answer]
+        found = Noted(number, it, last.size, ours.seconds, growth, best, answered.get(best, 0), 0, ratio)
+        return found._replace(seen=(*self.seen(found, 1), *differ, *["is ended"] * (ours.seconds is None))), measured
+
+    def seen(self, noted, times):
+        """Whether an input grows, or is behind: by instructions, or by so many times the ratio of time."""
+        ratio, most = noted.counted_ratio, self.options.behind
+        is_behind = ratio > most or (noted.ratio > times * most and (noted.seconds or SECONDS) > 0.01)
+        return ["grows"] * (noted.growth > self.options.growth) + ["behind"] * is_behind
+
+    def confirmed(self, noted, measured):
+        """What is noted of an input once its instructions are counted, and those of the best peer where that is near by."""
+        measured = [at for at in measured if at.ran.seconds and at.ran.seconds <= COUNTED]
+        if not self.counts or len(measured) < 2 or noted.best == "DuckDB":
+            return noted
+        small, large = measured[-2:]
+        counted = ["sfq"] + [noted.best] * (noted.ratio > NEAR)
+        ours, *theirs = ([(at.weight, count) for at, count in zip((small, large), self.counted(who, noted.it, (small.size, large.size)))]
+                         for who in counted)
+        grown = [float(exponent(*it)) if small.weight < large.weight else 0 for it in (ours, *theirs)]
+        found = noted._replace(growth=grown[0], best_growth=sum(grown[1:]), is_counted=True)
+        found = found._replace(counted_ratio=ours[1][1] / theirs[0][1][1] if theirs else 0)
+        kept = [it for it in noted.seen if it not in ("grows", "behind")]
+        return found._replace(seen=(*self.seen(found, 2), *kept))
+
+    def row(self, number):
+        """What is noted of the input of a number; None where it isn't valid."""
+        noted, measured = self.noted(number)
+        return self.confirmed(noted, measured) if noted and noted.seen else noted
 
 
 def growth_of(before, now):
@@ -500,9 +711,22 @@ def growth_of(before, now):
     return float(exponent((before[0], max(before[1], LEAST)), now))
 
 
-def lines_of(printed):
-    """What of an answer is compared, in order: its numbers and its matrix, without a header."""
-    return sorted(it for it in re.split(r"[\s,]+", printed.decode("utf-8", "replace").replace('"', "")) if re.fullmatch(r"-?\d+|[F012]{9}", it))
+def answer_of_query(query, who, printed):
+    """The rows that a program printed, each of its fields, in an order of ours. `sfq` and the program over GEOS print a header, and the
+    latter prints the rows where it is asked for their number."""
+    rows = [[in_one_form(it) for it in row] for row in csv.reader(io.StringIO(printed.decode("utf-8", "replace"), newline=""))]
+    rows = rows[1:] if who in ("sfq", "GEOS") else rows
+    return [[str(len(rows))]] if who == "GEOS" and query.items == "COUNT(*)" else sorted(rows)
+
+
+def in_one_form(field):
+    """A field of an answer; the points of a MULTIPOINT have no parentheses of their own, as SpatiaLite prints them."""
+    return re.sub(r"[()]", "", field) if field.startswith("MULTIPOINT") else field
+
+
+def answer_of_shapes(_, printed):
+    """The matrix that a program printed, or the number, 1 for a valid geometry."""
+    return re.findall(r"\b(?:[F012]{9}|\d+)\b", printed.decode("utf-8", "replace"))
 
 
 def numbers_of(options):
@@ -516,9 +740,31 @@ def numbers_of(options):
         number += 1
 
 
-def main():
+def all_noted(measures, options):
+    """What is noted of each input, to be shown, and how many were drawn and weren't valid, until it is interrupted."""
+    found, counts = [], [0, 0]
+    try:
+        for number in numbers_of(options):
+            noted = measures.row(number)
+            counts[0] += 1
+            counts[1] += noted is None
+            if noted and (noted.seen or options.all or options.only is not None):
+                found.append(noted)
+                print(f"after {counts[0]}: " + " | ".join(noted.cells()), file=sys.stderr, flush=True)
+    except KeyboardInterrupt:
+        print("interrupted", file=sys.stderr)
+    return sorted(found, key=lambda it: it.order), *counts
+
+
+def interrupt(*_):
+    """Ends the run as Ctrl-C does."""
+    raise KeyboardInterrupt
+
+
+def options_of():
+    """The options."""
     about, *more = __doc__.split("\n\n")
-    parser = argparse.ArgumentParser(description=about, epilog=more[1])
+    parser = argparse.ArgumentParser(description=about, epilog=more[2])
     parser.add_argument("--program", default=str(PROGRAM), help="the program that is measured (that of ./build)")
     parser.add_argument("--seed", type=int, default=1, help="what inputs are drawn from (1)")
     parser.add_argument("--minutes", type=float, default=10, help="how long it goes on (10)")
@@ -528,23 +774,35 @@ def main():
     parser.add_argument("--keep", metavar="DIR", default="", help="with --only: where its files are kept")
     parser.add_argument("--growth", type=float, default=1.3, help="the exponent above which an input is shown (1.3)")
     parser.add_argument("--behind", type=float, default=1.1, help="the ratio to the best peer above which it is shown (1.1)")
+    parser.add_argument("--times", action="store_true", help="count no instructions")
     parser.add_argument("--all", action="store_true", help="show each input")
+    parser.add_argument("--list", action="store_true", help="show what is drawn (100 numbers, where --numbers isn't given), and measure nothing")
     options = read_options(parser)
     if options.write:
         parser.error("there is no table to write")
+    if options.keep and options.only is None:
+        parser.error("--keep needs --only")
+    return options
+
+
+def main():
+    options = options_of()
+    if options.list:
+        numbers = [options.only] if options.only is not None else range(options.start, options.start + (options.numbers or 100))
+        for number in numbers:
+            print(number, drawn(options.seed, number, Programs("sfq")).label)
+        return
     if not os.access(options.program, os.X_OK):
         sys.exit(f"there is no program {options.program}" if options.program != str(PROGRAM) else "the program isn't built: run ./build")
+    signal.signal(signal.SIGTERM, interrupt)
     with tempfile.TemporaryDirectory(prefix="sfq-attack-") as room:
-        measures = Measures(options, room, found_programs(os.path.abspath(options.program), pathlib.Path(room)))
-        table, counts = Table(["number", "input", "size", "sfq ms", "growth", "best peer, ms", "ratio", "what is seen"]), [0, 0, 0]
-        for number in numbers_of(options):
-            found = measures.row(number)
-            counts[0] += 1
-            counts[1] += found is None
-            if found and (found[1] or options.all or options.only is not None):
-                counts[2] += found[1]
-                table.add(found[0])
-        print(f"\n{counts[0]} inputs, of which {counts[1]} aren't valid and {counts[2]} are to be looked at", flush=True)
+        programs = found_programs(os.path.abspath(options.program), pathlib.Path(room))
+        found, count, invalid = all_noted(Measures(options, room, programs), options)
+    table = Table(HEADS)
+    for it in found:
+        table.add(it.cells())
+    print("", *(it.commands(options.seed) for it in found), sep="\n")
+    print(f"\n{count} inputs, of which {invalid} aren't valid and {sum(bool(it.seen) for it in found)} are to be looked at", flush=True)
 
 
 if __name__ == "__main__":

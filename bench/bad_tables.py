@@ -390,6 +390,29 @@ def equality_by_order(count):
     return of_values(numbered(count), numbered(count, 1), "a.number <= b.number AND a.number >= b.number")
 
 
+def of_geometries(first, second, condition):
+    """A count of the pairs of rows of a number, a text and a geometry that meet a condition, which no peer is asked."""
+    query = f"SELECT COUNT(*) FROM first a JOIN second b ON {condition}"
+    return Tables(first, second, "number INTEGER, name TEXT, geom GEOMETRY", query, None)
+
+
+def spelled(count, shift=0):
+    """Rows of a number from 3 on, the text of a point, and the point of another row, each once, in an order at random."""
+    places = list(range(count))
+    random.Random(count + shift).shuffle(places)
+    return [f"{place + 3},{point(place + shift, 1)},{point(place, 1)}" for place in places]
+
+
+def text_of_inner_geometry(count):
+    """Equality of a text of the first table with the text of a geometry of the second."""
+    return of_geometries(spelled(count), spelled(count, 1), "a.name = ST_AsText(b.geom)")
+
+
+def dimension_of_outer_geometry(count):
+    """Equality of the dimension of a geometry of the first table with a number of the second, which none has."""
+    return of_geometries(spelled(count), spelled(count, 1), "ST_Dimension(a.geom) = b.number")
+
+
 def one_row_of_each(count):
     """Conditions on each table alone, which one row of each meets."""
     return of_values(numbered(count), numbered(count, 1), "a.number = 3 AND b.number = 5")
@@ -512,6 +535,12 @@ def constant_and_number(count):
     constant = f"ST_Intersects(a.geom, ST_GeomFromText('{stars(1)[0][1:-1]}'))"
     query = f"SELECT COUNT(*) FROM first a JOIN second b ON {constant} AND a.number = b.number"
     return Tables(first, second, "geom POLYGON, number INTEGER", query, None)
+
+
+def few_texts(count):
+    """Eight texts in all rows: each row equals an eighth of the other table."""
+    rows = [f"{place},name{place % 8}" for place in range(count)]
+    return of_values(rows, rows, "a.name = b.name")
 
 
 def no_numbers(count):

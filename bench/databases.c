@@ -1,13 +1,14 @@
 /* A database that is loaded once and asked often: by the C library, by sqlite3 in memory, and by GEOS, for databases.py.
  *
- *   databases ENGINE WHAT TIMES FOLDER
+ *   databases ENGINE WHAT TIMES FOLDER [EXTENSION]
  *
  * FOLDER has point.csv (id,n,geom), parcel.csv (id,geom) of squares, and windows, which has four numbers a line: the least x, the
- * least y, the greatest x and the greatest y. ENGINE is sfq, sqlite or geos. WHAT is done TIMES times:
+ * least y, the greatest x and the greatest y. ENGINE is sfq, sqlite or geos; or sfq0 or spatialite, which are sqlite with the extension
+ * EXTENSION, and FOLDER then has schema.sql too. WHAT is done TIMES times:
  *
  *   load      both tables are loaded, with an index of their geometries, and let go of
  *   windows   the points of each window, by a statement whose constant is replaced
- *   filters   the points with each of 100 numbers, by a statement whose constant is replaced; not by geos
+ *   filters   the points with each of 100 numbers, by a statement whose constant is replaced; only by sfq and sqlite
  *   keys      the point of each of 1,000 keys, likewise
  *   join      each point with the parcels that it meets
  *
@@ -227,18 +228,89 @@ static void prepare_sqlite(const char *what) {
                                                  "AND q.a <= p.x AND q.b <= p.y ORDER BY p.id, q.id");
 }
 
-static void ask_sqlite(size_t number) {
+/* Takes all rows of the statement, and begins it anew. */
+static void step_sqlite(void) {
     int is_join = !strcmp(asked, "join"), status;
-    if (!strcmp(asked, "windows"))
-        for (int k = 0; k < 4; k++) sqlite_call(sqlite3_bind_int(made, k + 1, windows[4 * number + (size_t)k]), "bind");
-    else if (!is_join)
-        sqlite_call(sqlite3_bind_int64(made, 1, (sqlite3_int64)number), "bind");
     while ((status = sqlite3_step(made)) == SQLITE_ROW) {
         found(sqlite3_column_int64(made, 0));
         if (is_join) sum += (unsigned long long)sqlite3_column_int64(made, 1);
     }
     sqlite_call(status, "step");
     sqlite3_reset(made);
+}
+
+static void ask_sqlite(size_t number) {
+    if (!strcmp(asked, "windows"))
+        for (int k = 0; k < 4; k++) sqlite_call(sqlite3_bind_int(made, k + 1, windows[4 * number + (size_t)k]), "bind");
+    else if (strcmp(asked, "join"))
+        sqlite_call(sqlite3_bind_int64(made, 1, (sqlite3_int64)number), "bind");
+    step_sqlite();
+}
+
+/* ---- sqlite with an extension ---- */
+
+static const char *folder, *extension;
+
+static void open_with_extension(void) {
+    sqlite_call(sqlite3_open(":memory:", &base), "open");
+    sqlite_call(sqlite3_db_config(base, SQLITE_DBCONFIG_ENABLE_LOAD_EXTENSION, 1, NULL), "config");
+    sqlite_call(sqlite3_load_extension(base, extension, NULL, NULL), extension);
+}
+
+static void load_sfq0(void) {
+    static const char *const tables[] = {"point", "parcel"};
+    open_with_extension();
+    for (int k = 0; k < 2; k++) {
+        char *text = sqlite3_mprintf("CREATE VIRTUAL TABLE %s USING sfq(folder='%q', table='%s')", tables[k], folder, tables[k]);
+        run_sqlite(text);
+        sqlite3_free(text);
+    }
+}
+
+/* Inserts the lines of a table: its numbers before the geometry, and the geometry. */
+static void insert(const char *text, struct text table, int numbers) {
+    sqlite3_stmt *it = prepared(text);
+    for (const char *at = second_line(table), *end; (end = strchr(at, '\n')) != NULL; at = end + 1) {
+        const char *shape = at + strcspn(at, "P"), *last = end - (end[-1] == '"');
+        char *next = (char *)at;
+        for (int k = 0; k < numbers; k++, next++) sqlite3_bind_int64(it, k + 1, strtol(next, &next, 10));
+        sqlite_call(sqlite3_bind_text(it, numbers + 1, shape, (int)(last - shape), SQLITE_STATIC), "bind");
+        sqlite_call(sqlite3_step(it), "insert");
+        sqlite3_reset(it);
+    }
+    sqlite3_finalize(it);
+}
+
+static void load_spatialite(void) {
+    open_with_extension();
+    run_sqlite("CREATE TABLE point (id INTEGER PRIMARY KEY, n INTEGER, geom BLOB); CREATE TABLE parcel (id INTEGER PRIMARY KEY, geom BLOB);"
+               "CREATE VIRTUAL TABLE points USING rtree(id, a, c, b, d); CREATE VIRTUAL TABLE parcels USING rtree(id, a, c, b, d); BEGIN");
+    insert("INSERT INTO point VALUES (?, ?, ST_GeomFromText(?))", point_text, 2);
+    insert("INSERT INTO parcel VALUES (?, ST_GeomFromText(?))", parcel_text, 1);
+    run_sqlite("INSERT INTO points SELECT id, MbrMinX(geom), MbrMaxX(geom), MbrMinY(geom), MbrMaxY(geom) FROM point;"
+               "INSERT INTO parcels SELECT id, MbrMinX(geom), MbrMaxX(geom), MbrMinY(geom), MbrMaxY(geom) FROM parcel; COMMIT");
+}
+
+static void prepare_sfq0(const char *what) {
+    asked = what;
+    made = prepared(!strcmp(what, "windows") ? "SELECT id FROM point WHERE ST_Intersects(geom, ?) ORDER BY id"
+                                             : "SELECT p.id, q.id FROM point p JOIN parcel q ON ST_Intersects(p.geom, q.geom) ORDER BY p.id, q.id");
+}
+
+static void prepare_spatialite(const char *what) {
+    asked = what;
+    made = prepared(!strcmp(what, "windows") ? "SELECT p.id FROM points t CROSS JOIN point p ON p.id = t.id WHERE t.c >= ?1 AND t.d >= ?2 AND "
+                                               "t.a <= ?3 AND t.b <= ?4 AND ST_Intersects(p.geom, BuildMbr(?1, ?2, ?3, ?4)) ORDER BY p.id"
+                                             : "SELECT p.id, q.id FROM point p CROSS JOIN parcels t ON t.c >= MbrMinX(p.geom) AND "
+                                               "t.d >= MbrMinY(p.geom) AND t.a <= MbrMaxX(p.geom) AND t.b <= MbrMaxY(p.geom) CROSS JOIN "
+                                               "parcel q ON q.id = t.id WHERE ST_Intersects(p.geom, q.geom) ORDER BY p.id, q.id");
+}
+
+static void ask_sfq0(size_t number) {
+    char room[256];
+    if (!strcmp(asked, "windows"))
+        sqlite_call(sqlite3_bind_text(made, 1, room, square(room, sizeof room, windows + 4 * number), SQLITE_STATIC), "bind");
+    step_sqlite();
 }
 
 /* ---- GEOS ---- */
@@ -355,12 +427,26 @@ static size_t count_of(const char *what) {
     return !strcmp(what, "windows") ? window_count : !strcmp(what, "filters") ? FILTERS : !strcmp(what, "keys") ? KEYS : 1;
 }
 
+static const struct engine *engine_named(const char *name) {
+    static const struct {
+        const char *name;
+        struct engine engine;
+    } engines[] = {{"sfq", {load_sfq, leave_sfq, prepare_sfq, ask_sfq}},
+                   {"sqlite", {load_sqlite, leave_sqlite, prepare_sqlite, ask_sqlite}},
+                   {"geos", {load_geos, leave_geos, prepare_geos, ask_geos}},
+                   {"sfq0", {load_sfq0, leave_sqlite, prepare_sfq0, ask_sfq0}},
+                   {"spatialite", {load_spatialite, leave_sqlite, prepare_spatialite, ask_sqlite}}};
+    for (size_t k = 0; k < sizeof engines / sizeof *engines; k++)
+        if (!strcmp(engines[k].name, name)) return &engines[k].engine;
+    fail(name);
+    return NULL;
+}
+
 int main(int count, char **words) {
-    static const struct engine engines[] = {{load_sfq, leave_sfq, prepare_sfq, ask_sfq},
-                                            {load_sqlite, leave_sqlite, prepare_sqlite, ask_sqlite},
-                                            {load_geos, leave_geos, prepare_geos, ask_geos}};
-    if (count != 5) fail("usage: databases ENGINE WHAT TIMES FOLDER:");
-    const struct engine *it = &engines[!strcmp(words[1], "sfq") ? 0 : !strcmp(words[1], "sqlite") ? 1 : 2];
+    if (count != 5 && count != 6) fail("usage: databases ENGINE WHAT TIMES FOLDER [EXTENSION]:");
+    const struct engine *it = engine_named(words[1]);
+    folder = words[4];
+    extension = count == 6 ? words[5] : "";
     long times = strtol(words[3], NULL, 10);
     point_text = text_of(words[4], "point.csv");
     parcel_text = text_of(words[4], "parcel.csv");

@@ -9,8 +9,11 @@ least of runs that alternate: of a row for loading and the join, else of a windo
 first turn is left out. With `--profile` it prints on the standard error where the instructions go of what takes more than is
 aimed at.
 
-It needs Python's standard library, valgrind, `gcc`, `libgeos-dev` and `libsqlite3-dev` from the distribution's packages, and the
-library: run `./build --library` once. It is no test: the gate doesn't run it.
+With `--sqlite` it measures loading, windows and the join by `sqlite3` with SQLite's extension, beside `sqlite3` with SpatiaLite and an
+R*Tree.
+
+It needs Python's standard library, valgrind, `gcc`, `libgeos-dev` and `libsqlite3-dev` from the distribution's packages, for `--sqlite`
+`libsqlite3-mod-spatialite` too, and the library: run `./build --library` once. It is no test: the gate doesn't run it.
 """
 
 import argparse
@@ -21,17 +24,21 @@ import subprocess
 import sys
 import tempfile
 
-from peers import FOLDER
+from peers import FOLDER, build_extension
 from timing import README, ROOT, Table, counted_shares, figure, marked, measure, read_options
 
 SIZES = (1_000, 10_000, 100_000)
 ENGINES = ("sfq", "sqlite", "geos")
+BY_SQLITE = ("sfq0", "spatialite")
 # What is done, how often in a turn, where that isn't once for each row, and which engines do it.
 WINDOWS, FILTERS, KEYS = 1_000, 100, 1_000
 WHAT = {
     "load": (None, ENGINES), "windows": (WINDOWS, ENGINES), "filters": (FILTERS, ENGINES[:2]), "keys": (KEYS, ENGINES[:2]),
     "join": (None, ENGINES),
 }
+WHAT_BY_SQLITE = {"load": (None, BY_SQLITE), "windows": (WINDOWS, BY_SQLITE), "join": (None, BY_SQLITE)}
+# The schema of the tables for SQLite's extension, as `databases.c` has it.
+SCHEMA = "CREATE TABLE point (id INTEGER PRIMARY KEY, n INTEGER, geom POINT);\nCREATE TABLE parcel (id INTEGER PRIMARY KEY, geom POLYGON);\n"
 # How many turns are timed.
 TURNS = 5
 # How many times what the best takes is aimed at, where that isn't once.
@@ -52,6 +59,7 @@ def write_tables(folder, size):
     places = [(chance.randint(0, most - SIDE), chance.randint(0, most - SIDE)) for _ in range(WINDOWS)]
     (folder / "point.csv").write_text("\n".join(["id,n,geom", *points]) + "\n")
     (folder / "parcel.csv").write_text("\n".join(["id,geom", *parcels]) + "\n")
+    (folder / "schema.sql").write_text(SCHEMA)
     (folder / "windows").write_text("".join(f"{x} {y} {x + SIDE} {y + SIDE}\n" for x, y in places))
 
 
@@ -71,15 +79,18 @@ def main():
     parser.add_argument("what", nargs="*", help=f"what is measured, of {', '.join(WHAT)}: all of it, if nothing is named")
     parser.add_argument("--time", action="store_true", help="microseconds in place of instructions")
     parser.add_argument("--profile", action="store_true", help="where the instructions go of what takes more than is aimed at")
-    options = read_options(parser, ("what", "time"))
-    if not WHAT.keys() >= set(options.what):
-        parser.error(f"what is measured is of {', '.join(WHAT)}")
+    parser.add_argument("--sqlite", action="store_true", help="by sqlite3 with the extension sfq0, beside SpatiaLite")
+    options = read_options(parser, ("what", "time", "sqlite"))
+    known = WHAT_BY_SQLITE if options.sqlite else WHAT
+    if not known.keys() >= set(options.what):
+        parser.error(f"what is measured is of {', '.join(known)}")
     with tempfile.TemporaryDirectory() as room:
         folder = pathlib.Path(room)
         program = built(folder)
+        extensions = {"sfq0": build_extension(folder), "spatialite": "mod_spatialite"} if options.sqlite else {}
 
         def words(engine, what, turns):
-            return [program, engine, what, turns, folder]
+            return [program, engine, what, turns, folder, *([extensions[engine]] if engine in extensions else [])]
 
         def timed(engines, what):
             """What a turn takes by each engine, which alternate."""
@@ -89,9 +100,10 @@ def main():
                     times[:] = [min(old, measure(words(it, what, many), folder)[1]) for old, many in zip(times, (0, TURNS))]
             return [(least[it][1] - least[it][0]) / TURNS * 1e6 for it in engines]
 
-        table = Table(["what", "rows", "found", "`sfq`", "`sqlite3`", "GEOS", "to the best"], ("`sqlite3`", "GEOS", "to the best"))
-        for what in options.what or WHAT:
-            count, engines = WHAT[what]
+        peers = ["SpatiaLite"] if options.sqlite else ["`sqlite3`", "GEOS"]
+        table = Table(["by SQLite" if options.sqlite else "what", "rows", "found", "sfq0" if options.sqlite else "`sfq`", *peers, "to the best"], (*peers, "to the best"))
+        for what in options.what or known:
+            count, engines = known[what]
             for size in SIZES:
                 write_tables(folder, size)
                 said, behind = [], ""
@@ -100,15 +112,15 @@ def main():
                     said.append((folder / "output").read_text())
                 if len(set(said)) > 1:
                     sys.exit(f"{what}, {size}: {said}")
-                # The last one that is counted is sfq, of which callgrind's file says where its instructions go.
+                # The last one that is counted is ours, of which callgrind's file says where its instructions go.
                 counts = [] if options.time else [marked(words(it, what, 1), folder) for it in reversed(engines)]
                 taken = counts[::-1] or timed(engines, what)
                 each = [it / (count or size) for it in taken]
                 found = f"{int(said[0].split()[0]) / (count or size):.3g}" if said else ""
                 ratio = each[0] / min(each[1:])
-                if counts and ratio > AIMS.get(what, 1):
+                if counts and (ratio > AIMS.get(what, 1) or options.sqlite):
                     behind = ", ".join(f"`{name}` {share:.0f}" for name, share in counted_shares(folder)[:8])
-                table.add([what, f"{size:,}", found, *map(figure, each), *[""] * (3 - len(each)), f"{ratio:.2g}"])
+                table.add([what, f"{size:,}", found, *map(figure, each), *[""] * (len(peers) + 1 - len(each)), f"{ratio:.2g}"])
                 if behind and options.profile:
                     print(f"{what}: of 100 instructions {behind}", file=sys.stderr, flush=True)
     if options.write:

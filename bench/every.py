@@ -34,7 +34,7 @@ runpy.run_path(str(ROOT / "tools" / "paths.py"))
 import library
 import repository
 import tiles
-from sfq import _endings
+from sfq.commands import endings
 
 COUNTS, TIMES = "instructions", "times"
 
@@ -277,4 +277,4 @@ def run_all(asked, folder, builds, report):
 
 
 if __name__ == "__main__":
-    sys.exit(_endings.ended("every.py", main))
+    sys.exit(endings.ended("every.py", main))

@@ -24,7 +24,8 @@ os.environ.setdefault("SFQ_LIBRARY", str(LIBRARY.with_name("libsfq.so.0")))
 
 import geopandas
 import sfq.geopandas
-from sfq import _frames, _library
+from sfq.geometry import library
+from sfq.layers import frames
 from shapely import wkt
 
 # What is joined, by which predicate, and at which number of points and parcels on a side.
@@ -78,8 +79,8 @@ def main():
     parser.add_argument("--repeats", type=int, default=3, help="how often each is measured (3)")
     options = read_options(parser)
     parts = Parts()
-    parts.around(_frames, "binaries", "writing")
-    parts.around(_library, "KeptMany", "reading")
+    parts.around(frames, "binaries", "writing")
+    parts.around(library, "KeptMany", "reading")
     parts.around(sfq.geopandas.Index, "query", "pairs")
     # GeoPandas 1 joins in C; the table of each is one of its own.
     which = "before GeoPandas 1" if int(geopandas.__version__.split(".")[0]) < 1 else "from GeoPandas 1 on"

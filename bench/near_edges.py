@@ -10,7 +10,6 @@ It needs Python's standard library and takes a minute. With `--write` it writes 
 """
 
 import argparse
-import pathlib
 import re
 
 import bad_shapes as shapes

@@ -33,7 +33,7 @@ from typing import Callable, NamedTuple, Optional
 import bad_shapes as shapes
 import bad_tables as tables
 from joins import commands as spatial_commands
-from peers import SHAPES, TABLES, compiled, spatialite_command
+from peers import SHAPES, TABLES, compiled
 from timing import PROGRAM, README, Table, exponent, figure, instructions, read_options, probe, shares
 
 
@@ -130,6 +130,8 @@ SINGLES = (
     Input("validity of thin polygons", shapes.thin_polygons, 499, 60, 1.96),
     Input("validity of nested chevrons", shapes.nested_chevrons, 499, 60, 2.03),
     Input("validity of nested frames", shapes.nested_frames, 499, 60, 1.88),
+    Input("validity of L-shapes in one another", shapes.ells, 499, 80, 1.30),
+    Input("validity of L-shaped holes in one another", shapes.holes_of_ells, 499, 80, 1.30),
     Input("validity of a spiral", shapes.spiral, 4_000, 400, 1.86),
     Input("validity of a spiral askew", shapes.spiral_askew, 4_000, 250, 2.02),
     Input("validity of holes in a spiral", shapes.holes_in_spiral, 499, 60, 1.93),
@@ -194,6 +196,8 @@ PLAIN = (
     Input("equal INTEGERs", tables.equal_numbers, 5_000, 100, 1.21),
     Input("equal TEXTs", tables.equal_texts, 5_000, 100, 1.21),
     Input("equal long TEXTs", tables.equal_long_texts, 2_500, 240, 1.16),
+    Input("TEXTs, and equal texts of geometries", tables.text_of_inner_geometry, 2_500, 100, 1.21),
+    Input("dimensions of geometries, and INTEGERs", tables.dimension_of_outer_geometry, 2_500, 100, 1.21),
     Input("equal TEXTs of quotes", tables.texts_of_quotes, 2_500, 240, 1.17),
     Input("equal keys", tables.equal_keys, 5_000, 100, 1.14),
     Input("a key equal to a column", tables.key_and_number, 5_000, 100, 1.21),
@@ -201,6 +205,7 @@ PLAIN = (
     Input("equality or equality", tables.one_equality_or_other, 2_500, 100, 2.06),
     Input("equality by two orders", tables.equality_by_order, 2_500, 100, 2.02),
     Input("a condition on each table", tables.one_row_of_each, 5_000, 100, 1.13),
+    Input("eight TEXTs in all rows", tables.few_texts, 5_000, 400, 1.32),
     Input("equality where all are NULL", tables.no_numbers, 5_000, 100, 1.13),
     Input("IS NOT NULL before an equality of texts", tables.texts_behind_null, 2_500, 100, 1.20),
     Input("OR before an equality of texts", tables.texts_behind_or, 2_500, 100, 1.16),
