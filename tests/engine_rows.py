@@ -3,6 +3,7 @@ import csv
 import io
 import os
 import re
+import tempfile
 import unittest
 from typing import Dict, List, NamedTuple
 
@@ -12,8 +13,8 @@ import repository
 import required_rows
 
 DATA = f"{repository.ROOT}/crates/scripts/data"
-# What SQL of other engines has in another way, or the bindings don't have.
-OTHERS = re.compile(r"EXPLAIN|LIMIT|ST_AsText|ST_Dimension|ST_IsEmpty")
+# What SQL of other engines has in another way.
+OTHERS = re.compile(r"EXPLAIN")
 
 
 class Pair(NamedTuple):
@@ -107,30 +108,28 @@ def as_sql(schema, tables):
     return "\n".join(lines)
 
 
-def standard(query):
-    """Returns a query as other engines have it: a constant geometry is its text."""
-    return re.sub(r"ST_GeomFromText\(('(?:[^']|'')*')\)", r"\1", query)
-
-
 def sorted_rows(text):
     """Returns the rows of a CSV text, sorted."""
     return sorted(map(tuple, csv.reader(io.StringIO(text, newline=""))))
 
 
-def example_queries():
-    """Returns the queries that the land register's document shows, with the rows that it shows."""
-    folder = "examples/parcels"
-
-    def read(path):
-        with open(f"{repository.ROOT}/{folder}/{path}", encoding="utf-8") as file:
-            return file.read()
-
+def files_of(folder):
+    """Returns the schema of a folder of examples/, and the text of CSV of each table by its name."""
     names = sorted(it for it in os.listdir(f"{repository.ROOT}/{folder}") if it.endswith(".csv"))
-    schema, files = read("schema.sql"), {it[:-4]: read(it) for it in names}
-    tables = as_sql(schema, files)
-    shown = printed.of_queries(f"{folder}/README.md", read("README.md"))
-    kept = [it for it in shown if not OTHERS.search(it.words[3])]
-    return [Query(tables, standard(it.words[3]), sorted_rows(it.text.partition("\n")[2]), schema, files) for it in kept]
+    files = {it[:-4]: repository.read(f"{repository.ROOT}/{folder}/{it}") for it in names}
+    return repository.read(f"{repository.ROOT}/{folder}/schema.sql"), files
+
+
+def example_queries():
+    """Returns the queries over examples/ that documents show, with the rows that they show."""
+    with tempfile.TemporaryDirectory(prefix="sfq-documents-") as room:
+        shown = [it for it in printed.everything(room) if it.words[:1] == ["run"] and it.words[-2].startswith("examples/")]
+    found = {}
+    for it in shown:
+        if it.text and not it.text.startswith("sfq: ") and not OTHERS.search(it.words[-1]):
+            schema, files = files_of(it.words[-2])
+            found[it.words[-2], it.words[-1]] = Query(as_sql(schema, files), it.words[-1], sorted_rows(it.text.partition("\n")[2]), schema, files)
+    return list(found.values())
 
 
 def predicate_queries():
@@ -140,5 +139,5 @@ def predicate_queries():
         if row.command.startswith("SELECT") and not OTHERS.search(row.command) and not row.output.startswith("!"):
             schema, files = row.files["schema"], {it[6:]: text for it, text in row.files.items() if it != "schema"}
             rows = sorted_rows(row.output.partition("\n")[2])
-            found.append(Query(as_sql(schema, files), standard(row.command), rows, schema, files))
+            found.append(Query(as_sql(schema, files), row.command, rows, schema, files))
     return found

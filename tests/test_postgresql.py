@@ -1,6 +1,7 @@
 """PostgreSQL's extensions, by a server of the test's own: the tests in PGXS's form, the rows of the engine's own scripts and of the
 land register, ordinary roles, several sessions, and calls that take long or much memory."""
 import csv
+import functools
 import io
 import os
 import re
@@ -17,7 +18,7 @@ import bindings
 import c_programs
 import engine_rows
 import postgresql_server
-import repository
+import version
 
 NAMES = ("first", "second")
 
@@ -78,10 +79,17 @@ class Postgresql(engine_rows.WithLibrary):
 
     def check_queries(self, queries):
         for it in queries:
-            out = self.asked(f"BEGIN; SET LOCAL client_min_messages = warning;\n{it.tables}\n{it.text};\nROLLBACK;")
-            self.assertEqual(engine_rows.sorted_rows(out), it.rows, it.text)
+            # Rows come in the order of the key in sfq, and here in any order.
+            query = it.text.replace(" LIMIT ", " ORDER BY 1 LIMIT ")
+            out = self.asked(f"BEGIN; SET LOCAL client_min_messages = warning;\n{it.tables}\n{query};\nROLLBACK;")
+            self.assertEqual([self.as_sfq(it.text, row) for row in engine_rows.sorted_rows(out)], it.rows, it.text)
 
-    def test_the_land_register_gives_what_sfq_run_gives(self):
+    @staticmethod
+    def as_sfq(query, row):
+        """Returns a row as sfq writes it: a truth value, which only ST_IsEmpty gives in a column, is 1 or 0."""
+        return tuple({"t": "1", "f": "0"}.get(it, it) for it in row) if "ST_IsEmpty" in query else row
+
+    def test_the_queries_of_the_documents_give_what_sfq_run_gives(self):
         self.check_queries(engine_rows.example_queries())
 
     def test_each_predicate_of_the_engines_rows(self):
@@ -246,35 +254,69 @@ class Postgresql(engine_rows.WithLibrary):
         out, err, status = self.as_plain_role(f"SET sfq.memory = '4GB'; {call} SHOW sfq.memory;")
         self.assertEqual((out, status), ("valid\n256MB\n", 0), err)
 
-    def check_update(self, name):
-        """Compares what an extension has that was updated with what a new one has, and asks what the earlier version lacks."""
+    def check_update(self, name, before, added):
+        """Compares what an extension has that was updated from an earlier version with what a new one has: so much is added."""
         listed = (f"SELECT extversion FROM pg_extension WHERE extname = '{name}';\nSELECT pg_describe_object(classid, objid, 0) FROM pg_depend "
                   f"WHERE refobjid = (SELECT oid FROM pg_extension WHERE extname = '{name}') ORDER BY 1;\n")
-        new = self.asked(listed)
-        self.assertTrue(new.startswith(f"{repository.version()}\n"), new)
-        first = self.asked(f"DROP EXTENSION {name};\nCREATE EXTENSION {name} VERSION '0.1.0';\n{listed}")
-        self.assertTrue(first.startswith("0.1.0\n"), first)
-        added = set(new.splitlines()[1:]) - set(first.splitlines()[1:])
+        new = self.asked(f"DROP EXTENSION {name};\nCREATE EXTENSION {name};\n{listed}")
+        self.assertTrue(new.startswith(f"{version.of_extension(name)}\n"), new)
+        first = self.asked(f"DROP EXTENSION {name};\nCREATE EXTENSION {name} VERSION '{before}';\n{listed}")
+        self.assertTrue(first.startswith(f"{before}\n"), first)
         self.assertLessEqual(set(first.splitlines()[1:]), set(new.splitlines()))
-        self.assertEqual(len(added), 8, added)
+        self.assertEqual(len(new.splitlines()) - len(first.splitlines()), added)
         self.assertEqual(self.asked(f"ALTER EXTENSION {name} UPDATE;\n{listed}"), new)
 
     def test_a_database_of_an_earlier_version_is_updated(self):
         """It has what a new one has then."""
-        self.check_update("sfq")
-        self.assertEqual(self.asked("SELECT ST_Dimension('LINESTRING(0 0,1 1)'), ST_XMax('POINT(3 4)'), ST_Why('POINT(3 4)');"), "1,3,valid\n")
+        asked = "SELECT ST_Dimension('LINESTRING(0 0,1 1)'), ST_XMax('POINT(3 4)'), ST_Why('POINT(3 4)'), ST_AsText('POINT (3 4)');"
+        for before, added in (("0.1.0", 10), ("0.2.0", 2)):
+            self.check_update("sfq", before, added)
+            self.assertEqual(self.asked(asked), "1,3,valid,POINT(3 4)\n")
 
     def test_a_database_with_postgis_of_an_earlier_version_is_updated(self):
         if not postgresql_server.has_extension("postgis"):
             self.skipTest("needs the package postgresql-15-postgis-3")
         self.server.run("CREATE EXTENSION postgis SCHEMA public; CREATE EXTENSION sfq_postgis;")
         try:
-            self.check_update("sfq_postgis")
+            self.check_update("sfq_postgis", "0.1.0", 8)
             asked = ("SELECT sfq.ST_Dimension(g), sfq.ST_IsEmpty(g), sfq.ST_XMin(g), sfq.ST_YMax(g), sfq.ST_Why(g), "
                      "length(sfq.ST_Why(g, g)) > 100 FROM (SELECT ST_MakePoint(3, 4) AS g) t;")
             self.assertEqual(self.asked(asked), "0,f,3,4,valid,t\n")
         finally:
             self.server.run("DROP EXTENSION sfq_postgis; DROP EXTENSION postgis;")
+
+    def test_prepared_statements(self):
+        """By the plan of each value, and by one plan for all."""
+        for mode in ("force_custom_plan", "force_generic_plan"):
+            out = self.asked(
+                f"SET plan_cache_mode = {mode};\nPREPARE near (text, int) AS SELECT ST_Relate($1, 'POINT(' || i || ' 1)'), ST_AsText($1) "
+                "FROM generate_series(1, $2) i WHERE ST_Intersects($1, 'POINT(' || i || ' 1)');\n"
+                "EXECUTE near('LINESTRING(0 1,2 1)', 9);\nEXECUTE near('POINT(3 1)', 9);\nEXECUTE near(NULL, 9);\nEXECUTE near('POINT(3 1)', 2);\n"
+                "EXECUTE near('LINESTRING(0 1,2 1)', 1);\n")
+            self.assertEqual(out.splitlines(), ['0F1FF0FF2,"LINESTRING(0 1,2 1)"', 'FF10F0FF2,"LINESTRING(0 1,2 1)"', "0FFFFFFF2,POINT(3 1)",
+                                                '0F1FF0FF2,"LINESTRING(0 1,2 1)"'], mode)
+
+    def test_a_dump_is_restored(self):
+        """A table with a check, an index and a generated column that call the functions, from one database into another."""
+        run = functools.partial(subprocess.run, capture_output=True, text=True, env=self.server.environment(), cwd="/")
+        made = ("CREATE TABLE field (id integer PRIMARY KEY, geom text CHECK (sfq.ST_IsValid(geom)), "
+                "edge integer GENERATED ALWAYS AS (sfq.ST_XMax(geom)) STORED);\nCREATE INDEX field_shape ON field (sfq.ST_AsText(geom));\n"
+                "INSERT INTO field (id, geom) VALUES (1, 'POINT (3 4)'), (2, NULL), (3, 'LINESTRING(0 0,9 9)');\n")
+        asked = "SELECT id, sfq.ST_AsText(geom), edge FROM field ORDER BY id;"
+        self.assertEqual(self.server.run(made)[1:], ("", 0))
+        try:
+            for form in ("plain", "custom"):
+                self.assertEqual(self.server.run(f"CREATE DATABASE {form};")[1:], ("", 0))
+                dump = f"{self.server.room}/dump.{form}"
+                ran = run([f"{self.server.bin}/pg_dump", "-F", form, "-f", dump, "postgres"])
+                self.assertEqual((ran.returncode, ran.stderr), (0, ""))
+                ran = run([f"{self.server.bin}/psql", "-X", "-q", "-v", "ON_ERROR_STOP=1", "-d", form, "-f", dump] if form == "plain" else
+                          [f"{self.server.bin}/pg_restore", "--exit-on-error", "-d", form, dump])
+                self.assertEqual((ran.returncode, ran.stderr), (0, ""))
+                self.assertEqual(self.server.run(asked, form), ("1|POINT(3 4)|3\n2||\n3|LINESTRING(0 0,9 9)|9\n", "", 0))
+                self.assertIn("sfq: first W2 at 6: ", self.server.run("INSERT INTO field (id, geom) VALUES (4, 'POINT(1.5 1)');", form)[1])
+        finally:
+            self.server.run("DROP TABLE field;")
 
     def test_the_example_of_the_document(self):
         text = re.search(r"^## PostgreSQL$(.*?)^## ", read(f"{ROOT}/docs/LIBRARY.md"), re.M | re.S)[1]

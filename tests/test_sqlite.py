@@ -28,14 +28,14 @@ class Sqlite(sqlite_sessions.WithExtension):
             self.assertEqual((err, status), ("", 0), it.text)
             self.assertEqual(engine_rows.sorted_rows(out), it.rows, it.text)
 
-    def test_the_land_register_gives_what_sfq_run_gives(self):
+    def test_the_queries_of_the_documents_give_what_sfq_run_gives(self):
         queries = engine_rows.example_queries()
-        self.assertGreaterEqual(len(queries), 15)
+        self.assertGreaterEqual(len(queries), 25)
         self.check_queries(queries)
 
     def test_each_predicate_of_the_engines_rows(self):
         queries = engine_rows.predicate_queries()
-        self.assertGreaterEqual(len(queries), 30)
+        self.assertGreaterEqual(len(queries), 25)
         self.check_queries(queries)
 
     def test_matrices_and_faults_of_the_engines_rows(self):
@@ -90,10 +90,17 @@ class Sqlite(sqlite_sessions.WithExtension):
             out, err, status = self.asked(f"SELECT {call} FROM (SELECT '{text}' AS geom);")
             self.assertEqual((out, err, status), (",".join([dimension, str(int(is_empty)), *bounds]) + "\n", "", 0), text)
 
+    def test_canonical_texts(self):
+        for name in ("ST_GeomFromText", "ST_AsText"):
+            for text, canonical in engine_rows.canonical_texts():
+                quoted = "'" + text.replace("'", "''") + "'"
+                self.assertEqual(self.value(f"quote({name}({quoted}))"), f"'{canonical}'", text)
+
     def test_null_in_null_out(self):
         for call in ("ST_Touches(NULL, 'POINT(1 1)')", "ST_Touches('POINT(1.5 1)', NULL)", "ST_Relate(NULL, NULL)",
                      "ST_Relate('POINT(1 1)', 'POINT(1 1)', NULL)", "ST_IsValid(NULL)", "ST_IsValidReason(NULL)",
-                     "ST_Why(NULL)", "ST_Why('POINT(1 1)', NULL)", "ST_Dimension(NULL)", "ST_IsEmpty(NULL)", "ST_XMin(NULL)"):
+                     "ST_Why(NULL)", "ST_Why('POINT(1 1)', NULL)", "ST_Dimension(NULL)", "ST_IsEmpty(NULL)", "ST_XMin(NULL)",
+                     "ST_GeomFromText(NULL)", "ST_AsText(NULL)"):
             self.assertEqual(self.value(f"{call} IS NULL"), "1", call)
 
     def test_faults_are_errors_and_values(self):
@@ -111,6 +118,9 @@ class Sqlite(sqlite_sessions.WithExtension):
             ("ST_IsEmpty('POINT')", "first W1 at 5: "),
             ("ST_YMax('LINESTRING(1 1,1 1)')", "first V1 0: "),
             ("ST_XMin(7)", "first isn't a text"),
+            ("ST_GeomFromText('POINT(1.5 2)')", "first W2 at 6: "),
+            ("ST_GeomFromText(x'00')", "first isn't a text"),
+            ("ST_AsText('POLYGON((0 0,4 4,4 0,0 4,0 0))')", "first V3 0: "),
             ("ST_IsValid('POINT(1.5 2)')", "0"),
             ("ST_IsValid('POINT(1 2)')", "1"),
             ("ST_IsValidReason('POINT(1.5 2)')", "W2 at 6: the number at this byte isn't whole: scale"),
@@ -136,7 +146,8 @@ class Sqlite(sqlite_sessions.WithExtension):
         calls += ["ST_Relate('POINT(1 1)', 'LINESTRING(0 0,2 2)', '0********')", "ST_Touches('LINESTRING(0 0,2 2)', 'POINT(2 2)')",
                   "ST_Touches('POINT(1 1)', 'POINT(1.5 1)')", "ST_IsValid('POINT(1 1)')", "ST_IsValidReason('LINESTRING(1 1,1 1)')",
                   "ST_Why('LINESTRING(0 0,3 1)', 'LINESTRING(0 1,2 0)')", "ST_Why('POLYGON((0 0,4 4,4 0,0 4,0 0))')",
-                  "ST_Dimension('POINT(2 1)')", "ST_IsEmpty('POINT(3 1)')", "ST_XMin('POINT(4 1)')", "ST_YMax('POINT EMPTY')"]
+                  "ST_Dimension('POINT(2 1)')", "ST_IsEmpty('POINT(3 1)')", "ST_XMin('POINT(4 1)')", "ST_YMax('POINT EMPTY')",
+                  "ST_GeomFromText('POINT (5 1)')", f"ST_AsText('LINESTRING({','.join(f'{it} {it}' for it in range(400))})')"]
         lines = "".join(f"SELECT {it};\n" for it in calls)
         ran = subprocess.run([self.program("refusing"), f"{self.room.name}/sfq0"], input=lines, capture_output=True, text=True)
         self.assertEqual((ran.returncode, ran.stderr), (0, ""), ran.stdout)

@@ -25,7 +25,6 @@ STEP = re.compile(r"SCAN (\w+) VIRTUAL TABLE INDEX \d+:(.*?)(?: LEFT-JOIN)?$", r
 PREDICATES = ("Equals", "Disjoint", "Intersects", "Touches", "Crosses", "Within", "Contains", "Overlaps")
 # What SQLite has in another way, or hasn't: among them words that can be an alias in sfq, and a number that a word follows at once.
 OTHERS = re.compile(r"(?i)\b(?:EXPLAIN|LIMIT|LEFT|RIGHT|FULL|NATURAL)\b|\b\d+[a-z_]|\0")
-OF_TEXTS = re.compile(r"(?i)\bST_(?:AsText|GeomFromText)\s*\(\s*((?:\w+\s*\.\s*)?\w+|'(?:[^']|'')*')\s*\)")
 
 # What is compared over random tables with an index and without: relations, keys of any value, and what SQLite has beyond sfq.
 QUERIES = [
@@ -138,7 +137,7 @@ class Rows(WithFolders):
             out = self.rows(f"{made(it.files, folder)}{it.text};")
             self.assertEqual(engine_rows.sorted_rows(out), it.rows, it.text)
 
-    def test_the_land_register_gives_what_sfq_run_gives(self):
+    def test_the_queries_of_the_documents_give_what_sfq_run_gives(self):
         self.check_queries(engine_rows.example_queries())
 
     def test_each_predicate_of_the_engines_rows(self):
@@ -167,7 +166,7 @@ class Rows(WithFolders):
                 queries.append(f"SELECT a.id, b.name, a.geom FROM a, b WHERE a.n = b.id AND NOT ST_{it}(b.geom, a.geom)")
                 constant = shape(random.Random(seed)) or "POINT(1 1)"
                 queries.append(f"SELECT * FROM c WHERE ST_{it}(geom, ST_GeomFromText('{constant}')) AND id >= 0")
-            text = "".join(f"SELECT '-', {at};\n{engine_rows.standard(it)};\n" for at, it in enumerate(queries))
+            text = "".join(f"SELECT '-', {at};\n{it};\n" for at, it in enumerate(queries))
             parts = re.split(r"(?m)^-,\d+\n", self.rows(made("abc", folder) + text))[1:]
             for query, found in zip(queries, parts, strict=True):
                 words = [repository.PROGRAM, "run", f"{folder}/schema.sql", folder, query]
@@ -191,8 +190,7 @@ class RandomQueries(WithFolders):
             with self.subTest(case=number, query=query):
                 names = re.findall(r"(?i)create\s+table\s+(\w+)", re.sub(r"--.*", "", case.parts["schema"].decode("latin-1")))
                 named = [it for it in names if re.search(rf"(?i)\b{it}\b", text)]
-                asked = OF_TEXTS.sub(r"\1", query.decode("utf-8"))
-                out = self.rows(f"{made(named, 'd', schema='s')}{asked}\n;", folder=room)
+                out = self.rows(f"{made(named, 'd', schema='s')}{query.decode('utf-8')}\n;", folder=room)
                 self.assertEqual(sorted(records(out)), sorted(records(ran.stdout.decode("utf-8"))[1:]))
                 compared += 1
         self.assertGreater(compared, self.COUNT // 10)

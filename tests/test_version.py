@@ -39,6 +39,13 @@ class Version(unittest.TestCase):
             self.assertIn("#define SFQ_VERSION 3021005\n", read(f"{room}/bindings/c/sfq.h"))
             self.assertIn('__version__ = "3.21.5"\n', read(f"{room}/bindings/python/sfq/__init__.py"))
 
+    def test_an_extension_whose_functions_changed_keeps_its_later_version(self):
+        path, form = "bindings/postgresql/sfq.control", "default_version = '{}'"
+        self.assertEqual(version.renewed(path, form, "default_version = '0.10.0'\n", "0.9.0"), "default_version = '0.10.0'\n")
+        self.assertEqual(version.renewed(path, form, "default_version = '0.10.0'\n", "0.11.0"), "default_version = '0.11.0'\n")
+        with self.assertRaises(ValueError):
+            version.renewed(path, form, "comment = ''\n", "0.9.0")
+
     def test_nothing_else_spells_it(self):
         """But the list of changes, and the names of PostgreSQL's scripts."""
         known, found = {"VERSION", "CHANGELOG.md", *(it for it, _ in version.places())}, []
@@ -58,7 +65,9 @@ class Version(unittest.TestCase):
     def test_postgresql_has_scripts_from_each_version_to_this_one(self):
         listed = re.findall(r"(?m)^## (\S+) \(", read(f"{ROOT}/CHANGELOG.md"))[::-1]
         for it in ("sfq", "sfq_postgis"):
-            for before, after in zip(listed, listed[1:]):
+            own = version.of_extension(it)
+            released = listed if own == VERSION else [*listed, own]
+            for before, after in zip(released, released[1:]):
                 name = f"{it}--{before}--{after}.sql"
                 self.assertIn(f'"ALTER EXTENSION {it} UPDATE"', read(f"{ROOT}/bindings/postgresql/{name}"))
 

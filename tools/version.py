@@ -27,22 +27,35 @@ def places(root: str = repository.ROOT) -> list[tuple[str, str]]:
     ]
 
 
+def of_extension(name: str, root: str = repository.ROOT) -> str:
+    """Returns the version of an extension of PostgreSQL."""
+    return re.findall(r"default_version = '([\d.]+)'", repository.read(f"{root}/bindings/postgresql/{name}.control"))[0]
+
+
+def numbers(version: str) -> tuple[int, ...]:
+    """Returns the numbers of a version, by which versions are in order."""
+    return tuple(map(int, version.split(".")))
+
+
 def spelled(path: str, version: str) -> str:
     """Returns the version as a file spells it: the header of C counts it, 1,000 times the second number and so on."""
     if not path.endswith(".h"):
         return version
-    first, second, third = map(int, version.split("."))
+    first, second, third = numbers(version)
     return str(1_000_000 * first + 1_000 * second + third)
 
 
 def renewed(path: str, form: str, text: str, version: str) -> str:
-    """Returns a file's text with this version. ValueError where the version isn't once in it."""
+    """Returns a file's text with this version. An extension of PostgreSQL keeps a later one, which it has from the first change of its
+    functions on. ValueError where the version isn't once in the text."""
     before, _, after = form.partition("{}")
-    pattern = rf"({re.escape(before)})[\d.]+({re.escape(after)})"
-    text, count = re.subn(pattern, rf"\g<1>{spelled(path, version)}\g<2>", text)
-    if count != 1:
-        raise ValueError(f"{path} has the version {count} times")
-    return text
+    pattern = rf"({re.escape(before)})([\d.]+)({re.escape(after)})"
+    found = re.findall(pattern, text)
+    if len(found) != 1:
+        raise ValueError(f"{path} has the version {len(found)} times")
+    if path.endswith(".control") and numbers(found[0][1]) > numbers(version):
+        return text
+    return re.sub(pattern, rf"\g<1>{spelled(path, version)}\g<3>", text)
 
 
 def main(words: list[str]) -> int:

@@ -156,8 +156,11 @@ static int ask_bounds(FunctionCallInfo fcinfo, int32_t bounds[4], sfq_fault *fau
     return status != SFQ_OK ? status : sfq_envelope(geometry, bounds);
 }
 
-/* Writes lines into a room of this size, by the protocol of sfq_text: of two arguments or of one. */
-static int write_lines(FunctionCallInfo fcinfo, char *room, size_t size, size_t *length, sfq_fault *fault)
+/* Writes a text into a room of this size, by the protocol of sfq_text: one of write_why and write_canonical. */
+typedef int writing(FunctionCallInfo, char *, size_t, size_t *, sfq_fault *);
+
+/* What shows each cell of the matrix of two arguments, or whether one is valid, and where not. */
+static int write_why(FunctionCallInfo fcinfo, char *room, size_t size, size_t *length, sfq_fault *fault)
 {
     if (PG_NARGS() == 2) {
         struct memory *memory = memory_of(fcinfo);
@@ -169,18 +172,26 @@ static int write_lines(FunctionCallInfo fcinfo, char *room, size_t size, size_t 
     }
 }
 
-/* What shows each cell of the matrix of two arguments, or whether one is valid, and where not: lines in the memory of the call. */
-static int ask_why(FunctionCallInfo fcinfo, char **lines, size_t *length, sfq_fault *fault)
+/* The canonical text of the argument. */
+static int write_canonical(FunctionCallInfo fcinfo, char *room, size_t size, size_t *length, sfq_fault *fault)
+{
+    sfq_geometry *geometry;
+    int status = read_one(fcinfo, &geometry, fault);
+    return status != SFQ_OK ? status : sfq_text(geometry, room, size, length);
+}
+
+/* Has a text written in the memory of the call. */
+static int ask_text(FunctionCallInfo fcinfo, writing *write, char **written, size_t *length, sfq_fault *fault)
 {
     /* Room for most, since a call with too little takes as long. */
     size_t size = 8192;
     int status;
-    *lines = palloc(size);
-    status = write_lines(fcinfo, *lines, size, length, fault);
+    *written = palloc(size);
+    status = write(fcinfo, *written, size, length, fault);
     if (status == SFQ_TOO_SMALL) {
         size = *length;
-        *lines = repalloc(*lines, size);
-        status = write_lines(fcinfo, *lines, size, length, fault);
+        *written = repalloc(*written, size);
+        status = write(fcinfo, *written, size, length, fault);
     }
     return status;
 }

@@ -159,16 +159,29 @@ Datum sql_sfq_is_valid_reason(PG_FUNCTION_ARGS)
     PG_RETURN_TEXT_P(cstring_to_text(psprintf("%s: %s", place, fault_meaning(&fault))));
 }
 
+/* The result of a text, without so many of its last bytes. */
+static Datum written(FunctionCallInfo fcinfo, writing *write, int without)
+{
+    char *found;
+    size_t length = 0;
+    sfq_fault fault;
+    need_ok(ask_text(fcinfo, write, &found, &length, &fault), &fault);
+    PG_RETURN_TEXT_P(cstring_to_text_with_len(found, (int)length - without));
+}
+
 /* ST_Why(a, b): nine lines, of what shows each cell of the matrix. ST_Why(a): whether it is valid, and where not. */
 PG_FUNCTION_INFO_V1(sql_sfq_why);
 Datum sql_sfq_why(PG_FUNCTION_ARGS)
 {
-    char *lines;
-    size_t length = 0;
-    sfq_fault fault;
-    need_ok(ask_why(fcinfo, &lines, &length, &fault), &fault);
     /* Without the line feed of the last line. */
-    PG_RETURN_TEXT_P(cstring_to_text_with_len(lines, (int)length - 1));
+    return written(fcinfo, write_why, 1);
+}
+
+/* ST_GeomFromText(a) and ST_AsText(a): the canonical text, for a geometry is a text here. */
+PG_FUNCTION_INFO_V1(sql_sfq_canonical);
+Datum sql_sfq_canonical(PG_FUNCTION_ARGS)
+{
+    return written(fcinfo, write_canonical, 0);
 }
 
 /* ST_Dimension(a): 0 of points, 1 of lines, 2 of areas. */

@@ -124,9 +124,12 @@ static int ask_bound(struct function *function, sqlite3_value **values, int64_t 
     return status;
 }
 
-/* Writes lines into a room of this size, by the protocol of sfq_text: of two arguments or of one. */
-static int write_lines(struct function *function, int count, sqlite3_value **values, char *room, size_t size, size_t *length,
-                       sfq_fault *fault)
+/* Writes a text into a room of this size, by the protocol of sfq_text: one of write_why and write_canonical. */
+typedef int writing(struct function *, int, sqlite3_value **, char *, size_t, size_t *, sfq_fault *);
+
+/* What shows each cell of the matrix of two arguments, or whether one is valid, and where not. */
+static int write_why(struct function *function, int count, sqlite3_value **values, char *room, size_t size, size_t *length,
+                     sfq_fault *fault)
 {
     sfq_geometry *both[2];
     const char *text;
@@ -140,19 +143,30 @@ static int write_lines(struct function *function, int count, sqlite3_value **val
     return text == NULL ? SFQ_OUT_OF_MEMORY : sfq_reason(text, text_length, room, size, length, fault);
 }
 
-/* What shows each cell of the matrix of two arguments, or whether one is valid, and where not: lines that sqlite3_free frees. */
-static int ask_why(struct function *function, int count, sqlite3_value **values, char **lines, size_t *length, sfq_fault *fault)
+/* The canonical text of the argument. */
+static int write_canonical(struct function *function, int count, sqlite3_value **values, char *room, size_t size, size_t *length,
+                           sfq_fault *fault)
+{
+    sfq_geometry *geometry;
+    int status = take_argument(function, 0, values[0], &geometry, fault);
+    (void)count;
+    return status != SFQ_OK ? status : sfq_text(geometry, room, size, length);
+}
+
+/* Has a text written, in memory that sqlite3_free frees, also where the status isn't SFQ_OK. */
+static int ask_text(struct function *function, int count, sqlite3_value **values, writing *write, char **text, size_t *length,
+                    sfq_fault *fault)
 {
     size_t size = 512;
     int status = SFQ_TOO_SMALL;
-    *lines = NULL;
+    *text = NULL;
     while (status == SFQ_TOO_SMALL) {
-        char *larger = sqlite3_realloc64(*lines, size);
+        char *larger = sqlite3_realloc64(*text, size);
         if (larger == NULL) {
             return SFQ_OUT_OF_MEMORY;
         }
-        *lines = larger;
-        status = write_lines(function, count, values, *lines, size, length, fault);
+        *text = larger;
+        status = write(function, count, values, *text, size, length, fault);
         size = status == SFQ_TOO_SMALL ? *length : size;
     }
     return status;

@@ -155,24 +155,36 @@ static void bound(sqlite3_context *context, int count, sqlite3_value **values)
     number(context, count, values, ask_bound);
 }
 
-/* ST_Why(a, b): nine lines, of what shows each cell of the matrix. ST_Why(a): whether it is valid, and where not. */
-static void why(sqlite3_context *context, int count, sqlite3_value **values)
+/* The result of a text, without so many of its last bytes. */
+static void written(sqlite3_context *context, int count, sqlite3_value **values, writing *write, size_t without)
 {
-    char *lines;
+    char *text;
     size_t length = 0;
     sfq_fault fault;
     int status;
     if (!are_texts(context, count, values)) {
         return;
     }
-    status = ask_why(sqlite3_user_data(context), count, values, &lines, &length, &fault);
+    status = ask_text(sqlite3_user_data(context), count, values, write, &text, &length, &fault);
     if (status == SFQ_OK) {
-        /* Without the line feed of the last line. */
-        sqlite3_result_text64(context, lines, length - 1, sqlite3_free, SQLITE_UTF8);
+        sqlite3_result_text64(context, text, length - without, sqlite3_free, SQLITE_UTF8);
     } else {
-        sqlite3_free(lines);
+        sqlite3_free(text);
         refuse(context, status, &fault);
     }
+}
+
+/* ST_Why(a, b): nine lines, of what shows each cell of the matrix. ST_Why(a): whether it is valid, and where not. */
+static void why(sqlite3_context *context, int count, sqlite3_value **values)
+{
+    /* Without the line feed of the last line. */
+    written(context, count, values, write_why, 1);
+}
+
+/* ST_GeomFromText(a) and ST_AsText(a): the canonical text, for a geometry is a text here. */
+static void canonical(sqlite3_context *context, int count, sqlite3_value **values)
+{
+    written(context, count, values, write_canonical, 0);
 }
 
 /* The functions by their names, with the relation of each predicate, or the place of a bound as sfq_envelope has it. */
@@ -197,6 +209,8 @@ static const struct {
     { "ST_ContainsProperly", 2, relation, SFQ_CONTAINS_PROPERLY },
     { "ST_IsValid", 1, is_valid, 0 },
     { "ST_IsValidReason", 1, is_valid_reason, 0 },
+    { "ST_GeomFromText", 1, canonical, 0 },
+    { "ST_AsText", 1, canonical, 0 },
     { "ST_Why", 1, why, 0 },
     { "ST_Why", 2, why, 0 },
     { "ST_Dimension", 1, dimension, 0 },

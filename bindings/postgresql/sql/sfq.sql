@@ -38,10 +38,17 @@ SELECT ST_Why('POINT(1 2');
 SELECT ST_Why('POINT(1 2)', 'POINT(1.5 2)');
 SELECT ST_XMin('POLYGON((0 0,4 4,4 0,0 4,0 0))');
 
+-- the canonical text, under the names that queries of sfq have
+SELECT ST_AsText(text), ST_GeomFromText(text) FROM (VALUES
+    ('point ( 1.0 2 )'), ('MULTIPOINT(1 2, 3 -4)'), ('POLYGON EMPTY'), (NULL)) AS texts (text);
+SELECT ST_Touches(ST_GeomFromText('POINT(0 0)'), 'LINESTRING(0 0,1 1)'), ST_AsText(ST_GeomFromText('POINT(00 1)')) = 'POINT(0 1)' AS same;
+SELECT ST_GeomFromText('POINT(1.5 2)');
+SELECT ST_AsText('POLYGON((0 0,4 4,4 0,0 4,0 0))');
+
 -- long texts, that PostgreSQL keeps packed
 CREATE TABLE long (id integer, geom text);
 INSERT INTO long SELECT 1, 'LINESTRING(' || string_agg(i || ' ' || i % 2, ',' ORDER BY i) || ')' FROM generate_series(0, 9999) i;
-SELECT ST_Relate(geom, geom), ST_IsValid(geom || ' ') FROM long;
+SELECT ST_Relate(geom, geom), ST_IsValid(geom || ' '), ST_AsText(geom) = geom AS same FROM long;
 SELECT ST_IsValidReason(replace(geom, ')', ',0 0)')) FROM long;
 
 -- what the planner may rely on

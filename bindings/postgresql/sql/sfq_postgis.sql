@@ -45,12 +45,10 @@ INSERT INTO cell SELECT 100 * x + y, ST_MakeEnvelope(10 * x, 10 * y, 10 * x + 10
 INSERT INTO cell VALUES (10001, 'POINT EMPTY'), (10002, 'LINESTRING EMPTY'), (10003, NULL);
 CREATE INDEX cell_geom ON cell USING gist (geom);
 ANALYZE cell;
-SET enable_seqscan = off;
 EXPLAIN (COSTS OFF) SELECT id FROM cell WHERE sfq.ST_Within(geom, 'POLYGON((5 5,45 5,45 45,5 45,5 5))'::geometry);
 EXPLAIN (COSTS OFF) SELECT count(*) FROM cell a JOIN cell b ON sfq.ST_Touches(a.geom, b.geom);
 SELECT count(*) FROM cell a JOIN cell b ON sfq.ST_Touches(a.geom, b.geom);
 SELECT a.id, b.id FROM cell a JOIN cell b ON sfq.ST_Equals(a.geom, b.geom) WHERE a.id > 10000 ORDER BY 1, 2;
-SET enable_seqscan = on;
 SET enable_indexscan = off;
 SET enable_bitmapscan = off;
 SELECT count(*) FROM cell a JOIN cell b ON sfq.ST_Touches(a.geom, b.geom) WHERE a.id < 100;
