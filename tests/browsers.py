@@ -4,6 +4,7 @@ import json
 import os
 import random
 import re
+import shutil
 import signal
 import subprocess
 import tempfile
@@ -70,13 +71,17 @@ def chromium(room, address):
     return ["chromium", *words, f"--user-data-dir={room}/profile", address]
 
 
+# Debian's suite sid has Firefox under its own name too, which is the later one.
+FIREFOX = "firefox" if shutil.which("firefox") and not shutil.which("firefox-esr") else "firefox-esr"
+
+
 def firefox(room, address):
     os.mkdir(f"{room}/profile")
-    return ["firefox-esr", "--headless", "--no-remote", "--profile", f"{room}/profile", address]
+    return [FIREFOX, "--headless", "--no-remote", "--profile", f"{room}/profile", address]
 
 
 # The browsers by their packages.
-BROWSERS = {"chromium": chromium, "firefox-esr": firefox}
+BROWSERS = {"chromium": chromium, FIREFOX: firefox}
 
 
 def reported(package, page, folders, texts):

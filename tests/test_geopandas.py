@@ -20,11 +20,12 @@ class GeoPandas(engine_rows.WithLibrary):
         return subprocess.run([PYTHON, *words], cwd=ROOT, env=known, capture_output=True, text=True)
 
     def check(self, name):
-        """Runs a class of checks. Some of it may be skipped, but not all."""
-        ran = self.run_python(f"{ROOT}/tests/geopandas_checks.py", name)
+        """Runs a class of checks. Where these versions are none of those that it is for, all of it is skipped, and so is the test."""
+        ran = self.run_python(f"{ROOT}/tests/geopandas_checks.py", "-v", name)
         self.assertEqual(ran.returncode, 0, ran.stderr)
         count, skipped = re.search(r"^Ran (\d+) tests? .*?^OK(?: \(skipped=(\d+)\))?$", ran.stderr, re.M | re.S).groups(default="0")
-        self.assertGreater(int(count), int(skipped), ran.stderr)
+        if count == skipped:
+            self.skipTest("; ".join(sorted(set(re.findall(r"skipped ['\"](.*)['\"]$", ran.stderr, re.M)))))
 
     def test_joins(self):
         self.check("Joins")

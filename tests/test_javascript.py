@@ -379,7 +379,7 @@ class InBrowsers(SharedTrials, unittest.TestCase):
     @needs_page
     @needs_build
     def test_firefox(self):
-        self.compare("firefox-esr", rows_that_relate() + with_answers(random_pairs(100, 2)))
+        self.compare(browsers.FIREFOX, rows_that_relate() + with_answers(random_pairs(100, 2)))
 
 
 class ManyCalls(SharedTrials, unittest.TestCase):

@@ -274,7 +274,7 @@ class InBrowsers(unittest.TestCase):
 
     @needs_page
     def test_firefox(self):
-        self.compare("firefox-esr")
+        self.compare(browsers.FIREFOX)
 
 
 class TheModulesAgain(unittest.TestCase):

@@ -1,8 +1,9 @@
 """Runs the system tests of one file of tests/ on the main thread, and writes what came of each.
 
-    python3 tools/system_tests.py FILE CHOICE RESULTS
+    python3 tools/system_tests.py FILE CHOICE RESULTS [TEST..]
 
-FILE is a name such as test_manual. CHOICE says which of its tests are run (see CHOICES). RESULTS is a path, to which a line is
+FILE is a name such as test_manual. CHOICE says which of its tests are run (see CHOICES), and each TEST names one of those, such as
+test_manual.Manual.test_help; without any all are. RESULTS is a path, to which a line is
 written for each test as it ends: a JSON object with `name`, `what` (passed, failed or skipped), `seconds`, and `text`, which is the
 report of a failure or why the test is skipped.
 """
@@ -114,12 +115,12 @@ def flat(suite: unittest.TestSuite) -> Iterator[unittest.TestCase]:
 
 
 def main(words: list[str]) -> int:
-    file, choice, results = words
+    file, choice, results, *named = words
     folder = f"{repository.ROOT}/tests"
     found = unittest.defaultTestLoader.discover(folder, pattern=f"{file}.py", top_level_dir=folder)
     with open(results, "w", encoding="utf-8") as out:
         result = Result(out)
-        unittest.TestSuite(it for it in flat(found) if CHOICES[choice](it)).run(result)
+        unittest.TestSuite(it for it in flat(found) if CHOICES[choice](it) and (not named or it.id() in named)).run(result)
     return 0
 
 
