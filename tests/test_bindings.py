@@ -7,7 +7,7 @@ import sys
 import tempfile
 import unittest
 
-from support import needs
+from support import ROOT, needs, write
 
 import bindings
 import engine_rows
@@ -51,6 +51,16 @@ class Installed(engine_rows.WithLibrary):
         self.assertRegex(self.printed, r"(?m)^not installed: the extensions of PostgreSQL, which (looks in /.*make -C bindings/postgresql|need )")
         for it in self.made:
             self.assertTrue(os.path.lexists(it) and bindings.is_below(os.path.dirname(it), os.path.dirname(self.prefix)), it)
+
+    @needs("gcc", "cc")
+    def test_an_older_postgresql_is_refused_in_a_line(self):
+        with tempfile.TemporaryDirectory(prefix="sfq-bindings-") as room:
+            for name in ("postgres.h", "fmgr.h", "utils/builtins.h", "utils/memutils.h", "utils/guc.h", "miscadmin.h", "varatt.h"):
+                write(f"{room}/{name}", "")
+            for version, is_well in (("140012", False), ("150000", True), ("180001", True)):
+                words = ["cc", "-E", f"-DPG_VERSION_NUM={version}", f"-I{room}", f"-I{library.FOLDER}", f"{ROOT}/bindings/postgresql/sfq.c"]
+                ran = subprocess.run(words, stdout=subprocess.DEVNULL, stderr=subprocess.PIPE, text=True)
+                self.assertEqual((ran.returncode == 0, "sfq needs PostgreSQL 15 or later" in ran.stderr), (is_well, not is_well), ran.stderr)
 
     def test_what_is_below_a_prefix(self):
         for path, prefix, wanted in (("/usr/lib/a", "/usr", True), ("/usr/lib/a", "/", True), ("/usrlib/a", "/usr", False)):

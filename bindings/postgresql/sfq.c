@@ -8,6 +8,10 @@
  */
 #include "postgres.h"
 
+#if PG_VERSION_NUM < 150000
+#error "sfq needs PostgreSQL 15 or later"
+#endif
+
 #include "fmgr.h"
 #include "utils/builtins.h"
 #if PG_VERSION_NUM >= 160000
