@@ -45,6 +45,8 @@ def texts(source, folder):
     """Returns the text of each record of a source on the grid of a folder, by its FID."""
     with open(f"{folder}/grid.json", encoding="utf-8") as file:
         grid = grids.Grid.of_file(json.load(file))
+    # GDAL from 3.7 on warns where a program doesn't choose.
+    ogr.UseExceptions()
     opened = ogr.Open(source)
     # A geometry is gone with its feature.
     of_records = {it.GetFID(): bytes(it.GetGeometryRef().ExportToIsoWkb(1)) for it in opened.GetLayer(0) if it.GetGeometryRef()}
