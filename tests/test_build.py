@@ -13,6 +13,7 @@ import tarfile
 import tempfile
 import time
 import unittest
+import zipfile
 
 from support import ROOT, WithCheckout, needs, read, write
 
@@ -523,6 +524,16 @@ class Commands(WithBuild):
         found = [os.path.relpath(f"{at}/{it}", prefix) for at, folders, names in os.walk(prefix) for it in [*folders, *names]]
         self.assertEqual(sorted(found), ["share", "share/man", "share/man/man1", "share/man/man1/other.1"])
 
+    def test_the_sums_of_what_is_installed(self):
+        prefix = f"{self.checkout.room}/prefix"
+        for makes, names in ([], ["bin/sfq"]), (["--tiles"], ["bin/sfq", "bin/sfq-tiles"]):
+            self.build(*makes)
+            self.build("--install", prefix)
+            sums = read(f"{prefix}/share/sfq/SHA256SUMS")
+            self.assertTrue(sums.startswith(f"# programs of sfq {repository.version()} that are proved, by logic 0123abcd\n"), sums)
+            ran = subprocess.run(["sha256sum", "-c", "share/sfq/SHA256SUMS"], cwd=prefix, capture_output=True, text=True)
+            self.assertEqual((ran.stdout, ran.stderr), ("".join(f"{it}: OK\n" for it in names), ""))
+
     def test_the_installed_sfq_scale_finds_the_programs_beside_it(self):
         prefix = f"{self.checkout.room}/prefix"
         self.build("--tiles")
@@ -574,6 +585,19 @@ class Packages(WithBuild):
                 self.assertTrue(all(entry.uid == 0 and entry.uname == "root" for entry in archive))
         self.assertEqual(len(one), 1)
 
+    def test_the_sums_of_the_packages_and_of_the_programs_in_them(self):
+        made = self.make(self.checkout.root)
+        names = sorted(it for it in made if it != "SHA256SUMS")
+        folder = os.path.dirname(made["SHA256SUMS"])
+        ran = subprocess.run(["sha256sum", "-c", "SHA256SUMS"], cwd=folder, capture_output=True, text=True)
+        self.assertEqual((sorted(ran.stdout.splitlines()), ran.stderr), ([f"{it}: OK" for it in names], ""))
+        path = next(it for it in names if it.endswith(".tar.gz"))
+        with tarfile.open(f"{folder}/{path}") as archive:
+            archive.extractall(folder)
+        ran = subprocess.run(
+            ["sha256sum", "-c", "share/sfq/SHA256SUMS"], cwd=f"{folder}/{path[:-7]}", capture_output=True, text=True)
+        self.assertEqual((ran.stdout, ran.stderr), ("bin/sfq: OK\nbin/sfq-tiles: OK\n", ""))
+
     @needs("dpkg", "dpkg-deb")
     def test_a_debian_package_of_the_same_bytes(self):
         one, other = ({it: path for it, path in found.items() if it.endswith(".deb")} for found in self.both())
@@ -586,6 +610,7 @@ class Packages(WithBuild):
                 self.assertIn(f"./usr/bin/{name}\n", listed)
                 self.assertIn(f"./usr/share/man/man1/{name}.1.gz\n", listed)
                 self.assertIn(f"./usr/share/zsh/vendor-completions/_{name}\n", listed)
+            self.assertIn("./usr/share/sfq/SHA256SUMS\n", listed)
             self.assertNotIn("site-functions", listed)
             self.assertIn("root/root", listed)
             about = subprocess.run(["dpkg-deb", "-f", one[it]], capture_output=True, text=True, check=True).stdout
@@ -618,10 +643,8 @@ class Packages(WithBuild):
         self.assertIn("No licence has been chosen yet", read(f"{folder}/usr/share/doc/sfq/copyright"))
 
 
-@needs("dpkg", "dpkg-deb")
-@needs("gcc", "cc")
-class OfLibraries(unittest.TestCase):
-    """The Debian packages of the libraries and of Python, with a stand-in for each library."""
+class WithLibraries(unittest.TestCase):
+    """Has a stand-in for each library."""
 
     def setUp(self):
         room = tempfile.TemporaryDirectory(prefix="sfq-debian-")
@@ -644,6 +667,12 @@ class OfLibraries(unittest.TestCase):
             words = ["sh", "-c", f"cc -c {self.room}/it.c -o {self.room}/it.o && ar rcsD {self.room}/{name} {self.room}/it.o"]
         subprocess.run(words, check=True)
         return f"{self.room}/{name}", target, mode
+
+
+@needs("dpkg", "dpkg-deb")
+@needs("gcc", "cc")
+class OfLibraries(WithLibraries):
+    """The Debian packages of the libraries and of Python."""
 
     def make(self):
         """Makes the packages, and returns the path of each by its name."""
@@ -684,6 +713,74 @@ class OfLibraries(unittest.TestCase):
     def test_lintian_prints_nothing(self):
         ran = subprocess.run(["lintian", "--allow-root", "--fail-on", "none", *self.make().values()], capture_output=True, text=True)
         self.assertEqual((ran.stdout, ran.stderr), ("", ""))
+
+
+# Debian's Python, in whose environments the wheel is installed.
+PYTHON = "/usr/bin/python3"
+# A stand-in for the program, which an old version of the C library would run: it writes its words and its standard input, and ends with 5.
+SHELL = "#!/bin/sh\n[ \"$1\" != --version ] || { echo sfq 9; exit 0; }\necho \"$@\"; cat; exit 5\n# GLIBC_2.17 GLIBC_2.31\n"
+
+
+@needs("gcc", "cc")
+class OfWheel(WithLibraries):
+    """The wheel, with a stand-in for the program."""
+
+    def setUp(self):
+        super().setUp()
+        write(f"{self.room}/programs/sfq", SHELL, 0o755)
+        for where, name, value in (
+            (repository, "PROGRAM", f"{self.room}/programs/sfq"), (packages, "PROVED", {"bin/sfq": f"{self.room}/programs/sfq"}),
+        ):
+            self.addCleanup(setattr, where, name, getattr(where, name))
+            setattr(where, name, value)
+
+    def make(self):
+        return packages.make_wheel(f"{self.room}/packages", self.version, self.seconds)
+
+    def run_clean(self, *words, **how):
+        """Runs a command with an environment in which nothing says where sfq is."""
+        clean = {it: value for it, value in os.environ.items() if not it.startswith(("PIP_", "PYTHON", "SFQ_"))}
+        return subprocess.run(words, cwd=self.room, env=clean, capture_output=True, text=True, **how)
+
+    def test_what_it_is_for(self):
+        """The name has the version of the C library that the program and the libraries need, and the file of the wheel the same."""
+        path = self.make()
+        self.assertTrue(path.endswith(f"/sfq-{self.version}-py3-none-manylinux_2_31_x86_64.whl"), path)
+        with zipfile.ZipFile(path) as archive:
+            found = {it.filename: it for it in archive.infolist()}
+            self.assertIn("Tag: py3-none-manylinux_2_31_x86_64\n", archive.read(f"sfq-{self.version}.dist-info/WHEEL").decode())
+        pages = {it.rpartition("/")[2] for it in found if it.startswith(f"sfq-{self.version}.data/data/share/man/man1/")}
+        commands = set(Commands.NAMES) - {"sfq-tiles"}
+        self.assertEqual(pages, {f"{it}.1" for it in commands})
+        programs = [it for it, entry in found.items() if entry.external_attr >> 16 & 0o111]
+        self.assertEqual(programs, [f"sfq-{self.version}.data/scripts/sfq"])
+        with open(path, "rb") as one, open(self.make(), "rb") as other:
+            self.assertEqual(one.read(), other.read())
+
+    def test_installed_it_runs_the_program(self):
+        """`python -m sfq` runs the program of the same environment, and says whether it is the one that was packed."""
+        if not os.path.isfile(PYTHON) or subprocess.run([PYTHON, "-c", "import venv, ensurepip"], capture_output=True).returncode:
+            self.skipTest("needs the package python3-venv")
+        python = f"{self.room}/venv/bin/python"
+        for words in ([PYTHON, "-m", "venv", f"{self.room}/venv"], [python, "-m", "pip", "install", "-q", "--no-index", self.make()]):
+            ran = self.run_clean(*words)
+            self.assertEqual((ran.returncode, ran.stderr), (0, ""), words)
+        ran = self.run_clean(python, "-m", "sfq", "relate", "a b", input="c")
+        self.assertEqual((ran.stdout, ran.stderr, ran.returncode), ("relate a b\nc", "", 5))
+        self.assertTrue(os.path.isfile(f"{self.room}/venv/share/man/man1/sfq.1"))
+        total = hashlib.sha256(SHELL.encode()).hexdigest()
+        ran = self.run_clean(python, "-m", "sfq", "--version")
+        self.assertRegex(ran.stdout, rf"\Asfq 9\nthe proved program(?:, by logic [0-9a-f]+)?; SHA-256 {total}\n\Z")
+        sums, program = f"{self.room}/venv/share/sfq/SHA256SUMS", f"{self.room}/venv/bin/sfq"
+        write(program, SHELL + "# another\n", 0o755)
+        self.assertIn(f"\nnot the proved program: {sums} has another sum; SHA-256 ", self.run_clean(python, "-m", "sfq", "--version").stdout)
+        os.remove(sums)
+        self.assertIn(f"\nnot known as the proved program: {sums} is missing; SHA-256 ", self.run_clean(python, "-m", "sfq", "--version").stdout)
+        os.remove(program)
+        clean = {"PATH": f"{self.room}/nothing"}
+        ran = subprocess.run([python, "-m", "sfq", "--version"], env=clean, cwd=self.room, capture_output=True, text=True)
+        self.assertEqual((ran.returncode, ran.stdout), (2, ""))
+        self.assertRegex(ran.stderr, r"\Asfq: the program sfq isn't installed: [^\n]+\n\Z")
 
 
 if __name__ == "__main__":

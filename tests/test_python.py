@@ -370,10 +370,10 @@ class Package(engine_rows.WithLibrary):
             self.skipTest("needs the package python3-venv")
         version, seconds = packages.released()
         with tempfile.TemporaryDirectory(prefix="sfq-wheel-") as room:
-            path = wheels.make(room, version, seconds, packages.wanted_libc(wheels.shared()))
+            path = wheels.make(room, version, seconds, packages.wanted_libc(wheels.shared()), {})
             with open(path, "rb") as file:
                 first = file.read()
-            with open(wheels.make(room, version, seconds, packages.wanted_libc(wheels.shared())), "rb") as file:
+            with open(wheels.make(room, version, seconds, packages.wanted_libc(wheels.shared()), {}), "rb") as file:
                 self.assertEqual(file.read(), first)
             clean = {name: value for name, value in environment().items() if not name.startswith(("PIP_", "PYTHON", "SFQ_"))}
             python = f"{room}/venv/bin/python"

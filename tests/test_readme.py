@@ -12,13 +12,12 @@ import unittest
 from support import ROOT, needs_build, read
 import front_door
 import library
+import packages
 import printed
 import repository
 import unproved
 
 README = read(f"{ROOT}/README.md")
-# What the neighbours of two parcels are, by the map of the land register.
-NEIGHBOURS = "[[('Quay House',), ('Boatyard',)], [('Churchyard',), ('Glebe',)]]\n"
 
 
 def copied(room, outputs):
@@ -32,14 +31,14 @@ def copied(room, outputs):
 
 
 class Blocks(unittest.TestCase):
-    ASKS_PROGRAM, ASKS_LIBRARY = True, True
+    ASKS_PROGRAM = True
 
     def setUp(self):
         room = tempfile.TemporaryDirectory(prefix="sfq-readme-")
         self.addCleanup(room.cleanup)
         if not repository.is_built():
             unproved.kept_program()
-        self.clone = copied(room.name, ("crates/sfq/out", "out/unproved", "bindings/c/out"))
+        self.clone = copied(room.name, ("crates/sfq/out", "out/unproved"))
 
     def run_in(self, words, **more):
         known = {**os.environ, "PYTHONDONTWRITEBYTECODE": "1", **more}
@@ -47,7 +46,7 @@ class Blocks(unittest.TestCase):
 
     def test_each_block_is_known_here(self):
         """A new block wants a test, here or in tools/front_door.py, which runs the two commands."""
-        self.assertEqual([it.kind for it in printed.fences(README)], ["sh", "text", "sh", "python"])
+        self.assertEqual([it.kind for it in printed.fences(README)], ["sh", "text", "sh", "sh"])
 
     def test_the_first_command(self):
         first = front_door.commands(README)[0]
@@ -55,14 +54,56 @@ class Blocks(unittest.TestCase):
             ran = self.run_in(["sh", "-c", first.text])
             self.assertEqual((ran.stdout, ran.returncode), (first.prints, 0), ran.stderr)
 
-    def test_the_program_in_python(self):
-        """The text above the block names the commands that it needs: the library is the one that was made here."""
-        block = next(it for it in printed.fences(README) if it.kind == "python")
-        self.assertIn("run `./build --library` and `export PYTHONPATH=bindings/python` first:", block.before)
+
+# Debian's Python, whose packages an environment of its own can use.
+DEBIAN = "/usr/bin/python3"
+# Makes the shapefile of three parcels, of which one touches both others.
+MAKES_PARCELS = """
+import geopandas
+from shapely.geometry import box
+parcels = {"Mill": (0, 0, 40, 30), "Glebe": (40, 0, 70, 30), "Quay": (70, 10, 90, 25.5)}
+geopandas.GeoDataFrame({"name": list(parcels)}, geometry=[box(*it) for it in parcels.values()], crs=25832).to_file("parcels.shp")
+"""
+
+
+def lacks():
+    """Returns the Debian package that the commands without the kit need and that isn't here, or None."""
+    for modules, package in (("venv, ensurepip", "python3-venv"), ("geopandas", "python3-geopandas")):
+        if not os.path.isfile(DEBIAN) or subprocess.run([DEBIAN, "-c", f"import {modules}"], capture_output=True).returncode:
+            return package
+    return None
+
+
+class WithoutTheKit(unittest.TestCase):
+    """The commands for somebody who has a wheel and a shapefile."""
+
+    ASKS_PROGRAM, ASKS_LIBRARY = True, True
+
+    @needs_build
+    def test_from_pip_to_the_answer_of_a_join(self):
+        """pip gets no index: the environment sees Debian's GeoPandas."""
         if not library.are_made():
             self.skipTest("needs ./build --library")
-        ran = self.run_in([sys.executable, "-c", block.text], PYTHONPATH="bindings/python")
-        self.assertEqual((ran.stdout, ran.stderr), (NEIGHBOURS, ""))
+        if lacks():
+            self.skipTest(f"needs the package {lacks()}")
+        block = [it for it in printed.fences(README) if it.kind == "sh"][2]
+        with tempfile.TemporaryDirectory(prefix="sfq-wheel-") as room:
+            known = {"PATH": "/usr/bin:/bin", "HOME": room, "LANG": "C.UTF-8", "PIP_NO_INDEX": "1"}
+
+            def run(*words):
+                ran = subprocess.run(words, cwd=room, env=known, stdin=subprocess.DEVNULL, capture_output=True, text=True)
+                self.assertEqual(ran.returncode, 0, ran.stderr)
+                return ran.stdout
+
+            packages.make_wheel(room, *packages.released())
+            run(DEBIAN, "-c", MAKES_PARCELS)
+            commands = block.text.strip().splitlines()
+            self.assertEqual(len(commands), 3)
+            shown = [run("sh", "-c", it) for it in commands][2]
+            found = re.findall(r"^\d+ +(\w+) .* (\w+) *$", shown, re.M)
+            self.assertEqual(sorted(found), [("Glebe", "Mill"), ("Glebe", "Quay"), ("Mill", "Glebe"), ("Quay", "Glebe")], shown)
+            said = run("venv/bin/python", "-m", "sfq", "--version")
+            self.assertRegex(said, rf"\Asfq {repository.version()}\nthe proved program.*; SHA-256 {repository.sum_of_file(repository.PROGRAM)}\n\Z")
 
 
 class Commands(unittest.TestCase):

@@ -133,7 +133,7 @@ class Modules(unittest.TestCase):
                 self.assertLessEqual(packages_of(f"{folder}/{it}"), set(PACKAGES[: at + 1]), f"{name}/{it}")
         self.assertEqual(packages_of(f"{ROOT}/bindings/python/sfq/commands/ask.py"), {"geometry", "tables", "layers", "commands"})
         self.assertEqual({it for it in os.listdir(f"{ROOT}/bindings/python/sfq") if it.endswith(".py")}, {
-            "__init__.py", "ask.py", "exports.py", "geopandas.py", "imports.py", "schemas.py", "shell.py",
+            "__init__.py", "__main__.py", "ask.py", "exports.py", "geopandas.py", "imports.py", "schemas.py", "shell.py",
         })
 
     def test_one_file_says_where_modules_are(self):

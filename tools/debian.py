@@ -204,7 +204,7 @@ def python(version: str) -> Package:
     return Package(
         "python3-sfq",
         {"Architecture": "all", "Section": "python", "Depends": f"python3:any, libsfq0 (>= {version})",
-         "Suggests": "python3-geopandas, python3-numpy, python3-pandas, python3-shapely"},
+         "Suggests": "python3-geopandas, python3-numpy, python3-pandas, python3-shapely, sfq"},
         "exact geometry and SQL over an integer grid: the Python package\n"
         " sfq.Geometry relates two geometries, and sfq.connect opens tables by PEP 249,\n"
         " over the proved C libraries.\n",

@@ -11,12 +11,15 @@ from typing import Iterable
 import bindings
 import debian
 import library
+import proving
 import repository
 import tiles
 import wheels
 
 # Where Python's modules of programs are installed, a folder for each package. The launchers have Python run this folder.
 SHARE = "share/sfq"
+# The sums of the programs as installed, which `sha256sum -c` reads in the prefix. `python3 -m sfq --version` looks for this file.
+SUMS = f"{SHARE}/SHA256SUMS"
 # Where each shell looks for the completions of a command.
 SHELLS = {
     "{}.bash": "share/bash-completion/completions/{}",
@@ -52,25 +55,41 @@ DATA = [(f"bindings/python/bin/{it}", f"bin/{it}", 0o755) for it in bindings.COM
 DATA += [*(file for it in bindings.COMMANDS for file in described(it)), *bindings.of_package("sfq", SHARE), *bindings.of_package("sfq_audit", SHARE)]
 DATA.append(("bindings/python/__main__.py", f"{SHARE}/__main__.py", 0o644))
 FILES = PROGRAM + TILES + DATA
+# The programs among them, which are proved, by their places under the prefix.
+PROVED = {"bin/sfq": repository.PROGRAM, "bin/sfq-tiles": tiles.PROGRAM}
 # Debian's zsh looks elsewhere for the completions of its packages.
 OF_DEBIAN = {"share/zsh/site-functions/": "share/zsh/vendor-completions/"}
 
 
+def sums(places: Iterable[str]) -> bytes:
+    """Returns the file of the sums of proved programs, by their places under the prefix. Its first line says by which logic they are proved."""
+    logic = re.search(r"\bsum=([0-9a-f]+)", proving.read_mark("sfq")[1])
+    head = f"# programs of sfq {repository.version()} that are proved" + (f", by logic {logic[1]}" if logic else "")
+    return "".join([f"{head}\n", *(f"{repository.sum_of_file(PROVED[it])}  {it}\n" for it in places)]).encode()
+
+
+def put(prefix: str, target: str, text: bytes, mode: int) -> None:
+    """Writes a file under the prefix, a file in use by replacing it, and prints its path."""
+    to = os.path.join(prefix, target)
+    os.makedirs(os.path.dirname(to), exist_ok=True)
+    with open(to + ".new", "wb") as file:
+        file.write(text)
+    os.chmod(to + ".new", mode)
+    os.replace(to + ".new", to)
+    print(f"installed {to}")
+
+
 def copy(files: Iterable[bindings.File], prefix: str) -> None:
-    """Copies each file under the prefix, a file in use by replacing it, and prints its path."""
+    """Copies each file under the prefix."""
     for source, target, mode in files:
-        to = os.path.join(prefix, target)
-        os.makedirs(os.path.dirname(to), exist_ok=True)
-        shutil.copyfile(os.path.join(repository.ROOT, source), to + ".new")
-        os.chmod(to + ".new", mode)
-        os.replace(to + ".new", to)
-        print(f"installed {to}")
+        put(prefix, target, debian.read(source), mode)
 
 
 def install(prefix: str) -> int:
     """Installs the program, and sfq-tiles with sfq-scale and the C libraries with what is over them where they are made."""
     with_library, with_tiles = library.are_made(), tiles.is_made()
     copy(PROGRAM + DATA + TILES * with_tiles + (library.FILES + bindings.files()) * with_library, prefix)
+    put(prefix, SUMS, sums([*PROVED][:1 + with_tiles]), 0o644)
     made = library.install_made(prefix, repository.version()) + bindings.install_made(prefix) if with_library else []
     for it in made:
         print(f"installed {it}")
@@ -84,7 +103,7 @@ def install(prefix: str) -> int:
 def uninstall(prefix: str) -> int:
     """Removes each installed file, and the folders below the prefix that are empty then."""
     bindings.remove_compiled(prefix)
-    made = [*library.MADE, *bindings.made(prefix)]
+    made = [SUMS, *library.MADE, *bindings.made(prefix)]
     for target in [*(it[1] for it in FILES + library.FILES + bindings.files()), *made]:
         path = os.path.join(prefix, target)
         if os.path.lexists(path):
@@ -109,14 +128,18 @@ def released() -> tuple[str, int]:
     return version, int(date.timestamp())
 
 
+def packed_files() -> list[debian.File]:
+    """Returns what a package of the programs has: places under the prefix, bytes and modes."""
+    found = [debian.File(target, debian.read(source), mode) for source, target, mode in FILES]
+    return [*found, debian.File(SUMS, sums(PROVED))]
+
+
 def make_tarball(path: str, top: str, seconds: int) -> None:
     """Writes the files below the folder `top`, with nothing in it that differs from one machine to another."""
     room = io.BytesIO()
     with tarfile.open(fileobj=room, mode="w", format=tarfile.USTAR_FORMAT) as archive:
-        for source, target, mode in sorted(FILES, key=lambda it: it[1]):
+        for target, text, mode in sorted(packed_files()):
             entry = tarfile.TarInfo(f"{top}/{target}")
-            with open(os.path.join(repository.ROOT, source), "rb") as file:
-                text = file.read()
             entry.size, entry.mode, entry.mtime = len(text), mode, seconds
             entry.uname = entry.gname = "root"
             archive.addfile(entry, io.BytesIO(text))
@@ -136,13 +159,12 @@ def wanted_libc(programs: Iterable[str]) -> str:
 def package() -> debian.Package:
     """Returns the Debian package of the commands. Manual pages are compressed."""
     files = []
-    for source, target, mode in FILES:
+    for target, text, mode in packed_files():
         for usual, other in OF_DEBIAN.items():
             target = target.replace(usual, other)
-        text = debian.read(source)
         is_page = target.startswith("share/man/")
         files.append(debian.File(f"{target}.gz", debian.packed(text, 0), mode) if is_page else debian.File(target, text, mode))
-    libc = wanted_libc([repository.PROGRAM, tiles.PROGRAM])
+    libc = wanted_libc(PROVED.values())
     return debian.Package(
         "sfq",
         {"Architecture": "amd64", "Section": "database", "Depends": f"libc6 (>= {libc}), python3",
@@ -158,8 +180,17 @@ def package() -> debian.Package:
     )
 
 
+def make_wheel(folder: str, version: str, seconds: int) -> str:
+    """Makes the wheel in the folder, with the program and the manual pages of the commands that it has, and returns its path."""
+    beside = {"scripts/sfq": debian.read(repository.PROGRAM), f"data/{SUMS}": sums(["bin/sfq"])}
+    for it in ("sfq", "sfq-scale", *bindings.COMMANDS):
+        source, target, _ = described(it)[0]
+        beside[f"data/{target}"] = debian.read(source)
+    return wheels.make(folder, version, seconds, wanted_libc([repository.PROGRAM, *wheels.shared()]), beside)
+
+
 def make_packages(folder: str) -> int:
-    """Makes the packages in the folder: the same bytes from the same sources, wherever they are made."""
+    """Makes the packages in the folder, with a file of their sums: the same bytes from the same sources, wherever they are made."""
     version, seconds = released()
     os.makedirs(folder, exist_ok=True)
     top = f"sfq-{version}-linux-x86_64"
@@ -168,7 +199,7 @@ def make_packages(folder: str) -> int:
     debs = [package()]
     if library.is_made() and all(os.path.isfile(it) for it in wheels.shared()):
         debs += debian.of_libraries(version, wanted_libc)
-        made.append(wheels.make(folder, version, seconds, wanted_libc(wheels.shared())))
+        made.append(make_wheel(folder, version, seconds))
     else:
         print("sfq: no wheel and no Debian packages of the libraries and of Python are made, which need ./build --library")
     if shutil.which("dpkg-deb"):
@@ -177,4 +208,6 @@ def make_packages(folder: str) -> int:
         print("sfq: no dpkg-deb here, so no Debian package is made")
     for it in made:
         print(f"{repository.sum_of_file(it)}  {os.path.relpath(it)}")
+    with open(f"{folder}/SHA256SUMS", "w", encoding="ascii") as file:
+        file.writelines(f"{repository.sum_of_file(it)}  {os.path.basename(it)}\n" for it in made)
     return 0

@@ -1,4 +1,5 @@
-"""Makes a wheel of the Python package with the C libraries inside: pip installs it where neither the kit nor a compiler is."""
+"""Makes a wheel of the Python package with the C libraries, the program and the manual pages inside: pip installs it where neither the
+kit nor a compiler is."""
 import base64
 import datetime
 import hashlib
@@ -68,22 +69,28 @@ def listed(place: str, text: bytes) -> str:
     return f"{place},sha256={digest},{len(text)}\n"
 
 
-def zipped(files: dict[str, bytes], seconds: int) -> bytes:
-    """Returns a zip of files by their places, in their order: the same bytes from the same files and the same date."""
+def zipped(files: dict[str, bytes], seconds: int, programs: str = "") -> bytes:
+    """Returns a zip of files by their places, in their order: the same bytes from the same files and the same date. Those in the folder
+    `programs` are programs."""
     room, day = io.BytesIO(), datetime.datetime.fromtimestamp(seconds, datetime.timezone.utc)
     with zipfile.ZipFile(room, "w") as archive:
         for place, text in files.items():
             entry = zipfile.ZipInfo(place, (day.year, day.month, day.day, day.hour, day.minute, day.second))
-            entry.compress_type, entry.external_attr = zipfile.ZIP_DEFLATED, 0o100644 << 16
+            mode = 0o100755 if programs and place.startswith(programs) else 0o100644
+            entry.compress_type, entry.external_attr = zipfile.ZIP_DEFLATED, mode << 16
             archive.writestr(entry, text)
     return room.getvalue()
 
 
-def make(folder: str, version: str, seconds: int, libc: str) -> str:
-    """Makes the wheel in the folder, the same bytes from the same files, and returns its path."""
+def make(folder: str, version: str, seconds: int, libc: str, beside: dict[str, bytes]) -> str:
+    """Makes the wheel in the folder, the same bytes from the same files, and returns its path.
+
+    `beside` has what pip installs beside the package: programs by `scripts/NAME`, and files under the prefix by `data/PLACE`.
+    """
     found, record = dict(files(version, libc)), f"sfq-{version}.dist-info/RECORD"
+    found.update({f"sfq-{version}.data/{place}": text for place, text in beside.items()})
     found[record] = ("".join(listed(place, text) for place, text in found.items()) + f"{record},,\n").encode()
     path = f"{folder}/sfq-{version}-{tag(libc)}.whl"
     with open(path, "wb") as made:
-        made.write(zipped(found, seconds))
+        made.write(zipped(found, seconds, f"sfq-{version}.data/scripts/"))
     return path
