@@ -12,6 +12,7 @@ import engine_rows
 import parts
 import peer_folder
 import today
+import version
 
 # The suite that doesn't change any more.
 SUITE = "trixie"
@@ -89,7 +90,7 @@ class Table(unittest.TestCase):
         for rim, (_, lowest, highest, _) in zip(today.RIMS, rows, strict=True):
             for it in rim.shown:
                 low, high = (re.search(rf"\b{it.name} ([\d.]+)", text) for text in (lowest, highest))
-                self.assertLessEqual(today.in_order(low[1]), today.in_order(high[1]), it.name)
+                self.assertLessEqual(version.numbers(low[1]), version.numbers(high[1]), it.name)
             for file in rim.files:
                 self.assertTrue(os.path.isfile(f"{ROOT}/tests/{file}.py"), file)
                 self.assertIn(f"class {(rim.short or file + '.').split('.')[1]}", read(f"{ROOT}/tests/{(rim.short or file).split('.')[0]}.py"))

@@ -3,11 +3,11 @@
     ./test --today [--write] [SUITE..] [NAME..]
 
 The suites are trixie and sid, and a NAME is one of C, Python, GeoPandas, SQLite, PostgreSQL, GDAL, QGIS, Node and browsers; without any
-all are tried. SFQ_TODAY names the folder that has a folder of each; by default it is /var/cache/sfq. A folder that isn't
-there is made, in minutes and of some gigabytes, and what is missing in it is installed: so this needs root, a network, and the packages
+all are tried. SFQ_TODAY names the folder that has a folder of each suite; by default it is /var/cache/sfq. A folder that isn't there is
+made, in minutes and of some gigabytes, and what is missing in it is installed: so this needs root, a network, and the packages
 debootstrap, gpgv and debian-archive-keyring. In it the tests compile by the compiler and headers of the suite over the libraries that
-./build --library made here, and run its programs. `--write` writes the rows of what was tried into the table of versions in docs/LIBRARY.md, with
-the versions of what passed and of this machine, if nothing failed.
+./build --library made here, and run its programs. `--write` writes the rows of what was tried into the table of versions in
+docs/LIBRARY.md, with the versions of what passed and of this machine, if nothing failed.
 """
 import fnmatch
 import json
@@ -22,6 +22,7 @@ from typing import NamedTuple, Optional, Sequence
 import library
 import peer_folder
 import repository
+import version
 from parts import Beat, Counts, Failure, Report, Skipped, read
 from parts import run as run_command
 
@@ -111,13 +112,9 @@ def versions(folder: str = "") -> dict[str, str]:
     return found
 
 
-def shortened(version: str, numbers: int) -> str:
+def shortened(given: str, count: int) -> str:
     """Returns the first numbers of a package's version, without its epoch and Debian's part."""
-    return ".".join(re.findall(r"\d+", version.partition(":")[2] or version)[:numbers])
-
-
-def in_order(version: str) -> tuple[int, ...]:
-    return tuple(map(int, version.split(".")))
+    return ".".join(re.findall(r"\d+", given.partition(":")[2] or given)[:count])
 
 
 # ---- a folder ----
@@ -213,7 +210,7 @@ def row(rim: Rim, tries: Sequence[dict[str, str]]) -> str:
     """Returns the row of a rim, where each try has the versions that were there."""
     lowest, highest = [], []
     for it in rim.shown:
-        known = sorted((there[it.name] for there in tries if it.name in there), key=in_order)
+        known = sorted((there[it.name] for there in tries if it.name in there), key=version.numbers)
         if known:
             lowest.append(f"{it.name} {known[0]}")
             highest.append(f"{it.name} {known[-1]}")

@@ -29,7 +29,8 @@ def places(root: str = repository.ROOT) -> list[tuple[str, str]]:
 
 def of_extension(name: str, root: str = repository.ROOT) -> str:
     """Returns the version of an extension of PostgreSQL."""
-    return re.findall(r"default_version = '([\d.]+)'", repository.read(f"{root}/bindings/postgresql/{name}.control"))[0]
+    found: list[str] = re.findall(r"default_version = '([\d.]+)'", repository.read(f"{root}/bindings/postgresql/{name}.control"))
+    return found[0]
 
 
 def numbers(version: str) -> tuple[int, ...]:
