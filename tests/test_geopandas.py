@@ -42,6 +42,15 @@ class GeoPandas(engine_rows.WithLibrary):
     def test_layers(self):
         self.check("Layers")
 
+    def test_the_tests_of_geopandas_itself(self):
+        """What fails of them is what geopandas_failures.txt says."""
+        if self.run_python("-c", "import pytest, geopandas.tools.tests, geopandas.tests").returncode:
+            self.skipTest("needs the package python3-pytest, and GeoPandas with its tests")
+        ran = self.run_python(f"{ROOT}/tests/geopandas_own.py")
+        if ran.returncode == 3:
+            self.skipTest(ran.stdout.strip())
+        self.assertEqual(ran.returncode, 0, ran.stdout + ran.stderr)
+
     def test_the_example_of_the_document(self):
         text = re.search(r"^## GeoPandas$(.*?)^## ", read(f"{ROOT}/docs/LIBRARY.md"), re.M | re.S)[1]
         shown = re.findall(r"```python\n(.*?)```.*?```text\n(.*?)```", text, re.S)

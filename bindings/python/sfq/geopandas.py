@@ -35,6 +35,13 @@ __all__ = [
 ]
 # How many pairs are asked at once, so that Ctrl-C need not wait for all.
 PAIRS = 1_000
+# The warning that rows are brought together by labels, in words by which filters for the warning of any version of GeoPandas find it.
+NOT_ALIGNED = (
+    "The indices of the left and right GeoSeries are different, that is not equal, and are aligned: rows are brought together by their "
+    "labels. align=True does this without a warning from GeoPandas 1.0 on, and align=False brings rows together by their places."
+)
+# Before version 1.0 GeoPandas warns whatever `align` is.
+WARNS_ALWAYS = geopandas.__version__.startswith("0.")
 
 
 # ---- the join ----
@@ -148,8 +155,8 @@ def aligned(left: Any, right: Any, align: Optional[bool]) -> tuple[Any, Any]:
         return one, geopandas.GeoSeries([right], crs=one.crs)
     other = right.geometry
     if align is not False and not one.index.equals(other.index):
-        if align is None:
-            warnings.warn("The indices of the two GeoSeries are different, and are aligned.", UserWarning, stacklevel=4)
+        if align is None or WARNS_ALWAYS:
+            warnings.warn(NOT_ALIGNED, UserWarning, stacklevel=4)
         first, second = one.align(other)
         return first, second
     if len(one) != len(other):
@@ -196,8 +203,8 @@ def relate(
 ) -> Any:
     """Returns the DE-9IM matrix of each row of two GeoSeries, or of a GeoSeries and one geometry (06-103r4, 6.1.15.2).
 
-    `align` is as GeoPandas has it: rows are brought together by their labels, with a warning unless it is True; or by their places
-    where it is False. None where a geometry is missing.
+    `align` is as GeoPandas has it: rows are brought together by their labels, with a warning unless it is True, and before version 1.0
+    always; or by their places where it is False. None where a geometry is missing.
     """
 
     def ask(firsts: Any, seconds: Any) -> Any:

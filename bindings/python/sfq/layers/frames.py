@@ -18,8 +18,10 @@ from . import proposing
 
 # The step that stands for one that is proposed.
 AUTO = "auto"
-# An empty geometry as shapely before 2.0 may write it, whatever its type: a collection of nothing.
+# A collection of nothing, which shapely before 2.0 may also write for an empty geometry of another type.
 NOTHING = b"\x01\x07\0\0\0\0\0\0\0"
+# An empty point. sfq takes no collections, and that of nothing is the same set of points.
+NO_POINT = b"\x01\x01\0\0\0" + binary.PAIR.pack(float("nan"), float("nan"))
 # How many refused rows a message names.
 NAMED = 3
 # A position in a line that says what shows something, a coordinate as n or n/d.
@@ -109,7 +111,7 @@ def binaries(shapes: Any, flat: bool) -> library.Binaries:
         if positions is not None:
             return Points(positions)
         dimensions = {"output_dimension": 2} if flat else {}
-        return library.Binaries([it or b"" for it in shapely.to_wkb(shapes, byte_order=1, **dimensions)])
+        return library.Binaries([NO_POINT if it == NOTHING else it or b"" for it in shapely.to_wkb(shapes, byte_order=1, **dimensions)])
     from shapely import geos
 
     writer = geos.WKBWriter(geos.lgeos, big_endian=False, output_dimension=2 if flat else 3)
@@ -118,11 +120,10 @@ def binaries(shapes: Any, flat: bool) -> library.Binaries:
 
 
 def empty(shape: Any) -> bytes:
-    """Returns the well-known binary of an empty geometry by its class."""
+    """Returns the well-known binary of an empty geometry by its class, an empty point for a collection."""
     name = type(shape).__name__.replace("LinearRing", "LineString").upper()
-    kind = next((it for it, word in binary.WORDS.items() if word == name), 7)
-    head = b"\x01" + kind.to_bytes(4, "little")
-    return head + (binary.PAIR.pack(float("nan"), float("nan")) if kind == 1 else bytes(4))
+    kind = next((it for it, word in binary.WORDS.items() if word == name), 1)
+    return NO_POINT if kind == 1 else b"\x01" + kind.to_bytes(4, "little") + bytes(4)
 
 
 class Column:
