@@ -346,11 +346,12 @@ class LaterShapely(unittest.TestCase):
             sfq.geopandas.sjoin(left, right)
 
     def both(self, shapes, flat=False):
-        """Returns shapes as they are taken, and as well-known binary that shapely writes one by one."""
+        """Returns shapes as they are taken, and as well-known binary that shapely writes one by one, with an empty point for an empty
+        collection."""
         given = numpy.empty(len(shapes), dtype=object)
         for place, shape in enumerate(shapes):
             given[place] = shape
-        written = [it or b"" for it in shapely.to_wkb(given, byte_order=1, output_dimension=2 if flat else 3)]
+        written = [frames.NO_POINT if it == frames.NOTHING else it or b"" for it in shapely.to_wkb(given, byte_order=1, output_dimension=2 if flat else 3)]
         return frames.binaries(given, flat), library.Binaries(written)
 
     def test_points_are_taken_as_one_array(self):

@@ -633,13 +633,10 @@ class Land(WithTables):
         in_threads(4, lambda: found.extend(self.db.execute("SELECT * FROM parcel").fetchall() == wanted for _ in range(10)))
         self.assertEqual(found, [True] * 40)
 
-    def test_the_examples_of_the_documents(self):
+    def test_the_examples_of_the_document(self):
         text = re.search(r"^## Tables in Python$(.*?)^## ", read(f"{ROOT}/docs/LIBRARY.md"), re.M | re.S)[1]
         shown = re.findall(r"```python\n(.*?)```.*?```text\n(.*?)```", text, re.S)
         self.assertEqual(len(shown), 2)
-        lines = re.findall(r"```python\n(.*?)```", read(f"{ROOT}/README.md"), re.S)
-        shown += [(it, "[[('Quay House',), ('Boatyard',)], [('Churchyard',), ('Glebe',)]]\n") for it in lines]
-        self.assertEqual(len(shown), 3)
         known = {**os.environ, "PYTHONPATH": f"{ROOT}/bindings/python", "PYTHONDONTWRITEBYTECODE": "1"}
         for source, output in shown:
             ran = subprocess.run([sys.executable, "-c", source], cwd=ROOT, env=known, capture_output=True, text=True)

@@ -21,7 +21,7 @@ import test_random_queries
 
 PARCELS = f"{ROOT}/examples/parcels"
 # The line that `sqlite3` prints of a step of a plan over a virtual table.
-STEP = re.compile(r"SCAN (\w+) VIRTUAL TABLE INDEX \d+:(.*?)(?: LEFT-JOIN)?$", re.M)
+STEP = re.compile(r"SCAN (\w+)(?: EXISTS)? VIRTUAL TABLE INDEX \d+:(.*?)(?: LEFT-JOIN)?$", re.M)
 PREDICATES = ("Equals", "Disjoint", "Intersects", "Touches", "Crosses", "Within", "Contains", "Overlaps")
 # What SQLite has in another way, or hasn't: among them words that can be an alias in sfq, and a number that a word follows at once.
 OTHERS = re.compile(r"(?i)\b(?:EXPLAIN|LIMIT|LEFT|RIGHT|FULL|NATURAL)\b|\b\d+[a-z_]|\0")
