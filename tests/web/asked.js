@@ -2,7 +2,8 @@
 //
 //     node asked.js FOLDER queries FILE   asks each query of FILE: a list of databases, each with `schema`, `tables` and `queries`, all
 //                                         in base64. Of each database it prints the answers or the lines of faults, and how often
-//                                         each call of the module was made well; and how many bytes the memory grows by at a second time
+//                                         each call of the module was made well; and how many bytes the memory grows by at a third time:
+//                                         the second begins with what the last database of the first left
 //     node asked.js FOLDER stop           ends a query that takes long, asks on, and then asks it to its end
 //     node asked.js FOLDER short          asks small and large tables in turns, where memory is short
 "use strict";
@@ -45,7 +46,9 @@ async function queries() {
     const answers = asked.map((query) => answered(engine.asking(schema, tables, query))).map((it) => it.answer ?? it.fault);
     return { answers, made };
   });
-  const found = all(), bytes = memory.buffer.byteLength;
+  const found = all();
+  all();
+  const bytes = memory.buffer.byteLength;
   all();
   return { found, lost: memory.buffer.byteLength - bytes };
 }
