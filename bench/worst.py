@@ -95,7 +95,7 @@ PAIRS = (
     Input("stairs that cross at each step", shapes.stairs_across, 4_900, 300, 1.20),
     Input("points on the sides of a square", shapes.points_on_sides, 4_500, 300, 1.23),
     Input("squares that touch in their corners", shapes.corners_to_corners, 499, 60, 1.27),
-    Input("a point in each hole", shapes.points_in_holes, 499, 60, 1.26),
+    Input("a point in each hole", shapes.points_in_holes, 499, 80, 1.26),
     Input("closed lines round one point, to themselves", shapes.rings_round_one_point, 499, 60, 1.95),
     Input("spirals that touch all along", shapes.spirals_along, 4_000, 400, 1.81),
     Input("one position again and again", shapes.one_position_again, 4_900, 400, 1.25),
