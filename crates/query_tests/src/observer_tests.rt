@@ -105,7 +105,7 @@ fn served(alloc: Global, order: &Order, out: &mut MemorySink, err: &mut MemorySi
     serve(alloc, order, opener, out, err)
 }
 
-/// The same where reports are counted.
+/// Serves an order, and counts what is reported. It returns the status.
 fn served_counted(
     alloc: Global,
     order: &Order,
