@@ -51,7 +51,7 @@ pub fn relation_of(number: u32) -> Option<Relation>
     }
 }
 
-/// The named predicate that a relation is; none of the three that engines besides have.
+/// The named predicate that a relation is; none of the three that engines besides have. Without it the matrix decides, later.
 pub(crate) fn predicate_of(relation: Relation) -> Option<Predicate>
     ensures { IfSome result (λ p. (k l : Kind) (m : Matrix) → relation_holds relation k l m ≡ predicates.holds p k l m) }
 {
@@ -69,7 +69,7 @@ pub(crate) fn predicate_of(relation: Relation) -> Option<Predicate>
 }
 
 /// Whether a position of one geometry in the other's exterior shows that one of these three relations doesn't hold. If it returns
-/// false, the relation may not hold either.
+/// false, the relation may not hold either, and the matrix decides, later.
 pub(crate) fn is_refuted(relation: Relation, first: &Valid, second: &Valid) -> bool
     ensures { result ≡ true → (number : ℕ) → relation_of number ≡ Some relation
         → HasRelation number first.now second.now false }

@@ -1,5 +1,8 @@
 -- How many rows the tables of a run have.
-use Rattle.std.specs.Prelude.{◌≡◌, ◌⊎◌, List, Ok, length, map}
+use Rattle.std.specs.Prelude.{◌≡◌, ◌⊎◌, ℕ, List, Ok, Option, Result, length, map}
+use Rattle.failures.specs.declared.run_fault.Fault.{Fault}
+use Rattle.feature_table.specs.Tables.{EachRecordsOf}
+use Rattle.query_runs.specs.Runs.{RunsOver}
 use Rattle.query_runs.specs.declared.row_counts.RowCounts.{RowCounts}
 use Rattle.query_runs.specs.declared.row_counts.RowCounts.TheVariants as counts
 use Rattle.table_model.specs.Databases.{load_tables}
@@ -23,3 +26,15 @@ CountsTables tables (counts.Counted rows) new = (new ≡ counts.Counted rows) �
 abbrev pub CountsLoaded : SpatialSchema → List (List Record) → RowCounts → RowCounts → Type 0
 CountsLoaded definitions records old new =
     (tables : List SpatialTable) × (load_tables read_geometry definitions records ≡ Ok tables) × CountsTables tables old new
+
+-- what a run leaves of the numbers of rows, however it ends: nothing new, or what counting the rows of the tables that the records load as
+-- leaves
+abbrev pub LeavesCounts : SpatialSchema → List (List Record) → RowCounts → RowCounts → Type 0
+LeavesCounts definitions records old new = (new ≡ old) ⊎ CountsLoaded definitions records old new
+
+-- there are records of the readers over which the run is what it promises, and whose rows are those that it counts
+pub record RunsAndCounts (result : Result ℕ Fault) (definitions : SpatialSchema) (readers : List (Option (List ℕ))) (text : List ℕ) (old new : Option (List ℕ)) (before after : RowCounts) : Type 0 where
+  pub records : List (List Record)
+  pub are_of : EachRecordsOf readers records
+  pub runs : RunsOver result definitions records text old new
+  pub counts : LeavesCounts definitions records before after

@@ -7,7 +7,7 @@ ghost use Rattle.query_runs.specs.Puts.{PutsText};
 ghost use Rattle.query_runs.specs.Runs.{ReturnsQuery, CountsQuery, IsOfTables, RunsReaders, bound_text, choice_text, count_after, count_text, planned_text, planned_work, rows_of_choices, rows_text};
 ghost use Rattle.query_runs.specs.RecordTexts.{record_text};
 ghost use Rattle.feature_table.specs.Tables.{records_in};
-ghost use Rattle.query_runs.specs.RowCounts.{CountsLoaded};
+ghost use Rattle.query_runs.specs.RowCounts.{CountsLoaded, RunsAndCounts};
 ghost use Rattle.executor.specs.FoundPairs.{HasReferences};
 ghost use Rattle.executor.specs.Pairs.{IsPlace, pair_rows};
 ghost use Rattle.executor.specs.Streams.{to_come, work_at_end};
@@ -65,7 +65,7 @@ pub fn run<I: EnvelopeIndex + Drop, R: Read + Drop, S: Sink>(
     run_observed::<I, R, S, Unobserved>(alloc, schema, readers, query, sink, &mut Unobserved)
 }
 
-/// The same as `run`. It reports each candidate that is looked at, and each row that is found, to an observer.
+/// The same as `run`. It reports each candidate that is looked at, and each row that is found, to an observer, which tests look at.
 pub fn run_observed<I: EnvelopeIndex + Drop, R: Read + Drop, S: Sink, O: RowObserver>(
     alloc: Global,
     schema: &Schema,
@@ -83,8 +83,9 @@ pub fn run_observed<I: EnvelopeIndex + Drop, R: Read + Drop, S: Sink, O: RowObse
 }
 
 /// Like `run_observed`, with a type of index for each kind of query: `I` under a query with two references, and `L` under one with a
-/// single reference, which searches an index once at most. If the numbers of rows of the tables are asked for, it counts them once
-/// all tables have loaded. Where memory runs out for that alone, they stay asked for.
+/// single reference, which searches an index once at most. This changes time alone. If the numbers of rows of the tables are asked for,
+/// it counts them once all tables have loaded, and they stay counted if it fails after that. Where memory runs out for that alone, they
+/// stay asked for.
 pub fn run_counted<
     I: EnvelopeIndex + Drop,
     L: EnvelopeIndex + Drop,
@@ -105,6 +106,8 @@ pub fn run_counted<
         (S.taken sink.old) (S.taken sink.new) (S.failures sink.old) (S.failures sink.new) }
     ensures counts { (texts : List (List ℕ)) → map R.remaining readers.items ≡ map Some texts
         → OnOk result (CountsLoaded schema.now (map records_in texts) counts.old counts.new) }
+    ensures leaves { RunsAndCounts result schema.now (map R.remaining readers.items) query.now
+        (S.taken sink.old) (S.taken sink.new) counts.old counts.new }
     ensures unasked { counts.old ≡ RowCounts.Unasked → counts.new ≡ RowCounts.Unasked }
 {
     let query = read_query(alloc, query)?;
@@ -134,6 +137,9 @@ fn load_and_answer<I: EnvelopeIndex + Drop, R: Read + Drop, S: Sink, O: RowObser
         (S.taken sink.old) (S.taken sink.new) (S.failures sink.old) (S.failures sink.new) }
     ensures counts { (texts : List (List ℕ)) → map R.remaining readers.items ≡ map Some texts
         → OnOk result (CountsLoaded schema.now (map records_in texts) counts.old counts.new) }
+    ensures leaves { (text : List ℕ) → query_of text ≡ Ok query.now
+        → RunsAndCounts result schema.now (map R.remaining readers.items) text
+        (S.taken sink.old) (S.taken sink.new) counts.old counts.new }
     ensures unasked { counts.old ≡ RowCounts.Unasked → counts.new ≡ RowCounts.Unasked }
 {
     let database: Database<'_, I> = Database::load(alloc, schema, readers)?;

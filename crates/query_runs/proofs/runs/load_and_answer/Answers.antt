@@ -1,5 +1,5 @@
 -- Each exit of loading and running: over the records of known texts, and over records that are there whatever the readers are.
-use Rattle.std.proofs.Common.{Err, Ok, OnOk, Result, length, map, rules, ℕ}
+use Rattle.std.proofs.Common.{Err, Ok, OnOk, Result, inl, inr, length, map, refl, rules, ℕ}
 use Rattle.failures.specs.declared.run_fault.Fault.{Fault}
 use Rattle.feature_table.specs.Tables.{records_in}
 use Rattle.query_runs.specs.RowCounts.{CountsLoaded}
@@ -66,3 +66,27 @@ returns-clause-counts g c texts known =
     (λ (result : Result ℕ Fault). OnOk result
     (CountsLoaded c.args.schema.now (map records_in texts) c.args.counts.now c.count_rows.new.counts))
     [ Ok work ↦ counted | Err fault ↦ tt ]
+
+pub returns-in_err-database-clause-leaves : goal.returns-in_err-database-clause-leaves
+returns-in_err-database-clause-leaves g c = λ text read.
+    let these = c.in_err-database.ensures.records in record {
+      records = these.records;
+      are_of = these.are_of;
+      runs = λ matrix gives. unloaded-runs c.from_residual.result c.in_err-database.field-0.0 matrix c.args.schema.now
+          these.records text c.args.query.now
+          (g.S.Sink.taken c.args.sink.now) c.from_residual.ensures.1 read these.loads
+          c.in_err-database.ensures.table these.earlier;
+      counts = inl refl;
+    }
+
+pub returns-clause-leaves : goal.returns-clause-leaves
+returns-clause-leaves g c = λ text read.
+    let these = c.in_ok-database.ensures.records in record {
+      records = these.records;
+      are_of = these.are_of;
+      runs = λ matrix gives. loaded-runs c.answer_query.result matrix c.in_ok-database.database c.args.schema.now
+          these.records text c.args.query.now
+          (g.S.Sink.taken c.args.sink.now) (g.S.Sink.taken c.answer_query.new.sink)
+          read these.loads c.in_ok-database.ensures.schema (c.answer_query.ensures.answer matrix gives);
+      counts = inr (c.in_ok-database.database.tables, these.loads, c.count_rows.ensures);
+    }

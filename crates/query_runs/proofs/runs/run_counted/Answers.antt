@@ -1,5 +1,5 @@
 -- Each exit of the steps of a run: a query that isn't read, and one that is returned over the tables.
-use Rattle.std.proofs.Common.{length, map, rules}
+use Rattle.std.proofs.Common.{inl, length, map, refl, rules}
 use Rattle.feature_table.specs.Tables.{records_in}
 use Rattle.query_runs.proofs.ReaderLemmas.{some-records}
 use Rattle.query_runs.proofs.RunLemmas.{no-count, of-tables, query-of-tables, unread-runs}
@@ -31,3 +31,20 @@ returns-then-as_slice-eq1-clause-runs g c = c.load_and_answer.ensures.runs c.arg
 
 pub returns-clause-runs : goal.returns-clause-runs
 returns-clause-runs g c = c.load_and_answer-2.ensures.runs c.args.query.now c.in_ok-query.ensures.exact
+
+pub returns-in_err-query-clause-leaves : goal.returns-in_err-query-clause-leaves
+returns-in_err-query-clause-leaves g c =
+    let these = some-records (map g.R.Read.remaining c.args.readers.items) in record {
+      records = these.0;
+      are_of = these.1;
+      runs = λ matrix gives. unread-runs c.from_residual.result c.in_err-query.field-0.0 matrix c.args.schema.now these.0
+          c.args.query.now (g.S.Sink.taken c.args.sink.now)
+          c.from_residual.ensures.1 c.in_err-query.ensures.exact;
+      counts = inl refl;
+    }
+
+pub returns-then-as_slice-eq1-clause-leaves : goal.returns-then-as_slice-eq1-clause-leaves
+returns-then-as_slice-eq1-clause-leaves g c = c.load_and_answer.ensures.leaves c.args.query.now c.in_ok-query.ensures.exact
+
+pub returns-clause-leaves : goal.returns-clause-leaves
+returns-clause-leaves g c = c.load_and_answer-2.ensures.leaves c.args.query.now c.in_ok-query.ensures.exact
