@@ -1,21 +1,16 @@
 -- What binding a constant comes to: a value was put in its place or not; and queries without conditions or rows stay bound.
-use Rattle.std.proofs.Common.{◌≡◌, ◌≢◌, ◌∙◌, ℕ, Bool, true, false, if◌then◌else◌, [], Some, ap, refl, sym}
-use Rattle.statements.specs.BoundConstants.{without_conditions}
+use Rattle.std.proofs.Common.{◌≡◌, ◌≢◌, ◌∙◌, ℕ, Bool, true, false, if◌then◌else◌, ap, refl, sym}
+use Rattle.statements.specs.BoundConstants.{ended, without_conditions}
 use Rattle.statements.specs.Constants.{Constant, constant_type, may_replace, with_constant, with_fitting}
 use Rattle.statements.specs.declared.constants.Put.{Put}
 use Rattle.statements.specs.declared.constants.Put.TheVariants as puts
 use Rattle.table_model.specs.BoundQueries.{IsBound, geometry_fits}
 use Rattle.table_model.specs.SpatialTables.{SpatialQuery, SpatialSchema}
-use Rattle.table_model.specs.declared.queries.Explain.TheVariants as explains
 
 pub without_bound : (query : SpatialQuery) (definitions : SpatialSchema) → IsBound geometry_fits definitions query
     → IsBound geometry_fits definitions (without_conditions query)
 without_bound query definitions is =
     record { references = is.references; items = is.items; conjuncts = refl; counted = is.counted }
-
--- a query that has no rows any more
-abbrev pub ended : SpatialQuery → SpatialQuery
-ended query = record query { explain = explains.No; counts = false; limit = Some 0 }
 
 pub ended_bound : (query : SpatialQuery) (definitions : SpatialSchema) → IsBound geometry_fits definitions query
     → IsBound geometry_fits definitions (ended query)

@@ -2,7 +2,7 @@
 use Rattle.std.specs.Prelude.{◌≡◌, ◌≤◌, ◌+◌, ◌-◌, ⊤, ℕ, Bool, true, false, List, [], ◌∷◌, Option, Some, None, Result, Ok, Err, decimal, drop, take}
 use Rattle.executor.specs.Pairs.{IsPlace, choice_of}
 use Rattle.executor.specs.PausedRows.{IsOf, stream_of}
-use Rattle.executor.specs.Streams.{Stream, looks_ahead, to_come, work_at_end}
+use Rattle.executor.specs.Streams.{Stream, looks_ahead, to_come, work_after, work_at_end}
 use Rattle.statements.specs.StatementRows.{asks_for_rows, choice_record, records_by, records_of}
 use Rattle.statements.specs.declared.phases.Phase.{Phase}
 use Rattle.statements.specs.declared.phases.Phase.TheVariants as phases
@@ -126,10 +126,26 @@ CountsStep matrix database old result new =
     MatchStatementStep result (work_in_all matrix database new ≡ work_in_all matrix database old)
     ((work_so_far new ≡ work_in_all matrix database old) × (work_in_all matrix database new ≡ work_in_all matrix database old)) ⊤
 
+-- the work so far once a row is there, by what came next before it: of rows of tables the work up to this row, and else all work
+abbrev pub work_at_row : Phase → ℕ → ℕ → ℕ
+work_at_row phases.Rows upto all = upto
+work_at_row (phases.Count counted) upto all = all
+work_at_row phases.Plan upto all = all
+work_at_row phases.Analysis upto all = all
+work_at_row phases.Lines upto all = all
+work_at_row phases.Nothing upto all = all
+
+-- where a step gives a row, the work so far is the work up to it
+abbrev pub CountsToRow : {E : Type 0} → MatrixOf → SpatialDatabase → Statement → Result StatementStep E → Statement → Type 0
+CountsToRow matrix database old result new =
+    MatchStatementStep result
+    (work_so_far new ≡ work_at_row old.phase (work_after matrix (stream database old) 1) (work_in_all matrix database old)) ⊤ ⊤
+
 -- what a step promises of the statement before it, of what it returns and of the statement after it
 pub record Steps {E : Type 0} (database : SpatialDatabase) (old : Statement) (result : Result StatementStep E) (new : Statement) : Type 0 where
   pub gives : ByEveryMatrix (λ matrix. GivesNextRow matrix database old result new)
   pub counted : ByEveryMatrix (λ matrix. CountsStep matrix database old result new)
+  pub to_row : ByEveryMatrix (λ matrix. CountsToRow matrix database old result new)
   pub kept : work_so_far old ≤ work_so_far new
   pub bound : new.bound ≡ old.bound
   pub plan : new.plan ≡ old.plan

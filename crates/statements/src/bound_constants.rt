@@ -3,7 +3,7 @@
 ghost use Rattle.std.specs.Prelude.{◌≡◌, ◌≢◌, [], IfOk, OnErr, OnOk, if◌then◌else◌, Some};
 ghost use Rattle.statements.specs.BoundConstants as spec;
 ghost use Rattle.statements.specs.Constants.{constant_type, may_replace, with_fitting};
-ghost use Rattle.statements.specs.Statements.{IsAtEnd, IsOver};
+ghost use Rattle.statements.specs.Statements.{IsAtEnd, IsOver, work_so_far};
 ghost use Rattle.table_model.specs.BoundQueries.{IsBound, geometry_fits};
 ghost use Rattle.table_model.specs.Plans.{IsLawful, chosen};
 ghost use Rattle.table_model.specs.RunOutcomes.{ByEveryMatrix};
@@ -40,8 +40,8 @@ fn plan_without_conditions<I: EnvelopeIndex + Drop>(
 
 impl Statement {
     /// Lets a value take the place of the k-th constant of its query, as `put_constant` has it, chooses the plan and begins anew. Where the
-    /// value is refused nothing changes. It fails only when memory runs out; then no row is to come, also after a reset (SQL, ON and
-    /// WHERE).
+    /// value is refused nothing changes. It fails only when memory runs out; then no row is to come, also after a reset, no work is
+    /// done, and the query has LIMIT 0 and no EXPLAIN, over the same references and with the same items (SQL, ON and WHERE).
     pub fn bind<I: EnvelopeIndex + Drop>(
         &mut self,
         alloc: Global,
@@ -57,6 +57,8 @@ impl Statement {
         ensures refused { IfOk result (λ put. put ≢ Put.Done → self.new ≡ self.old) }
         ensures none { OnErr result (spec.StaysAtEnd database.now self.new) }
         ensures ended { ByEveryMatrix (λ matrix. OnErr result (IsAtEnd matrix database.now self.new)) }
+        ensures closed { OnErr result (spec.IsEndedOf self.old.bound self.new.bound) }
+        ensures no_work { OnErr result (work_so_far self.new ≡ 0) }
         ensures over { IsOver database.now self.new }
     {
         let spare = match plan_without_conditions(alloc, database, &mut self.bound) {
@@ -94,6 +96,8 @@ impl Statement {
         ensures done { OnOk result (spec.HasBegunWithPlan database.now self.new) }
         ensures none { OnErr result (spec.StaysAtEnd database.now self.new) }
         ensures ended { ByEveryMatrix (λ matrix. OnErr result (IsAtEnd matrix database.now self.new)) }
+        ensures closed { OnErr result (self.new.bound ≡ spec.ended (spec.without_conditions self.old.bound)) }
+        ensures no_work { OnErr result (work_so_far self.new ≡ 0) }
         ensures over { IsOver database.now self.new }
     {
         match choose(alloc, database, &self.bound) {
@@ -119,6 +123,8 @@ impl Statement {
         ensures over { IsOver database.now self.new }
         ensures none { spec.StaysAtEnd database.now self.new }
         ensures ended { ByEveryMatrix (λ matrix. IsAtEnd matrix database.now self.new) }
+        ensures closed { self.new.bound ≡ spec.ended self.old.bound }
+        ensures no_work { work_so_far self.new ≡ 0 }
     {
         self.bound.explain = Explain::No;
         self.bound.counts = false;

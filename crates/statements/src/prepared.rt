@@ -144,7 +144,8 @@ impl Statement {
     }
 
     /// The work so far: how many DE-9IM predicates without a NULL argument were decided since the statement began. A pair that the
-    /// probe or an earlier condition rules out costs none (06-103r4, 6.1.15).
+    /// probe or an earlier condition rules out costs none. After a row of tables it is that of the candidates up to this row, or of
+    /// all where rows are sorted first (06-103r4, 6.1.15).
     pub fn work(&self) -> &Work
         ensures { result.now ≡ work_so_far self.now }
     {
@@ -173,7 +174,7 @@ impl Statement {
 
     /// The same, within so many looks: where none of so many candidates and rows of the outer reference gave a row, it is busy, and
     /// the same rows are to come. From 1 look a step on, the steps come to an end. The first step of a plan that needs a list isn't
-    /// busy (this project's choice).
+    /// busy (this project's choice). That it looks no further changes time alone: it is tested, and no clause says it.
     pub fn step_within<I: EnvelopeIndex + Drop>(
         &mut self,
         alloc: Global,

@@ -1,7 +1,7 @@
 -- The lines are those of the plan's text and of the work of all rows.
 use Rattle.std.proofs.Common.{Ok, drop, refl}
 use Rattle.executor.specs.Streams.{Stream, to_come, work_at_end}
-use Rattle.statements.proofs.StepLemmas.{analysis_lines, analysis_work, steps_from}
+use Rattle.statements.proofs.StepLemmas.{analysis_lines, analysis_to_row, analysis_work, steps_from}
 use Rattle.statements.specs.Statements.{stream}
 use Rattle.statements.specs.declared.current_rows.CurrentRow.TheVariants as current
 use Rattle.statements.specs.declared.phases.Phase.TheVariants as phases
@@ -31,4 +31,5 @@ returns g c =
     (c.in_ok-count_rows.ensures.work matrix m))
     (λ matrix m. analysis_work old.phase old.rows.progress.work (work_at_end matrix before) found.progress.work c.requires.phase
     (c.in_ok-count_rows.ensures.work matrix m))
+    (λ upto all. refl) (λ upto all. analysis_to_row old.phase upto all c.requires.phase)
     c.in_ok-count_rows.ensures.kept refl refl c.step_line.ensures

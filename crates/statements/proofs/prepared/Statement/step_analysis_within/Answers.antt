@@ -4,7 +4,7 @@ use Rattle.std.specs.declared.alloc.AllocError.{AllocError}
 use Rattle.executor.specs.Counts.{CountsAll, GivesCount}
 use Rattle.executor.specs.PausedRows.{stream_of}
 use Rattle.executor.specs.Streams.{Stream, to_come, work_at_end}
-use Rattle.statements.proofs.StepLemmas.{analysis_later, analysis_later_work, steps_from}
+use Rattle.statements.proofs.StepLemmas.{analysis_later, analysis_later_work, analysis_to_row, steps_from}
 use Rattle.statements.proofs.WithinLemmas.{never_busy, unless_busy}
 use Rattle.statements.specs.Statements.{BusyStep, Steps}
 use Rattle.statements.specs.declared.current_rows.CurrentRow.TheVariants as current
@@ -42,6 +42,7 @@ returns-in-All-clause-steps g c =
     (gives.at_end matrix m)))
     (λ matrix m. analysis_later_work old.phase old.rows.progress.work found.progress.work (work_at_end matrix before)
     (work_at_end matrix after) c.requires.phase (gives.at_end matrix m))
+    (λ upto all. refl) (λ upto all. analysis_to_row old.phase upto all c.requires.phase)
     gives.kept refl refl c.step_analysis.ensures)
 
 pub returns-in-All-clause-busy : goal.returns-in-All-clause-busy

@@ -1,9 +1,9 @@
 -- The number is that of all rows that were to come.
 use Rattle.std.proofs.Common.{◌≢◌, ◌∙◌, ◌∷◌, ◌+◌, [], Some, ap, drop, refl, rules, subst, sym}
 use Rattle.std.specs.Prelude.{decimal}
-use Rattle.executor.specs.Streams.{Stream, to_come, work_at_end}
-use Rattle.statements.proofs.StepLemmas.{count_first, count_work}
-use Rattle.statements.specs.Statements.{IsPhaseOf, stream}
+use Rattle.executor.specs.Streams.{Stream, to_come, work_after, work_at_end}
+use Rattle.statements.proofs.StepLemmas.{count_first, count_to_row, count_work}
+use Rattle.statements.specs.Statements.{IsPhaseOf, stream, work_in_all}
 use Rattle.streams.specs.MemorySinks.{memory_bytes}
 use Rattle.statements.proofs.prepared.Statement.step_count.Goals as goal
 
@@ -24,6 +24,10 @@ returns g c =
       counted = λ matrix m.
           c.in_ok-others.ensures.work matrix m
           ∙ sym (count_work old.phase c.args.counted old.rows.progress.work (work_at_end matrix before) c.requires.phase);
+      to_row = λ matrix m.
+          c.in_ok-others.ensures.work matrix m
+          ∙ sym (count_work old.phase c.args.counted old.rows.progress.work (work_at_end matrix before) c.requires.phase)
+          ∙ count_to_row old.phase c.args.counted (work_after matrix before 1) (work_in_all matrix database old) c.requires.phase;
       kept = c.in_ok-others.ensures.kept;
       bound = refl;
       plan = refl;

@@ -4,7 +4,7 @@ use Rattle.std.specs.declared.alloc.AllocError.{AllocError}
 use Rattle.executor.specs.Counts.{CountsAll, GivesCount}
 use Rattle.executor.specs.PausedRows.{stream_of}
 use Rattle.executor.specs.Streams.{Stream, to_come, work_at_end}
-use Rattle.statements.proofs.StepLemmas.{count_later, count_later_work, steps_from}
+use Rattle.statements.proofs.StepLemmas.{count_later, count_later_work, count_to_row, steps_from}
 use Rattle.statements.proofs.WithinLemmas.{never_busy, unless_busy}
 use Rattle.statements.specs.Statements.{BusyStep, IsPhaseOf, Steps}
 use Rattle.statements.specs.declared.current_rows.CurrentRow.TheVariants as current
@@ -46,6 +46,7 @@ returns-in_ok-count-in-All-clause-steps g c =
     c.in_ok-count-in-All.ensures))
     (λ matrix m. count_later_work old.phase c.args.counted count old.rows.progress.work found.progress.work
     (work_at_end matrix before) (work_at_end matrix after) c.requires.phase (gives.at_end matrix m))
+    (λ upto all. refl) (λ upto all. count_to_row old.phase c.args.counted upto all c.requires.phase)
     gives.kept refl refl c.step_count.ensures)
 
 pub returns-in_ok-count-in-All-clause-busy : goal.returns-in_ok-count-in-All-clause-busy

@@ -1,11 +1,11 @@
 -- The line is the first of those that are left.
-use Rattle.std.proofs.Common.{◌≡◌, ◌≤◌, ◌<◌, ◌+◌, ◌-◌, ◌≢◌, ◌∷◌, []}
+use Rattle.std.proofs.Common.{◌≡◌, ◌∙◌, ◌≤◌, ◌<◌, ◌+◌, ◌-◌, ◌≢◌, ◌∷◌, []}
 use Rattle.std.proofs.Common.{List, ℕ, arith, drop, length, length-drop, refl, subst, sym, take}
 use Rattle.std.proofs.lemmas.List.{take_all}
-use Rattle.executor.specs.Streams.{Stream, to_come, work_at_end}
-use Rattle.statements.proofs.StepLemmas.{lines_first, lines_none, lines_work, some_left}
+use Rattle.executor.specs.Streams.{Stream, to_come, work_after, work_at_end}
+use Rattle.statements.proofs.StepLemmas.{lines_first, lines_none, lines_to_row, lines_work, some_left}
 use Rattle.statements.specs.StatementRows.{lines}
-use Rattle.statements.specs.Statements.{IsPhaseOf, stream}
+use Rattle.statements.specs.Statements.{IsPhaseOf, stream, work_in_all}
 use Rattle.streams.specs.MemorySinks.{memory_bytes}
 use Rattle.statements.proofs.prepared.Statement.step_line.Goals as goal
 
@@ -26,6 +26,7 @@ returns-then-begin-text g c =
             (work_at_end matrix before) c.requires.phase),
         refl,
       );
+      to_row = λ matrix m. tt;
       kept = omega arith;
       bound = refl;
       plan = refl;
@@ -68,6 +69,9 @@ returns g c =
             text old.given k c.requires.phase (first some),
       );
       counted = λ matrix m. refl;
+      to_row = λ matrix m.
+          sym (lines_work old.phase old.rows.progress.work (work_at_end matrix before) c.requires.phase)
+          ∙ lines_to_row old.phase (work_after matrix before 1) (work_in_all matrix database old) c.requires.phase;
       kept = omega arith;
       bound = refl;
       plan = refl;

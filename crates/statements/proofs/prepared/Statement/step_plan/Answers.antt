@@ -1,7 +1,7 @@
 -- The lines are those of the plan's text.
 use Rattle.std.proofs.Common.{◌≤◌, Ok, arith, drop, refl}
 use Rattle.executor.specs.Streams.{Stream, to_come, work_at_end}
-use Rattle.statements.proofs.StepLemmas.{plan_lines, plan_work, steps_from}
+use Rattle.statements.proofs.StepLemmas.{plan_lines, plan_to_row, plan_work, steps_from}
 use Rattle.statements.specs.Statements.{stream, work_so_far}
 use Rattle.statements.specs.declared.current_rows.CurrentRow.TheVariants as current
 use Rattle.statements.specs.declared.phases.Phase.TheVariants as phases
@@ -28,4 +28,5 @@ returns g c =
     (λ matrix m. plan_lines old.phase database old.bound old.plan (to_come matrix before) (work_at_end matrix before)
     (drop old.given (memory_bytes old.text)) (memory_bytes c.in_ok-self.field-0) c.requires.phase c.in_ok-self.ensures)
     (λ matrix m. plan_work old.phase old.rows.progress.work (work_at_end matrix before) c.requires.phase)
+    (λ upto all. refl) (λ upto all. plan_to_row old.phase upto all c.requires.phase)
     kept refl refl c.step_line.ensures

@@ -3,10 +3,10 @@ use Rattle.std.proofs.Common.{◌∙◌, Some, ap, drop, refl, subst, sym}
 use Rattle.std.specs.Prelude.{⊤}
 use Rattle.executor.specs.Pairs.{IsPlace, choice_of}
 use Rattle.executor.specs.PausedRows.{stream_of}
-use Rattle.executor.specs.Streams.{MatchItem, Stream, to_come, work_at_end}
-use Rattle.statements.proofs.StepLemmas.{counted_next, given_next, rows_first, rows_work}
+use Rattle.executor.specs.Streams.{MatchItem, Stream, to_come, work_after, work_at_end}
+use Rattle.statements.proofs.StepLemmas.{counted_next, counted_row, given_next, rows_first, rows_to_row, rows_work}
 use Rattle.statements.specs.StatementRows.{choice_record}
-use Rattle.statements.specs.Statements.{IsPhaseOf}
+use Rattle.statements.specs.Statements.{IsPhaseOf, work_in_all}
 use Rattle.streams.specs.MemorySinks.{memory_bytes}
 use Rattle.table_model.specs.Meanings.{referenced}
 use Rattle.table_model.specs.Work.{filters_of}
@@ -36,6 +36,10 @@ returns g c =
           ∙ counted_next matrix before after c.next_row.result c.in-Some.found pair c.in-Some.is c.in_ok-pair.was
           (gives.counted matrix m)
           ∙ sym (rows_work old.phase old.rows.progress.work (work_at_end matrix before) c.requires.phase);
+      to_row = λ matrix m.
+          counted_row matrix before after c.next_row.result c.in-Some.found pair c.in-Some.is c.in_ok-pair.was
+          (gives.counted matrix m)
+          ∙ rows_to_row old.phase (work_after matrix before 1) (work_in_all matrix database old) c.requires.phase;
       kept = gives.kept;
       bound = refl;
       plan = refl;

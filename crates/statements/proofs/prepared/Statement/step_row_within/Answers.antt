@@ -5,11 +5,11 @@ use Rattle.executor.specs.Iteration.{GivesRow}
 use Rattle.executor.specs.Pairs.{choice_of}
 use Rattle.executor.specs.PausedRows.{stream_of}
 use Rattle.executor.specs.Steps.{GivesStep}
-use Rattle.executor.specs.Streams.{Stream, to_come, work_at_end}
+use Rattle.executor.specs.Streams.{Stream, to_come, work_after, work_at_end}
 use Rattle.executor.specs.declared.steps.Step.TheVariants as found
-use Rattle.statements.proofs.StepLemmas.{rows_first, rows_work}
+use Rattle.statements.proofs.StepLemmas.{rows_first, rows_to_row, rows_work}
 use Rattle.statements.specs.StatementRows.{choice_record}
-use Rattle.statements.specs.Statements.{IsPhaseOf}
+use Rattle.statements.specs.Statements.{IsPhaseOf, work_in_all}
 use Rattle.streams.specs.MemorySinks.{memory_bytes}
 use Rattle.table_model.specs.Meanings.{referenced}
 use Rattle.table_model.specs.Work.{filters_of}
@@ -37,6 +37,9 @@ returns-in-Row-clause-steps g c =
           rows_work old.phase c.next_row_within.new.found.progress.work (work_at_end matrix after) c.requires.phase
           ∙ (gives.counted matrix m).at_end
           ∙ sym (rows_work old.phase old.rows.progress.work (work_at_end matrix before) c.requires.phase);
+      to_row = λ matrix m.
+          (gives.counted matrix m).now
+          ∙ rows_to_row old.phase (work_after matrix before 1) (work_in_all matrix database old) c.requires.phase;
       kept = gives.kept;
       bound = refl;
       plan = refl;
