@@ -7,13 +7,12 @@ use Rattle.command_line.specs.CommandWords.{sfq}
 use Rattle.command_line.specs.Orders.{Orders}
 use Rattle.command_line.specs.declared.known_commands.Order.{Order}
 use Rattle.command_line.specs.declared.misuse.Misuse.{Misuse}
-use Rattle.library_calls.specs.Explained.{HandsOut}
 use Rattle.streams.specs.MemorySinks.{memory_bytes}
 use Rattle.streams.specs.declared.memory.MemorySink.{MemorySink}
 use Rattle.text_commands.specs.Files.{path_of}
 use Rattle.text_commands.specs.declared.files.File.{File}
 use Rattle.sfq_web.specs.HandedFiles.{Handed, IsNotHandedAs, OpensAs, OpensBy, bytes_in, file_at, is_standard, opened_text, text_at}
-use Rattle.sfq_web.specs.Servings.{AreWritten, FailsOrder, HandsOutTexts, IsDone, IsMisuseOf, IsMisusedAs, IsPathOf, IsServed, IsServedOver, MissesFile, MissesGiven, ServesGiven, ServesWords, asking, handed_of}
+use Rattle.sfq_web.specs.Servings.{AreWritten, FailsOrder, HandsOutPath, HandsOutTexts, IsDone, IsMisuseOf, IsMisusedAs, IsPathOf, IsServed, IsServedOver, MissesFile, MissesGiven, ServesGiven, ServesWords, asking, handed_of}
 use Rattle.sfq_web.specs.declared.handed_files.HandedFile.{HandedFile}
 use Rattle.sfq_web.specs.declared.handed_files.HandedReader.{HandedReader}
 use Rattle.sfq_web.specs.declared.handing.Missed.{Missed}
@@ -166,14 +165,19 @@ missed_path words asks paths texts found lent input missed number path over same
 
 -- the same, as it is handed out
 pub given_path : (words : List (List ℕ)) (asks : Bool) (paths texts : List (List ℕ)) (found : List ℕ)
-    (lent : Option (Bor (List ℕ))) (shown input : Option (List ℕ)) (missed : Missed) (old new : List ℕ) (number size code : ℕ)
+    (lent : Option (Bor (List ℕ))) (shown input : Option (List ℕ)) (missed : Missed) (old new : List ℕ) (said : Said) (code : ℕ)
     → IsServedOver words asks paths texts found lent (served.Missing missed) → option_map (λ bytes. bytes.now) lent ≡ shown
-    → shown ≡ input → HandsOut (IsPathOf missed number) old new size code
-    → HandsOut (MissesGiven words asks paths texts found input number) old new size code
-given_path words asks paths texts found lent shown input missed old new number size code over is same handed_out = record {
-  text = handed_out.text;
-  is_one = missed_path words asks paths texts found lent input missed number handed_out.text over (is ∙ same) handed_out.is_one;
-  size_of = handed_out.size_of;
-  status_of = handed_out.status_of;
-  room = handed_out.room;
-}
+    → shown ≡ input → HandsOutPath (IsPathOf missed) old new said code
+    → HandsOutPath (MissesGiven words asks paths texts found input) old new said code
+given_path words asks paths texts found lent shown input missed old new said code over is same path =
+    let out = path.handed_out in record {
+      no_out = path.no_out;
+      no_err = path.no_err;
+      handed_out = record {
+        text = out.text;
+        is_one = missed_path words asks paths texts found lent input missed said.code out.text over (is ∙ same) out.is_one;
+        size_of = out.size_of;
+        status_of = out.status_of;
+        room = out.room;
+      };
+    }

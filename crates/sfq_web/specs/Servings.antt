@@ -160,12 +160,18 @@ pub record HandsOutTexts (Are : ℕ → List ℕ → List ℕ → List ℕ → T
   pub err_is : said.err ≡ length err
   pub handed_out : HandsOut (λ text. text ≡ (out ++ err) ++ more) old new said.size status
 
+-- the path of a file is handed out, as what the number says for a command, and there are no texts
+pub record HandsOutPath (Is : ℕ → List ℕ → Type 0) (old new : List ℕ) (said : Said) (status : ℕ) : Type 0 where
+  pub no_out : said.out ≡ 0
+  pub no_err : said.err ≡ 0
+  pub handed_out : HandsOut (Is said.code) old new said.size status
+
 -- the room is too small for what is to be handed out, whose size is said: the texts of a command, or the path of a file that isn't handed in
 abbrev pub LacksRoom : List (List ℕ) → Bool → List (List ℕ) → List (List ℕ) → List ℕ → Option (List ℕ) → List ℕ → List ℕ → Said → Type 0
 LacksRoom words asks paths texts found input old new said =
     HandsOutTexts (ServesGiven words asks paths texts found input) old new said too_small
     ⊎ HandsOutTexts (IsMisuseOf words) old new said too_small
-    ⊎ HandsOut (MissesGiven words asks paths texts found input said.code) old new said.size too_small
+    ⊎ HandsOutPath (MissesGiven words asks paths texts found input) old new said too_small
 
 -- ---- steps by which it is found
 

@@ -137,7 +137,7 @@ pub enum HandedReader<'t> {
 }
 
 impl Read for HandedReader<'_> {
-    ghost use Rattle.std.specs.Prelude.{◌≡◌, [], IsErr, Some, true};
+    ghost use Rattle.std.specs.Prelude.{◌≡◌, ◌↔◌, [], IsErr, Some, true};
     ghost use Rattle.std.specs.Io.{ReadsAtMost};
     ghost use Rattle.std.specs.Io.KnownBytes.{ReadConsumes};
     ghost use Rattle.sfq_web.specs.HandedFiles.{bytes_in, fails_in, is_text};
@@ -147,7 +147,7 @@ impl Read for HandedReader<'_> {
     fn read(&mut self, buffer: &mut [u8]) -> io::Result<usize>
         ensures bound { ReadsAtMost result buffer.new }
         ensures bytes { ReadConsumes (Some (bytes_in self.old)) (Some (bytes_in self.new)) result buffer.new }
-        ensures fails { is_text self.old ≡ true → fails_in self.old ≡ true → bytes_in self.old ≡ [] → IsErr result }
+        ensures fails { is_text self.old ≡ true → IsErr result ↔ ((fails_in self.old ≡ true) × (bytes_in self.old ≡ [])) }
     {
         match self {
             HandedReader::Records(reader) => reader.read(buffer),

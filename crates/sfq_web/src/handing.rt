@@ -50,11 +50,12 @@ pub struct Handing<'f> {
 }
 
 impl<'f> Handing<'f> {
-    ghost use Rattle.std.specs.Prelude.{◌≡◌, IfSome, option_map};
+    ghost use Rattle.std.specs.Prelude.{◌≡◌, [], IfSome, None, option_map};
+    ghost use Rattle.streams.specs.MemorySinks.{memory_bytes};
     ghost use Rattle.sfq_web.specs.HandedFiles.{OpensAs, OpensInput, fails_as, fails_in};
     ghost use Rattle.sfq_web.specs.Servings.{IsMissed, handed, handed_of};
 
-    /// These files, and standard input, whose reading may fail behind its bytes.
+    /// These files, and standard input, whose reading may fail behind its bytes. Nothing is missed, and nothing is said of a file.
     pub fn new(
         alloc: Global,
         files: &'f [HandedFile<'f>],
@@ -63,6 +64,8 @@ impl<'f> Handing<'f> {
     ) -> Handing<'f>
         ensures files { handed result ≡ handed_of files.entry.now input.entry }
         ensures broken { result.is_broken ≡ is_broken }
+        ensures none_missed { result.missed ≡ None }
+        ensures unsaid { memory_bytes result.said ≡ [] }
     {
         Handing {
             files,

@@ -1,11 +1,10 @@
 //! The call that does what words order.
 
 ghost use Rattle.std.specs.Prelude.{◌≡◌, ◌≢◌, ◌⊎◌, ◌<◌, length};
-ghost use Rattle.library_calls.specs.Explained.{HandsOut};
 ghost use Rattle.library_calls.specs.Refusals.{first_refused, none_there, ok, out_of_memory, too_small, unknown};
 ghost use Rattle.sfq_web.specs.HandedFiles.{found_of};
 ghost use Rattle.sfq_web.specs.Pieces.{pieces};
-ghost use Rattle.sfq_web.specs.Servings.{AreWritten, HandsOutTexts, IsMisuseOf, IsPathOf, IsUnfit, LacksRoom, MissesGiven, ServesGiven, input_of};
+ghost use Rattle.sfq_web.specs.Servings.{AreWritten, HandsOutPath, HandsOutTexts, IsMisuseOf, IsPathOf, IsUnfit, LacksRoom, MissesGiven, ServesGiven, input_of};
 
 use crate::handed_files::Found;
 use crate::handed_in::{Given, Input, serve_given};
@@ -36,7 +35,8 @@ pub struct Said {
 /// The status is 0 where the order was done or failed, and 1 where the words are none. Where it is 6, the order can't be done without a file
 /// that isn't handed in, whose path is handed out: a caller reads it, and calls again. It is 5 where the room is too small for what would be
 /// handed out, whose size is said; 4 where a word or a path isn't UTF-8, or there are more or fewer texts or numbers than paths; and 3 where
-/// memory ran out (SQL, the query; 06-103r4, 6.1 and 7.2; the order of all else: this project's choice).
+/// memory ran out; after these two what is said is as it was (SQL, the query; 06-103r4, 6.1 and 7.2; the order of all else: this project's
+/// choice).
 #[unsafe(no_mangle)]
 pub extern "C" fn sfq_proved_serve(
     alloc: Global,
@@ -58,13 +58,13 @@ pub extern "C" fn sfq_proved_serve(
         (pieces texts.now text_lengths.now) found.now (input_of (found_of input_found) input.now)) room.old room.new said.new ok }
     ensures misused { result ≡ first_refused
         → HandsOutTexts (IsMisuseOf (pieces words.now word_lengths.now)) room.old room.new said.new ok }
-    ensures missing { result ≡ none_there → HandsOut
+    ensures missing { result ≡ none_there → HandsOutPath
         (MissesGiven (pieces words.now word_lengths.now) asks (pieces paths.now path_lengths.now)
-        (pieces texts.now text_lengths.now) found.now (input_of (found_of input_found) input.now) said.new.code)
-        room.old room.new said.new.size ok }
+        (pieces texts.now text_lengths.now) found.now (input_of (found_of input_found) input.now)) room.old room.new said.new ok }
     ensures unfit { result ≡ unknown → IsUnfit (pieces words.now word_lengths.now) (pieces paths.now path_lengths.now)
         (pieces texts.now text_lengths.now) found.now }
     ensures kept { result ≢ ok → result ≢ first_refused → result ≢ none_there → room.new ≡ room.old }
+    ensures unsaid { (result ≡ unknown) ⊎ (result ≡ out_of_memory) → said.new ≡ said.old }
     ensures no_room { result ≡ too_small → length room.old < said.new.size }
     ensures size { result ≡ too_small → LacksRoom
         (pieces words.now word_lengths.now) asks (pieces paths.now path_lengths.now)
@@ -99,6 +99,7 @@ fn hand_out_texts(written: Written, done: u32, room: &mut [u8], said: &mut Said)
     requires { done < 2 }
     ensures texts { result ≡ done → HandsOutTexts (AreWritten written) room.old room.new said.new ok }
     ensures kept { result ≢ done → room.new ≡ room.old }
+    ensures unsaid { result ≡ out_of_memory → said.new ≡ said.old }
     ensures no_room { result ≡ too_small → length room.old < said.new.size }
     ensures size { result ≡ too_small → HandsOutTexts (AreWritten written) room.old room.new said.new too_small }
     ensures status { (result ≡ done) ⊎ (result ≡ out_of_memory) ⊎ (result ≡ too_small) }
@@ -109,12 +110,14 @@ fn hand_out_texts(written: Written, done: u32, room: &mut [u8], said: &mut Said)
         err,
         more,
     } = written;
-    said.code = status;
-    said.out = out.bytes().len();
-    said.err = err.bytes().len();
+    let out_size = out.bytes().len();
+    let err_size = err.bytes().len();
     if add(err.bytes(), &mut out).is_err() || add(more.bytes(), &mut out).is_err() {
         return 3;
     }
+    said.code = status;
+    said.out = out_size;
+    said.err = err_size;
     if hand_out(out.bytes(), room, &mut said.size) != 0 {
         return 5;
     }
@@ -123,10 +126,11 @@ fn hand_out_texts(written: Written, done: u32, room: &mut [u8], said: &mut Said)
 
 /// Hands out the path of a missing file, if the room is large enough.
 fn hand_out_path(missed: &Missed, room: &mut [u8], said: &mut Said) -> u32
-    ensures path { result ≡ none_there → HandsOut (IsPathOf missed.now said.new.code) room.old room.new said.new.size ok }
+    ensures path { result ≡ none_there → HandsOutPath (IsPathOf missed.now) room.old room.new said.new ok }
     ensures kept { result ≢ none_there → room.new ≡ room.old }
+    ensures unsaid { result ≡ out_of_memory → said.new ≡ said.old }
     ensures no_room { result ≡ too_small → length room.old < said.new.size }
-    ensures size { result ≡ too_small → HandsOut (IsPathOf missed.now said.new.code) room.old room.new said.new.size too_small }
+    ensures size { result ≡ too_small → HandsOutPath (IsPathOf missed.now) room.old room.new said.new too_small }
     ensures status { (result ≡ none_there) ⊎ (result ≡ out_of_memory) ⊎ (result ≡ too_small) }
 {
     let Some(path) = &missed.path else {

@@ -40,8 +40,7 @@ returns-in-Ok-Some-Missing-clause-missing c = λ missing.
     given_path (pieces c.args.words.now c.args.word_lengths.now) c.args.asks (pieces c.args.paths.now c.args.path_lengths.now)
     (pieces c.args.texts.now c.args.text_lengths.now) c.args.found.now c.of-input.result.text
     (input_of c.of.result c.args.input.now) (input_of (found_of c.args.input_found) c.args.input.now)
-    c.in-Ok-Some-Missing.missed c.args.room.now c.hand_out_path.new.room c.hand_out_path.new.said.code
-    c.hand_out_path.new.said.size _
+    c.in-Ok-Some-Missing.missed c.args.room.now c.hand_out_path.new.room c.hand_out_path.new.said _
     (rw (c.in-Ok-Some-Missing.field-0-is, c.in-Ok-Some-Missing.field-0-0-is) at c.in-Ok-Some-Missing.ensures.served)
     c.of-input.ensures.text
     (ap (λ found. input_of found c.args.input.now) c.of.ensures) (c.hand_out_path.ensures.path missing)
@@ -51,8 +50,7 @@ returns-in-Ok-Some-Missing-clause-size c = λ small. inr (inr
     (given_path (pieces c.args.words.now c.args.word_lengths.now) c.args.asks (pieces c.args.paths.now c.args.path_lengths.now)
     (pieces c.args.texts.now c.args.text_lengths.now) c.args.found.now c.of-input.result.text
     (input_of c.of.result c.args.input.now) (input_of (found_of c.args.input_found) c.args.input.now)
-    c.in-Ok-Some-Missing.missed c.args.room.now c.hand_out_path.new.room c.hand_out_path.new.said.code
-    c.hand_out_path.new.said.size _
+    c.in-Ok-Some-Missing.missed c.args.room.now c.hand_out_path.new.room c.hand_out_path.new.said _
     (rw (c.in-Ok-Some-Missing.field-0-is, c.in-Ok-Some-Missing.field-0-0-is) at c.in-Ok-Some-Missing.ensures.served)
     c.of-input.ensures.text
     (ap (λ found. input_of found c.args.input.now) c.of.ensures) (c.hand_out_path.ensures.size small)))
