@@ -9,9 +9,9 @@ use Rattle.sfq_tables.specs.Connections.{Connected}
 use Rattle.sfq_tables.specs.OpenStatements.{statement_at}
 use Rattle.sfq_tables.specs.TableFaults.{geometry_fault_at}
 use Rattle.sfq_tables.specs.declared.table_faults.TablesFault.{TablesFault}
-use Rattle.statements.specs.BoundConstants.{HasBegunWithPlan, StaysAtEnd}
+use Rattle.statements.specs.BoundConstants.{HasBegunWithPlan, IsEndedOf, StaysAtEnd}
 use Rattle.statements.specs.Constants.{Constant, constant_type, constants_of, may_replace, with_constant}
-use Rattle.statements.specs.Statements.{IsAtEnd}
+use Rattle.statements.specs.Statements.{IsAtEnd, work_so_far}
 use Rattle.statements.specs.declared.prepared.Statement.{Statement}
 use Rattle.table_model.specs.RunOutcomes.{ByEveryMatrix}
 use Rattle.table_model.specs.SpatialTables.{SpatialDatabase}
@@ -47,11 +47,16 @@ pub record HasBound (database : SpatialDatabase) (k : ℕ) (value : Constant) (b
   pub begun : HasBegunWithPlan database statement
   pub there : slot ≡ Some statement
 
--- the slot has a statement of which no row is there and none is to come, nor once it begins anew
-pub record HasNoMore (database : SpatialDatabase) (slot : Option Statement) : Type 0 where
+-- a slot had a statement, and has one of which no row is there and none is to come, nor once it begins anew: its query has the references and
+-- items of the one before, and no work is done
+pub record HasNoMore (database : SpatialDatabase) (was slot : Option Statement) : Type 0 where
+  pub before : Statement
   pub statement : Statement
+  pub had : was ≡ Some before
   pub ended : ByEveryMatrix (λ matrix. IsAtEnd matrix database statement)
   pub none : StaysAtEnd database statement
+  pub query : IsEndedOf before.bound statement.bound
+  pub no_work : work_so_far statement ≡ 0
   pub there : slot ≡ Some statement
 
 -- the status of binding a value where memory is enough: whether there is a statement with a k-th constant that takes the value

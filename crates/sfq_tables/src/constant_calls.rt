@@ -79,7 +79,7 @@ pub extern "C" fn sfq_proved_bind_integer(
         (λ before. HasBound (lent kept.connection.database) constant (values.Integer value) before (statement_at now number))) }
     ensures left { result ≡ unknown → back.new.connection ≡ Some kept.connection }
     ensures ended { result ≡ out_of_memory → IfSome back.new.connection
-        (λ now. HasNoMore (lent kept.connection.database) (statement_at now number)) }
+        (λ now. HasNoMore (lent kept.connection.database) (statement_at kept.connection number) (statement_at now number)) }
     ensures status { (result ≡ out_of_memory)
         ⊎ (result ≡ status_of_value constant (values.Integer value) (statement_at kept.connection number)) }
     ensures others { IfSome back.new.connection
@@ -106,7 +106,7 @@ pub extern "C" fn sfq_proved_bind_null(
         (λ before. HasBound (lent kept.connection.database) constant values.Null before (statement_at now number))) }
     ensures left { result ≡ unknown → back.new.connection ≡ Some kept.connection }
     ensures ended { result ≡ out_of_memory → IfSome back.new.connection
-        (λ now. HasNoMore (lent kept.connection.database) (statement_at now number)) }
+        (λ now. HasNoMore (lent kept.connection.database) (statement_at kept.connection number) (statement_at now number)) }
     ensures status { (result ≡ out_of_memory)
         ⊎ (result ≡ status_of_value constant values.Null (statement_at kept.connection number)) }
     ensures others { IfSome back.new.connection
@@ -134,7 +134,7 @@ pub extern "C" fn sfq_proved_bind_text(
         (λ before. HasBound (lent kept.connection.database) constant (values.Text text.now) before (statement_at now number))) }
     ensures left { result ≡ unknown → back.new.connection ≡ Some kept.connection }
     ensures ended { result ≡ out_of_memory → IfSome back.new.connection (λ now. (now ≡ kept.connection)
-        ⊎ HasNoMore (lent kept.connection.database) (statement_at now number)) }
+        ⊎ HasNoMore (lent kept.connection.database) (statement_at kept.connection number) (statement_at now number)) }
     ensures status { IsStatusOfText constant text.now (statement_at kept.connection number) result }
     ensures others { IfSome back.new.connection
         (λ now. now ≡ with_slot number (statement_at now number) kept.connection) }
@@ -164,7 +164,7 @@ pub extern "C" fn sfq_proved_bind_geometry(
         (λ before. HasBound (lent kept.connection.database) constant (values.Geometry g) before (statement_at now number)))) }
     ensures left { (result ≡ unknown) ⊎ (result ≡ first_refused) → back.new.connection ≡ Some kept.connection }
     ensures ended { result ≡ out_of_memory → IfSome back.new.connection (λ now. (now ≡ kept.connection)
-        ⊎ HasNoMore (lent kept.connection.database) (statement_at now number)) }
+        ⊎ HasNoMore (lent kept.connection.database) (statement_at kept.connection number) (statement_at now number)) }
     ensures status { (result ≡ out_of_memory)
         ⊎ (result ≡ status_of_geometry constant (geometry_in_text text.now) (statement_at kept.connection number)) }
     ensures refused { result ≡ first_refused

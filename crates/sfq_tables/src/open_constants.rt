@@ -81,7 +81,7 @@ impl Connection {
         requires { IsOver (lent self.now.database) statement.old }
         ensures bound { result ≡ ok → HasBound (lent self.now.database) k value statement.old (Some statement.new) }
         ensures left { result ≡ unknown → statement.new ≡ statement.old }
-        ensures ended { result ≡ out_of_memory → HasNoMore (lent self.now.database) (Some statement.new) }
+        ensures ended { result ≡ out_of_memory → HasNoMore (lent self.now.database) (Some statement.old) (Some statement.new) }
         ensures status { (result ≡ out_of_memory) ⊎ (result ≡ status_of_value k value (Some statement.old)) }
         ensures over { IsOver (lent self.now.database) statement.new }
     {
@@ -101,7 +101,7 @@ impl Connection {
             (λ before. HasBound (lent self.old.database) k value before (statement_at self.new number)) }
         ensures left { result ≡ unknown → self.new ≡ self.old }
         ensures ended { result ≡ out_of_memory
-            → HasNoMore (lent self.old.database) (statement_at self.new number) }
+            → HasNoMore (lent self.old.database) (statement_at self.old number) (statement_at self.new number) }
         ensures status { (result ≡ out_of_memory)
             ⊎ (result ≡ status_of_value k value (statement_at self.old number)) }
         ensures others { self.new ≡ with_slot number (statement_at self.new number) self.old }
@@ -130,7 +130,7 @@ pub fn bind_text(
         (λ before. HasBound (lent connection.old.database) k (values.Text text.now) before (statement_at connection.new number)) }
     ensures left { result ≡ unknown → connection.new ≡ connection.old }
     ensures ended { result ≡ out_of_memory → (connection.new ≡ connection.old)
-        ⊎ HasNoMore (lent connection.old.database) (statement_at connection.new number) }
+        ⊎ HasNoMore (lent connection.old.database) (statement_at connection.old number) (statement_at connection.new number) }
     ensures status { IsStatusOfText k text.now (statement_at connection.old number) result }
     ensures others { connection.new ≡ with_slot number (statement_at connection.new number) connection.old }
 {
@@ -159,7 +159,7 @@ pub fn bind_geometry(
         (λ before. HasBound (lent connection.old.database) k (values.Geometry g) before (statement_at connection.new number))) }
     ensures left { (result ≡ unknown) ⊎ (result ≡ first_refused) → connection.new ≡ connection.old }
     ensures ended { result ≡ out_of_memory → (connection.new ≡ connection.old)
-        ⊎ HasNoMore (lent connection.old.database) (statement_at connection.new number) }
+        ⊎ HasNoMore (lent connection.old.database) (statement_at connection.old number) (statement_at connection.new number) }
     ensures status { (result ≡ out_of_memory)
         ⊎ (result ≡ status_of_geometry k (geometry_in_text text.now) (statement_at connection.old number)) }
     ensures refused { result ≡ first_refused

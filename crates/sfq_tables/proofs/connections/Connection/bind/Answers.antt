@@ -21,7 +21,7 @@ returns-in-Some-clause-left c = λ e.
 
 pub returns-in-Some-clause-ended : goal.returns-in-Some-clause-ended
 returns-in-Some-clause-ended c = λ e.
-    put_for (λ database before after. HasNoMore database after)
+    put_for HasNoMore
     c.args.self.now c.take_out.new.self c.put_in.new.self c.args.number c.in-Some.statement c.bind_in-status.new.statement
     c.in-Some.ensures.taken c.in-Some.ensures.left c.put_in.ensures (c.bind_in-status.ensures.ended e)
 

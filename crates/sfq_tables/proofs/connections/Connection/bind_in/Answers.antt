@@ -42,9 +42,13 @@ pub returns-clause-ended : goal.returns-clause-ended
 returns-clause-ended c = λ _.
     let same = c.database-database.ensures.value ∙ ap (λ (v : Connected). lent v.database) c.self.view_is in
     record {
+      before = c.args.statement.now;
       statement = c.bind.new.self;
+      had = refl;
       ended = subst (λ (d : SpatialDatabase). ByEveryMatrix (λ matrix. IsAtEnd matrix d c.bind.new.self)) same
           c.in-Err.ensures.ended;
       none = subst (λ (d : SpatialDatabase). StaysAtEnd d c.bind.new.self) same c.in-Err.ensures.none;
+      query = c.in-Err.ensures.closed;
+      no_work = c.in-Err.ensures.no_work;
       there = refl;
     }
