@@ -63,6 +63,10 @@ pub record IsSpot (text : List ℕ) (spot : Spot) : Type 0 where
 abbrev pub ends_line : ℕ → Bool
 ends_line byte = byte == 13 || byte == 10
 
+-- whether a byte outside quotes ends a field
+abbrev pub ends_field : ℕ → Bool
+ends_field byte = byte == 44 || ends_line byte
+
 -- whether a byte begins a field in a state: after a comma any does, and where a record may begin one that ends no line
 abbrev pub begins_field : State → ℕ → Bool
 begins_field st.StartField byte = true

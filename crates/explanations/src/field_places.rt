@@ -1,11 +1,14 @@
 //! Where the records and the fields of a CSV text begin.
 
-ghost use Rattle.std.specs.Prelude.{◌≡◌, ◌<◌, ◌≤◌, ◌+◌, ◌++◌, ℕ, IfSome, List, length, take};
+ghost use Rattle.std.specs.Prelude.{◌≡◌, ◌≢◌, ◌<◌, ◌≤◌, ◌+◌, ℕ, IfSome, List, drop, false, length, slice_index, take};
+ghost use Rattle.std.specs.Bool.{OnTrue};
 ghost use Rattle.csv.specs.Machine.{in_field, start_field, start_record};
 ghost use Rattle.csv.specs.declared.parser.State.TheVariants as st;
 ghost use Rattle.csv.specs.Reading.{default_config};
 ghost use Rattle.explanations.specs.Fields.{IsFieldPlace, IsRecordEnd, IsSpot};
 ghost use Rattle.explanations.specs.Fields as spec;
+
+use memchr::memchr;
 
 /// Where the reading of a CSV text is.
 #[derive(Clone, Copy, Debug, PartialEq, Eq)]
@@ -177,6 +180,20 @@ impl Cursor {
         }
     }
 
+    /// How many of these bytes, from the first on, leave it as it is: in quotes those before the next quote, in a field outside quotes those
+    /// before the next comma or end of a line. Elsewhere none.
+    #[inline(always)]
+    fn staying(self, bytes: &[u8]) -> usize
+        ensures within { result ≤ length bytes.now }
+        ensures stay { (k : ℕ) → k < result → spec.moved (spec.cursor self) (slice_index bytes.now k) ≡ spec.cursor self }
+    {
+        match self.reading {
+            Reading::Plain => before_end(bytes),
+            Reading::Quoted => before_quote(bytes),
+            _ => 0,
+        }
+    }
+
     /// Whether a field begins here, even if no byte is behind.
     fn is_field_start(self) -> bool
         ensures { result ≡ spec.is_field_start (spec.state_of self.reading) }
@@ -228,6 +245,44 @@ fn read_more(body: &[u8], at: usize, cursor: Cursor) -> Cursor
     cursor.after(body[at])
 }
 
+/// How many of these bytes are before the first quote.
+fn before_quote(bytes: &[u8]) -> usize
+    ensures within { result ≤ length bytes.now }
+    ensures none { (k : ℕ) → k < result → slice_index bytes.now k ≢ 34 }
+{
+    match memchr(b'"', bytes) {
+        Some(place) => place,
+        None => bytes.len(),
+    }
+}
+
+/// How many of these bytes are before the first that ends a field outside quotes: a comma, or the end of a line.
+fn before_end(bytes: &[u8]) -> usize
+    ensures within { result ≤ length bytes.now }
+    ensures none { (k : ℕ) → k < result → spec.ends_field (slice_index bytes.now k) ≡ false }
+{
+    let mut count = 0;
+    while count < bytes.len() && !ends_field(bytes[count]) {
+        count += 1;
+    }
+    count
+}
+
+/// Whether a byte outside quotes ends a field.
+fn ends_field(byte: u8) -> bool
+    ensures { result ≡ spec.ends_field byte }
+{
+    byte == b',' || byte == b'\r' || byte == b'\n'
+}
+
+/// The bytes of a text from a place on.
+fn from_place(body: &[u8], place: usize) -> &[u8]
+    requires { place ≤ length body.now }
+    ensures { result.now ≡ drop place body.now }
+{
+    &body[place..]
+}
+
 /// A place of a text, and where the reading of what comes before it is.
 #[derive(Clone, Copy, Debug)]
 pub(crate) struct Spot {
@@ -246,6 +301,28 @@ impl Spot {
         }
     }
 
+    /// Behind the next byte of a text, and behind those after it that change nothing.
+    #[inline(always)]
+    fn next(self, body: &[u8]) -> Spot
+        requires spot { IsSpot body.now self }
+        requires within { self.place < length body.now }
+        ensures spot { IsSpot body.now result }
+        ensures behind { self.place < result.place }
+    {
+        let cursor = read_more(body, self.place, self.cursor);
+        let behind = self.place + 1;
+        let place = behind + cursor.staying(from_place(body, behind));
+        Spot { place, cursor }
+    }
+
+    /// Whether it is in a field of a record, each counted from 0.
+    #[inline(always)]
+    fn is_in(self, number: usize, field: usize) -> bool
+        ensures { OnTrue result ((self.cursor.records ≡ number) × (self.cursor.fields ≡ field)) }
+    {
+        self.cursor.records == number && self.cursor.fields == field
+    }
+
     /// How many records end before it.
     pub(crate) fn records(self) -> usize {
         self.cursor.records
@@ -258,19 +335,18 @@ pub(crate) fn field_spot(body: &[u8], from: Spot, number: usize, field: usize) -
     ensures place { IfSome result (λ spot. IsFieldPlace body.now number field spot.place) }
     ensures spot { IfSome result (IsSpot body.now) }
 {
-    let mut cursor = from.cursor;
-    for place in from.place..body.len() {
-        if cursor.records > number {
+    let mut spot = from;
+    while spot.place < body.len() {
+        if spot.cursor.records > number {
             return None;
         }
-        if cursor.records == number && cursor.fields == field && cursor.begins(body[place]) {
-            return Some(Spot { place, cursor });
+        if spot.is_in(number, field) && spot.cursor.begins(body[spot.place]) {
+            return Some(spot);
         }
-        cursor = read_more(body, place, cursor);
+        spot = spot.next(body);
     }
-    if cursor.records == number && cursor.fields == field && cursor.is_field_start() {
-        let place = body.len();
-        return Some(Spot { place, cursor });
+    if spot.is_in(number, field) && spot.cursor.is_field_start() {
+        return Some(spot);
     }
     None
 }
@@ -291,14 +367,14 @@ pub(crate) fn record_end(body: &[u8], from: Spot, number: usize) -> Option<usize
     ensures place { IfSome result (IsRecordEnd body.now number) }
     ensures within { IfSome result (λ place. place ≤ length body.now) }
 {
-    let mut cursor = from.cursor;
-    for at in from.place..body.len() {
-        if cursor.records == number && cursor.ends(body[at]) {
-            return Some(at);
+    let mut spot = from;
+    while spot.place < body.len() {
+        if spot.cursor.records == number && spot.cursor.ends(body[spot.place]) {
+            return Some(spot.place);
         }
-        cursor = read_more(body, at, cursor);
+        spot = spot.next(body);
     }
-    if cursor.records == number {
+    if spot.cursor.records == number {
         return Some(body.len());
     }
     None
@@ -345,9 +421,9 @@ pub(crate) fn long_field(body: &[u8]) -> Option<(usize, usize)> {
 pub(crate) fn ends_in_quotes(body: &[u8], from: Spot, number: usize) -> bool
     requires { IsSpot body.now from }
 {
-    let mut cursor = from.cursor;
-    for at in from.place..body.len() {
-        cursor = cursor.after(body[at]);
+    let mut spot = from;
+    while spot.place < body.len() {
+        spot = spot.next(body);
     }
-    cursor.records == number && cursor.reading == Reading::Quoted
+    spot.cursor.records == number && spot.cursor.reading == Reading::Quoted
 }

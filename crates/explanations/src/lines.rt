@@ -21,19 +21,30 @@ pub fn line_of(text: &[u8], place: usize) -> Line
     ensures number { result.number ≡ line_number text.now place }
     ensures line { IsLine text.now place result.start result.end }
 {
-    let mut number = 1;
-    let mut start = 0;
-    for at in 0..place {
-        if text[at] == b'\n' {
-            number += 1;
-            start = at + 1;
-        }
+    let mut start = place;
+    while start > 0 && text[start - 1] != b'\n' {
+        start -= 1;
     }
     let mut end = place;
     while end < text.len() && text[end] != b'\n' {
         end += 1;
     }
+    let number = line_number(text, place);
     Line { number, start, end }
+}
+
+/// The number of the line that a place of a text is in, from 1.
+fn line_number(text: &[u8], place: usize) -> usize
+    requires { place ≤ length text.now }
+    ensures { result ≡ line_number text.now place }
+{
+    let mut number = 1;
+    for at in 0..place {
+        if text[at] == b'\n' {
+            number += 1;
+        }
+    }
+    number
 }
 
 /// Whether a byte is white space.

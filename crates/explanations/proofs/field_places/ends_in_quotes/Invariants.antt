@@ -1,6 +1,10 @@
--- At most as many records and fields were read as bytes.
-use Rattle.std.proofs.Common.{◌≤◌}
+-- What was read so far.
+use Rattle.std.proofs.Common.{◌-◌, length}
+use Rattle.explanations.specs.Fields.{IsSpot}
 use Rattle.explanations.proofs.field_places.ends_in_quotes.Given as goal
 
-abbrev pub invariant-loop-at : goal.invariant-loop-at
-invariant-loop-at l = (l.cursor.records ≤ l.at) × (l.cursor.fields ≤ l.at)
+abbrev pub invariant-loop-spot : goal.invariant-loop-spot
+invariant-loop-spot l = IsSpot l.body l.spot
+
+abbrev pub decreases-loop-spot : goal.decreases-loop-spot
+decreases-loop-spot l = length l.body - l.spot.place

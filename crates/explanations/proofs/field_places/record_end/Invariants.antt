@@ -1,10 +1,10 @@
 -- What was read so far.
-use Rattle.std.proofs.Common.{◌≡◌, ◌≤◌, take}
-use Rattle.explanations.specs.Fields.{cursor, read}
+use Rattle.std.proofs.Common.{◌-◌, length}
+use Rattle.explanations.specs.Fields.{IsSpot}
 use Rattle.explanations.proofs.field_places.record_end.Given as goal
 
-abbrev pub invariant-loop-at : goal.invariant-loop-at
-invariant-loop-at l = record {
-  is : cursor l.cursor ≡ read (take l.at l.body);
-  few : (l.cursor.records ≤ l.at) × (l.cursor.fields ≤ l.at);
-}
+abbrev pub invariant-loop-spot : goal.invariant-loop-spot
+invariant-loop-spot l = IsSpot l.body l.spot
+
+abbrev pub decreases-loop-spot : goal.decreases-loop-spot
+decreases-loop-spot l = length l.body - l.spot.place

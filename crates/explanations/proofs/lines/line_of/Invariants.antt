@@ -1,17 +1,15 @@
--- The line so far: it begins after a line feed, and none is in it.
-use Rattle.std.proofs.Common.{◌≡◌, ◌≢◌, ◌⊎◌, ◌-◌, ◌+◌, ◌≤◌, ◌<◌, ℕ, length, slice_index, take}
-use Rattle.std.specs.List.{count_by}
-use Rattle.explanations.specs.Lines.{ends_line}
+-- The line so far: no line feed is in it.
+use Rattle.std.proofs.Common.{◌≢◌, ◌-◌, ◌≤◌, ◌<◌, ℕ, length, slice_index}
 use Rattle.explanations.proofs.lines.line_of.Given as goal
 
-abbrev pub invariant-loop-at : goal.invariant-loop-at
-invariant-loop-at l = record {
-  number : l.number ≡ count_by ends_line (take l.at l.text) + 1;
-  few : l.number ≤ l.at + 1;
-  from : l.start ≤ l.at;
-  begins : (l.start ≡ 0) ⊎ (slice_index l.text (l.start - 1) ≡ 10);
-  whole : (k : ℕ) → l.start ≤ k → k < l.at → slice_index l.text k ≢ 10;
+abbrev pub invariant-loop-start : goal.invariant-loop-start
+invariant-loop-start l = record {
+  from : l.start ≤ l.place;
+  whole : (k : ℕ) → l.start ≤ k → k < l.place → slice_index l.text k ≢ 10;
 }
+
+abbrev pub decreases-loop-start : goal.decreases-loop-start
+decreases-loop-start l = l.start
 
 abbrev pub invariant-loop-end : goal.invariant-loop-end
 invariant-loop-end l = record {
