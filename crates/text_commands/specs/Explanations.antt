@@ -3,6 +3,7 @@ use Rattle.std.specs.Prelude.{◌≡◌, ◌⊎◌, ℕ, List, Option, None, Som
 use Rattle.explanations.specs.Faults.{text_place}
 use Rattle.explanations.specs.Marks.{IsExplanation, SaysOfFile}
 use Rattle.failures.specs.Ends.{End, Writes}
+use Rattle.failures.specs.declared.failure.Failure.{Failure}
 use Rattle.failures.specs.declared.failure.Failure.TheVariants as f
 use Rattle.failures.specs.declared.failure.GeometryWord.{GeometryWord}
 use Rattle.failures.specs.declared.failure.GeometryWord.TheVariants.{First, Second}
@@ -29,6 +30,11 @@ abbrev pub IsFirst : List ℕ → Option GeometryFault → Type 0
 IsFirst text None = HasNone text
 IsFirst text (Some fault) = HasFirst text fault
 
+-- the word whose geometry is refused, and its fault, if a failure is that
+abbrev pub refusal_in : Failure → Option (GeometryWord × GeometryFault)
+refusal_in (f.Refused word fault) = Some (word, fault)
+refusal_in failure = None
+
 -- what is said of a query's file that isn't UTF-8, behind its path
 abbrev pub not_utf8 : List ℕ
 not_utf8 = codes " isn't UTF-8: save it as UTF-8"
@@ -38,9 +44,13 @@ module _ {E : Type 0} (taken : E → Option (List ℕ)) (failures : E → ℕ) w
   abbrev pub Adds : E → E → List ℕ → Type 0
   Adds old new text = Writes (taken old) (taken new) (failures old) (failures new) text
 
-  -- nothing was written, or the line that says this of the file at a path, or a beginning of it
+  -- the line that says this of the file at a path was written, or a beginning of it
+  abbrev pub SaysOf : E → E → List ℕ → List ℕ → Type 0
+  SaysOf old new path words = (line : List ℕ) × SaysOfFile path words line × Adds old new line
+
+  -- nothing was written, or that line, or a beginning of it
   abbrev pub MaySayOf : E → E → List ℕ → List ℕ → Type 0
-  MaySayOf old new path words = (new ≡ old) ⊎ ((line : List ℕ) × SaysOfFile path words line × Adds old new line)
+  MaySayOf old new path words = (new ≡ old) ⊎ SaysOf old new path words
 
   -- nothing was written, or the line that says that the file which a query's word names isn't UTF-8, or a beginning of it
   abbrev pub MayExplainEncoding : E → E → List ℕ → Type 0
@@ -64,3 +74,15 @@ module _ {E : Type 0} (taken : E → Option (List ℕ)) (failures : E → ℕ) w
   -- what is written where one of the texts of two geometries may be refused
   abbrev pub MayExplainTexts : E → E → List ℕ → List ℕ → End → Type 0
   MayExplainTexts old new first second end = MayExplainText old new first end ⊎ ExplainsRefusal old new Second second end
+
+  -- what is written of a refusal of one of two texts, or of none: what explains the fault of the text that is refused, or a beginning of it
+  abbrev pub SaysOfRefusal : E → E → List ℕ → List ℕ → Option (GeometryWord × GeometryFault) → Type 0
+  SaysOfRefusal old new first second None = new ≡ old
+  SaysOfRefusal old new first second (Some (First, fault)) = Explains old new first fault
+  SaysOfRefusal old new first second (Some (Second, fault)) = Explains old new second fault
+
+  -- and where the command has the first text alone
+  abbrev pub SaysOfFirst : E → E → List ℕ → Option (GeometryWord × GeometryFault) → Type 0
+  SaysOfFirst old new text None = new ≡ old
+  SaysOfFirst old new text (Some (First, fault)) = Explains old new text fault
+  SaysOfFirst old new text (Some (Second, fault)) = new ≡ old

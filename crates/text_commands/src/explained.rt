@@ -78,7 +78,7 @@ fn show_cells<S: Sink, E: Sink, M: Sink>(
     match witnesses_of_texts(alloc, first, second) {
         Ok(witnesses) => put_cells(&witnesses, out, err),
         Err(failure) => {
-            explain_texts(alloc, why, first, second, &failure, more);
+            let _ = explain_texts(alloc, why, first, second, &failure, more);
             failed(&failure, err)
         }
     }
@@ -142,7 +142,7 @@ fn show_verdict<S: Sink, E: Sink, M: Sink>(
     match reason_of_text(alloc, text) {
         Ok(verdict) => put_validity(&verdict, out, err),
         Err(failure) => {
-            explain_text(alloc, why, text, &failure, more);
+            let _ = explain_text(alloc, why, text, &failure, more);
             failed(&failure, err)
         }
     }

@@ -1,7 +1,7 @@
 //! What explains that a command refuses a text that a word gives, where more is asked for: its place, and what to do.
 
-ghost use Rattle.std.specs.Prelude.{◌≡◌, ◌⊎◌, Err, IfOk, IfSome, false};
-ghost use Rattle.text_commands.specs.Explanations.{Explains, IsFirst, MayExplainText, MayExplainTexts, MaySayOf, not_utf8};
+ghost use Rattle.std.specs.Prelude.{◌≡◌, Err, IfOk, IfSome, OnErr, OnOk, false, true};
+ghost use Rattle.text_commands.specs.Explanations.{Explains, IsFirst, MayExplainText, MayExplainTexts, MaySayOf, SaysOf, SaysOfFirst, SaysOfRefusal, not_utf8, refusal_in};
 ghost use Rattle.failures.specs.declared.failure.Failure.TheVariants as f;
 ghost use Rattle.geometry_model.specs.declared.geometry_faults.GeometryFault.TheVariants as g;
 
@@ -17,22 +17,30 @@ use witnesses::put_verdict;
 /// What is said of a query's file that isn't UTF-8, behind its path.
 const NOT_UTF8: &str = " isn't UTF-8: save it as UTF-8";
 
-/// Writes that the query's file at a path isn't UTF-8, if `why` says so.
-pub(crate) fn explain_encoding<M: Sink>(alloc: Global, why: bool, path: &str, more: &mut M)
+/// Writes that the query's file at a path isn't UTF-8, if `why` says so. At Err memory ran out, and nothing is written.
+pub(crate) fn explain_encoding<M: Sink>(
+    alloc: Global,
+    why: bool,
+    path: &str,
+    more: &mut M,
+) -> Result<(), AllocError>
     ensures explains { MaySayOf M.taken M.failures more.old more.new path.now not_utf8 }
+    ensures done { OnOk result (why ≡ true → SaysOf M.taken M.failures more.old more.new path.now not_utf8) }
+    ensures none { OnErr result (more.new ≡ more.old) }
     ensures unasked { why ≡ false → more.new ≡ more.old }
 {
     if !why {
-        return;
+        return Ok(());
     }
     let Ok(line) = file_explained(alloc, path.as_bytes(), NOT_UTF8) else {
-        return;
+        return Err(AllocError);
     };
     let _ = put_all(more, line.as_slice());
+    Ok(())
 }
 
 /// Writes what explains that one of the two texts of a command is refused, if `why` says so and a failure is that: the place and what to do.
-/// Nothing is written if memory runs out.
+/// At Err memory ran out, and nothing is written.
 pub(crate) fn explain_texts<M: Sink>(
     alloc: Global,
     why: bool,
@@ -40,34 +48,44 @@ pub(crate) fn explain_texts<M: Sink>(
     second: &[u8],
     failure: &Failure<'_>,
     more: &mut M,
-)
+) -> Result<(), AllocError>
     ensures explains { MayExplainTexts M.taken M.failures more.old more.new first.now second.now (Err failure.now) }
+    ensures done { OnOk result (why ≡ true
+        → SaysOfRefusal M.taken M.failures more.old more.new first.now second.now (refusal_in failure.now)) }
+    ensures none { OnErr result (more.new ≡ more.old) }
     ensures unasked { why ≡ false → more.new ≡ more.old }
 {
-    match *failure {
-        Failure::Refused(GeometryWord::Second, fault) if why => {
-            explain_fault(alloc, second, fault, more)
-        }
-        _ => explain_text(alloc, why, first, failure, more),
+    if !why {
+        return Ok(());
+    }
+    match refusal(failure) {
+        Some((GeometryWord::First, fault)) => explain_fault(alloc, first, fault, more),
+        Some((GeometryWord::Second, fault)) => explain_fault(alloc, second, fault, more),
+        None => Ok(()),
     }
 }
 
-/// Writes what explains that the text of a command, or the first of two, is refused, if `why` says so and a failure is that.
+/// Writes what explains that the text of a command, or the first of two, is refused, if `why` says so and a failure is that. At Err memory
+/// ran out, and nothing is written.
 pub(crate) fn explain_text<M: Sink>(
     alloc: Global,
     why: bool,
     text: &[u8],
     failure: &Failure<'_>,
     more: &mut M,
-)
+) -> Result<(), AllocError>
     ensures explains { MayExplainText M.taken M.failures more.old more.new text.now (Err failure.now) }
+    ensures done { OnOk result (why ≡ true
+        → SaysOfFirst M.taken M.failures more.old more.new text.now (refusal_in failure.now)) }
+    ensures none { OnErr result (more.new ≡ more.old) }
     ensures unasked { why ≡ false → more.new ≡ more.old }
 {
-    match *failure {
-        Failure::Refused(GeometryWord::First, fault) if why => {
-            explain_fault(alloc, text, fault, more)
-        }
-        _ => {}
+    if !why {
+        return Ok(());
+    }
+    match refusal(failure) {
+        Some((GeometryWord::First, fault)) => explain_fault(alloc, text, fault, more),
+        _ => Ok(()),
     }
 }
 
@@ -86,7 +104,8 @@ pub(crate) fn fault_of(alloc: Global, text: &[u8]) -> Result<Option<GeometryFaul
 
 /// The geometry that is refused, and its fault, if a failure is that.
 fn refusal(failure: &Failure<'_>) -> Option<(GeometryWord, GeometryFault)>
-    ensures { IfSome result (λ refused. failure.now ≡ f.Refused refused.0 refused.1) }
+    ensures is { result ≡ refusal_in failure.now }
+    ensures of { IfSome result (λ refused. failure.now ≡ f.Refused refused.0 refused.1) }
 {
     match *failure {
         Failure::Refused(word, fault) => Some((word, fault)),
@@ -95,8 +114,14 @@ fn refusal(failure: &Failure<'_>) -> Option<(GeometryWord, GeometryFault)>
 }
 
 /// Writes what explains a fault of a text.
-fn explain_fault<M: Sink>(alloc: Global, text: &[u8], fault: GeometryFault, more: &mut M)
-    ensures { (more.new ≡ more.old) ⊎ Explains M.taken M.failures more.old more.new text.now fault }
+fn explain_fault<M: Sink>(
+    alloc: Global,
+    text: &[u8],
+    fault: GeometryFault,
+    more: &mut M,
+) -> Result<(), AllocError>
+    ensures explains { OnOk result (Explains M.taken M.failures more.old more.new text.now fault) }
+    ensures none { OnErr result (more.new ≡ more.old) }
 {
     match fault {
         GeometryFault::Text(fault) => explain_refused(alloc, text, fault, more),
@@ -105,26 +130,36 @@ fn explain_fault<M: Sink>(alloc: Global, text: &[u8], fault: GeometryFault, more
 }
 
 /// Writes what explains a fault of a text that spells no geometry.
-fn explain_refused<M: Sink>(alloc: Global, text: &[u8], fault: TextFault, more: &mut M)
-    ensures { (more.new ≡ more.old) ⊎ Explains M.taken M.failures more.old more.new text.now (g.Text fault) }
+fn explain_refused<M: Sink>(
+    alloc: Global,
+    text: &[u8],
+    fault: TextFault,
+    more: &mut M,
+) -> Result<(), AllocError>
+    ensures explains { OnOk result (Explains M.taken M.failures more.old more.new text.now (g.Text fault)) }
+    ensures none { OnErr result (more.new ≡ more.old) }
 {
-    let Ok(explanation) = text_explained(alloc, text, fault) else {
-        return;
-    };
+    let explanation = text_explained(alloc, text, fault)?;
     let _ = put_all(more, explanation.as_slice());
+    Ok(())
 }
 
-/// Writes what explains a fault of the geometry of a text, which isn't valid.
-fn explain_invalid<M: Sink>(alloc: Global, text: &[u8], fault: ValidityFault, more: &mut M)
-    ensures { (more.new ≡ more.old) ⊎ Explains M.taken M.failures more.old more.new text.now (g.Invalid fault) }
+/// Writes what explains a fault of the geometry of a text, which isn't valid. At Err memory ran out, or the text spells no geometry.
+fn explain_invalid<M: Sink>(
+    alloc: Global,
+    text: &[u8],
+    fault: ValidityFault,
+    more: &mut M,
+) -> Result<(), AllocError>
+    ensures explains { OnOk result (Explains M.taken M.failures more.old more.new text.now (g.Invalid fault)) }
+    ensures none { OnErr result (more.new ≡ more.old) }
 {
     let Ok(verdict) = reason_of_text(alloc, text) else {
-        return;
+        return Err(AllocError);
     };
-    let Ok(explanation) = validity_explained(alloc, text, fault) else {
-        return;
-    };
+    let explanation = validity_explained(alloc, text, fault)?;
     let _ = put_all(more, b"sfq: ");
     let _ = put_verdict(&verdict, more);
     let _ = put_all(more, explanation.as_slice());
+    Ok(())
 }

@@ -164,7 +164,7 @@ fn query_in<R: Read + Drop, M: Sink>(
     match String::from_utf8(text) {
         Ok(text) => Ok(text),
         Err(_) => {
-            explain_encoding(alloc, why, path, more);
+            let _ = explain_encoding(alloc, why, path, more);
             Err(Failure::Unreadable("query"))
         }
     }

@@ -77,7 +77,7 @@ fn relate_given<S: Sink, E: Sink, M: Sink>(
     let matrix = match relate_texts(alloc, first, second) {
         Ok(matrix) => matrix,
         Err(failure) => {
-            explain_texts(alloc, why, first, second, &failure, more);
+            let _ = explain_texts(alloc, why, first, second, &failure, more);
             return failed(&failure, err);
         }
     };

@@ -9,5 +9,5 @@ returns-in-Ok c = (c.in-Ok._valid, spelled (tested (read_text c.args.text.now)) 
 
 pub returns-in-Some : goal.returns-in-Some
 returns-in-Some c =
-    first-fault c.args.text.now c.in-Err.failure c.in-Some.refused.0 c.in-Some.refused.1 c.in-Some.ensures
+    first-fault c.args.text.now c.in-Err.failure c.in-Some.refused.0 c.in-Some.refused.1 c.in-Some.ensures.of
     c.in-Err.ensures.failure
