@@ -59,22 +59,16 @@ read-schema remaining file reader limit text definitions is limited read gives =
     subst (λ o. ReadsSchema remaining o (Ok definitions)) (sym is) (text-gives (remaining reader) limit text (Ok definitions) limited read gives)
 
 -- and one that isn't
-refused : {R : Type 0} (remaining : R → Option (List ℕ)) (file : Option R) (reader : R) (limit : ℕ) (text : List ℕ) (refusal : SchemaFault) → file ≡ Some reader
-    → limit ≡ most_bytes + 1 → IfSome (remaining reader) (λ bytes. text ≡ take limit bytes) → schema_of shape_named text ≡ Err refusal → ReadsSchema remaining file (Err (f.Schema refusal))
-refused remaining file reader limit text refusal is limited read gives =
-    subst (λ o. ReadsSchema remaining o (Err (f.Schema refusal))) (sym is) (text-gives (remaining reader) limit text (Err refusal) limited read gives)
-
-pub refused-schema : {R : Type 0} (remaining : R → Option (List ℕ)) (file : Option R) (reader : R) (limit : ℕ) (text : List ℕ) (refusal : SchemaFault) → file ≡ Some reader
-    → limit ≡ most_bytes + 1 → IfSome (remaining reader) (λ bytes. text ≡ take limit bytes) → (refusal ≢ fault.OutOfMemory → schema_of shape_named text ≡ Err refusal)
+pub refused-schema : {R : Type 0} (remaining : R → Option (List ℕ)) (file : Option R) (reader : R) (limit : ℕ) (text : List ℕ)
+    (refusal : SchemaFault) → file ≡ Some reader → limit ≡ most_bytes + 1
+    → IfSome (remaining reader) (λ bytes. text ≡ take limit bytes)
+    → (refusal ≢ fault.OutOfMemory → schema_of shape_named text ≡ Err refusal)
     → ReadsSchema remaining file (Err (schema_failure refusal))
-refused-schema remaining file reader limit text (fault.Syntax at) is limited read gives = refused remaining file reader limit text (fault.Syntax at) is limited read (gives (λ e. cc e))
-refused-schema remaining file reader limit text (fault.DoubleName at) is limited read gives = refused remaining file reader limit text (fault.DoubleName at) is limited read (gives (λ e. cc e))
-refused-schema remaining file reader limit text (fault.NoKey at) is limited read gives = refused remaining file reader limit text (fault.NoKey at) is limited read (gives (λ e. cc e))
-refused-schema remaining file reader limit text (fault.TwoKeys at) is limited read gives = refused remaining file reader limit text (fault.TwoKeys at) is limited read (gives (λ e. cc e))
-refused-schema remaining file reader limit text (fault.TooMany at) is limited read gives = refused remaining file reader limit text (fault.TooMany at) is limited read (gives (λ e. cc e))
-refused-schema remaining file reader limit text fault.TooLong is limited read gives = refused remaining file reader limit text fault.TooLong is limited read (gives (λ e. cc e))
 refused-schema remaining file reader limit text fault.OutOfMemory is limited read gives =
     subst (λ o. ReadsSchema remaining o (Err f.OutOfMemory)) (sym is) tt
+refused-schema remaining file reader limit text refusal is limited read gives =
+    subst (λ o. ReadsSchema remaining o (Err (schema_failure refusal))) (sym is)
+    (text-gives (remaining reader) limit text (Err refusal) limited read (gives (λ e. cc e)))
 
 -- ---- lists
 
@@ -95,10 +89,9 @@ module _ {F R : Type 0} (files : Opening F R) where
       → Opens files opener (paths ++ path ∷ []) (readers ++ reader ∷ []) after
   Opens-next opener [] [] next path reader after opens called =
       (after, subst (λ s. files role.Table s path (Some reader) after) opens called, refl)
-  Opens-next opener [] (r ∷ readers) next path reader after opens called = absurd opens
-  Opens-next opener (p ∷ paths) [] next path reader after opens called = absurd opens
   Opens-next opener (p ∷ paths) (r ∷ readers) next path reader after opens called =
       (opens.0, opens.1, Opens-next opens.0 paths readers next path reader after opens.2 called)
+  Opens-next opener _ _ next path reader after opens called = absurd opens
 
   -- a table's file more is opened
   pub table-next : (opener : F) (paths : List (List ℕ)) (i : ℕ) (path : List ℕ) (readers : List R) (now : F) (reader : R) (more : List R) (after : F)
@@ -116,17 +109,13 @@ module _ {F R : Type 0} (files : Opening F R) where
 pub runs-as : (A B : Type 0) (e : Fault) (outcome : Result (List ℕ) Refusal) (reached : ℕ → Type 0) (old new : Option (List ℕ)) → Runs {A = A} (Err e) outcome reached old new
     → Runs {A = B} (Err e) outcome reached old new
 runs-as A B (faults.Query e) outcome reached old new is = is
-runs-as A B (faults.Load table e) outcome reached old new is = is
-runs-as A B faults.Sink outcome reached old new is = is
-runs-as A B faults.Memory outcome reached old new is = is
+runs-as A B _ outcome reached old new is = is
 
 -- a sink's failures are counted for a fault as for its failure
 pub counts-as : (definitions : SpatialSchema) (e : Fault) (failure : Failure) (before : ℕ) → IsFaultOf definitions e failure
     → count_after {A = ℕ} before (Err e) ≡ failed_writes before (Err failure)
-counts-as definitions (faults.Query e) failure before is = subst (λ x. before ≡ failed_writes before (Err x)) (sym is) refl
-counts-as definitions (faults.Load table e) failure before is = subst (λ x. before ≡ failed_writes before (Err x)) (sym is.1) refl
-counts-as definitions faults.Sink failure before is = subst (λ x. count_after {A = ℕ} before (Err faults.Sink) ≡ failed_writes before (Err x)) (sym is) refl
-counts-as definitions faults.Memory failure before is = subst (λ x. before ≡ failed_writes before (Err x)) (sym is) refl
+counts-as definitions (faults.Load table e) failure before is = rw is.1
+counts-as definitions _ failure before is = rw is
 
 count-of : (memory : Bool) (table : ℕ) (e : LoadFault) (before : ℕ) → count_after {A = ℕ} before (Err (memory_or memory (faults.Load table e))) ≡ before
 count-of true table e before = refl

@@ -197,9 +197,10 @@ module _ {M : Type 0} (taken : M → Option (List ℕ)) (failures : M → ℕ) (
   abbrev pub NotesQuery : List ℕ → Type 0
   NotesQuery query = (notes : List ℕ) × AreNotes query notes × Writes (taken old) (taken new) (failures old) (failures new) notes
 
-  -- either what explains a fault at this place of a text was written, or a beginning of it, or memory ran out and nothing was written
-  abbrev pub MayExplainAt : List ℕ → Option ℕ → Type 0
-  MayExplainAt text place = (new ≡ old) ⊎ ExplainsAt text place
+  -- what is written of a failure of reading the text of a schema: what explains a fault of the text, or a beginning of it
+  abbrev pub SaysOfSchema : List ℕ → Failure → Type 0
+  SaysOfSchema text (f.Schema fault) = ExplainsAt text (schema_place fault)
+  SaysOfSchema text failure = new ≡ old
 
   -- what is written of a failure of reading the text of a schema, if that is asked for: what explains a fault of the text, unless memory ran out
   abbrev pub MayExplainSchema : List ℕ → Failure → Type 0

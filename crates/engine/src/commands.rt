@@ -5,9 +5,9 @@ ghost use Rattle.command_line.specs.Orders.{asks_why};
 ghost use Rattle.std.specs.Fn.{CalledAt, TakesAt};
 ghost use Rattle.std.specs.String.{string_bytes};
 ghost use Rattle.std.specs.Io.KnownBytes.{Appends};
-ghost use Rattle.engine.specs.Commands.{ChecksFiles, ChecksTables, ExplainsCheck, ExplainsRun, ExplainsTable, IsFaultOf, IsNamed, IsUnread, MayExplainAt, MayExplainFile, MayExplainLoad, MayExplainSchema, MayNoteText, MayOpen, NotesQuery, NotesTable, NotesTables, Opens, OpensTables, ReadsAgain, ReadsSchema, RunsFiles, RunsQuery, RunsTables, SaysQuote, SaysReason, ServesAlone, ServesOrder, check_text, table_names, table_paths};
+ghost use Rattle.engine.specs.Commands.{ChecksFiles, ChecksTables, ExplainsAt, ExplainsCheck, ExplainsRun, ExplainsTable, IsFaultOf, IsNamed, IsUnread, MayExplainFile, MayExplainLoad, MayExplainSchema, MayNoteText, MayOpen, NotesQuery, NotesTable, NotesTables, Opens, OpensTables, ReadsAgain, ReadsSchema, RunsFiles, RunsQuery, RunsTables, SaysOfSchema, SaysQuote, SaysReason, ServesAlone, ServesOrder, check_text, table_names, table_paths};
 ghost use Rattle.engine.specs.Commands as spec;
-ghost use Rattle.explanations.specs.Faults.{query_place};
+ghost use Rattle.explanations.specs.Faults.{query_place, schema_place};
 ghost use Rattle.explanations.specs.Tables.{IsTableExplanation};
 ghost use Rattle.query_runs.specs.Runs.{IsOfTables};
 ghost use Rattle.record_reasons.specs.ReasonTexts.{reason_line};
@@ -362,7 +362,9 @@ fn explain_run<R: Read + Drop, F: FnMut(File<'_>) -> Option<R>, M: Sink>(
     }
     match *end {
         Ok(()) => note_query(alloc, schema, query, counts, more),
-        Err(Failure::Query(fault)) => explain_query(alloc, schema, query, fault, more),
+        Err(Failure::Query(fault)) => {
+            let _ = explain_query(alloc, schema, query, fault, more);
+        }
         Err(Failure::Load(name, fault)) => {
             explain_load(alloc, schema, paths.directory, name, fault, opener, more)
         }
@@ -417,41 +419,63 @@ fn note_query<M: Sink>(
     }
 }
 
-/// Writes what explains a fault of a query over the tables of a schema.
+/// Writes what explains a fault of a query over the tables of a schema. At Err memory ran out, and nothing is written.
 fn explain_query<M: Sink>(
     alloc: Global,
     schema: &Schema,
     query: &str,
     fault: QueryFault,
     more: &mut M,
-)
-    ensures { MayExplainAt M.taken M.failures more.old more.new query.now (query_place fault) }
+) -> Result<(), AllocError>
+    ensures explains { OnOk result (ExplainsAt M.taken M.failures more.old more.new query.now (query_place fault)) }
+    ensures none { OnErr result (more.new ≡ more.old) }
 {
-    if let Ok(explanation) = query_explained_over(alloc, query.as_bytes(), fault, schema) {
-        let _ = put_all(more, explanation.as_slice());
-    }
+    let Ok(explanation) = query_explained_over(alloc, query.as_bytes(), fault, schema) else {
+        return Err(AllocError);
+    };
+    let _ = put_all(more, explanation.as_slice());
+    Ok(())
 }
 
-/// Writes what explains a failure of reading the text of a schema, if that is asked for and the failure is a fault of the text.
+/// Writes what explains a failure of reading the text of a schema, if that is asked for and the failure is a fault of the text. At Err
+/// memory ran out, and nothing is written.
 fn explain_schema<M: Sink>(
     alloc: Global,
     why: bool,
     text: &[u8],
     failure: &Failure<'_>,
     more: &mut M,
-)
+) -> Result<(), AllocError>
     ensures explains { MayExplainSchema M.taken M.failures more.old more.new text.now failure.now }
+    ensures done { OnOk result (why ≡ true
+        → SaysOfSchema M.taken M.failures more.old more.new text.now failure.now) }
+    ensures none { OnErr result (more.new ≡ more.old) }
     ensures unasked { why ≡ false → more.new ≡ more.old }
 {
     if !why {
-        return;
+        return Ok(());
     }
-    let Failure::Schema(fault) = *failure else {
-        return;
+    match *failure {
+        Failure::Schema(fault) => explain_schema_fault(alloc, text, fault, more),
+        _ => Ok(()),
+    }
+}
+
+/// Writes what explains a fault of the text of a schema. At Err memory ran out, and nothing is written.
+fn explain_schema_fault<M: Sink>(
+    alloc: Global,
+    text: &[u8],
+    fault: SchemaFault,
+    more: &mut M,
+) -> Result<(), AllocError>
+    ensures explains { OnOk result (ExplainsAt M.taken M.failures more.old more.new text.now (schema_place fault)) }
+    ensures none { OnErr result (more.new ≡ more.old) }
+{
+    let Ok(explanation) = schema_explained(alloc, text, fault) else {
+        return Err(AllocError);
     };
-    if let Ok(explanation) = schema_explained(alloc, text, fault) {
-        let _ = put_all(more, explanation.as_slice());
-    }
+    let _ = put_all(more, explanation.as_slice());
+    Ok(())
 }
 
 /// Writes what explains the fault of the table of this name, if its reason is found.
@@ -841,7 +865,7 @@ fn schema_in<R: Read + Drop, M: Sink>(
         Ok(schema) => Ok(schema),
         Err(fault) => {
             let failure = schema_failure(fault);
-            explain_schema(alloc, why, text.as_slice(), &failure, more);
+            let _ = explain_schema(alloc, why, text.as_slice(), &failure, more);
             Err(failure)
         }
     }
