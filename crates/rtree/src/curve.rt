@@ -2,6 +2,7 @@
 
 ghost use Rattle.std.specs.Prelude.{IsPermutation};
 
+use crate::curve_steps::{STEP_BITS, STEPS};
 use crate::envelopes::Envelope;
 use std::alloc::AllocError;
 
@@ -34,30 +35,23 @@ fn word(least: i32, greatest: i32) -> u32 {
     (least.wrapping_add(greatest).cast_unsigned() << UNUSED_BITS) ^ SIGN
 }
 
-/// The place of two words along the curve: two bits for each quadrant, from the largest to the smallest. In the two
-/// lower quadrants the curve goes on turned: with x and y exchanged, and in the right one backwards too.
+/// The place of two words along the curve: six bits for each step, from the largest squares to the smallest.
 fn place_of(across: u32, up: u32) -> u64 {
     let mut x = across;
     let mut y = up;
     let mut place = 0u64;
-    for _ in 0..SUM_BITS {
-        let right = x >> 31;
-        let upper = y >> 31;
-        place = (place << 2) | u64::from((right << 1) | (right ^ upper));
-        let turned = turn(x, y, right, upper);
-        x = turned.0 << 1;
-        y = turned.1 << 1;
+    let mut step = 0u8;
+    for _ in 0..SUM_BITS.div_ceil(STEP_BITS) {
+        let cell = (first_bits(x) << STEP_BITS) | first_bits(y);
+        step = STEPS[usize::from((step << (2 * STEP_BITS)) | cell)];
+        place = (place << (2 * STEP_BITS)) | u64::from(step >> 2);
+        x <<= STEP_BITS;
+        y <<= STEP_BITS;
     }
     place
 }
 
-/// The words of a position within its quadrant, as the curve goes through it.
-fn turn(x: u32, y: u32, right: u32, upper: u32) -> (u32, u32) {
-    if upper == 1 {
-        (x, y)
-    } else if right == 1 {
-        (!y, !x)
-    } else {
-        (y, x)
-    }
+/// The bits of a word that the next step takes: the highest ones.
+fn first_bits(word: u32) -> u8 {
+    (word >> (u32::BITS - STEP_BITS)) as u8
 }

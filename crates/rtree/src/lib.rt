@@ -6,6 +6,7 @@
 #![tactic(auto)]
 
 mod curve;
+mod curve_steps;
 mod curve_trees;
 pub mod envelopes;
 mod indexes;

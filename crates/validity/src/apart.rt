@@ -14,7 +14,7 @@ use crate::neighbours::Neighbours;
 use crate::outlines::Outline;
 use edge_boxes::share_point;
 use orient::Segment;
-use rtree::{Envelope, EnvelopeIndex, RTree};
+use rtree::{CurveTree, Envelope, EnvelopeIndex};
 use std::alloc::{AllocError, Global};
 
 /// An edge whose envelope meets those of more edges is not compared with each of them.
@@ -29,14 +29,14 @@ fn envelope_of(edge: &Segment) -> Option<Envelope>
 }
 
 /// An index of the envelopes of some edges. It fails only when memory runs out.
-fn index_of(alloc: Global, edges: &[Segment]) -> Result<RTree, AllocError>
+fn index_of(alloc: Global, edges: &[Segment]) -> Result<CurveTree, AllocError>
     ensures { IfOk result (λ index. index ≡ edge_envelopes edges.now) }
 {
     let mut envelopes = Vec::new(alloc);
     for edge in edges {
         envelopes.push(envelope_of(edge))?;
     }
-    RTree::build(alloc, envelopes.as_slice())
+    CurveTree::build(alloc, envelopes.as_slice())
 }
 
 /// Whether an edge shares a point with the one at a place, from another place on. If it returns false, it shares none with it.
@@ -71,7 +71,7 @@ fn shares_near(edges: &[Segment], edge: &Segment, from: usize, near: &[usize]) -
 /// index is that of all edges. It fails only when memory runs out.
 fn may_share_later(
     edges: &[Segment],
-    index: &RTree,
+    index: &CurveTree,
     edge: &Segment,
     from: usize,
     found: &mut Vec<usize>,
@@ -90,7 +90,7 @@ fn may_share_later(
 /// Whether one of the edges of a ring may share a point with one of the edges from a place on. If it returns false, none does.
 fn may_meet_later(
     edges: &[Segment],
-    index: &RTree,
+    index: &CurveTree,
     run: &[Segment],
     from: usize,
     found: &mut Vec<usize>,
@@ -134,7 +134,7 @@ pub(crate) fn are_apart_in_a_crowd(
 ) -> Result<bool, AllocError>
     ensures { IfOk result (λ apart. apart ≡ true → AreApart (spec.lines outline.now)) }
 {
-    if envelopes.are_crowded(alloc, outline.segments().len())? {
+    if envelopes.are_crowded() {
         are_apart(alloc, outline)
     } else {
         Ok(false)

@@ -6,7 +6,7 @@ ghost use Rattle.validity.specs.Neighbours.{near_one, either_envelope, ring_enve
 
 use crate::outlines::Outline;
 use rtree::envelopes::joined;
-use rtree::{Envelope, EnvelopeIndex, RTree};
+use rtree::{CurveTree, Envelope, EnvelopeIndex};
 use std::alloc::{AllocError, Global};
 use std::marker::Model;
 use wkt::LineString;
@@ -15,7 +15,9 @@ use wkt::LineString;
 #[derive(Drop)]
 pub(crate) struct Neighbours {
     envelopes: Vec<Option<Envelope>>,
-    index: RTree,
+    index: CurveTree,
+    /// Whether more pairs of them meet than the area has edges.
+    crowded: bool,
 }
 
 impl Model for Neighbours {
@@ -38,7 +40,7 @@ impl Neighbours {
         for ring in 0..outline.ring_count() {
             envelopes.push(Envelope::of_positions(outline.line(ring).positions()))?;
         }
-        Neighbours::of(alloc, envelopes)
+        Neighbours::of(alloc, envelopes, outline.segments().len())
     }
 
     /// The envelopes of the polygons of an area. It fails only when memory runs out.
@@ -49,15 +51,24 @@ impl Neighbours {
         for element in 0..outline.geometry().element_count() {
             envelopes.push(envelope_of_rings(outline.geometry().element(element)))?;
         }
-        Neighbours::of(alloc, envelopes)
+        Neighbours::of(alloc, envelopes, outline.segments().len())
     }
 
-    /// These envelopes, with an index of them.
-    fn of(alloc: Global, envelopes: Vec<Option<Envelope>>) -> Result<Neighbours, AllocError>
+    /// These envelopes, with an index of them. They are crowded if more than `most` pairs of them meet.
+    fn of(
+        alloc: Global,
+        envelopes: Vec<Option<Envelope>>,
+        most: usize,
+    ) -> Result<Neighbours, AllocError>
         ensures { IfOk result (λ neighbours. neighbours ≡ envelopes.items) }
     {
-        let index = RTree::build(alloc, envelopes.as_slice())?;
-        Ok(Neighbours { envelopes, index })
+        let index = CurveTree::build(alloc, envelopes.as_slice())?;
+        let crowded = are_crowded(alloc, envelopes.as_slice(), &index, most)?;
+        Ok(Neighbours {
+            envelopes,
+            index,
+            crowded,
+        })
     }
 
     /// The numbers of those whose envelopes meet that of the one with this number, ascending, its own among them.
@@ -70,18 +81,29 @@ impl Neighbours {
         Ok(near)
     }
 
-    /// Whether more than so many pairs are near one another. Each is near itself, and two are near one another twice.
-    pub(crate) fn are_crowded(&self, alloc: Global, most: usize) -> Result<bool, AllocError> {
-        let mut left = most;
-        for number in 0..self.envelopes.len() {
-            let near = self.near(alloc, number)?;
-            if left < near.len() {
-                return Ok(true);
-            }
-            left -= near.len();
-        }
-        Ok(false)
+    /// Whether more pairs of envelopes meet than the area has edges, so that a quick test of all is worth its time.
+    pub(crate) fn are_crowded(&self) -> bool {
+        self.crowded
     }
+}
+
+/// Whether more than `most` pairs of envelopes meet, by an index of them. Each meets itself, and two meet twice.
+fn are_crowded(
+    alloc: Global,
+    envelopes: &[Option<Envelope>],
+    index: &CurveTree,
+    most: usize,
+) -> Result<bool, AllocError> {
+    let mut near = Vec::new(alloc);
+    let mut left = most;
+    for envelope in envelopes {
+        index.search(*envelope, &mut near)?;
+        if left < near.len() {
+            return Ok(true);
+        }
+        left -= near.len();
+    }
+    Ok(false)
 }
 
 /// The smallest envelope that holds these two, each of which may be absent.

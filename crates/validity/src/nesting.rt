@@ -77,7 +77,7 @@ pub(crate) fn may_holes_nest_in_a_crowd(
     ensures { IfOk result (λ may. may ≡ false
         → first_of outline.now (of_pairs ValidityFault.HolesNested (first + 1) end) ≡ None) }
 {
-    if MANY < end.saturating_sub(first) && rings.are_crowded(alloc, outline.segments().len())? {
+    if MANY < end.saturating_sub(first) && rings.are_crowded() {
         may_holes_nest(alloc, outline, first, end)
     } else {
         Ok(true)
@@ -127,9 +127,7 @@ pub(crate) fn may_elements_nest_in_a_crowd(
     ensures { IfOk result (λ may. may ≡ false
         → first_of outline.now (of_other_elements ValidityFault.ElementInside outline.now) ≡ None) }
 {
-    if MANY < outline.geometry().element_count()
-        && elements.are_crowded(alloc, outline.segments().len())?
-    {
+    if MANY < outline.geometry().element_count() && elements.are_crowded() {
         may_elements_nest(alloc, outline)
     } else {
         Ok(true)
