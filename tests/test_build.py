@@ -19,15 +19,13 @@ from support import ROOT, WithCheckout, needs, read, write
 
 import debian
 import library
-import pace
+import order
 import packages
 import repository
 import wheels
 
 # The crate of sfq-tiles, for tests that make this program too.
 WITH_TILES = {"sfq_tiles": ["middle"]}
-# What the checks of the small repository are said to take.
-SECONDS = "low 600\nmiddle 900\ncommand_line 300\nsfq 600\n"
 # Proves crates, one of them with those below it or all by `rt all verdict`, and leaves a program. What was proved is kept in a file,
 # by the texts, as the real `rt` keeps it.
 PROVES = """
@@ -102,7 +100,6 @@ class WithBuild(WithCheckout):
     def setUp(self):
         super().setUp()
         self.checkout.behave(PROVES)
-        write(f"{self.checkout.root}/tools/seconds.txt", "# What checks take.\n" + SECONDS)
 
     def build(self, *words, **environment):
         os.environ.update(environment)
@@ -138,11 +135,11 @@ class Builds(WithBuild):
         self.assertTrue(text.endswith(f"built: crates/sfq/out/sfq, SHA-256 {total}\n"))
         self.assertEqual(self.checkout.run(["sfq"]).stdout, b"proved\n")
 
-    def test_says_how_far_it_is_and_how_long_it_still_takes(self):
-        said = re.findall(r"^(\d) of 4 crates proved(?:; about (\d+) min left)?; last (\w+)$", self.build("--jobs", "1").stdout.decode(), re.M)
+    def test_says_how_far_it_is(self):
+        said = re.findall(r"^(\d) of 4 crates proved; last (\w+)$", self.build("--jobs", "1").stdout.decode(), re.M)
         self.assertEqual([it[0] for it in said], ["1", "2", "3", "4"])
-        # What is slow to begin with is begun first: 10 minutes for `low`, and 15, 5 and 10 for the others.
-        self.assertEqual([it[1:] for it in said], [("30", "low"), ("15", "middle"), ("10", "command_line"), ("", "sfq")])
+        # The longest chain of crates is begun first, and `sfq` uses all others.
+        self.assertEqual([said[0][1], said[3][1]], ["low", "sfq"])
 
     def test_a_second_build_checks_nothing_and_one_after_an_edit_what_it_concerns(self):
         self.build()
@@ -195,13 +192,13 @@ class Builds(WithBuild):
             self.assertIn(b"broken off", child.stderr.read())
         before = len(self.checked())
         self.assertEqual(self.build().returncode, 0)
-        self.assertEqual(self.checked()[before:], ["middle", "command_line", "sfq"])
+        self.assertEqual(self.checked()[before:], ["middle", "sfq"])
 
     def test_a_source_that_is_edited_meanwhile(self):
         ran = self.build(EDITS="middle")
         self.assertEqual(ran.returncode, 1)
         self.assertTrue(ran.stderr.decode().startswith("sfq: a source was edited meanwhile: run ./build again\n"))
-        self.assertEqual(self.checked(), ["low", "middle", "command_line"])
+        self.assertEqual(sorted(self.checked()), ["command_line", "low", "middle"])
         self.assertEqual(self.build().returncode, 0)
         self.assertEqual(self.checked()[3:], ["middle", "sfq"])
 
@@ -211,7 +208,7 @@ class Builds(WithBuild):
         self.assertEqual(self.checkout.run(["build"], stdout=theirs).returncode, 0)
         os.close(theirs)
         shown = os.read(ours, 1 << 16)
-        self.assertRegex(shown, rb"\r\d of 4 crates proved; about \d+ min left; now [a-z_, ]+\x1b\[K")
+        self.assertRegex(shown, rb"\r\d of 4 crates proved; now [a-z_, ]+\x1b\[K")
         self.assertNotIn(b": proved low", shown)
         self.assertIn(b"\r\x1b[Kproved: 4 crates, ", shown)
 
@@ -290,7 +287,7 @@ class Closures(WithBuild):
         text = self.build("--verify").stdout.decode()
         self.assertEqual(self.checked("verdict"), sorted([*self.checkout.CRATES, *self.MORE_CRATES]))
         self.assertIn("proved: 8 crates and their tests, 24 functions, ", text)
-        self.assertRegex(text, r"1 of 8 crates proved; about \d+ min left; last ")
+        self.assertRegex(text, r"1 of 8 crates proved; last ")
 
 
 # A stand-in for the Python of the kit, as far as tools/shared_rt.py relies on it. It notes what reads, begins and ends.
@@ -374,7 +371,6 @@ class SideBySide(WithBuild):
         super().setUp()
         write(f"{self.checkout.room}/bin/rtlib.py", OF_THE_KIT)
         write(f"{self.checkout.room}/bin/rt", OVER_IT.replace("{python}", sys.executable))
-        write(f"{self.checkout.root}/tools/seconds.txt", SECONDS)
 
     def notes(self, kind):
         return [it.split()[1:] for it in read(f"{self.checkout.room}/bin/notes").splitlines() if it.startswith(kind)]
@@ -422,39 +418,16 @@ class SideBySide(WithBuild):
         self.assertEqual(self.notes("begin")[0], ["low", "--jobs", "3"])
 
 
-class Paces(unittest.TestCase):
-    """The time that is left."""
+class Orders(unittest.TestCase):
+    """Which crate is proved next."""
 
-    def plan(self, processes=2):
-        below = {"low": [], "slow": ["low"], "quick": ["low"], "top": ["slow", "quick"]}
-        return pace.Plan(below, {"low": 100, "slow": 300, "quick": 50, "top": 100}, processes, processes, 1)
-
-    def test_the_chain_that_takes_longest_is_begun_first(self):
-        plan = self.plan()
+    def test_the_longest_chain_is_begun_first(self):
+        below = {"low": [], "long": ["low"], "short": ["low"], "top": ["long", "short"]}
+        plan = order.Plan(below, {"low": 100, "long": 300, "short": 50, "top": 100}, 2, 2, 1)
         self.assertEqual(plan.next(set(), {}), ("low", 1))
-        self.assertEqual(plan.next({"low"}, {}), ("slow", 1))
-        self.assertEqual(plan.next({"low"}, {"slow": 1}), ("quick", 1))
-        self.assertIsNone(plan.next({"low"}, {"slow": 1, "quick": 1}))
-
-    def test_what_is_left_goes_through_the_rest_of_the_order(self):
-        self.assertEqual(self.plan().left(set(), {}), 500)
-        self.assertEqual(self.plan(1).left(set(), {}), 550)
-        self.assertEqual(self.plan().left({"low"}, {"slow": (1, 120)}), 220)
-        self.assertEqual(self.plan().left({"low", "slow", "quick", "top"}, {}), 0)
-
-    def test_it_falls_with_the_time_and_by_the_pace(self):
-        clock = pace.Clock(self.plan())
-        clock.begin("low", 1, 0)
-        self.assertEqual([round(clock.left(set(), it)) for it in (0, 50, 95)], [500, 450, 405])
-        # 200 seconds in the place of 100: the rest takes longer too, but the first minute of the noted ones still counts.
-        clock.end("low", 200)
-        clock.begin("slow", 1, 200)
-        self.assertEqual(round(clock.left({"low"}, 200)), 650)
-        self.assertLess(clock.left({"low"}, 260), 600)
-
-    def test_it_is_said_in_words(self):
-        said = [pace.words_of(it) for it in (3, 45, 100, 14 * 60)]
-        self.assertEqual(said, ["less than a minute left", "about a minute left", "about 2 min left", "about 14 min left"])
+        self.assertEqual(plan.next({"low"}, {}), ("long", 1))
+        self.assertEqual(plan.next({"low"}, {"long": 1}), ("short", 1))
+        self.assertIsNone(plan.next({"low"}, {"long": 1, "short": 1}))
 
 
 class WithLibrary(WithBuild):

@@ -1,9 +1,9 @@
-"""Proves crates, as many at a time as processors and memory allow, and says how far it is and how long it still takes.
+"""Proves crates, as many at a time as processors and memory allow, and says how far it is.
 
 The crates are those that something is made of, and each is proved once those below it are: first the one with the longest chain
-of others above it, by several processes where fewer crates than that can be proved (see pace.py). `rt` keeps what it proved, so a
+of others above it, by several processes where fewer crates than that can be proved (see order.py). `rt` keeps what it proved, so a
 run that was broken off goes on where it was. A crate that is proved gets the file out/proved: a sum over its files, those below
-it and the kit's logic, the last line of its check, and what that took. While the sums stay the same, nothing is called.
+it and the kit's logic, and the last line of its check. While the sums stay the same, nothing is called.
 """
 import contextlib
 import hashlib
@@ -17,14 +17,14 @@ import threading
 import time
 from typing import Callable, Iterable, Optional, Sequence
 
-import pace
+import order
 import repository
 import shared_rt
 
 # What a check from nothing takes at most, in bytes: two of four that ran beside each other took this much.
 MEMORY_OF_A_CHECK = 3_000_000_000
-# The name of a command; a line of it, or None at its end; its status and its processor seconds, which are 0 before.
-Event = tuple[str, Optional[str], tuple[int, float]]
+# The name of a command; a line of it, or None at its end; its status, which is 0 before.
+Event = tuple[str, Optional[str], int]
 
 
 def processors() -> int:
@@ -73,12 +73,12 @@ def link(root: str, crate: str) -> tuple[int, str]:
 
 
 def read_mark(name: str, root: str = repository.ROOT) -> list[str]:
-    """Returns the lines of a crate's mark: its sum, the last line of its check, and the processor seconds of that, where it was from nothing."""
+    """Returns the lines of a crate's mark: its sum and the last line of its check."""
     try:
         with open(f"{root}/crates/{name}/out/proved", encoding="utf-8") as file:
-            return (file.read().splitlines() + ["", "", ""])[:3]
+            return (file.read().splitlines() + ["", ""])[:2]
     except (OSError, ValueError):
-        return ["", "", ""]
+        return ["", ""]
 
 
 class Crate:
@@ -93,7 +93,7 @@ class Crate:
         self.sum: str = total.hexdigest()
         self.text = ""
         self.line: Optional[str] = None
-        self.is_done, self.is_lost, self.is_new = False, False, False
+        self.is_done, self.is_lost = False, False
 
     def sum_of_files(self) -> str:
         total, self.lines = hashlib.sha256(), 0
@@ -104,14 +104,9 @@ class Crate:
             self.lines += text.count(b"\n") * path.endswith(".rt")
         return total.hexdigest()
 
-    def has_kept(self) -> bool:
-        """Whether `rt` kept work of an earlier check."""
-        kept = f"{self.out}/incremental"
-        return os.path.isdir(kept) and bool(os.listdir(kept))
-
     def read_mark(self) -> bool:
         """Takes over what an earlier run, or one beside this one, proved. Returns whether there is something."""
-        total, line, _ = read_mark(self.name, self.root)
+        total, line = read_mark(self.name, self.root)
         if total == self.sum:
             self.line, self.is_done = line, True
         return self.is_done
@@ -120,12 +115,12 @@ class Crate:
         """Notes that the crate is proved. `line` is the last one of its check; '-' where it was proved before and rt says no more."""
         self.line, self.is_done = line, True
 
-    def write_mark(self, line: str, seconds: str = "") -> None:
+    def write_mark(self, line: str) -> None:
         """Notes that the crate is proved, for later runs too."""
         self.note(line)
         os.makedirs(self.out, exist_ok=True)
         with open(f"{self.out}/proved.new", "w", encoding="utf-8") as file:
-            file.write(f"{self.sum}\n{line}\n{seconds}\n")
+            file.write(f"{self.sum}\n{line}\n")
         os.replace(f"{self.out}/proved.new", f"{self.out}/proved")
 
     def functions(self) -> int:
@@ -167,7 +162,7 @@ class Proving:
     """One run over crates: `tops` and all below them. It goes on from what earlier runs proved."""
 
     # The most processes that one check gets.
-    most_jobs = pace.MOST_JOBS
+    most_jobs = order.MOST_JOBS
 
     def __init__(self, root: str, kit: str, jobs: int = 0, tops: Sequence[str] = ()) -> None:
         self.root, self.kit, self.crates = root, kit, crates_of(root, repository.logic_of(kit), tops)
@@ -178,8 +173,8 @@ class Proving:
         self.events: queue.Queue[Event] = queue.Queue()
         self.failed, self.was_edited, self.begun = False, False, time.monotonic()
         self.on_terminal = sys.stdout.isatty()
-        # Until there is a plan, no time is left.
-        self.clock = pace.Clock(pace.Plan({}, {}, 0, 0))
+        # The crates that are checked now, each with its processes.
+        self.running: dict[str, int] = {}
 
     def processes(self) -> int:
         # A check that several processes share leaves some of them idle at its begin and end.
@@ -190,10 +185,9 @@ class Proving:
             it.read_mark()
 
     def make_plan(self, is_in_turn: bool = False) -> None:
-        noted = pace.read_seconds()
-        seconds = {it.name: pace.seconds_of(it.name, it.lines, noted) for it in self.crates}
+        lines = {it.name: it.lines for it in self.crates}
         below = {it.name: [low.name for low in it.below] for it in self.crates}
-        self.clock = pace.Clock(pace.Plan(below, seconds, self.jobs, 1 if is_in_turn else self.jobs, self.most_jobs))
+        self.plan = order.Plan(below, lines, self.jobs, 1 if is_in_turn else self.jobs, self.most_jobs)
 
     def proved(self) -> list[Crate]:
         return [it for it in self.crates if it.line is not None]
@@ -207,9 +201,7 @@ class Proving:
 
     def head(self) -> str:
         done = sum(it.is_done for it in self.crates)
-        text = f"{done} of {len(self.crates)} crates proved"
-        left = self.clock.left(self.ended(), time.monotonic())
-        return f"{text}; {pace.words_of(left)}" if left else text
+        return f"{done} of {len(self.crates)} crates proved"
 
     def say(self, text: str) -> None:
         if self.on_terminal:
@@ -220,7 +212,7 @@ class Proving:
         """Renews the one line that a terminal shows."""
         if not self.on_terminal:
             return
-        now = ", ".join(self.clock.begun)
+        now = ", ".join(self.running)
         line = f"{self.head()}; now {now}" if now else self.head()
         width = os.get_terminal_size(1).columns or 80
         print(f"\r{line[: width - 1]}\x1b[K", end="", flush=True)
@@ -240,7 +232,7 @@ class Proving:
         self.say("\n".join(crate.text.splitlines()[-15:]))
 
     def start(self, words: list[str], folder: str, name: str = "") -> None:
-        """Starts a command whose lines, and None with its status and its processor seconds at the end, come as events of this name."""
+        """Starts a command whose lines, and None with its status at the end, come as events of this name."""
         child = subprocess.Popen(
             words,
             cwd=folder,
@@ -255,10 +247,8 @@ class Proving:
 
         def read() -> None:
             for line in child.stdout or ():
-                self.events.put((name, line, (0, 0.0)))
-            _, status, used = os.wait4(child.pid, 0)
-            child.returncode = os.waitstatus_to_exitcode(status)
-            self.events.put((name, None, (child.returncode, used.ru_utime + used.ru_stime)))
+                self.events.put((name, line, 0))
+            self.events.put((name, None, child.wait()))
 
         threading.Thread(target=read, daemon=True).start()
 
@@ -278,29 +268,26 @@ class Proving:
         self.used = {low.name for it in self.crates for low in it.below}
         self.begin_next()
         while self.children:
-            name, line, ended = self.wait()
+            name, line, status = self.wait()
             if line is not None:
                 self.named[name].text += line
                 continue
-            del self.children[name]
-            self.clock.end(name, time.monotonic())
-            self.take(self.named[name], *ended)
+            del self.children[name], self.running[name]
+            self.take(self.named[name], status)
             self.begin_next()
 
     def begin_next(self) -> None:
         """Begins the checks for which there are processes."""
         while True:
-            found = self.clock.plan.next(self.ended(), {it: jobs for it, (jobs, _) in self.clock.begun.items()})
+            found = self.plan.next(self.ended(), self.running)
             if found is None:
                 return
             name, jobs = found
-            crate = self.named[name]
-            crate.text, crate.is_new = "", not crate.has_kept()
-            self.clock.begin(name, jobs, time.monotonic())
+            self.named[name].text, self.running[name] = "", jobs
             verb = "lib" if name in self.used else "check"
             self.start([*self.words, verb, "--jobs", str(jobs)], f"{self.root}/crates/{name}", name)
 
-    def take(self, crate: Crate, status: int, seconds: float) -> None:
+    def take(self, crate: Crate, status: int) -> None:
         """Takes what rt said of a crate, once its check has ended."""
         if status == shared_rt.CHANGED or crate.sum_of_files() != crate.own:
             self.was_edited = crate.is_lost = True
@@ -309,7 +296,7 @@ class Proving:
         else:
             found = [it for it in crate.text.splitlines() if it.startswith("logic=proved ")]
             if found:
-                crate.write_mark(found[-1], f"{seconds:.0f}" if crate.is_new else "")
+                crate.write_mark(found[-1])
             elif not crate.read_mark():
                 crate.write_mark("-")
             self.say_proved(crate)
@@ -353,23 +340,18 @@ class Verdict(Proving):
 
     def guess(self) -> None:
         """Notes which crates `rt all` works on now: the first that wait for none."""
-        now, ended = time.monotonic(), self.ended()
-        for it in [it for it in self.clock.begun if it in ended]:
-            self.clock.end(it, now)
+        ended = self.ended()
         ready = [it.name for it in self.crates if it.name not in ended and all(low.is_done for low in it.below)]
-        for it in ready[: self.jobs]:
-            if it not in self.clock.begun:
-                self.clock.begin(it, 1, now)
+        self.running = {it: 1 for it in ready[: self.jobs]}
 
     def work(self) -> None:
-        self.make_plan()
         self.start(["rt", "all", "verdict", "--jobs", str(self.jobs)], self.root)
         text: list[str] = []
         line: Optional[str] = ""
         name = ""
         while line is not None:
             self.guess()
-            _, line, ended = self.wait()
+            _, line, status = self.wait()
             if line is not None and not line.startswith("== "):
                 text.append(line)
                 continue
@@ -380,7 +362,7 @@ class Verdict(Proving):
             elif line is None:
                 self.say("".join(text[-15:]).rstrip())
             name, text = (line or "").removeprefix("== ").strip(), []
-        self.failed = self.failed or ended[0] != 0
+        self.failed = self.failed or status != 0
 
     def take_block(self, name: str, text: str) -> None:
         """Takes what rt said of a crate, once it is done with it."""
