@@ -210,10 +210,10 @@ class Texts(unittest.TestCase):
             "db = sfq.connect('CREATE TABLE t (id INTEGER, name TEXT)', {'t': {'id': [2**62 + 1, None], 'name': ['a', None]}})\n"
             "for query in ('SELECT name, id, id FROM t', 'SELECT id FROM t WHERE id = 5'):\n"
             "    it = db.execute(query).df()\n"
-            "    print(list(it.columns), [str(each) for each in it.dtypes], it.isna().values.tolist(), list(it.iloc[:, -1])[:1])\n"
+            "    print(list(it.columns), [str(each) for each in it.dtypes], it.isna().values.tolist(), [str(each) for each in it.iloc[:, -1]][:1])\n"
         )
         self.assertEqual(self.by(PANDAS, text), (
-            "['name', 'id', 'id'] ['string', 'Int64', 'Int64'] [[False, False, False], [True, True, True]] [4611686018427387905]\n"
+            "['name', 'id', 'id'] ['string', 'Int64', 'Int64'] [[False, False, False], [True, True, True]] ['4611686018427387905']\n"
             "['id'] ['Int64'] [] []\n"
         ))
 

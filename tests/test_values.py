@@ -131,6 +131,8 @@ class Parameters(unittest.TestCase):
 
     @unittest.skipUnless(NUMPY, "needs the package python3-numpy")
     def test_values_of_numpy(self):
+        # The type longdouble has the name float128 in numpy 1.
+        (longdouble,) = by_numpy("print(numpy.longdouble.__name__)")
         self.assertEqual(by_numpy("""
             for it in (numpy.uint64(2**64 - 1), numpy.int8(-3), numpy.array(5), numpy.ma.array(5), numpy.ma.array(5, mask=True), numpy.ma.masked,
                        just_more, numpy.timedelta64(5, "s"), numpy.float64(5)):
@@ -138,7 +140,7 @@ class Parameters(unittest.TestCase):
         """), [
             str(2**63), "-3", "5", "5",
             *(error("InterfaceError", f"sfq: the value for ? 1 is a {name}: sfq has whole numbers, texts, geometries")
-              for name in ("MaskedArray", "MaskedConstant", "float128", "timedelta64", "float64")),
+              for name in ("MaskedArray", "MaskedConstant", longdouble, "timedelta64", "float64")),
         ])
 
 

@@ -4,6 +4,7 @@ A text that is taken apart here was accepted by the library first, so it is well
 """
 from __future__ import annotations
 
+import numbers
 import re
 from typing import Any
 
@@ -124,9 +125,10 @@ def not_whole(value: Any) -> GridError:
 
 
 def shown(value: Any) -> str:
-    """Returns a value as Python shows it, or its type where Python writes no number of so many digits."""
+    """Returns the digits of a number, without the name of its type, which some versions of numpy add, and another value as Python shows
+    it; the type alone where Python writes no number of so many digits."""
     try:
-        return repr(value)
+        return str(value) if isinstance(value, numbers.Number) else repr(value)
     except ValueError:
         return f"of type {type(value).__name__}"
 
