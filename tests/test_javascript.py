@@ -430,6 +430,20 @@ class Package(unittest.TestCase):
             one, other = (javascript_package.archive_of(self.files()) for _ in range(2))
         self.assertEqual(one, other)
 
+    def test_without_the_kit_it_is_written_with_what_was_noted_of_its_modules(self):
+        """What a module was made of, and by which kit, is known where the kit is; its bytes may be other ones."""
+        modules = {it.file: it.file.encode() for it in javascript_package.MODULES}
+        noted = {name: {"about": f"sfq 0, 1 bytes, SHA-256 0; proved and compiled by kit {name}", "inputs": f"sum {name}"} for name in modules}
+        with tempfile.TemporaryDirectory(prefix="sfq-package-") as room:
+            write_all(room, {"made.json": json.dumps(noted), **{f"sfq/{name}": "" for name in modules}})
+            with mock.patch.object(javascript_package, "OUT", room), mock.patch.dict(os.environ, {"PATH": "/none"}):
+                javascript_package.write_package(modules, room)
+            written = json.loads(read(f"{room}/made.json"))
+        for name, it in written.items():
+            self.assertEqual(it["inputs"], f"sum {name}")
+            self.assertRegex(it["about"], rf"^sfq \S+, {len(name)} bytes, SHA-256 [0-9a-f]{{64}}; proved and compiled by kit {re.escape(name)}$")
+        self.assertEqual(set(written), set(modules))
+
     def test_it_needs_no_other_package(self):
         described = json.loads(self.files()["package.json"])
         self.assertEqual([it for it in described if it.endswith("ependencies")], [])

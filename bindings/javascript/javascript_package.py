@@ -41,6 +41,9 @@ TABLES = wasm.Module(
 SERVE = wasm.Module("sfq_serve.wasm", ("sfq_web",), (*COMMON, "serve.c"), ("module.h",))
 MODULES = (SHAPES, TABLES, SERVE)
 
+# What is between a module's own words and the line of the kit that made it.
+COMPILED_BY = "; proved and compiled by "
+
 # The bytes of each module by its file.
 Modules = Mapping[str, bytes]
 
@@ -51,12 +54,6 @@ def sentences_script() -> str:
     return f"// What each fault means, and what to do. Made by javascript_package.py.\nexport const SENTENCES = {shown};\n"
 
 
-def about(module: wasm.Module, content: bytes) -> str:
-    """Says what a module is."""
-    name = f"sfq {repository.version()}, {len(content):,} bytes, SHA-256 {hashlib.sha256(content).hexdigest()}"
-    return f"{name}; proved and compiled by {repository.kit_line()}"
-
-
 def made(module: wasm.Module) -> Optional[dict[str, str]]:
     """Returns what is known of a module in bindings/javascript/out: what it is, and a sum of what it was made of. None where it isn't there."""
     try:
@@ -65,6 +62,24 @@ def made(module: wasm.Module) -> Optional[dict[str, str]]:
         return found if os.path.isfile(f"{OUT}/sfq/{module.file}") else None
     except (OSError, ValueError, KeyError):
         return None
+
+
+def noted(module: wasm.Module) -> Optional[dict[str, str]]:
+    """Returns what is known of a module in bindings/javascript/out where the kit isn't on the path, so that nothing can be known anew."""
+    return None if shutil.which("rt") else made(module)
+
+
+def about(module: wasm.Module, content: bytes) -> str:
+    """Says what a module is. Without the kit, the kit that it names is the one by which the module in bindings/javascript/out was made."""
+    known = noted(module)
+    kit = known["about"].partition(COMPILED_BY)[2] if known else repository.kit_line()
+    return f"sfq {repository.version()}, {len(content):,} bytes, SHA-256 {hashlib.sha256(content).hexdigest()}{COMPILED_BY}{kit}"
+
+
+def inputs(module: wasm.Module) -> str:
+    """Returns a sum over all that a module is made of. Without the kit it is the one that was noted when the module was made."""
+    known = noted(module)
+    return known["inputs"] if known else wasm.inputs(module)
 
 
 def read_module(module: wasm.Module) -> bytes:
@@ -96,12 +111,12 @@ def archive_of(files: Mapping[str, bytes]) -> bytes:
 def write_package(modules: Modules, to: str = OUT) -> None:
     """Writes the package into a folder, as a folder and as an archive, with what is known of its modules."""
     files = files_of_package(modules)
+    known = {it.file: {"about": about(it, modules[it.file]), "inputs": inputs(it)} for it in MODULES}
     shutil.rmtree(to, ignore_errors=True)
     for path, content in {**{f"sfq/{it}": content for it, content in files.items()}, f"sfq-{repository.version()}.tgz": archive_of(files)}.items():
         os.makedirs(os.path.dirname(f"{to}/{path}"), exist_ok=True)
         with open(f"{to}/{path}", "wb") as file:
             file.write(content)
-    known = {it.file: {"about": about(it, modules[it.file]), "inputs": wasm.inputs(it)} for it in MODULES}
     with open(f"{to}/made.json", "w", encoding="utf-8") as text:
         json.dump(known, text, indent=2)
 
