@@ -144,12 +144,23 @@ class Layer:
         self.shapes = [self.own(it) for it in range(self.described.GetGeomFieldCount())]
         # The reference system, and the column that is read as geometries and is none of the others.
         self.reference, self.hidden = layer.GetSpatialRef(), ""
+        # The geometries that GDAL makes of texts: it only warns of a text that it can't read, from version 3.10 on.
+        self.spelled = self.columns_of_texts() if source.is_of_texts else []
 
     def own(self, at: int) -> Geometries:
         """Returns the geometries of a column that GDAL has of the layer."""
         column, take = self.described.GetGeomFieldDefn(at), self.modules.ogr.Feature.GetGeomFieldRef
         word = binary.WORDS.get(self.modules.ogr.GT_Flatten(column.GetType()), "GEOMETRY")
         return Geometries(column.GetName(), word, lambda it: take(it, at))
+
+    def columns_of_texts(self) -> list[tuple[int, int]]:
+        """Returns the place of each geometry that GDAL makes of a column of texts, with the place of that column.
+
+        GDAL names such geometries after their column, and mostly gives those of the column WKT no name.
+        """
+        names = [it.GetName() for it in self.fields]
+        named = {f"geom_{it}": at for at, it in enumerate(names)} | {"": at for at, it in enumerate(names) if it.upper() == "WKT"}
+        return [(at, named[it.name]) for at, it in enumerate(self.shapes) if it.name in named]
 
     def columns(self) -> list[tuple[int, str]]:
         """Returns the place and the name of each column that isn't read as geometries."""
@@ -190,17 +201,28 @@ class Layer:
 
     def __iter__(self) -> Iterator[Any]:
         """Reads the records. OSError where GDAL can't: what it would do behind such a record depends on the driver."""
+        return self.records(self.spelled)
+
+    def records(self, spelled: Sequence[tuple[int, int]]) -> Iterator[Any]:
+        """Reads the records. OSError where GDAL can't read one, or makes no geometry of a text: `spelled` has the places of both."""
         self.layer.ResetReading()
         take, count = self.layer.GetNextFeature, 0
         while True:
+            count += 1
             try:
                 feature = take()
             except RuntimeError as error:
-                raise OSError(f"{self.name} record {count + 1}: GDAL can't read it{f': {error}' if str(error) else ''}") from None
+                raise self.unreadable(count, str(error)) from None
             if feature is None:
                 return
-            count += 1
+            for shape, column in spelled:
+                if feature.GetGeomFieldRef(shape) is None and (text := feature.GetFieldAsString(column)):
+                    raise self.unreadable(count, f"{self.fields[column].GetName()} isn't well-known text: {text[:60]!r}")
             yield feature
+
+    def unreadable(self, record: int, why: str) -> OSError:
+        """Returns the error of a record that GDAL can't read."""
+        return OSError(f"{self.name} record {record}: GDAL can't read it{f': {why}' if why else ''}")
 
     def count(self) -> int:
         """Returns how many records there are, or -1 where counting takes a pass."""
@@ -229,7 +251,7 @@ class Layer:
         if can:
             self.layer.SetIgnoredFields(["OGR_GEOMETRY", "OGR_STYLE"])
         try:
-            yield from self
+            yield from self.records([] if can else self.spelled)
         finally:
             if can:
                 self.layer.SetIgnoredFields([])
