@@ -54,6 +54,16 @@ class PeerFolder(unittest.TestCase):
                 said = self.refused(lambda: peer_folder.make(self.room, "sid", peer_folder.MIRROR, []))
                 self.assertEqual(said, f"peer_folder.py: {self.room} is there already, and isn't an empty folder")
 
+    def test_add_asks_first_which_packages_the_suite_has(self):
+        """The versions that a folder of last month knows may be gone."""
+        for status, wanted in ((0, [("update",), ("install", "gcc", "jq")]), (100, [("update",)])):
+            asked = []
+            with mock.patch.object(sys, "argv", ["peer_folder.py", "add", self.room, "gcc", "jq"]):
+                with mock.patch.object(peer_folder, "lacking_to_run", lambda _: None):
+                    with mock.patch.object(peer_folder, "apt_get", lambda _, *words: asked.append(words) or status):
+                        self.assertEqual(peer_folder.main(), status)
+            self.assertEqual(asked, wanted)
+
     def test_packages_come_before_options_or_behind_them(self):
         made = []
         for words in (["make", "X", "gcc", "jq", "--suite", "trixie"], ["make", "X", "--suite", "trixie", "gcc", "jq"]):

@@ -77,10 +77,10 @@ def environment(folder: str) -> dict[str, str]:
     return {**kept, "PATH": "/usr/sbin:/usr/bin:/sbin:/bin", "LC_ALL": "C.UTF-8", INSIDE: os.path.realpath(folder)}
 
 
-def install(folder: str, packages: Sequence[str]) -> int:
-    """Installs packages in a folder, and returns the status."""
-    words = ["apt-get", "-y", "-q", "--no-install-recommends", "install", *packages]
-    return subprocess.run(words_in(folder, words), env={**environment(folder), "DEBIAN_FRONTEND": "noninteractive"}).returncode
+def apt_get(folder: str, *words: str) -> int:
+    """Runs apt-get in a folder, and returns the status."""
+    words_there = words_in(folder, ["apt-get", "-y", "-q", "--no-install-recommends", *words])
+    return subprocess.run(words_there, env={**environment(folder), "DEBIAN_FRONTEND": "noninteractive"}).returncode
 
 
 def make(folder: str, suite: str, mirror: str, packages: Sequence[str]) -> int:
@@ -96,7 +96,7 @@ def make(folder: str, suite: str, mirror: str, packages: Sequence[str]) -> int:
     with open(f"{folder}/{POLICY}", "w", encoding="ascii") as file:
         file.write("#!/bin/sh\nexit 101\n")
     os.chmod(f"{folder}/{POLICY}", 0o755)
-    return install(folder, [*PACKAGES, *packages])
+    return apt_get(folder, "install", *PACKAGES, *packages)
 
 
 def main() -> int:
@@ -122,7 +122,8 @@ def main() -> int:
     if missing := lacking_to_run(options.folder):
         fail(missing)
     if options.command == "add":
-        return install(options.folder, options.words)
+        # Which packages the suite has may have changed since the folder was made.
+        return apt_get(options.folder, "update") or apt_get(options.folder, "install", *options.words)
     if not options.words:
         parser.error("name a command")
     return subprocess.run(words_in(options.folder, options.words), env=environment(options.folder)).returncode

@@ -56,7 +56,7 @@ RIMS = (
     Rim("Python", ("python3-venv", "python3-pip", "python3-setuptools", "python3-wheel", "python3-numpy", "python3-pandas"),
         ("test_python", "test_databases_python", "test_dbapi", "test_values"), "test_python.Package.test_the_example_of_the_document",
         (Shown("Python", ("python3",)),)),
-    Rim("GeoPandas", ("python3-geopandas", "python3-rtree"), ("test_geopandas",), "test_geopandas.GeoPandas.test_the_example_of_the_document",
+    Rim("GeoPandas", ("python3-geopandas", "python3-rtree", "python3-pytest"), ("test_geopandas",), "test_geopandas.GeoPandas.test_the_example_of_the_document",
         (Shown("GeoPandas", ("python3-geopandas",)), Shown("shapely", ("python3-shapely",)))),
     Rim("SQLite", ("sqlite3", "libsqlite3-dev"), ("test_sqlite", "test_sqlite_tables", "test_sqlite_layers"),
         "test_sqlite.Sqlite.test_the_example_of_the_document", (Shown("SQLite", ("sqlite3",)),)),
