@@ -11,6 +11,8 @@ import gate_edits
 
 SOURCE = """//! Numbers.
 
+use crate::digits::{Digit, Place};
+
 /// The greatest.
 const MOST: u32 = 7;
 
@@ -42,6 +44,13 @@ impl<T: Ord> PartialOrd for Number<T> {
 impl From<wide::Wide> for Number<u32> {
     fn from(wide: wide::Wide) -> Self {
         wide.narrow()
+    }
+}
+
+impl Digit {
+    /// The one before.
+    pub fn before(&self) -> u8 {
+        self.digit - 1
     }
 }
 
@@ -86,6 +95,8 @@ class Edits(unittest.TestCase):
         self.assertEqual(self.functions(("Some(self.cmp(other))", "None")), {"low::numbers::NumberPartialOrd::partial_cmp"})
         self.assertEqual(self.functions(("2 * number", "3 * number")), {"low::numbers::twice"})
         self.assertEqual(self.functions(("wide.narrow()", "0")), {"low::numbers::NumberFromWide::from"})
+        # A check calls a method by the module that has the type.
+        self.assertEqual(self.functions(("self.digit - 1", "0")), {"low::digits::Digit::before"})
 
     def test_a_change_outside_of_functions_or_of_what_is_there_twice(self):
         self.assertEqual(self.functions(("u32 = 7", "u32 = 8")), set())

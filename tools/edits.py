@@ -53,9 +53,15 @@ class Edit:
             name = function_at(text, text.find(old)) if text.count(old) == 1 else ""
             if not name:
                 return set()
-            module = re.sub(r"^src/|\.rt$", "", self.file).replace("/", "::")
+            module = home_of(text, name.rpartition("::")[0]) or re.sub(r"^src/|\.rt$", "", self.file).replace("/", "::")
             found.add("::".join(it for it in (crate, "" if module in ("lib", "main") else module, name) if it))
         return found
+
+
+def home_of(text: str, owner: str) -> str:
+    """Returns the module of a type that a source has from another module of its crate, or an empty text. A check calls methods by it."""
+    used = re.search(rf"^use crate::([\w:]+)::(?:{owner};|\{{[^}}]*\b{owner}\b)", text, re.M) if owner else None
+    return used[1] if used else ""
 
 
 def owner_of(line: str) -> str:
