@@ -65,7 +65,7 @@ pub fn run<I: EnvelopeIndex + Drop, R: Read + Drop, S: Sink>(
     run_observed::<I, R, S, Unobserved>(alloc, schema, readers, query, sink, &mut Unobserved)
 }
 
-/// The same as `run`. It reports each candidate that is looked at, and each row that is found, to an observer, which tests look at.
+/// Runs a query like `run`, and reports each candidate that it looks at and each row that it finds to an observer, as tests want.
 pub fn run_observed<I: EnvelopeIndex + Drop, R: Read + Drop, S: Sink, O: RowObserver>(
     alloc: Global,
     schema: &Schema,
