@@ -5,6 +5,8 @@
 #[cfg(test)]
 mod batch_line_tests;
 #[cfg(test)]
+mod binary_tests;
+#[cfg(test)]
 mod bound_query_tests;
 #[cfg(test)]
 mod box_tests;

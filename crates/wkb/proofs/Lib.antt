@@ -1,0 +1,9 @@
+pub mod Additions
+pub mod Floors
+pub mod Halves
+pub mod Items
+pub mod NearestFacts
+pub mod Outcomes
+pub mod RoundedFacts
+pub mod Signed
+pub mod Sizes

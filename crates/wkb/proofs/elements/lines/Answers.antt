@@ -1,0 +1,35 @@
+use Rattle.std.proofs.Common.{◌≡◌, ◌∙◌, ◌-◌, suc, Err, rules, arith}
+use Rattle.std.proofs.lemmas.Grind.{common_steps}
+use Rattle.wkb.specs.BinaryReading as spec
+use Rattle.wkb.proofs.Items.{behind_nothing, several_done, several_fails, several_more, fails_alike}
+use Rattle.wkb.proofs.Additions.{none_added, one_added}
+use Rattle.wkb.proofs.elements.lines.Goals as goal
+
+pub loop-left-init : goal.loop-left-init
+loop-left-init c = rw c.new-lines.ensures.items (record { read = behind_nothing _; added = none_added c.args.cursor.now })
+
+pub returns-in_err-line-clause-read : goal.returns-in_err-line-clause-read
+returns-in_err-line-clause-read c =
+    let some : c.loop-left.left ≡ suc (c.loop-left.left - 1) = omega arith in
+    let is : c.from_residual.result ≡ Err c.in_err-line.field-0.0 = first_of (search rules, grind (arith, common_steps)) in
+    rw is (fails_alike (spec.line_element c.args.grid.now c.loop-left.cursor)
+    (spec.several (spec.line_element c.args.grid.now) c.args.count c.args.cursor.now) c.in_err-line.field-0.0
+    (λ refusal failed. c.loop-left.invariant.read
+    ∙ several_fails (spec.line_element c.args.grid.now) c.loop-left.lines.items c.loop-left.left
+    (c.loop-left.left - 1) c.loop-left.cursor refusal some failed)
+    c.in_err-line.ensures.read)
+
+pub loop-left-preserved : goal.loop-left-preserved
+loop-left-preserved c =
+    let some : c.loop-left.left ≡ suc (c.loop-left.left - 1) = omega arith in
+    rw c.in_ok-push.ensures.items record {
+      read = c.loop-left.invariant.read ∙ several_more
+          (spec.line_element c.args.grid.now) c.loop-left.lines.items c.loop-left.left
+          (c.loop-left.left - 1) c.loop-left.cursor c.line_element.new.cursor c.in_ok-line.line some c.in_ok-line.ensures.read;
+      added = one_added c.args.cursor.now c.loop-left.cursor c.line_element.new.cursor c.loop-left.lines.items c.in_ok-line.line
+          c.loop-left.invariant.added c.in_ok-line.ensures.added c.in_ok-line.ensures.part;
+    }
+
+pub returns-clause-read : goal.returns-clause-read
+returns-clause-read c = c.loop-left.invariant.read
+    ∙ several_done (spec.line_element c.args.grid.now) c.loop-left.lines.items c.loop-left.left c.loop-left.cursor (omega arith)
