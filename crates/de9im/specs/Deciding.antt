@@ -12,6 +12,7 @@ use Rattle.geometry_model.specs.declared.point_sets.Location.{Location}
 use Rattle.geometry_model.specs.declared.point_sets.Location.TheVariants.{Exterior}
 use Rattle.geometry_model.specs.declared.relations.Predicate.{Predicate}
 use Rattle.geometry_model.specs.declared.relations.Predicate.TheVariants as predicates
+use Rattle.geometry_model.specs.declared.shapes.Kind.{Kind}
 use Rattle.geometry_model.specs.declared.shapes.Kind.TheVariants as kinds
 use Rattle.de9im.specs.Raising.{beside_area}
 
@@ -62,3 +63,7 @@ where_shared (predicates.Relate pattern) = None
 -- every two valid geometries whose envelopes don't meet decide the predicate so (06-103r4, 6.1.15.3)
 abbrev pub HoldsWhereFar : Predicate → Bool → Type 0
 HoldsWhereFar p answer = (a b : Geometry) → IsValid a → IsValid b → meets (envelope a) (envelope b) ≡ false → IsDecided p a b answer
+
+-- every matrix of two geometries of these kinds decides the predicate so (06-103r4, 6.1.15.3)
+abbrev pub HoldsForKinds : Predicate → Kind → Kind → Bool → Type 0
+HoldsForKinds p one other answer = (m : Matrix) → holds p one other m ≡ answer

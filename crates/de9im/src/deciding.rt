@@ -1,5 +1,5 @@
-//! Whether a predicate holds of two geometries. Where envelopes of small ones don't meet, these settle it, but for some patterns.
-//! Intersects and Disjoint are known at the first point that both are found to share, Within, Contains and Equals at a position of
+//! Whether a predicate holds of two geometries. Crosses and Overlaps never hold of some kinds. Where envelopes of small geometries
+//! don't meet, these settle it, but for some patterns. Intersects and Disjoint are known at the first point that both are found to share, Within, Contains and Equals at a position of
 //! one in the other's exterior, and of a point and an area each by where the point lies.
 
 ghost use Rattle.std.specs.Prelude.{◌≡◌, ◌≢◌, ◌↔◌, All, IfOk, IsTrue, OnOk, OnErr, IfSome, Some, Contains, take, true, false};
@@ -8,7 +8,7 @@ ghost use Rattle.geometry_model.specs.Dimensions.{IsMatrix};
 ghost use Rattle.geometry_model.specs.Envelopes.{envelope, meets};
 ghost use Rattle.geometry_model.specs.Geometries.{edges};
 ghost use Rattle.geometry_model.specs.declared.point_sets.Location.TheVariants.{Exterior};
-ghost use Rattle.de9im.specs.Deciding.{GeometriesShare, HasPointOutside, HoldsWhereFar, IsDecided, StartsInside, where_shared};
+ghost use Rattle.de9im.specs.Deciding.{GeometriesShare, HasPointOutside, HoldsForKinds, HoldsWhereFar, IsDecided, StartsInside, where_shared};
 
 use crate::apart::{are_apart, find_apart};
 use crate::meeting::SpatialPredicate;
@@ -38,6 +38,21 @@ fn where_shared(predicate: Predicate) -> Option<bool>
         | Predicate::Contains
         | Predicate::Overlaps
         | Predicate::Relate(_) => None,
+    }
+}
+
+/// Whether the predicate holds of every two geometries of these kinds; None where that depends on the geometries. Crosses is never
+/// true of two points or of two areas, nor Overlaps of geometries of two kinds (06-103r4, 6.1.15.3).
+fn for_kinds(predicate: Predicate, first: Kind, second: Kind) -> Option<bool>
+    ensures { IfSome result (HoldsForKinds predicate first second) }
+{
+    match (predicate, first, second) {
+        (Predicate::Crosses, Kind::Point, Kind::Point)
+        | (Predicate::Crosses, Kind::Area, Kind::Area)
+        | (Predicate::Overlaps, Kind::Point, Kind::Line | Kind::Area)
+        | (Predicate::Overlaps, Kind::Line, Kind::Point | Kind::Area)
+        | (Predicate::Overlaps, Kind::Area, Kind::Point | Kind::Line) => Some(false),
+        _ => None,
     }
 }
 
@@ -158,6 +173,15 @@ fn answer_where_far(predicate: Predicate, first: &Valid, second: &Valid) -> Opti
     None
 }
 
+/// Whether a predicate holds of two geometries, if their kinds settle it.
+fn answer_by_kinds(predicate: Predicate, first: &Valid, second: &Valid) -> Option<bool>
+    ensures { IfSome result (IsDecided predicate first.now second.now) }
+{
+    let _first = first.geometry();
+    let _second = second.geometry();
+    for_kinds(predicate, first.kind(), second.kind())
+}
+
 /// Whether a part is the exterior.
 fn is_exterior(part: Location) -> bool
     ensures { IsTrue result ↔ (part ≡ Exterior) }
@@ -230,6 +254,9 @@ fn answer_by_positions(predicate: Predicate, first: &Valid, second: &Valid) -> O
 fn answer_at_once(predicate: Predicate, first: &Valid, second: &Valid) -> Option<bool>
     ensures { IfSome result (IsDecided predicate first.now second.now) }
 {
+    if let Some(known) = answer_by_kinds(predicate, first, second) {
+        return Some(known);
+    }
     if let Some(known) = decide_by_part(predicate, first, second) {
         return Some(known);
     }

@@ -1,5 +1,5 @@
-//! Intersects and Disjoint of pairs of which it is known by hand whether they share a point, and each predicate of a point and a
-//! square.
+//! Intersects and Disjoint of pairs of which it is known by hand whether they share a point, each predicate of a point and a square,
+//! and Crosses and Overlaps of each two kinds.
 
 use crate::shapes::valid;
 use de9im::{Predicate, Work, decide};
@@ -109,6 +109,74 @@ fn points_and_a_square(rt: HostRuntime) -> Result<(), Fail> {
         let point = valid(rt.alloc(), text)?;
         assert!(rt; hold_alone(rt.alloc(), &point, &square, of_point)?);
         assert!(rt; hold_alone(rt.alloc(), &square, &point, of_square)?);
+    }
+    Ok(())
+}
+
+/// Crosses or Overlaps of two geometries whose interiors and exteriors meet, and whether it holds by their kinds.
+const KINDS: [(Predicate, &str, &str, bool); 12] = [
+    (Predicate::Overlaps, SQUARE, "LINESTRING(-1 4,10 5)", false),
+    (Predicate::Overlaps, "LINESTRING(-1 4,10 5)", SQUARE, false),
+    (Predicate::Overlaps, "MULTIPOINT(4 4,20 20)", SQUARE, false),
+    (Predicate::Overlaps, SQUARE, "MULTIPOINT(4 4,20 20)", false),
+    (
+        Predicate::Overlaps,
+        "LINESTRING(0 0,9 9)",
+        "MULTIPOINT(3 3,20 20)",
+        false,
+    ),
+    (
+        Predicate::Overlaps,
+        SQUARE,
+        "POLYGON((3 3,12 3,12 12,3 3))",
+        true,
+    ),
+    (
+        Predicate::Overlaps,
+        "LINESTRING(0 0,4 0)",
+        "LINESTRING(2 0,6 0)",
+        true,
+    ),
+    (
+        Predicate::Overlaps,
+        "MULTIPOINT(1 1,2 2)",
+        "MULTIPOINT(2 2,3 3)",
+        true,
+    ),
+    (
+        Predicate::Crosses,
+        SQUARE,
+        "POLYGON((3 3,12 3,12 12,3 3))",
+        false,
+    ),
+    (
+        Predicate::Crosses,
+        "MULTIPOINT(1 1,2 2)",
+        "MULTIPOINT(2 2,3 3)",
+        false,
+    ),
+    (Predicate::Crosses, "LINESTRING(-1 4,10 5)", SQUARE, true),
+    (
+        Predicate::Crosses,
+        "LINESTRING(0 0,4 4)",
+        "LINESTRING(0 4,4 0)",
+        true,
+    ),
+];
+
+/// Whether a predicate is decided so, and counted once.
+fn is_so(alloc: Global, row: &(Predicate, &str, &str, bool)) -> Result<bool, Fail> {
+    let (predicate, first, second, wanted) = *row;
+    let (first, second) = (valid(alloc, first)?, valid(alloc, second)?);
+    let mut work = Work::new();
+    let holds = decide(alloc, predicate, &first, &second, &mut work)?;
+    Ok(holds == wanted && work.count() == 1)
+}
+
+#[test]
+fn predicates_that_kinds_settle(rt: HostRuntime) -> Result<(), Fail> {
+    for row in &KINDS {
+        assert!(rt; is_so(rt.alloc(), row)?);
     }
     Ok(())
 }
