@@ -2,10 +2,12 @@
 use Rattle.std.proofs.Common.{◌≡◌, ◌∙◌, ◌+◌, ◌++◌, ◌<◌, ℕ, List, [], ◌∷◌, Option, None, Some, Result, Ok, Err, IfErr, ap, ap₂, arith, drop, get_or, length, map, refl, subst, sym, take, drop_at}
 use Rattle.std.proofs.lemmas.List.{append-nil, append_assoc, drop_more, get_or-map, length-append, length-map, take-append-drop, take_all}
 use Rattle.std.proofs.lemmas.List.FromFn.{get_or-enumerate_from, length-enumerate_from}
+use Rattle.std.proofs.lemmas.Option.{get_or_from_slice_get, slice_get-get_or}
 use Rattle.std.proofs.lemmas.Slice.Zip.{get_or-zip}
 use Rattle.std.specs.List.{enumerate_from, zip}
 use Rattle.feature_table.proofs.EachLemmas.{Passed, passed_all, passed_fault, passed_front, passed_more}
 use Rattle.feature_table.proofs.LoadingLemmas.{at_place}
+use Rattle.feature_table.specs.LastRecords.{AreShown, ShowsRefused}
 use Rattle.feature_table.specs.Outcomes.{IsFailure, LoadsTable}
 use Rattle.feature_table.proofs.ReaderRecords.{each-append, each-more, fill, length-each}
 use Rattle.feature_table.specs.Tables.{AreOfRecords, AreRecordsOf, EachRecordsOf, EarlierLoad, records_in, tables_in}
@@ -116,31 +118,37 @@ all_loaded geometry definitions known n tables view x a all many is =
       earlier = tt;
     }
 
--- a table of a fault
+-- a table of a fault, and what has it was read last
 pub fault_loaded : {T G X : Type 0} (geometry : GeometryReader T G) (definitions : List (TableDef T)) (known : List (Option (List ℕ))) (n : ℕ) (tables : List (Table G))
-    (view : X → List (Table G)) (t : TableDef T) (next : List Record) (f : TableFault) → HaveLoaded geometry definitions known n tables → n < length definitions
+    (view : X → List (Table G)) (t : TableDef T) (next : List Record) (f : TableFault) (header last : Record) → HaveLoaded geometry definitions known n tables → n < length definitions
     → length known ≡ length definitions → f.table ≡ n → AreRecordsOf (get_or known n None) next
-    → (¬ (IsFailure f.fault) → at_table n (load geometry (get_or definitions n t) next) ≡ Err f) → AreOfRecords geometry definitions known view (Err f)
+    → (¬ (IsFailure f.fault) → at_table n (load geometry (get_or definitions n t) next) ≡ Err f) → ShowsRefused next header last f.fault
+    → AreShown geometry definitions known view header last (Err f)
 unfolding load_tables
-fault_loaded geometry definitions known n tables view t next f a within many place of is =
-    let last = fill (drop (n + 1) known) in
-    let more = last.0 in
+fault_loaded geometry definitions known n tables view t next f header last a within many place of is shown =
+    let others = fill (drop (n + 1) known) in
+    let more = others.0 in
     let records = a.records ++ next ∷ more in
     let split : known ≡ take n known ++ get_or known n None ∷ drop (n + 1) known =
     sym (take-append-drop n known) ∙ ap (λ (rest : List (Option (List ℕ))). take n known ++ rest) (drop_more known n None (omega (arith, within, many))) in
     let each : EachRecordsOf known records =
     subst (λ (ks : List (Option (List ℕ))). EachRecordsOf ks records) (sym split)
-    (each-append (take n known) (get_or known n None ∷ drop (n + 1) known) a.records (next ∷ more) a.are_of (of, last.1)) in
+    (each-append (take n known) (get_or known n None ∷ drop (n + 1) known) a.records (next ∷ more) a.are_of (of, others.1)) in
     let size : length definitions ≡ length records = sym (length-each known records each ∙ many) in
     let whole = length-loaded geometry definitions records size in
     let at = next_at geometry definitions a.records n next more t no_table a.count size in
     let passed = a.passed (next ∷ more) size in
-    record {
-      records = records;
-      are_of = each;
-      loads = λ other. passed_fault (loaded_tables geometry definitions records) n tables f no_table (omega (arith, whole, at.0)) passed (at.1 ∙ is other);
-      earlier = rw place (passed_front (loaded_tables geometry definitions records) n tables passed);
-    }
+    let there = at_place records n next more (drop_at a.records (next ∷ more) n a.count) in
+    let here : get_or records n [] ≡ next = get_or_from_slice_get records n next [] (slice_get-get_or records n next there.0 ∙ ap Some there.1) in (
+      record {
+        records = records;
+        are_of = each;
+        loads = λ other. passed_fault (loaded_tables geometry definitions records) n tables f no_table (omega (arith, whole, at.0)) passed (at.1 ∙ is other);
+        earlier = rw place (passed_front (loaded_tables geometry definitions records) n tables passed);
+      },
+      subst (λ (k : ℕ). ShowsRefused (get_or records k []) header last f.fault) (sym place)
+          (subst (λ (r : List Record). ShowsRefused r header last f.fault) (sym here) shown),
+    )
 
 -- what is known of the reader at a place
 pub known_at : {R : Type 0} (remaining : R → Option (List ℕ)) (readers : List R) (n : ℕ) (reader : R) → n < length readers → reader ≡ get_or readers n reader

@@ -7,6 +7,7 @@ pub mod EachLemmas
 pub mod RowLemmas
 pub mod LoadingLemmas
 pub mod LoadLemmas
+pub mod LastRecordLemmas
 pub mod GeometryFieldLemmas
 pub mod ReaderRecords
 pub mod AscentLemmas

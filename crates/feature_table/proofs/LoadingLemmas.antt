@@ -130,12 +130,10 @@ read_more geometry table header place rows fields row a is = record {
 
 -- the next record that was read has a fault: the records so far and this one have it first
 pub read_fault : {T G : Type 0} (geometry : GeometryReader T G) (table : TableDef T) (header : Record) (place : ℕ) (rows : List (Row G)) (fields : Record) (f : LoadFault)
-    → AreRead geometry table header place rows → checked_row geometry table header (place + 1, fields) ≡ Err f
-    → (records : List Record) × (rows_of geometry table header records ≡ Err f)
-read_fault geometry table header place rows fields f a is = (
-  a.records ++ fields ∷ [],
-  row_fault geometry table header (a.records ++ fields ∷ []) place rows fields [] f (a.passed (fields ∷ [])) (drop_at a.records (fields ∷ []) place a.count) is,
-)
+    → (a : AreRead geometry table header place rows) → checked_row geometry table header (place + 1, fields) ≡ Err f
+    → rows_of geometry table header (a.records ++ fields ∷ []) ≡ Err f
+read_fault geometry table header place rows fields f a is =
+    row_fault geometry table header (a.records ++ fields ∷ []) place rows fields [] f (a.passed (fields ∷ [])) (drop_at a.records (fields ∷ []) place a.count) is
 
 -- nothing more is read: the records so far give these rows
 pub read_end : {T G : Type 0} (geometry : GeometryReader T G) (table : TableDef T) (header : Record) (place : ℕ) (rows : List (Row G))

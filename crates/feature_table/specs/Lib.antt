@@ -7,6 +7,7 @@ pub mod HeldTables
 pub mod Indexes
 pub mod FlatRows
 pub mod KeyPlaces
+pub mod LastRecords
 pub mod Outcomes
 pub mod Reading
 pub mod ReadRows

@@ -1,9 +1,9 @@
 -- What reading the next row of a table returns.
 use Rattle.std.specs.Prelude.{◌≡◌, ◌++◌, ℕ, Bool, true, false, List, [], ◌∷◌, Option, Result, Ok, Err, ⊤}
-use Rattle.feature_table.specs.Outcomes.{IsFailure, Loads}
+use Rattle.feature_table.specs.Outcomes.{IsFailure}
 use Rattle.feature_table.specs.Records.{Gives}
 use Rattle.feature_table.specs.declared.records.Records.{Records}
-use Rattle.table_model.specs.Loading.{GeometryReader, Record, checked_row, rows_of}
+use Rattle.table_model.specs.Loading.{GeometryReader, Record, checked_row}
 use Rattle.table_model.specs.Meanings.{Row}
 use Rattle.table_model.specs.declared.definitions.TableDef.{TableDef}
 use Rattle.table_model.specs.declared.faults.LoadFault.{LoadFault}
@@ -25,7 +25,3 @@ IsOfRecord {G = G} geometry table header number old new (Ok true) =
     (fields : Record) × (row : Row G) × (checked_row geometry table header (number, fields) ≡ Ok row) × (new ≡ old ++ row)
 IsOfRecord geometry table header number old new (Err f) =
     ¬ (IsFailure f) → (fields : Record) × (checked_row geometry table header (number, fields) ≡ Err f)
-
--- the rows are those of some records, and so is a fault that the definitions give
-abbrev pub RowsOfRecords : {T G X : Type 0} → GeometryReader T G → TableDef T → Record → (X → List (Row G)) → Result X LoadFault → Type 0
-RowsOfRecords geometry table header view answer = (records : List Record) × Loads view answer (rows_of geometry table header records)

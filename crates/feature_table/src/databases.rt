@@ -2,7 +2,9 @@
 
 ghost use Rattle.std.specs.Prelude.{◌≡◌, ◌<◌, ℕ, IfErr, IfOk, List, Some, length, map, slice_get};
 ghost use Rattle.std.specs.List.{slice_index_or};
+ghost use Rattle.csv.specs.Records.{fields_of};
 ghost use Rattle.feature_table.specs.GeometryFields.{ShapeValue, reading, takes};
+ghost use Rattle.feature_table.specs.LastRecords.{AreShown, ShowsRefused};
 ghost use Rattle.feature_table.specs.Outcomes.{LoadsTable};
 ghost use Rattle.feature_table.specs.Tables.{AreOfRecords, AreRecordsOf, EarlierLoad, records_in, table_in, tables_in};
 ghost use Rattle.feature_table.specs.HeldTables.{rows_of};
@@ -11,7 +13,7 @@ ghost use Rattle.table_model.specs.FeatureTables.{IsDatabase};
 ghost use Rattle.table_model.specs.Loading.{Record, load};
 ghost use Rattle.table_model.specs.declared.definitions.TableDef.{TableDef as Definition};
 
-use crate::{Schema, Table, TableDef};
+use crate::{LastRecords, Schema, Table, TableDef};
 use rtree::EnvelopeIndex;
 use std::alloc::Global;
 use std::io::Read;
@@ -47,12 +49,13 @@ impl<'s, I: EnvelopeIndex> Model for Database<'s, I> {
         IsDatabase takes (record { definitions = d.schema.now; tables = rows_of d.tables }) };
 }
 
-/// Loads the table at a place of a schema, and adds that place to a fault.
+/// Loads the table at a place of a schema, and adds that place to a fault. The header and the records are read into `last`.
 fn load_table<I: EnvelopeIndex + Drop, R: Read + Drop>(
     alloc: Global,
     schema: &Schema,
     place: usize,
     reader: R,
+    last: &mut LastRecords,
 ) -> Result<Table<I>, TableFault>
     requires { place < length schema.now }
     ensures place { IfErr result (λ f. f.table ≡ place) }
@@ -62,9 +65,10 @@ fn load_table<I: EnvelopeIndex + Drop, R: Read + Drop>(
     ensures records { (d : Definition ShapeValue)
         → (records : List Record) × AreRecordsOf (R.remaining reader) records
         × LoadsTable (λ t. t) result
-        (at_table place (load reading (slice_index_or schema.now place d) records)) }
+        (at_table place (load reading (slice_index_or schema.now place d) records))
+        × IfErr result (λ f. ShowsRefused records (fields_of last.new.header) (fields_of last.new.record) f.fault) }
 {
-    match Table::load(alloc, schema.table(place), reader) {
+    match Table::load_reader(alloc, schema.table(place), reader, last) {
         Ok(table) => Ok(table),
         Err(fault) => Err(TableFault {
             table: place,
@@ -73,20 +77,21 @@ fn load_table<I: EnvelopeIndex + Drop, R: Read + Drop>(
     }
 }
 
-/// Loads the tables of a schema in its order, each from the CSV text of one reader.
+/// Loads the tables of a schema in its order, each from the CSV text of one reader, whose header and records are read into `last`.
 fn load_tables<I: EnvelopeIndex + Drop, R: Read + Drop>(
     alloc: Global,
     schema: &Schema,
     readers: Vec<R>,
+    last: &mut LastRecords,
 ) -> Result<Vec<Table<I>>, TableFault>
     requires { length readers.items ≡ length schema.now }
-    ensures records { AreOfRecords reading schema.now (map R.remaining readers.items)
-        (λ tables. tables.items) result }
+    ensures records { AreShown reading schema.now (map R.remaining readers.items) (λ tables. tables.items)
+        (fields_of last.new.header) (fields_of last.new.record) result }
     ensures table { IfErr result (λ f. f.table < length schema.now) }
 {
     let mut tables = Vec::new(alloc);
     for (place, reader) in readers.into_iter().enumerate() {
-        let table = load_table(alloc, schema, place, reader)?;
+        let table = load_table(alloc, schema, place, reader, last)?;
         if tables.push(table).is_err() {
             return Err(TableFault {
                 table: place,
@@ -119,9 +124,32 @@ impl<'s, I: EnvelopeIndex + Drop> Database<'s, I> {
         ensures database { IfOk result (IsDatabase takes) }
         ensures table { IfErr result (λ f. f.table < length schema.entry.now) }
     {
+        Database::load_into(alloc, schema, readers, &mut LastRecords::new(alloc))
+    }
+
+    /// Like `Database::load`, but the header and the records of each table are read into `last`. If a table has a fault, its header is
+    /// left there, and the record that shows the fault. A caller that shows them needs no second reading of the text. No record shows a
+    /// fault of the header, a repeated key, a row too many, a fault of reading or that memory ran out.
+    pub fn load_into<R: Read + Drop>(
+        alloc: Global,
+        schema: &'s Schema,
+        readers: Vec<R>,
+        last: &mut LastRecords,
+    ) -> Result<Database<'s, I>, TableFault>
+        requires { length readers.items ≡ length schema.now }
+        ensures schema { IfOk result (λ d. d.definitions ≡ schema.entry.now) }
+        ensures loads { (texts : List (List ℕ)) → map R.remaining readers.items ≡ map Some texts
+            → LoadsTable (λ d. d.tables) result (tables_in reading schema.entry.now texts) }
+        ensures earlier { (texts : List (List ℕ)) → map R.remaining readers.items ≡ map Some texts
+            → IfErr result (λ f. EarlierLoad reading schema.entry.now (map records_in texts) f.table) }
+        ensures records { AreShown reading schema.entry.now (map R.remaining readers.items) (λ d. d.tables)
+            (fields_of last.new.header) (fields_of last.new.record) result }
+        ensures database { IfOk result (IsDatabase takes) }
+        ensures table { IfErr result (λ f. f.table < length schema.entry.now) }
+    {
         // The definitions are lawful, as those of a database are.
         let _definitions = schema.tables();
-        let tables = load_tables(alloc, schema, readers)?;
+        let tables = load_tables(alloc, schema, readers, last)?;
         Ok(Database {
             schema,
             tables: HeldTables::Own(tables),

@@ -1,10 +1,12 @@
 //! Tables of typed rows.
 
-ghost use Rattle.std.specs.Prelude.{◌≡◌, ◌-◌, ◌∷◌, ◌<◌, ◌≤◌, ℕ, IfErr, IfOk, IsTrue, List, [], Some, length, slice_get, true};
+ghost use Rattle.std.specs.Prelude.{◌≡◌, ◌-◌, ◌∷◌, ◌<◌, ◌≤◌, ℕ, IfErr, IfOk, IsTrue, List, [], None, Some, length, slice_get, true};
 ghost use Rattle.feature_table.specs.Outcomes.{Loads, is_of_reading};
 ghost use Rattle.feature_table.specs.Records.{Gives, IsReady, asked, read_failed, record_limit};
 ghost use Rattle.feature_table.specs.GeometryFields.{reading, takes};
 ghost use Rattle.feature_table.specs.Indexes.{column_envelopes};
+ghost use Rattle.csv.specs.Records.{fields_of};
+ghost use Rattle.feature_table.specs.LastRecords.{ShowsRefused, ShowsTable};
 ghost use Rattle.feature_table.specs.Tables.{IsOfRecords, IsOfSomeRecords, IsTable, NoFaultBefore, table_in};
 ghost use Rattle.table_model.specs.Definitions.{lawful};
 ghost use Rattle.table_model.specs.FeatureTables.{AreRows};
@@ -14,10 +16,10 @@ use crate::flat_rows::FlatRows;
 use crate::headers::layout_of;
 use crate::indexes::Indexes;
 use crate::keys::rows_by_key;
+use crate::last_records::LastRecords;
 use crate::loading::read_rows;
 use crate::records::{Records, next_record};
 use crate::values::{Row, Values};
-use csv::ByteRecord;
 use rtree::EnvelopeIndex;
 use sql_text::TableDef;
 use std::alloc::{AllocError, Global};
@@ -74,8 +76,25 @@ impl<I: EnvelopeIndex + Drop> Table<I> {
         ensures records { IsOfRecords reading table.now (R.remaining reader) (λ t. t) result }
         ensures rows { IfOk result (AreRows takes table.now) }
     {
+        Table::load_reader(alloc, table, reader, &mut LastRecords::new(alloc))
+    }
+
+    /// Like `Table::load`, but the header and the records are read into `last`, where those with the fault are left.
+    pub(crate) fn load_reader<R: Read + Drop>(
+        alloc: Global,
+        table: &TableDef,
+        reader: R,
+        last: &mut LastRecords,
+    ) -> Result<Table<I>, LoadFault>
+        requires { IsTrue (lawful (table.now ∷ [])) }
+        ensures loads { (text : List ℕ) → R.remaining reader ≡ Some text
+            → Loads (λ t. t) result (table_in reading table.now text) }
+        ensures records { ShowsTable reading table.now (R.remaining reader) (λ t. t)
+            (fields_of last.new.header) (fields_of last.new.record) result }
+        ensures rows { IfOk result (AreRows takes table.now) }
+    {
         let mut records = Records::new(alloc, reader);
-        Table::load_from(alloc, table, &mut records)
+        Table::load_into(alloc, table, &mut records, last)
     }
 
     /// Loads the table of a lawful definition from records of which none was read yet. The result is that of `Table::load`. It
@@ -99,14 +118,40 @@ impl<I: EnvelopeIndex + Drop> Table<I> {
             (λ f. is_of_reading f ≡ true → NoFaultBefore reading table.now all (asked records.new - 1)) }
         ensures rows { IfOk result (AreRows takes table.now) }
     {
-        let mut header = ByteRecord::new(alloc);
-        let found = next_record(records, &mut header)?;
+        Table::load_into(alloc, table, records, &mut LastRecords::new(alloc))
+    }
+
+    /// Like `Table::load_from`, but the header and the records are read into `last`, where those with the fault are left.
+    pub fn load_into<R: Read + Drop>(
+        alloc: Global,
+        table: &TableDef,
+        records: &mut Records<R>,
+        last: &mut LastRecords,
+    ) -> Result<Table<I>, LoadFault>
+        requires lawful { IsTrue (lawful (table.now ∷ [])) }
+        requires ready { IsReady records.old }
+        requires none { asked records.old ≡ 0 }
+        ensures taken { asked records.new ≤ record_limit }
+        ensures read_failed { IfErr result (λ f. is_of_reading f ≡ true → read_failed records.new ≡ true) }
+        ensures loads { (all : List spec.Record) → Gives R.remaining records.old all
+            → Loads (λ t. t) result (spec.load reading table.now all) }
+        ensures records { ShowsTable reading table.now None (λ t. t)
+            (fields_of last.new.header) (fields_of last.new.record) result }
+        ensures before { (all : List spec.Record) → Gives R.remaining records.old all
+            → IfErr result
+            (λ f. is_of_reading f ≡ true → NoFaultBefore reading table.now all (asked records.new - 1)) }
+        ensures refused { (all : List spec.Record) → Gives R.remaining records.old all
+            → IfErr result (ShowsRefused all (fields_of last.new.header) (fields_of last.new.record)) }
+        ensures rows { IfOk result (AreRows takes table.now) }
+    {
+        let found = next_record(records, &mut last.header)?;
         // Without a header record, the header has no fields, so it lacks the first column.
         if !found {
+            last.header.clear();
             return Err(LoadFault::MissingColumn);
         }
-        let layout = layout_of(alloc, table.columns.as_slice(), &header)?;
-        let read = read_rows(alloc, table, &layout, records)?;
+        let layout = layout_of(alloc, table.columns.as_slice(), &last.header)?;
+        let read = read_rows(alloc, table, &layout, records, &mut last.record)?;
         let rows = rows_by_key(alloc, read, table.columns.len(), table.key)?;
         let indexes = Indexes::build(alloc, table, &rows)?;
         Ok(Table { rows, indexes })

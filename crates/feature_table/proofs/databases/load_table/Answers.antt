@@ -13,7 +13,7 @@ pub returns-in-Ok-clause-records : goal.returns-in-Ok-clause-records
 returns-in-Ok-clause-records g c d =
     let here = get_or_from_slice_get c.args.schema.now c.args.place c.table.result.now d c.table.ensures.value in
     let some = c.in-Ok.ensures.records in
-    (some.0, some.1, rw here (ap (at_table c.args.place) some.2))
+    (some.0, some.1, rw here (ap (at_table c.args.place) some.2), tt)
 
 pub returns-in-Err-clause-loads : goal.returns-in-Err-clause-loads
 returns-in-Err-clause-loads g c text d known other =
@@ -24,4 +24,4 @@ pub returns-in-Err-clause-records : goal.returns-in-Err-clause-records
 returns-in-Err-clause-records g c d =
     let here = get_or_from_slice_get c.args.schema.now c.args.place c.table.result.now d c.table.ensures.value in
     let some = c.in-Err.ensures.records in
-    (some.0, some.1, λ other. rw here (ap (at_table c.args.place) (some.2 other)))
+    (some.0, some.1, λ other. rw here (ap (at_table c.args.place) (some.2 other)), some.3)

@@ -1,13 +1,13 @@
-use Rattle.std.proofs.Common.{Err, ◌+◌, ◌-◌, ◌≡◌, ◌∙◌, ap, arith, drop, length, subst, sym}
+use Rattle.std.proofs.Common.{◌+◌, ◌-◌, ◌≡◌, ◌∙◌, ap, arith, drop, length, refl, subst, sym}
 use Rattle.std.proofs.lemmas.Result.{err_from_is_err_and}
 use Rattle.feature_table.proofs.EachLemmas.{passed_front}
 use Rattle.feature_table.specs.Records.{asked}
-use Rattle.feature_table.proofs.FailureLemmas.{of_fault}
 use Rattle.feature_table.proofs.FlatLemmas.{one_more_wide, row_appended}
-use Rattle.feature_table.proofs.LoadingLemmas.{AreRead, Midway, midway_end, midway_fault, midway_more, read_end, read_fault, read_more, row_is_within}
+use Rattle.feature_table.proofs.LastRecordLemmas.{shows_given, shows_read}
+use Rattle.feature_table.proofs.LoadingLemmas.{AreRead, Midway, midway_end, midway_fault, midway_more, read_end, read_more, row_is_within}
 use Rattle.feature_table.specs.FlatRows.{first_rows}
 use Rattle.feature_table.specs.GeometryFields.{reading}
-use Rattle.table_model.specs.Loading.{checked_rows, rows_of}
+use Rattle.table_model.specs.Loading.{checked_rows}
 use Rattle.feature_table.proofs.loading.read_rows.Goals as goal
 
 pub returns-in_err-found-clause-loads : goal.returns-in_err-found-clause-loads
@@ -20,14 +20,16 @@ returns-in_err-found-clause-loads g c header records layout gives =
     midway_fault _ _ reading c.args.table.now header records c.loop-place.place rows t.0 t.1 c.in_err-found.field-0.0 m t.2 t.3)
 
 pub returns-then-not-found-clause-width : goal.returns-then-not-found-clause-width
-returns-then-not-found-clause-width g c = ap length (c.in_ok-found.ensures.none c.if-not-found.true) ∙ c.loop-place.invariant.width
+returns-then-not-found-clause-width g c = ap length (c.in_ok-found.ensures.none c.if-not-found.true) ∙
+    c.loop-place.invariant.width
 
 pub returns-then-not-found-clause-loads : goal.returns-then-not-found-clause-loads
 returns-then-not-found-clause-loads g c header records layout gives =
     let m = c.loop-place.invariant.midway header records layout gives in
     let rows = first_rows (length c.args.table.now.columns) c.loop-place.values c.loop-place.place in
     let took = rw c.if-not-found.true at (c.in_ok-found.ensures.takes header (drop c.loop-place.place records) layout m.gives) in
-    rw (c.in_ok-found.ensures.none c.if-not-found.true) (midway_end _ _ reading c.args.table.now header records c.loop-place.place rows m took)
+    rw (c.in_ok-found.ensures.none c.if-not-found.true) (midway_end _ _ reading c.args.table.now header records
+    c.loop-place.place rows m took)
 
 pub loop-place-preserved : goal.loop-place-preserved
 loop-place-preserved g c =
@@ -47,7 +49,8 @@ loop-place-preserved g c =
           let m = c.loop-place.invariant.midway header records layout gives in
           let t = rw c.if-not-found.false at (c.in_ok-found.ensures.takes header (drop place records) layout m.gives) in
           let rows = row_appended wide old new t.2 place c.loop-place.invariant.width longer t.5 in
-          subst (Midway g.R.Read.remaining c.push_next_row.new.records reading c.args.table.now header records (place + 1)) (sym rows)
+          subst (Midway g.R.Read.remaining c.push_next_row.new.records reading c.args.table.now header records (place + 1))
+          (sym rows)
           (midway_more _ _ _ reading c.args.table.now header records place (first_rows wide old place) t.0 t.1 t.2 m t.3 t.4 t.6);
       read = λ header layout.
           let a = c.loop-place.invariant.read header layout in
@@ -57,27 +60,34 @@ loop-place-preserved g c =
           (read_more reading c.args.table.now header place (first_rows wide old place) t.0 t.1 a t.2);
     }
 
+pub returns-in_err-found-clause-refused : goal.returns-in_err-found-clause-refused
+returns-in_err-found-clause-refused g c header records layout gives =
+    let m = c.loop-place.invariant.midway header records layout gives in
+    let p = err_from_is_err_and c.from_residual.result c.from_residual.ensures.1 in
+    rw (p.1, p.2) (shows_given _ c.loop-place.records c.args.table.now header records c.loop-place.place _ _ m.gives
+    (c.in_err-found.ensures.refused header layout))
+
 pub returns-in_err-found-clause-records : goal.returns-in_err-found-clause-records
 returns-in_err-found-clause-records g c header layout =
     let a = c.loop-place.invariant.read header layout in
-    let rows = first_rows (length c.args.table.now.columns) c.loop-place.values c.loop-place.place in
     let p = err_from_is_err_and c.from_residual.result c.from_residual.ensures.1 in
-    rw (p.1, p.2)
-    (of_fault c.in_err-found.field-0.0 (λ records. rows_of reading c.args.table.now header records ≡ Err c.in_err-found.field-0.0) (λ other. let t = c.in_err-found.ensures.record header layout other in
-    read_fault reading c.args.table.now header c.loop-place.place rows t.0 c.in_err-found.field-0.0 a t.1))
+    rw (p.1, p.2) (shows_read _ c.loop-place.records c.args.table.now header c.loop-place.place _ _ _ a
+    (c.in_err-found.ensures.refused header layout))
 
 pub returns-then-not-found-clause-records : goal.returns-then-not-found-clause-records
 returns-then-not-found-clause-records g c header layout =
     let rows = first_rows (length c.args.table.now.columns) c.loop-place.values c.loop-place.place in
     rw (c.in_ok-found.ensures.none c.if-not-found.true)
-    (read_end reading c.args.table.now header c.loop-place.place rows (c.loop-place.invariant.read header layout))
+    (let all = read_end reading c.args.table.now header c.loop-place.place rows (c.loop-place.invariant.read header layout) in
+    (all.0, all.1, tt))
 
 pub returns-in_err-found-clause-before : goal.returns-in_err-found-clause-before
 returns-in_err-found-clause-before g c header records layout gives =
     let m = c.loop-place.invariant.midway header records layout gives in
     let rows = checked_rows reading c.args.table.now header records in
     let read = first_rows (length c.args.table.now.columns) c.loop-place.values c.loop-place.place in
-    let place : asked c.push_next_row.new.records - 2 ≡ c.loop-place.place = omega (arith, c.push_next_row.ensures.asked, c.loop-place.invariant.asked) in
+    let place : asked c.push_next_row.new.records - 2 ≡ c.loop-place.place = omega
+    (arith, c.push_next_row.ensures.asked, c.loop-place.invariant.asked) in
     let p = err_from_is_err_and c.from_residual.result c.from_residual.ensures.1 in
     rw (p.1, p.2, place) (λ failed. passed_front rows c.loop-place.place read m.passed)
 
@@ -89,3 +99,6 @@ returns-clause-loads g c header records layout gives =
 pub returns-clause-records : goal.returns-clause-records
 returns-clause-records g c header layout =
     let within = c.loop-place.invariant.within header layout in absurd (omega (arith, within, c.loop-place-test.false))
+
+pub returns-clause-refused : goal.returns-clause-refused
+returns-clause-refused g c header records layout gives other = (refl, tt)
