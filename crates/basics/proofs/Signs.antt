@@ -162,10 +162,3 @@ same_at_most a b c d f g = grind (arith, ints)
 
 pub same_less : (a b c d : ℤ) → (a <ℤ b → c <ℤ d) → (c <ℤ d → a <ℤ b) → int_lt a b ≡ int_lt c d
 same_less a b c d f g = grind (arith, ints)
-
--- a test of two numbers whose difference is that of two others
-pub less_by_difference : (x y z t : ℤ) → y -ℤ x ≡ t -ℤ z → x <ℤ y → z <ℤ t
-less_by_difference x y z t e h = omega (arith, ints)
-
-pub at_most_by_difference : (x y z t : ℤ) → y -ℤ x ≡ t -ℤ z → x ≤ℤ y → z ≤ℤ t
-at_most_by_difference x y z t e h = omega (arith, ints)

@@ -9,7 +9,7 @@ use borrow.Author.Differences.{ints}
 use Rattle.std.specs.declared.cmp.Ordering.TheVariants.{Less, Equal, Greater}
 use Rattle.std.specs.Ordering.{int_cmp, int_eq, is_eq}
 use Rattle.basics.proofs.Quotients.{less_scaled}
-use Rattle.basics.proofs.Signs.{less_yes, less_no, three_ways, same_less, same_at_most, strict_plus_plus, strict_plus_minus, plus_plus, plus_minus, cancel_positive, cancel_negative, cancel_nonnegative, cancel_nonpositive}
+use Rattle.basics.proofs.Signs.{less_yes, less_no, three_ways, same_less, same_at_most, strict_plus_plus, strict_plus_minus, plus_minus, cancel_positive, cancel_negative, cancel_nonpositive}
 use Rattle.basics.proofs.Orders.{weak_positive}
 
 -- ---- which of three
@@ -107,9 +107,6 @@ positive_scaled k a h = same_less (pos 0) (k *ℤ a) (pos 0) a (λ l. cancel_pos
 
 pub negative_scaled : (k a : ℤ) → pos 0 <ℤ k → int_lt (k *ℤ a) (pos 0) ≡ int_lt a (pos 0)
 negative_scaled k a h = same_less (k *ℤ a) (pos 0) a (pos 0) (λ l. cancel_negative k a (weak_positive k h) l) (λ l. strict_plus_minus k a h l)
-
-pub nonnegative_scaled : (k a : ℤ) → pos 0 <ℤ k → int_le (pos 0) (k *ℤ a) ≡ int_le (pos 0) a
-nonnegative_scaled k a h = same_at_most (pos 0) (k *ℤ a) (pos 0) a (λ l. cancel_nonnegative k a h l) (λ l. plus_plus k a (weak_positive k h) l)
 
 pub nonpositive_scaled : (k a : ℤ) → pos 0 <ℤ k → int_le (k *ℤ a) (pos 0) ≡ int_le a (pos 0)
 nonpositive_scaled k a h = same_at_most (k *ℤ a) (pos 0) a (pos 0) (λ l. cancel_nonpositive k a h l) (λ l. plus_minus k a (weak_positive k h) l)

@@ -5,19 +5,12 @@ use Rattle.std.specs.List.Sorted.{IsPartitionPoint}
 use Rattle.std.proofs.Math.Dec.{leb}
 use Rattle.std.proofs.lemmas.Bool.{leb-false, leb-true}
 use Rattle.std.proofs.lemmas.List.{get_or_default}
-use Rattle.std.proofs.lemmas.List.Elements.{All-nil, All-push, All-weaker, AllWithin-from_all, Contains-push, Contains-append_left}
-use Rattle.std.proofs.lemmas.List.Sorted.{IsNonDecreasingBy-short, IsNonDecreasingBy-push}
+use Rattle.std.proofs.lemmas.List.Elements.{All-push, All-weaker, AllWithin-from_all, Contains-push, Contains-append_left}
+use Rattle.std.proofs.lemmas.List.Sorted.{IsNonDecreasingBy-push}
 use Rattle.geometry_model.specs.Geometries.{Edge}
 use Rattle.edge_boxes.specs.Chains.{IsLinked, IsChain, IsBreak, AreBreaks, AreBreaksTo}
 
 -- ---- as they are found
-pub no_breaks : (edges : List Edge) → AreBreaksTo [] edges 1
-no_breaks edges = record {
-  ascend = IsNonDecreasingBy-short (λ x. x) [] (omega arith);
-  parted = All-nil (IsBreak edges);
-  below = All-nil (λ b. b < 1);
-  linked = λ i h _. absurd (omega (arith, h));
-}
 
 -- the links before a place and the one that leads to it are those before the next place
 linked_before_next : (edges : List Edge) (place i : ℕ) → suc i < place + 1 → (suc i < place → IsLinked edges i)
@@ -91,14 +84,6 @@ one_link breaks edges place e f some within is next same s = record {
   where
     at : (i : ℕ) → suc i ≡ place → IsLinked edges i
     at i k inside d g d_is g_is = linked_at edges i place d e g f k within inside d_is is g_is next same
-
-pub all_breaks : (breaks : List ℕ) (edges : List Edge) (place : ℕ) → AreBreaksTo breaks edges place → length edges ≤ place
-    → AreBreaks breaks edges
-all_breaks breaks edges place s h = record {
-  ascend = s.ascend;
-  parted = s.parted;
-  linked = λ i free inside. s.linked i (omega (arith, inside, h)) free inside;
-}
 
 -- ---- as they are asked
 -- between the last break before a place and the place the edges are a chain

@@ -72,9 +72,6 @@ one_more_box boxes edges b are new place c e = go (last_or_before boxes b c plac
     go (inr f) = box_still boxes edges b c place (omega (arith, f.0)) (rw (f.0, ← f.1) new)
 
 -- ---- boxes that go as far
--- a list keeps its own boxes
-pub keeps_all : (boxes : List EdgeBox) → KeepsBoxes boxes boxes
-keeps_all boxes edges are = (are, refl)
 
 -- what keeps the boxes in two steps keeps them
 pub keeps_on : (old middle new : List EdgeBox) → KeepsBoxes old middle → KeepsBoxes middle new → KeepsBoxes old new
@@ -85,13 +82,6 @@ pub keeps_joined : (old new : List EdgeBox) (b : EdgeBox) → IsNextBox old b �
 keeps_joined old new b next e edges are = let n = next edges are in rw e (one_more_box old edges b are n.0, last_end old b ∙ n.1)
 
 -- ---- runs of the last subtrees
--- the run of the last box sums up the edges from where its subtree begins to where all boxes end
-pub last_run : (boxes : List EdgeBox) (b : EdgeBox) → slice_get boxes (length boxes - 1) ≡ Some b → IsRunFrom boxes b.run (length boxes - 1 - b.size)
-last_run boxes b e edges are = subst (λ n. IsRun edges b.run (covered boxes (length boxes - 1 - b.size)) n) (sym (covered_before boxes (length boxes) b (some boxes e) e)) (are (length boxes - 1) b e).run
-  where
-    some : (xs : List EdgeBox) → slice_get xs (length xs - 1) ≡ Some b → 0 < length xs
-    some [] f = absurd (let n : None ≡ Some b = f in cc)
-    some (x ∷ xs) f = omega arith
 
 -- the run of the box before a place, joined with a run from that place on, is one from where that box's subtree begins
 pub run_more : (boxes : List EdgeBox) (later run : Run) (b : EdgeBox) (place : ℕ) → 0 < place → place ≤ length boxes → b ≡ get_or boxes (place - 1) b
@@ -132,16 +122,6 @@ next_box boxes run last place size end found within size_is end_is from edges ar
 edge_then_rest : (edges : List Edge) (first : ℕ) (e : Edge) → first < length edges → e ≡ get_or edges first e → drop first edges ≡ e ∷ drop (first + 1) edges
 edge_then_rest edges first e h is = let next : suc first ≡ first + 1 = omega arith in drop-cons edges first e h ∙ ap (λ x. x ∷ drop (suc first) edges) (sym is) ∙ ap (λ n. e ∷ drop n edges) next
 
--- what sums up one edge is a run of it at its place
-pub run_of_one : (edges : List Edge) (first : ℕ) (e : Edge) (run : Run) → first < length edges → e ≡ get_or edges first e → SumsUp run (e ∷ []) → IsRun edges run first (first + 1)
-run_of_one edges first e run h is sums = record {
-  own = e ∷ [];
-  split = edge_then_rest edges first e h is;
-  sums = sums;
-  ordered = omega arith;
-  within = omega (arith, h);
-}
-
 -- a run joined with the edge after it is a run that is one edge longer
 pub run_and_one : (edges : List Edge) (first end : ℕ) (e : Edge) (old one run : Run) → end < length edges → e ≡ get_or edges end e → SumsUp one (e ∷ [])
     → ((xs ys : List Edge) → SumsUp old xs → SumsUp one ys → SumsUp run (xs ++ ys)) → IsRun edges old first end → IsRun edges run first (end + 1)
@@ -160,10 +140,6 @@ pub next_leaf : (old new : List EdgeBox) (edges : List Edge) (run : Run) (first 
 next_leaf old new edges run first end b are from r b_is e =
     let box : IsBoxAt edges old (length old) (record { run = run; size = 0; end = end }) = record { subtree = omega arith; run = subst (λ n. IsRun edges run n end) (sym (ap (covered old) (sub-zero (length old)) ∙ from)) r; last = inl refl } in
     rw (e, b_is) (one_more_box old edges (record { run = run; size = 0; end = end }) are box, last_end old (record { run = run; size = 0; end = end }))
-
--- an empty list is a list of boxes of any edges
-pub no_boxes : (edges : List Edge) → AreBoxes [] edges
-no_boxes edges place b e = absurd (let n : None ≡ Some b = e in cc)
 
 -- as long as the boxes are kept, the next leaf still begins where they end, unless no edges are left
 pub kept_first : (old new : List EdgeBox) (edges : List Edge) (next : ℕ) → KeepsBoxes old new → AreBoxes old edges → (covered_by_all old ≡ next) ⊎ (length edges ≡ next)

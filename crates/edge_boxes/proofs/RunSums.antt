@@ -57,10 +57,6 @@ between_cancels false true false = refl
 between_cancels false false true = refl
 between_cancels false false false = refl
 
--- one edge spans a point exactly where one of its two ends isn't to the right of it
-pub one_telescopes : (e : Edge) → Telescopes (e ∷ []) e.start.x e.end.x
-one_telescopes e p = odd_count (λ f. spans f p) (e ∷ []) ∙ xor_false (spans e p)
-
 -- the second goes on from the first
 pub goes_on : (xs ys : List Edge) (a b c d : ℤ) → b ≡ c → Telescopes xs a b → Telescopes ys c d → Telescopes (xs ++ ys) a d
 goes_on xs ys a b c d e h k p = odd_joined (λ f. spans f p) xs ys ∙ ap₂ xor (h p) (k p)

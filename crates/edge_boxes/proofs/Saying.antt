@@ -3,7 +3,6 @@ use Rattle.std.proofs.Common.{ℕ, ◌+◌, ◌<◌, length, take, get_or, ℤ, 
 use borrow.Author.Differences.{ints}
 use Rattle.std.specs.List.{AllByRecursion}
 use Rattle.std.proofs.lemmas.List.{take_more}
-use Rattle.std.proofs.lemmas.List.Folds.{list_any-append}
 use Rattle.std.proofs.lemmas.Bool.{or_cases}
 use Rattle.geometry_model.specs.Points.{Point}
 use Rattle.geometry_model.specs.Geometries.{Edge}
@@ -18,7 +17,6 @@ use Rattle.edge_boxes.specs.declared.point_crossings.Crossings.{Crossings}
 use Rattle.edge_boxes.specs.declared.cells.Cell.{Cell}
 use Rattle.edge_boxes.specs.declared.kept_runs.Run.{Run}
 use Rattle.edge_boxes.proofs.EdgeSides.{IsOff, IsOver, off_left, off_right, off_below, is_over}
-use Rattle.edge_boxes.proofs.RunSums.{odd_joined}
 
 pub each_of : (P Q : Edge → Type 0) (es : List Edge) → ((e : Edge) → P e → Q e) → AllByRecursion P es → Each Q es
 each_of P Q [] f h = tt
@@ -96,14 +94,6 @@ over_says run cell p es is sums far chain b e = spanning_found es p run.ends.fir
     over f l = is_over f p is.positive (past_floor p.Y p.W cell.floor_y run.bounds.least_y f.start.y is.floor_y far l.start.low) (past_floor p.Y p.W cell.floor_y run.bounds.least_y f.end.y is.floor_y far l.end.low)
 
 -- ---- two lists, one behind the other
--- what two lists show is joined: on an edge of one of them, and an odd number in all where exactly one number is odd
-pub crossings_joined : (c d r : Crossings) (xs ys : List Edge) (p : Point) → r.on ≡ (c.on || d.on) → r.odd_above ≡ xor c.odd_above d.odd_above → r.odd_at_or_above ≡ xor c.odd_at_or_above d.odd_at_or_above
-    → AreCrossings c xs p → AreCrossings d ys p → AreCrossings r (xs ++ ys) p
-crossings_joined c d r xs ys p e f g h k = record {
-  on = e ∙ ap₂ (λ (a b : Bool). a || b) h.on k.on ∙ sym (list_any-append (λ s. on s p) xs ys);
-  above = f ∙ ap₂ xor h.above k.above ∙ sym (odd_joined (λ s. strictly_above s p) xs ys);
-  at_or_above = g ∙ ap₂ xor h.at_or_above k.at_or_above ∙ sym (odd_joined (λ s. at_or_above s p) xs ys);
-}
 
 -- one edge more
 pub one_more : (c : Crossings) (es : List Edge) (i : ℕ) (e : Edge) (p : Point) → i < length es → e ≡ get_or es i e → AreCrossings c (take i es ++ e ∷ []) p → AreCrossings c (take (i + 1) es) p

@@ -78,12 +78,6 @@ found_before_end asked edges (suc i) end e passes start old new p h k is test gr
     ∙ ap (λ l. start ++ l) (sym (reversed (is_asked asked i e) i (places_asked asked (suc i) (slice_range edges (suc i) end)))
     ∙ ap (λ l. reverse (places_asked asked i l)) (sym (edge_before edges i end e (omega (arith, h)) k is')))) is test grew
 
--- before an edge is looked at nothing has been found
-pub nothing_yet : (asked : Asked) (edges : List Edge) (end : ℕ) (start : List ℕ) → start ≡ start ++ reverse (places_asked asked end (slice_range edges end end))
-nothing_yet asked edges end start =
-    let none : end - end ≡ 0 = omega arith in
-    sym (ap (λ n. start ++ reverse (places_asked asked end (take n (drop end edges)))) none ∙ append-nil start)
-
 -- ---- a whole walk
 -- the places in edges that come before those done so far go behind what was found, so all are descending
 pub found_joined : (asked : Asked) (n m : ℕ) (own rest : List Edge) (start old new : List ℕ) → n + length own ≡ m → old ≡ start ++ reverse (places_asked asked m rest) → new ≡ old ++ reverse (places_asked asked n own)

@@ -1,5 +1,5 @@
 -- The steps of a walk through a list of boxes.
-use Rattle.std.proofs.Common.{Bool, true, ◌||◌, take, ap₂, ℕ, ◌-◌, ◌<◌, ◌≤◌, ◌≡◌, ◌⊎◌, inl, inr, List, [], ◌++◌, length, drop, get_or, sym, ap, ◌∙◌, subst, arith, false}
+use Rattle.std.proofs.Common.{Bool, true, ◌||◌, take, ℕ, ◌-◌, ◌<◌, ◌≤◌, ◌≡◌, ◌⊎◌, inl, inr, List, [], ◌++◌, length, drop, get_or, sym, ap, ◌∙◌, subst, arith, false}
 use Rattle.std.specs.Prelude.{slice_range}
 use Rattle.std.proofs.lemmas.List.{take-append-drop}
 use Rattle.std.proofs.lemmas.List.Folds.{list_any-append, drop_split}
@@ -73,12 +73,6 @@ inner_step boxes edges p place b c are h k is inner e =
       said = rw e (none_found [] p tt);
     }
 
--- what was found, with what a step shows
-pub step_joined : (boxes : List EdgeBox) (edges : List Edge) (p : Point) (place next : ℕ) (own found all : Crossings) → IsStep boxes edges p place next own
-    → ((q : Point) (xs ys : List Edge) → AreCrossings own xs q → AreCrossings found ys q → AreCrossings all (xs ++ ys) q)
-    → AreCrossings found (drop (covered boxes place) edges) p → AreCrossings all (drop (covered boxes next) edges) p
-step_joined boxes edges p place next own found all s join h = subst (λ l. AreCrossings all l p) (sym s.split) (join p s.own (drop (covered boxes place) edges) s.said h)
-
 -- ---- on an edge
 -- on one of the edges from a place on
 pub on_from : (edges : List Edge) (n : ℕ) (p : Point) → on_any (drop n edges) p ≡ true → on_any edges p ≡ true
@@ -93,11 +87,6 @@ stepped boxes edges p place next own s = ap (λ l. on_any l p) s.split ∙ list_
 -- where a step shows that the point is on an edge, it is on one of all edges
 pub on_at_step : (boxes : List EdgeBox) (edges : List Edge) (p : Point) (place next : ℕ) (own : Crossings) → IsStep boxes edges p place next own → own.on ≡ true → on_any edges p ≡ true
 on_at_step boxes edges p place next own s e = on_from edges (covered boxes next) p (stepped boxes edges p place next own s ∙ ap (λ (b : Bool). b || on_any (drop (covered boxes place) edges) p) e)
-
--- where it reports of none and the point was on none behind it, it is on none from where the step leads to
-pub off_at_step : (boxes : List EdgeBox) (edges : List Edge) (p : Point) (place next : ℕ) (own : Crossings) → IsStep boxes edges p place next own → own.on ≡ false → on_any (drop (covered boxes place) edges) p ≡ false
-    → on_any (drop (covered boxes next) edges) p ≡ false
-off_at_step boxes edges p place next own s e f = stepped boxes edges p place next own s ∙ ap₂ (λ (a b : Bool). a || b) e f
 
 -- a point on one of the edges from a place to the end is on one of all edges
 pub on_uncovered : (edges : List Edge) (n : ℕ) (p : Point) (run : List Edge) → n ≤ length edges → run ≡ slice_range edges n (length edges) → on_any run p ≡ true → on_any edges p ≡ true

@@ -1,5 +1,5 @@
 -- Strips that are widened position by position.
-use Rattle.std.proofs.Common.{ℕ, ◌+◌, ◌*◌, ◌<◌, ◌≤◌, ℤ, pos, negsuc, ◌-ℤ◌, ◌*ℤ◌, ◌≤ℤ◌, ◌<ℤ◌, ◌≡◌, ◌⊎◌, inl, inr, sym, ap, ◌∙◌, subst, List, [], ◌∷◌, ◌++◌, length, take, get_or, arith}
+use Rattle.std.proofs.Common.{ℕ, ◌+◌, ◌*◌, ◌<◌, ◌≤◌, ℤ, pos, negsuc, ◌-ℤ◌, ◌*ℤ◌, ◌≤ℤ◌, ◌<ℤ◌, ◌≡◌, ◌⊎◌, inl, inr, ap, ◌∙◌, subst, List, [], ◌∷◌, ◌++◌, length, take, get_or, arith}
 use Rattle.std.proofs.lemmas.Int.{ints, clamps}
 use Rattle.std.proofs.lemmas.List.{take_more}
 use Rattle.std.specs.Prelude.{unsigned_abs}
@@ -77,19 +77,6 @@ is_wider s t z e f g = record { same = ap (λ (d : Direction). d.dx) e; holds = 
       least = below s.least t.least z (rise s.direction a.x a.y) (rise t.direction a.x a.y) f d h.least;
       greatest = above s.greatest t.greatest z (rise s.direction a.x a.y) (rise t.direction a.x a.y) g d h.greatest;
     }
-
--- and it holds the position that has this rise
-pub holds_new : (s t : Strip) (a : Position) (z : ℤ) → t.direction ≡ s.direction → t.least ≡ int_min s.least z → t.greatest ≡ int_max s.greatest z → z ≡ rise s.direction a.x a.y → IsInStrip t a
-holds_new s t a z e f g r = record { least = below s.least t.least z (rise t.direction a.x a.y) f here; greatest = above s.greatest t.greatest z (rise t.direction a.x a.y) g here }
-  where
-    here : rise t.direction a.x a.y ≡ z
-    here = ap (λ d. rise d a.x a.y) e ∙ sym r
-
-    below : (l m z u : ℤ) → m ≡ int_min l z → u ≡ z → m ≤ℤ u
-    below l m z u e f = omega (arith, ints, clamps, e, f)
-
-    above : (g h z u : ℤ) → h ≡ int_max g z → u ≡ z → u ≤ℤ h
-    above g h z u e f = omega (arith, ints, clamps, e, f)
 
 -- ---- one edge more
 -- edges that lie in a strip lie in each wider one

@@ -1,5 +1,5 @@
 -- The steps of a walk that looks for an edge that passes a test.
-use Rattle.std.proofs.Common.{Bool, true, false, ◌||◌, take, ap₂, ℕ, ◌-◌, ◌<◌, ◌≤◌, ◌≡◌, List, [], ◌++◌, length, drop, get_or, refl, sym, ap, ◌∙◌, arith}
+use Rattle.std.proofs.Common.{Bool, true, false, ◌||◌, take, ℕ, ◌-◌, ◌<◌, ◌≤◌, ◌≡◌, List, [], ◌++◌, length, drop, get_or, refl, sym, ap, ◌∙◌, arith}
 use Rattle.std.specs.Prelude.{slice_range}
 use Rattle.std.specs.List.{list_any}
 use Rattle.std.proofs.lemmas.List.{take-append-drop}
@@ -64,11 +64,6 @@ stepped boxes edges test place next found s = ap (list_any test) s.split ∙ lis
 pub one_at_step : (boxes : List EdgeBox) (edges : List Edge) (test : Edge → Bool) (place next : ℕ) (found : Bool) → IsTestStep boxes edges test place next found → found ≡ true → list_any test edges ≡ true
 one_at_step boxes edges test place next found s h =
     one_from edges (covered boxes next) test (stepped boxes edges test place next found s ∙ ap (λ (b : Bool). b || list_any test (drop (covered boxes place) edges)) h)
-
--- where it reports of none and there was none behind it, there is none from where it leads to
-pub none_at_step : (boxes : List EdgeBox) (edges : List Edge) (test : Edge → Bool) (place next : ℕ) (found : Bool) → IsTestStep boxes edges test place next found → found ≡ false
-    → list_any test (drop (covered boxes place) edges) ≡ false → list_any test (drop (covered boxes next) edges) ≡ false
-none_at_step boxes edges test place next found s h k = stepped boxes edges test place next found s ∙ ap₂ (λ (a b : Bool). a || b) h k
 
 -- the edges from a place to the end, cut out as a run, show the same as the edges from there on
 pub uncovered_is : (edges : List Edge) (n m : ℕ) (test : Edge → Bool) (run : List Edge) → n ≡ m → m ≤ length edges

@@ -1,10 +1,10 @@
 -- How a text of several parts is written.
-use Rattle.std.proofs.Common.{Result, Ok, Err, OnOk, OnErr, codes, ◌≡◌, ℕ, List, [], ◌∷◌, ◌++◌, Option, subst, append_assoc, append-nil}
+use Rattle.std.proofs.Common.{Result, Ok, Err, OnErr, codes, ◌≡◌, ℕ, List, [], ◌∷◌, ◌++◌, Option, subst, append_assoc, append-nil}
 use Rattle.std.specs.List.{concat}
 use Rattle.std.specs.Io.KnownBytes.{Appends}
 use Rattle.streams.specs.Sinks.{AppendsFront}
 use Rattle.failures.specs.Failures.{line_after}
-use Rattle.streams.proofs.SinkLemmas.{Appends-then, AppendsFront-then}
+use Rattle.streams.proofs.SinkLemmas.{AppendsFront-then}
 
 -- the text of parts in which three numbers are
 abbrev joined : (table words number code first between second : List ℕ) → List ℕ
@@ -21,10 +21,3 @@ pub first-front : {A E : Type 0} (r : Result A E) (a b c : Option (List ℕ)) (f
 first-front (Ok x) a b c first text rest is before after = tt
 first-front (Err e) a b c first text rest is before after =
     subst (λ l. AppendsFront a c (l ++ rest)) is (AppendsFront-then a b c first rest before after)
-
--- and the same where all of it was put
-pub first-put : {A E : Type 0} (r : Result A E) (a b c : Option (List ℕ)) (first text rest : List ℕ) → first ≡ text → Appends a b first
-    → OnOk r (Appends b c rest) → OnOk r (Appends a c (text ++ rest))
-first-put (Ok x) a b c first text rest is before after =
-    subst (λ l. Appends a c (l ++ rest)) is (Appends-then a b c first rest before after)
-first-put (Err e) a b c first text rest is before after = tt

@@ -70,10 +70,6 @@ pub record HaveLoaded {T G : Type 0} (geometry : GeometryReader T G) (definition
   pub count : length records ≡ n
   pub passed : (more : List (List Record)) → length definitions ≡ length (records ++ more) → Passed (loaded_tables geometry definitions (records ++ more)) n tables
 
--- before the first table none has loaded
-pub loaded_none : {T G : Type 0} (geometry : GeometryReader T G) (definitions : List (TableDef T)) (known : List (Option (List ℕ))) → HaveLoaded geometry definitions known 0 []
-loaded_none geometry definitions known = record { records = []; are_of = tt; count = refl; passed = λ more same. refl }
-
 -- the next table, of these records
 next_at : {T G : Type 0} (geometry : GeometryReader T G) (definitions : List (TableDef T)) (earlier : List (List Record)) (n : ℕ) (next : List Record) (more : List (List Record))
     (t : TableDef T) (d : Result (Table G) TableFault) → length earlier ≡ n → length definitions ≡ length (earlier ++ next ∷ more)

@@ -2,7 +2,7 @@
 use Rattle.std.proofs.Common.{◌≡◌, ◌∙◌, ◌+◌, ◌++◌, ◌<◌, ◌≤◌, ◌==◌, ℕ, zero, suc, Bool, true, false, List, [], ◌∷◌, Option, Some, None, arith, cond, drop, get_or, is_some, length, map, nat_lt, ne_eqb, refl, sym, take, unwrap_or}
 use Rattle.std.proofs.lemmas.Bool.{false≢true}
 use Rattle.std.proofs.lemmas.Bool.Decides.{nat_tests}
-use Rattle.std.proofs.lemmas.List.{drop_all, drop_more, map-append, take_all, take_more}
+use Rattle.std.proofs.lemmas.List.{drop_all, drop_more, map-append, take_more}
 use Rattle.std.proofs.lemmas.List.Sums.{count_by_more_no, count_by_more_yes}
 use Rattle.std.specs.List.{count_by, position, position_or_len}
 use Rattle.csv.specs.Records.{field_at}
@@ -64,13 +64,6 @@ count-take p zero xs = omega arith
 count-take p (suc n) [] = omega arith
 count-take p (suc n) (x ∷ xs) = rw (count-cons p x (take n xs), count-cons p x xs) (plus-le (cond (p x) 1 0) _ _ (count-take p n xs))
 
--- the fault of a name, or its place
-pub name_missing : (header : Record) (name : List ℕ) (i : ℕ) → length header ≤ i → IsFound (same_name name) header i None
-    → name_fault header name ≡ Some fault.MissingColumn
-name_missing header name i past none =
-    let count : count_by (same_name name) header ≡ 0 = rw (take_all i header past) at none in
-    rw count refl
-
 -- a name that is found again is twice in the header
 name_twice : (header : Record) (name d : List ℕ) (i k : ℕ) → i < length header → IsFound (same_name name) header i (Some k)
     → same_name name (get_or header i d) ≡ true → name_fault header name ≡ Some fault.DoubleHeader
@@ -81,13 +74,6 @@ name_twice header name d i k within found here =
     let no : (n == 0) ≡ false = ne_eqb n 0 (λ e. absurd (omega arith)) in
     let one : (n == 1) ≡ false = ne_eqb n 1 (λ e. absurd (omega arith)) in
     rw (no, one) refl
-
--- a name that is found once has no fault, and this is its place
-pub name_there : (header : Record) (name : List ℕ) (i k : ℕ) → length header ≤ i → IsFound (same_name name) header i (Some k)
-    → (name_fault header name ≡ None) × (k ≡ place_in header name)
-name_there header name i k past found =
-    let count : count_by (same_name name) header ≡ 1 = rw (take_all i header past) at found.0 in
-    (rw count refl, sym found.1)
 
 -- one more field that has the name, where none had it before
 pub found_next : {X : Type 0} (p : X → Bool) (xs : List X) (i : ℕ) (d : X) (o : Option ℕ) → i < length xs → is_some o ≡ false → IsFound p xs i o

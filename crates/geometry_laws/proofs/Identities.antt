@@ -17,9 +17,6 @@ area' a b c = a.X ⊗ (b.Y ⊗ c.W ⊖ c.Y ⊗ b.W) ⊖ a.Y ⊗ (b.X ⊗ c.W ⊖
 abbrev pub right' : Triple → Triple → Expr
 right' a b = b.X ⊗ a.W ⊖ a.X ⊗ b.W
 
-abbrev pub combined' : Expr → Triple → Expr → Triple → Triple
-combined' m p n q = record { X = m ⊗ p.X ⊕ n ⊗ q.X; Y = m ⊗ p.Y ⊕ n ⊗ q.Y; W = m ⊗ p.W ⊕ n ⊗ q.W }
-
 abbrev pub zero' : Expr
 zero' = lit (pos 0)
 
@@ -46,10 +43,6 @@ right_turned a b = solve (values a b a b) (right' V U) (zero' ⊖ right' U V) tt
 -- swapping two corners turns the sign of a triangle's area
 pub area_turned : (a b c : Point) → area b a c ≡ pos 0 -ℤ area a b c
 area_turned a b c = solve (values a b c c) (area' V U P) (zero' ⊖ area' U V P) tt
-
--- rotating the corners keeps it
-pub area_rotated : (a b c : Point) → area b c a ≡ area a b c
-area_rotated a b c = solve (values a b c c) (area' V P U) (area' U V P) tt
 
 -- ---- distances
 -- the ways to the right from a to b and from b to c add up to that from a to c, over the denominators

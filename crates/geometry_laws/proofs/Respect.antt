@@ -91,10 +91,6 @@ side_respects a b = by_scaling (λ p. int_cmp (side a b p) (pos 0)) (λ k p h. s
 pub on_respects : (e : Edge) → Respects (on e)
 on_respects e = by_scaling (on e) (λ k p h. on_scaled e k p h)
 
--- whether a position isn't to the right of it
-pub reaches_respects : (a : Position) → Respects (reaches a)
-reaches_respects a = by_scaling (reaches a) (λ k p h. reaches_scaled a k p h)
-
 -- whether an edge spans it
 pub spans_respects : (e : Edge) → Respects (spans e)
 spans_respects e = by_scaling (spans e) (λ k p h. spans_scaled e k p h)

@@ -16,8 +16,6 @@ use Rattle.geometry_laws.proofs.Nudge.{breadth}
 use Rattle.geometry_laws.proofs.LineOrder.{up}
 
 -- ---- being on one vertical line is symmetric and transitive
-pub straight_back : (p q : Point) → IsStraightOver p q → IsStraightOver q p
-straight_back p q e = sym e
 
 pub straight_through : (p q r : Point) → IsPoint q → IsStraightOver p q → IsStraightOver q r → IsStraightOver p r
 straight_through p q r hq e f = no_difference (p.X *ℤ r.W) (r.X *ℤ p.W) (cancel_zero q.W (p.X *ℤ r.W -ℤ r.X *ℤ p.W) hq

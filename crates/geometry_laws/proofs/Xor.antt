@@ -1,5 +1,5 @@
 -- Laws of the exclusive or.
-use mathlib.Core.Bool.{Bool, true, false, not}
+use mathlib.Core.Bool.{Bool, true, false}
 use Rattle.geometry_model.specs.Crossings.{exactly_one as xor}
 use mathlib.Core.Path.{◌≡◌, refl, sym, ap, ◌∙◌}
 
@@ -20,10 +20,6 @@ xor_false false = refl
 pub false_xor : (a : Bool) → xor false a ≡ a
 false_xor true = refl
 false_xor false = refl
-
-pub xor_true : (a : Bool) → xor a true ≡ not a
-xor_true true = refl
-xor_true false = refl
 
 pub xor_assoc : (a b c : Bool) → xor (xor a b) c ≡ xor a (xor b c)
 xor_assoc true true true = refl

@@ -41,11 +41,6 @@ Meets {A} p P used = ((x : A) × P x used) ⊎ Stops p used
 abbrev pub Hits : {A : Type 0} → Reader A → List Token → Token → Type 0
 Hits p used u = (f : QueryFault) × (is_at_token f ≡ true) × ((rest : List Token) → p (used ++ u ∷ rest) ≡ Err f)
 
--- a reader stops where another does whose fault it returns
-stops_by : {A B : Type 0} (p : Reader A) (q : Reader B) (used more : List Token)
-    → ((f : QueryFault) (t : Token) (rest : List Token) → ((u : Token) (others : List Token) → p (used ++ u ∷ others) ≡ Err f) → q (more ++ t ∷ rest) ≡ Err f) → Stops p used → Stops q more
-stops_by p q used more g (f, is, h) = (f, is, λ t rest. g f t rest h)
-
 -- ---- operands
 
 -- digits whose number, with its sign, isn't within 64 bits are refused as too big

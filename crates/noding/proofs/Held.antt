@@ -34,10 +34,6 @@ held_by es f a x h = any_from_some (λ g. on g x ≡ true) es (record { found = 
 pub held_within : (es : List Edge) (f e : Edge) → ((x : Point) → IsPoint x → on e x ≡ true → on f x ≡ true) → IsHeld es f → IsHeld es e
 held_within es f e h k x hx l = k x hx (h x hx l)
 
--- an edge holds itself
-pub held_by_itself : (e : Edge) → IsHeld (e ∷ []) e
-held_by_itself e x hx h = held_by (e ∷ []) e (inl refl) x h
-
 -- what edges hold that are held is held
 pub held_through : (es fs : List Edge) (e : Edge) → All (IsHeld es) fs → IsHeld fs e → IsHeld es e
 held_through es fs e all h x hx k = go (some_from_any (λ f. on f x ≡ true) fs (h x hx k))

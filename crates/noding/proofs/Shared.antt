@@ -37,15 +37,6 @@ use Rattle.noding.proofs.NearGaps.{IsNearAt, sharing, sharing_is_near}
 element_is_there : {X : Type 0} (xs : List X) (j : ℕ) (x d : X) → j < length xs → x ≡ get_or xs j x → get_or xs j d ≡ x
 element_is_there xs j x d h is = get_or_default xs j d x h ∙ sym is
 
-pub first_shared : (e : Edge) (others : List Edge) (IsAsked : ℕ → Edge → Type 0) (points : List Point) → points ≡ [] → AreSharedSoFar e others IsAsked 0 points
-first_shared e others IsAsked points none = record { from = from; found = λ k f l. absurd (omega (arith, l)) }
-  where
-    nowhere : (p : Point) → Contains {X = Point} [] p → IsSharedPoint e others p
-    nowhere p c = absurd (omega (arith, c.1))
-
-    from : (p : Point) → Contains points p → IsSharedPoint e others p
-    from p c = nowhere p (subst (λ ps. Contains ps p) none c)
-
 pub shared_more : (e : Edge) (others : List Edge) (IsAsked : ℕ → Edge → Type 0) (n : ℕ) (f : Edge) (m : Meet) (xs ys : List Point) → Contains others f → ((g : Edge) → IsAsked n g → f ≡ g)
     → Shares e f m → ys ≡ xs ++ named m → AreSharedSoFar e others IsAsked n xs → AreSharedSoFar e others IsAsked (n + 1) ys
 shared_more e others IsAsked n f m xs ys own same s grown h = record { from = from; found = found }

@@ -49,10 +49,6 @@ least_begins counts next = λ before h. sym (next_is counts None next before h)
 
 -- ---- several
 
--- none is taken
-pub takes_none : (counts : List ℕ) (least : Option Nesting) → Takes counts least least []
-takes_none counts least = λ before h. subst (λ xs. IsLeastOf counts least xs) (sym (append-nil before)) h
-
 -- some, and then others
 pub takes_twice : (counts : List ℕ) (a b c : Option Nesting) (xs ys : List (List Access)) → Takes counts a b xs
     → Takes counts b c ys → Takes counts a c (xs ++ ys)

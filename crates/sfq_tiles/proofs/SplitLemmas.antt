@@ -52,11 +52,6 @@ pub failed_with : {A : Type 0} (P : Ending → Type 0) (r : Result A Ending) (x 
 failed_with P (Ok v) x is h = tt
 failed_with P (Err y) x is h = subst P (sym is) h
 
--- and an end that is it
-pub ended_with : (P : End → Type 0) (r : End) (x : Ending) → IsErrAnd r (λ y. y ≡ x) → P (Err x) → P r
-ended_with P (Ok v) x is h = absurd is
-ended_with P (Err y) x is h = subst (λ z. P (Err z)) (sym is) h
-
 -- what is done has what follows of it
 pub done_with : {A P Q : Type 0} (r : Result A Ending) → (P → Q) → OnOk r P → OnOk r Q
 done_with (Ok v) follows h = follows h

@@ -16,8 +16,3 @@ pub fault-stays : {X Y : Type 0} (r : Checked Y) (e : QueryFault) (answer : Chec
     → (e ≢ faults.OutOfMemory → answer ≡ Err e) → Binds r (answer >>= next)
 fault-stays (Ok y) e answer next is given = absurd is
 fault-stays (Err f) e answer next is given = λ other. ap (λ a. a >>= next) (given (λ wants. other (is ∙ wants))) ∙ ap Err (sym is)
-
--- memory that ran out may come in place of any result
-pub memory-stays : {Y : Type 0} (r : Checked Y) (answer : Checked Y) → IsErrAnd r (λ f. f ≡ faults.OutOfMemory) → Binds r answer
-memory-stays (Ok y) answer is = absurd is
-memory-stays (Err f) answer is = λ other. absurd (other is)

@@ -9,7 +9,6 @@ use Rattle.table_model.specs.GeometryColumns.{geometry_binding}
 use Rattle.table_model.specs.Outcomes.{Gives}
 use Rattle.table_model.specs.Queries.{SelectQuery}
 use Rattle.table_model.specs.QueryReading.{query_of}
-use Rattle.table_model.specs.SpatialTables.{SpatialQuery}
 use Rattle.table_model.specs.declared.faults.QueryFault.{QueryFault}
 use Rattle.table_model.specs.declared.faults.QueryFault.TheVariants as query
 
@@ -43,13 +42,3 @@ unloaded kept text written place is at = ap (bound_after kept) is ∙ ap (λ o. 
 pub read_and_loaded : (kept : KeptTables) (text : List ℕ) (written : SelectQuery) → query_of text ≡ Ok written
     → unloaded_table kept written ≡ None → bound_of kept text ≡ or_fault (binding geometry_binding kept.definitions written)
 read_and_loaded kept text written is at = ap (bound_after kept) is ∙ ap (λ o. bound_unless o kept.definitions written) at
-
-pub unbound : (kept : KeptTables) (text : List ℕ) (written : SelectQuery) (e : QueryFault) → query_of text ≡ Ok written
-    → unloaded_table kept written ≡ None → binding geometry_binding kept.definitions written ≡ Err e
-    → bound_of kept text ≡ Err (faults.Query e)
-unbound kept text written e is at fails = read_and_loaded kept text written is at ∙ ap or_fault fails
-
-pub is_bound : (kept : KeptTables) (text : List ℕ) (written : SelectQuery) (bound : SpatialQuery) → query_of text ≡ Ok written
-    → unloaded_table kept written ≡ None → binding geometry_binding kept.definitions written ≡ Ok bound
-    → bound_of kept text ≡ Ok bound
-is_bound kept text written bound is at binds = read_and_loaded kept text written is at ∙ ap or_fault binds

@@ -1,5 +1,5 @@
 -- The laws of the constants of a query, from those of its conjuncts.
-use Rattle.std.proofs.Common.{◌≡◌, ℕ, true, false, if◌then◌else◌, List, [], Some, is_none, refl, sym, ap, subst, ◌∙◌}
+use Rattle.std.proofs.Common.{◌≡◌, ℕ, true, if◌then◌else◌, List, is_none, refl, sym, ap, subst, ◌∙◌}
 use Rattle.std.specs.Option.{option_map}
 use Rattle.geometry_laws.proofs.FirstFaultFacts.{none_is_found_where_valid}
 use Rattle.geometry_model.specs.Geometries.{Geometry}
@@ -48,10 +48,6 @@ pub fitting : (k : ℕ) (value : Constant) (query : SpatialQuery) → may_replac
     → with_constant k value query ≡ with_fitting k value query
 fitting k value query m = sym (ap (λ b. if b then with_constant k value query else query) m)
 
-pub not_fitting : (k : ℕ) (value : Constant) (query : SpatialQuery) → may_replace (constant_type k query) value ≡ false
-    → query ≡ with_fitting k value query
-not_fitting k value query m = sym (ap (λ b. if b then with_constant k value query else query) m)
-
 -- a valid geometry is sound
 pub is_sound : (value : Constant) (g : Geometry) → value ≡ values.Geometry g → IsValid g → IsSound value
 is_sound value g e valid = subst IsSound (sym e) (ap is_none ((none_is_found_where_valid g).1 valid))
@@ -61,11 +57,6 @@ is_sound value g e valid = subst IsSound (sym e) (ap is_none ((none_is_found_whe
 abbrev pub with_conditions : SpatialQuery → List (Cond Argument) → SpatialQuery
 with_conditions query conjuncts = record query { conjuncts = conjuncts }
 
-pub put_done : (k : ℕ) (v : Constant) (old : SpatialQuery) (cs : List (Cond Argument))
-    → may_replace (constant_type k old) v ≡ true → cs ≡ conditions_with k v old.conjuncts
-    → with_conditions old cs ≡ with_fitting k v old
-put_done k v old cs m e = ap (with_conditions old) e ∙ fitting k v old m
-
 pub done_bound : (k : ℕ) (v : Constant) (old : SpatialQuery) (cs : List (Cond Argument))
     → may_replace (constant_type k old) v ≡ true → IsSound v → cs ≡ conditions_with k v old.conjuncts
     → (definitions : SpatialSchema) → IsBound geometry_fits definitions old
@@ -73,10 +64,6 @@ pub done_bound : (k : ℕ) (v : Constant) (old : SpatialQuery) (cs : List (Cond 
 done_bound k v old cs m sound e definitions is =
     subst (λ query. IsBound geometry_fits definitions query) (sym (ap (with_conditions old) e))
     (stays_bound k v old definitions m sound is)
-
-pub closed_bound : (old : SpatialQuery) (definitions : SpatialSchema) → IsBound geometry_fits definitions old
-    → IsBound geometry_fits definitions (closed old)
-closed_bound old definitions is = record { references = is.references; items = is.items; conjuncts = refl; counted = λ e. cc }
 
 pub no_rows : (old : SpatialQuery) → HasNoRows (closed old)
 no_rows old = λ truth tables. refl

@@ -1,13 +1,12 @@
 -- How many conditions a condition has in it, itself included: a part has fewer.
 use Rattle.std.proofs.Common.{◌≡◌, ◌≤◌, ◌+◌, ◌∙◌, ℕ, List, sum, sum_by, ap, arith, Some, slice_get}
-use Rattle.std.proofs.lemmas.List.Sums.{sum-map, get_or-le-sum_by}
+use Rattle.std.proofs.lemmas.List.Sums.{get_or-le-sum_by}
 use Rattle.std.proofs.lemmas.Option.{slice_get_within, get_or_from_slice_get}
 use Rattle.statements.specs.Constants.{Argument}
 use Rattle.table_model.specs.declared.conditions.Cond.{Cond}
 use Rattle.table_model.specs.declared.conditions.Cond.TheVariants as conds
 use Rattle.table_model.specs.declared.conditions.Cond.TheFolds.{fold-Cond}
 use Rattle.table_model.specs.declared.conditions.Cond.TheOpen.{Cond-F}
-use Rattle.table_model.proofs.CondFolds.{fold-Or, fold-And, fold-Not}
 
 abbrev pub size_by_parts : Cond-F Argument ℕ → ℕ
 size_by_parts (Cond-F.Or parts) = 1 + sum parts
@@ -20,15 +19,6 @@ size_by_parts (Cond-F.Relates predicate a b) = 1
 
 abbrev pub size : Cond Argument → ℕ
 size = fold-Cond Argument ℕ size_by_parts
-
-pub size-Or : (parts : List (Cond Argument)) → size (conds.Or parts) ≡ 1 + sum_by size parts
-size-Or parts = fold-Or Argument ℕ size_by_parts parts ∙ ap (λ n. 1 + n) (sum-map size parts)
-
-pub size-And : (parts : List (Cond Argument)) → size (conds.And parts) ≡ 1 + sum_by size parts
-size-And parts = fold-And Argument ℕ size_by_parts parts ∙ ap (λ n. 1 + n) (sum-map size parts)
-
-pub size-Not : (part : Cond Argument) → size (conds.Not part) ≡ 1 + size part
-size-Not part = fold-Not Argument ℕ size_by_parts part
 
 pub size_of_one : (parts : List (Cond Argument)) (i : ℕ) (part : Cond Argument) → slice_get parts i ≡ Some part
     → size part ≤ sum_by size parts

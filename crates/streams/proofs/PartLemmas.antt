@@ -3,9 +3,7 @@ use Rattle.std.proofs.Common.{Result, Ok, Err, OnOk, OnErr, ◌≡◌, ◌<◌, 
 use Rattle.std.specs.List.{concat}
 use Rattle.std.specs.Io.KnownBytes.{Appends}
 use Rattle.streams.specs.Sinks.{AppendsFront}
-use Rattle.std.proofs.lemmas.List.{map-append, take-append-drop}
-use Rattle.std.proofs.lemmas.List.Folds.{concat-append}
-use Rattle.streams.proofs.SinkLemmas.{Appends-then, AppendsFront-then, AppendsFront-more, AppendsFront-whole}
+use Rattle.streams.proofs.SinkLemmas.{Appends-then, AppendsFront-then, AppendsFront-more}
 
 -- the parts before a place, the part at that place, and those after it
 pub parts-split : {X : Type 0} (v : X → List ℕ) (xs : List X) (i : ℕ) (d : X) → i < length xs
@@ -40,13 +38,6 @@ pub parts-put : {X : Type 0} (v : X → List ℕ) (xs : List X) (i : ℕ) (d : X
 parts-put v xs i d a b c within before piece =
     rw add-one (subst (λ l. Appends a c l) (sym (parts-more v xs i d within))
     (Appends-then a b c (concat (map v (take i xs))) (v (get_or xs i d)) before piece))
-
--- the parts before a place are a front of the whole
-pub parts-begun : {X : Type 0} (v : X → List ℕ) (xs : List X) (i : ℕ) (a b : Option (List ℕ)) → Appends a b (concat (map v (take i xs))) → AppendsFront a b (concat (map v xs))
-parts-begun v xs i a b before =
-    let whole : concat (map v (take i xs)) ++ concat (map v (drop i xs)) ≡ concat (map v xs) =
-    sym (ap concat (map-append v (take i xs) (drop i xs)) ∙ concat-append (map v (take i xs)) (map v (drop i xs))) ∙ ap (λ l. concat (map v l)) (take-append-drop i xs) in
-    subst (λ l. AppendsFront a b l) whole (AppendsFront-whole a b (concat (map v (take i xs))) (concat (map v (drop i xs))) before)
 
 -- a text that is the part at a place, or a front of it
 pub text-front : {X : Type 0} (v : X → List ℕ) (xs : List X) (i : ℕ) (d : X) (text : List ℕ) (a b c : Option (List ℕ)) → i < length xs

@@ -140,10 +140,6 @@ fraction_read i digits rest t ends = elim t.2 [
       rw (ap (begins_with (λ b. b == 46)) is) (read_run is_ascii_digit (drop 1 i.left) digits rest (ap (drop 1) is) e.4.1 ends.0)
 ]
 
--- a digit is no sign, no white space and no parenthesis
-pub digit_cases : (c : ℕ) → is_ascii_digit c ≡ true → (48 ≤ c) × (c ≤ 57)
-digit_cases c is = (grind (arith, is), grind (arith, is))
-
 -- a digit isn't a byte that is no digit
 pub differs : (c d : ℕ) → is_ascii_digit c ≡ true → is_ascii_digit d ≡ false → (c == d) ≡ false
 differs c d is other = false_from_ne_true (c == d) (λ e. true≢false (sym is ∙ (ap is_ascii_digit ((Decides-eqb c d).0 e) ∙ other)))

@@ -99,13 +99,6 @@ read_later r Spoilt Other a b c (copy.Load f) same turn fault = (fault.0 ∙ sam
     turned (inl memory) = inl memory
     turned (inr (is, why)) = inr (is, other_reason r turn why)
 
--- where memory ran out, the same
-pub memory_later : {R : Type 0} (r : PlainRecords R) (Other : Type 0) (a b c : ℕ) (x : CopyFault) → b ≡ a
-    → IsCopyFault IsMemory b c x
-    → IsCopyFault (IsReadFault r Other) a c x
-memory_later r Other a b c copy.Sink same fault = fault ∙ ap one_more same
-memory_later r Other a b c (copy.Load f) same fault = (fault.0 ∙ same, inl fault.1)
-
 -- a step of which the fault is one of memory or of what was read
 pub spoilt_later : {R : Type 0} (r : PlainRecords R) (Bad Other : Type 0) (a b c : ℕ) (x : CopyFault) → b ≡ a → (Bad → Other)
     → IsCopyFault (λ f. IsMemory f ⊎ ((f ≡ fault.ReadFailed) × Bad)) b c x → IsCopyFault (IsReadFault r Other) a c x

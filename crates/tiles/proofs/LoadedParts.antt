@@ -1,15 +1,14 @@
 -- What the records of stretches and tiles load as.
 use Rattle.std.proofs.Common.{◌≡◌, ◌≢◌, ◌∙◌, ◌⊎◌, ◌+◌, ◌-◌, ◌*◌, ◌/◌, ◌<◌, ◌≤◌, ◌<ℤ◌, ◌==◌, ◌||◌, ap, ap₂, arith, cond, eq-eqb}
 use Rattle.std.proofs.Common.{eqb-true, refl, sym, subst}
-use Rattle.std.proofs.Common.{inl, inr, not, Bool, true, false, ℕ, zero, suc, ℤ, List, [], ◌∷◌, ◌++◌, append-nil, get_or, length}
+use Rattle.std.proofs.Common.{inl, inr, not, Bool, true, false, ℕ, zero, suc, ℤ, List, [], ◌∷◌, ◌++◌, get_or, length}
 use Rattle.std.proofs.Common.{map, filter}
 use Rattle.std.proofs.Common.{Option, None, Some, Result, Ok, Err, if◌then◌else◌}
 use Rattle.std.specs.Prelude.{All, Contains, IsPermutation, count_by, drop, nat_lt, option_and_then, option_map, slice_get, take}
 use Rattle.std.specs.Prelude.{unwrap_or}
 use Rattle.std.specs.List.{AllPairs, AllZip, enumerate_from, flat_map, list_any, range_with_len}
-use Rattle.std.proofs.lemmas.Bool.{and_parts, eqb-false, le-ltb, or_parts}
+use Rattle.std.proofs.lemmas.Bool.{and_parts, eqb-false, le-ltb}
 use Rattle.std.proofs.lemmas.List.{length-map, length-take, map-append, take_all}
-use Rattle.std.proofs.lemmas.List.Elements.{length_all_zip}
 use Rattle.std.proofs.lemmas.List.Sorted.{IsPermutation-append, IsPermutation-map, IsPermutation-refl, IsPermutation-sym}
 use Rattle.std.proofs.lemmas.List.Sorted.{IsPermutation-trans}
 use Rattle.std.proofs.lemmas.List.Sums.{sum_by-cons}
@@ -29,11 +28,9 @@ use Rattle.table_laws.proofs.TableLists.{Each, Pairs, all-pairs, each-all, pairs
 use Rattle.table_laws.specs.Cells.{Cell, is_copied}
 use Rattle.table_laws.specs.ColumnLaws.{IsNarrow, fields_in, place_among}
 use Rattle.table_laws.specs.Orders.{key_in}
-use Rattle.table_laws.specs.StretchLaws.{AreStretches}
 use Rattle.table_laws.specs.TileLaws.{HasMarks}
 use Rattle.table_laws.specs.Tiles as law
 use Rattle.table_model.specs.Arguments as arguments
-use Rattle.table_model.specs.Databases.{Database}
 use Rattle.table_model.specs.Definitions.{column_names, names_differ}
 use Rattle.table_model.specs.GeometryColumns.{ColumnShape}
 use Rattle.table_model.specs.Loading.{Record, and_then, by_key, checked_row, double_key, each, field_under, first_fault}
@@ -42,7 +39,6 @@ use Rattle.table_model.specs.Loading.{key_of, keyed_rows, load, name_fault, plac
 use Rattle.table_model.specs.Loading.{value_of, whole_number}
 use Rattle.table_model.specs.Meanings.{Row, Table}
 use Rattle.table_model.specs.Texts.{same_name}
-use Rattle.table_model.specs.declared.conditions.Reference.{Reference}
 use Rattle.table_model.specs.declared.definitions.ColumnDef.{ColumnDef}
 use Rattle.table_model.specs.declared.definitions.TableDef.{TableDef}
 use Rattle.table_model.specs.declared.faults.LoadFault.{LoadFault}
@@ -52,8 +48,7 @@ use Rattle.table_model.specs.declared.values.Value.TheVariants as values
 use Rattle.tiles.specs.Copies.{copied_fields, header_of, stretch_count, stretch_of, stretches, stretches_of, tile_of}
 use Rattle.tiles.specs.LoadedParts.{StretchesAreLoaded, TilesAreLoaded}
 use Rattle.tiles.specs.RecordLines.{field_in, places_in}
-use Rattle.tiles.specs.TileRows.{AreTypedRows, IsOfGeometries, IsWide, tile_row}
-use Rattle.tiles.specs.WholeTables.{whole_table}
+use Rattle.tiles.specs.TileRows.{AreTypedRows, IsWide, tile_row}
 use Rattle.tiles.proofs.StretchLemmas.{stretches_enough, whole_so_far}
 use Rattle.tiles.proofs.TileRows.{alike, apart, copies, field_is, given, itself, ok_all, place_is, tiles_are_read, typed_field}
 use Rattle.tiles.proofs.WholeTables.{IsTyped, Whole, each_typed, whole_of, whole_tables_are_keyed}
@@ -193,12 +188,7 @@ made_differ {G = G} {H = H} key own make same (x ∷ rows) h = (one rows h.0, ma
     one [] h = tt
     one (y ∷ rows) h = ((λ e. h.0 (sym (same x) ∙ e ∙ same y)), one rows h.1)
 
--- what holds of all pairs holds of those in the first rows, in the others, and in what a test keeps
-each_drop : {X : Type 0} (P : X → Type 0) (n : ℕ) (xs : List X) → Each P xs → Each P (drop n xs)
-each_drop P zero xs h = h
-each_drop P (suc n) [] h = h
-each_drop P (suc n) (x ∷ xs) h = each_drop P n xs h.1
-
+-- what holds of all pairs holds of those in the first rows, and in what a test keeps
 each_take : {X : Type 0} (P : X → Type 0) (n : ℕ) (xs : List X) → Each P xs → Each P (take n xs)
 each_take P zero xs h = tt
 each_take P (suc n) [] h = h

@@ -5,7 +5,6 @@ use Rattle.std.proofs.lemmas.List.Folds.{list_any-append}
 use Rattle.std.proofs.lemmas.Bool.{or_parts, or_from}
 use Rattle.std.proofs.lemmas.Option.{slice_get_within, get_or_from_slice_get}
 use Rattle.std.proofs.Math.Seq.{drop-append_seam}
-use Rattle.std.proofs.lemmas.List.{drop_all}
 use Rattle.basics.proofs.Lists.{drop_here, unmapped}
 use Rattle.geometry_model.specs.Points.{Position}
 use Rattle.geometry_model.specs.Geometries.{Geometry, Edge, lines, elements, joined_rings, edges_of_line, edges_of_lines}
@@ -284,10 +283,6 @@ none_before ls = record { rest = refl; within = from_zero (length (edges_of_line
   where
     from_zero : (n : ℕ) → 0 + n ≡ n
     from_zero n = omega arith
-
--- .. and at the end none
-pub all_before : (ls : List (List Position)) (line start : ℕ) → length ls ≤ line → AreApartBefore ls line start → AreApart ls
-all_before ls line start h before = before.all (subst AreApart (sym (drop_all line ls h)) tt)
 
 -- one run more
 pub next_before : (ls : List (List Position)) (line start : ℕ) (run : List Edge)

@@ -1,5 +1,5 @@
 -- The first fault, and the geometries that have none.
-use Rattle.std.proofs.Common.{◌≡◌, sym, ap, ◌∙◌, subst, Option, Some, None}
+use Rattle.std.proofs.Common.{◌≡◌, sym, ◌∙◌, subst, Some, None}
 use Rattle.std.specs.Option.{MatchOption}
 use Rattle.geometry_model.specs.Geometries.{Geometry}
 use Rattle.geometry_model.specs.Validity.{HasFault, IsValid}
@@ -14,10 +14,6 @@ use Rattle.geometry_laws.proofs.FirstFaultFacts.{none_is_found_where_valid}
 -- a geometry in which no fault is found is valid, since the test finds one wherever one applies
 pub no_fault_valid : (g : Geometry) → validity_fault g ≡ None → IsValid g
 no_fault_valid g none = (none_is_found_where_valid g).0 none
-
--- the same where nothing was found in an equal geometry
-pub none_found_valid : {g h : Geometry} {found : Option ValidityFault} → h ≡ g → found ≡ validity_fault h → found ≡ None → IsValid g
-none_found_valid {g} same is none = no_fault_valid g (ap validity_fault (sym same) ∙ (sym is ∙ none))
 
 -- the fault that is found is the first that applies
 pub first_is_there : (g : Geometry) (refusal : CheckFault) (fault : ValidityFault) → fault_in refusal ≡ Some fault → validity_fault g ≡ Some fault → IsFirstFaultOf g refusal

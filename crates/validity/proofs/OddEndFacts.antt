@@ -219,11 +219,6 @@ two_ends old once twice (x ∷ rest) a b h ea eb e f = f ∙ ap (λ l. l ++ b �
     less : length (x ∷ rest) - 1 ≡ length rest
     less = omega arith
 
--- an empty line adds no ends
-pub no_ends : (old line : List Position) → length line ≡ 0 → old ≡ old ++ ends line
-no_ends old [] h = sym (append-nil old)
-no_ends old (x ∷ rest) h = absurd (omega (arith, h))
-
 -- ---- one more of joined lists
 -- what each list made so far, put together, with what the next one makes, is what all up to it make
 pub one_more_joined : {X Y : Type 0} (f : X → List Y) (xs : List X) (i : ℕ) (x : X) (items new more : List Y) → i < length xs → x ≡ get_or xs i x → items ≡ flat_map f (take i xs) → more ≡ f x → new ≡ items ++ more

@@ -3,7 +3,7 @@ use Rattle.std.proofs.Common.{◌≡◌, refl, sym, ap, ap₂, ◌∙◌, ℕ, z
 use Rattle.std.specs.List.{flat_map}
 use Rattle.std.proofs.lemmas.List.Folds.{flat_map-map}
 use Rattle.std.proofs.lemmas.Grind.{flat_map-append}
-use Rattle.std.proofs.lemmas.List.{map-append, length-map, take_all, nil_from_length}
+use Rattle.std.proofs.lemmas.List.{map-append, length-map}
 use Rattle.basics.proofs.Numbers.{to_end}
 use Rattle.geometry_model.specs.Points.{Position}
 use Rattle.geometry_model.specs.Geometries.{Geometry, Edge, lines, edges, elements, joined_rings, edges_of_line, edges_of_lines}
@@ -11,7 +11,6 @@ use Rattle.geometry_model.specs.Validity.{Element, elements_from}
 use Rattle.geometry_model.specs.FirstFaults.{rings_end}
 use Rattle.wkt.specs.Cuts.{cut_at, AreEnds, start_of}
 use Rattle.wkt.proofs.CutFacts.{cut_more, ends_more}
-use Rattle.validity.specs.Outlines.{IsOutline}
 
 -- the edges of all lines, put together
 pub joined_runs : (ls : List (List Position)) → flat_map (λ run. run) (map edges_of_line ls) ≡ edges_of_lines ls
@@ -40,10 +39,6 @@ pub record Outlined (es : List (List (List Position))) (runs : List (List Edge))
   pub elements_end : AreEnds 0 element_ends (length (flat_map (λ run. run) runs))
   pub by_element : cut_at 0 element_ends (flat_map (λ run. run) runs) ≡ map edges_of_lines es
   pub rings_end : ring_ends ≡ map rings_end (elements_from 0 es)
-
--- of no polygons nothing is kept
-pub outlined_none : Outlined [] [] [] []
-outlined_none = record { by_line = refl; elements_end = refl; by_element = refl; rings_end = refl }
 
 -- the numbered polygons with one more
 numbered_more : (start : ℕ) (es : List (List (List Position))) (x : List (List Position)) → elements_from start (es ++ x ∷ []) ≡ elements_from start es ++ record { first = start + length (joined_rings es); rings = x } ∷ []
@@ -102,25 +97,3 @@ joined_lines (Geometry.LineString ps) h = absurd (omega (arith, h))
 joined_lines (Geometry.MultiLineString ls) h = absurd (omega (arith, h))
 joined_lines (Geometry.Polygon rs) h = append-nil rs
 joined_lines (Geometry.MultiPolygon es) h = refl
-
--- when all polygons are seen what is kept is the geometry's edges by line and by polygon
-pub outlined_all : (g : Geometry) (m : ℕ) (runs : List (List Edge)) (element_ends ring_ends : List ℕ) → 0 < length (elements g) → length (elements g) ≤ m
-    → Outlined (take m (elements g)) runs element_ends ring_ends → IsOutline g runs element_ends ring_ends
-outlined_all g m runs element_ends ring_ends some past o =
-    let all : take m (elements g) ≡ elements g = take_all m (elements g) past in
-    record {
-      by_line = o.by_line ∙ ap (map edges_of_line) (ap joined_rings all ∙ joined_lines g some);
-      elements_end = λ _. o.elements_end;
-      by_element = o.by_element ∙ ap (map edges_of_lines) all;
-      rings_end = o.rings_end ∙ ap (λ (es : List (List (List Position))). map rings_end (elements_from 0 es)) all;
-    }
-
--- a geometry without polygons has edges by line alone
-pub outlined_lines : (g : Geometry) (runs : List (List Edge)) → length (elements g) ≡ 0 → runs ≡ map edges_of_line (lines g) → IsOutline g runs [] []
-outlined_lines g runs none e = let no_elements = nil_from_length (elements g) none in
-    record {
-      by_line = e;
-      elements_end = λ h. absurd (omega (arith, h));
-      by_element = ap (map edges_of_lines) (sym no_elements);
-      rings_end = ap (λ (es : List (List (List Position))). map rings_end (elements_from 0 es)) (sym no_elements);
-    }

@@ -1,12 +1,11 @@
 -- What one ring, line or polygon more adds to the counts, and why what was read is kept.
-use Rattle.std.proofs.Common.{◌≡◌, sym, ap, ◌∙◌, subst, ℕ, ◌+◌, ◌<◌, ◌≤◌, List, [], ◌∷◌, ◌++◌, length, Some, None, length-append, append-nil, arith}
+use Rattle.std.proofs.Common.{◌≡◌, sym, ap, ◌∙◌, subst, ℕ, ◌+◌, ◌<◌, ◌≤◌, List, [], ◌∷◌, ◌++◌, length, Some, length-append, append-nil, arith}
 use Rattle.std.specs.List.{flat_map, All}
 use Rattle.std.proofs.lemmas.Grind.{flat_map-append}
 use Rattle.std.proofs.lemmas.List.Elements.{All-nil, All-cons, All-append, All-head, All-tail, All-weaker}
 use Rattle.geometry_model.specs.Points.{Position}
-use Rattle.geometry_model.specs.Geometries.{Geometry, Point, MultiPoint, LineString, MultiLineString, Polygon, MultiPolygon, joined_rings, edges_of_line, edges_of_lines}
-use Rattle.geometry_model.specs.WellKnownText.{position_limit, part_limit}
-use Rattle.wkt.specs.KeptGeometries.{IsKept, IsKeptLine}
+use Rattle.geometry_model.specs.Geometries.{Point, LineString, MultiLineString, Polygon, MultiPolygon, joined_rings, edges_of_line, edges_of_lines}
+use Rattle.wkt.specs.KeptGeometries.{IsKeptLine}
 use Rattle.wkt.proofs.KeptLines.{Apart}
 use Rattle.wkb.specs.BinaryReading.{State}
 use Rattle.wkb.specs.ReadingSteps.{Adds, AddsParts, AreParts, IsPart, IsRead}
@@ -76,24 +75,6 @@ point_read old new p added = record {
       All-nil HasPositions;
 }
 
-pub no_point_read : (old new : State) → Adds old 0 0 new → IsRead old (Point None) new
-no_point_read old new added = record {
-  positions = added.0;
-  parts = added.1;
-  ends_differ = All-nil Apart;
-  parts_have_positions =
-      All-nil HasPositions;
-}
-
-pub points_read : (old new : State) (ps : List Position) → Adds old (length ps) 0 new → IsRead old (MultiPoint ps) new
-points_read old new ps added = record {
-  positions = added.0;
-  parts = added.1;
-  ends_differ = All-nil Apart;
-  parts_have_positions =
-      All-nil HasPositions;
-}
-
 pub line_read : (old new : State) (line : List Position) → Adds old (length line) 0 new → IsKeptLine line
     → IsRead old (LineString line) new
 line_read old new line added kept = record {
@@ -132,10 +113,6 @@ polygons_read old new es added = record {
   parts_have_positions = some_positions (joined_rings es) added.are_parts;
 }
 
--- elements and rings behind their number
-pub multi_point_read : (a b c : State) (ps : List Position) → Adds a 0 0 b → Adds b (length ps) 0 c → IsRead a (MultiPoint ps) c
-multi_point_read a b c ps head added = points_read a c ps (omega (arith, head.0, added.0), omega (arith, head.1, added.1))
-
 pub multi_line_read : (a b c : State) (lines : List (List Position)) → Adds a 0 0 b → AddsParts b lines c
     → IsRead a (MultiLineString lines) c
 multi_line_read a b c lines head added = lines_read a c lines (after_head a b c lines head added)
@@ -147,12 +124,3 @@ polygon_read a b c rings head added = rings_read a c rings (after_head a b c rin
 pub multi_polygon_read : (a b c : State) (es : List (List (List Position))) → Adds a 0 0 b → AddsParts b (joined_rings es) c
     → IsRead a (MultiPolygon es) c
 multi_polygon_read a b c es head added = polygons_read a c es (after_head a b c (joined_rings es) head added)
-
--- what was read from the first byte on is kept, as the counts are within the limits
-pub read_is_kept : (a b c : State) (g : Geometry) → a.kept ≡ 0 → a.parts ≡ 0 → Adds a 0 0 b → IsRead b g c
-    → c.kept ≤ position_limit → c.parts ≤ part_limit → IsKept g
-read_is_kept a b c g no_kept no_parts head is few_kept few_parts = record {
-  counts = (omega (arith, no_kept, head.0, is.positions, few_kept), omega (arith, no_parts, head.1, is.parts, few_parts));
-  ends_differ = is.ends_differ;
-  parts_have_positions = is.parts_have_positions;
-}

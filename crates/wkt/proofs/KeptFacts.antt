@@ -1,12 +1,12 @@
 -- Each geometry that a text spells is kept.
-use Rattle.std.proofs.Common.{ℕ, ◌<◌, List, [], ◌∷◌, length, map, sym, subst, arith, zero-le, zero-lt-suc}
+use Rattle.std.proofs.Common.{ℕ, ◌<◌, List, [], ◌∷◌, length, map, sym, subst, arith, zero-lt-suc}
 use Rattle.std.specs.List.{All}
 use Rattle.std.proofs.lemmas.List.Elements.{All-nil, All-cons, All-append}
 use Rattle.geometry_model.specs.Points.{Position}
 use Rattle.geometry_model.specs.Geometries.{Geometry, Point, MultiPoint, LineString, MultiLineString, Polygon, MultiPolygon, joined_rings, edges, edges_of_lines}
 use Rattle.geometry_model.specs.WellKnownText.{Separated, LineText, PolygonText, Body, TaggedText, written_parts, without_repeats, geometry_of}
 use Rattle.text_laws.proofs.TextPrinted.{counts_again, rings_kept}
-use Rattle.wkt.specs.KeptGeometries.{IsKept, IsKeptLine, SpelledIsKept}
+use Rattle.wkt.specs.KeptGeometries.{IsKept, SpelledIsKept}
 use Rattle.wkt.proofs.KeptLines.{Apart, first_kept, lines_apart}
 
 -- edges
@@ -75,14 +75,6 @@ parts_have_positions (LineString ps) text t = All-nil HasPositions
 parts_have_positions (MultiLineString ls) text t = body_has_positions ls t.1 t.4
 parts_have_positions (Polygon rs) text t = body_has_positions rs t.1 t.4
 parts_have_positions (MultiPolygon es) text t = polygon_body_has_positions es t.1 t.4
-
--- a kept line makes a kept LINESTRING
-pub line_string_is_kept : (ps : List Position) → IsKeptLine ps → IsKept (LineString ps)
-line_string_is_kept ps kept = record {
-  counts = (kept.counted, zero-le);
-  ends_differ = subst (λ l. All Apart (edges_of_lines (l ∷ []))) kept.no_repeats (lines_apart (ps ∷ []));
-  parts_have_positions = All-nil HasPositions;
-}
 
 -- what is written is within the counts and has no empty part; that stays so without repeats, and then the ends of each edge differ
 pub spelled_is_kept : SpelledIsKept

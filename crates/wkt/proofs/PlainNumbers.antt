@@ -52,10 +52,6 @@ text_further n v (c ∷ cs) some digit is =
     ap (λ n. take n cs) (omega (arith, length-cons c cs)) ∙ take-length cs in
     rw rest (digit_further n v c cs digit is, behind_digit c cs digit)
 
--- the digits end before another byte
-pub no_digits : (text : List ℕ) → begins_with is_ascii_digit text ≡ false → (front_digits text ≡ []) × (drop (prefix_len is_ascii_digit text) text ≡ text)
-no_digits text none = let n = no_run is_ascii_digit text none in (ap (λ n. take n text) n, ap (λ n. drop n text) n)
-
 -- what is said of no value, where there is none
 pub absent : {T : Type 0} (o : Option T) (P : Type 0) (Q : T → Type 0) → false ≡ is_some o → MatchOption o P Q → P
 absent None P Q none said = said

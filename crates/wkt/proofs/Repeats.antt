@@ -1,5 +1,5 @@
 -- Positions of a line or ring, read one after another: one that repeats the last is left out.
-use Rattle.std.proofs.Common.{◌≡◌, refl, sym, ap, ap₂, ◌∙◌, subst, ℕ, suc, ◌-◌, ◌≤◌, ℤ, Bool, true, false, cond, if◌then◌else◌, List, [], ◌∷◌, ◌++◌, length, Option, Some, None, Result, Ok, Err, append_assoc, append-nil, length-append, arith}
+use Rattle.std.proofs.Common.{◌≡◌, refl, sym, ap, ap₂, ◌∙◌, subst, ℕ, suc, ◌-◌, ◌≤◌, ℤ, Bool, true, false, cond, if◌then◌else◌, List, [], ◌∷◌, ◌++◌, length, Option, Some, None, Result, Ok, Err, append_assoc, append-nil, arith}
 use Rattle.std.specs.List.{dedup_from}
 use Rattle.std.proofs.lemmas.Bool.{and_parts}
 use Rattle.std.proofs.lemmas.Bool.Decides.{Decides-int_eq}
@@ -91,11 +91,6 @@ still_steady last xs p is steady = go (repeats last p) (one_more last xs p is st
     go : (same : Bool) → without_repeats (xs ++ p ∷ []) ≡ xs ++ cond same [] (p ∷ []) → without_repeats (xs ++ cond same [] (p ∷ [])) ≡ xs ++ cond same [] (p ∷ [])
     go true e = rw (append-nil xs) steady
     go false e = e
-
--- at most one position more is kept
-pub one_longer : (same : Bool) (xs : List Position) (p : Position) → length (xs ++ cond same [] (p ∷ [])) ≤ suc (length xs)
-one_longer true xs p = omega (arith, length-append xs [])
-one_longer false xs p = omega (arith, length-append xs (p ∷ []))
 
 -- ---- the loop
 -- what was kept, and what is read behind it, with the room that is left

@@ -6,7 +6,7 @@ use Rattle.tiles.specs.RecordLines.{line_of}
 use Rattle.tiles.specs.Texts.{Grow, in_cell}
 use Rattle.tiles.proofs.CopyLemmas.{read_end, read_more, read_none}
 use Rattle.tiles.proofs.StretchLemmas.{filled_all, filled_start, filled_step, none_counted}
-use Rattle.tiles.proofs.FaultLemmas.{memory_later, returned, uneven_later}
+use Rattle.tiles.proofs.FaultLemmas.{returned, uneven_later}
 use Rattle.tiles.specs.Faults.{IsCopyFault}
 use Rattle.tiles.specs.PlainRecords.{HasLeft, IsReadFault}
 use Rattle.tiles.specs.declared.faults.CopyFault.TheVariants as copy
