@@ -73,7 +73,7 @@ impl Order {
         }
     }
 
-    /// The same order, asking to say more of a fault.
+    /// This order with `--why`, which asks for the reason of a fault.
     pub fn with_why(self) -> Order
         ensures { result ≡ spec.with_why self }
     {

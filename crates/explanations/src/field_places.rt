@@ -63,7 +63,7 @@ impl Cursor {
         }
     }
 
-    /// The same, reading on in this way.
+    /// This cursor, with another state of reading.
     #[inline(always)]
     fn on(self, reading: Reading) -> Cursor
         ensures { spec.cursor result ≡ (spec.state_of reading, self.records, self.fields) }

@@ -39,7 +39,7 @@ pub fn marked(alloc: Global, text: &[u8], place: usize) -> Result<Vec<u8>, Alloc
     shown_place(alloc, text, place, true)
 }
 
-/// The same two lines of a place, or the first of them alone, without the caret. At Err memory ran out.
+/// What `marked` returns, or the first of its two lines alone, without the caret. At Err memory ran out.
 pub(crate) fn shown_place(
     alloc: Global,
     text: &[u8],
@@ -52,7 +52,7 @@ pub(crate) fn shown_place(
     marked_within(alloc, text, place.min(end), has_caret)
 }
 
-/// The same of a place within the text.
+/// What `shown_place` returns for a place within the text.
 fn marked_within(
     alloc: Global,
     text: &[u8],

@@ -61,7 +61,7 @@ fn find_all_bound(
     find_all_of(alloc, Rows::new(alloc, database, bound, &plan, Work::new()))
 }
 
-/// The same of a query that was read.
+/// Finds all rows of a query that was read, by the plan that is chosen.
 fn find_all_by(
     alloc: Global,
     database: &Database<'_, ListIndex>,
@@ -71,7 +71,7 @@ fn find_all_by(
     Ok(find_all_bound(alloc, database, &bound)?)
 }
 
-/// The same of the text of a query.
+/// Finds all rows of the text of a query, by the plan that is chosen.
 fn find_all_over(
     alloc: Global,
     database: &Database<'_, ListIndex>,

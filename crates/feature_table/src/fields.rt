@@ -102,7 +102,7 @@ fn number_in(text: &[u8]) -> Option<i64>
     parsed_number(text)
 }
 
-/// The same of any text.
+/// The whole number that a text writes, whatever its bytes; None if it writes none of 64 bits.
 fn parsed_number(text: &[u8]) -> Option<i64>
     ensures { result ≡ spec.number_in text.now }
 {

@@ -62,7 +62,7 @@ pub(crate) fn quotient(number: i128, divisor: i64) -> i128
     }
 }
 
-/// The same of a short number.
+/// The quotient of a number of 64 bits by a number of at least 1, rounded towards 0.
 pub(crate) fn short_quotient(number: i64, divisor: i64) -> i64
     requires { pos 0 <ℤ divisor }
     ensures { result ≡ int_div number divisor }

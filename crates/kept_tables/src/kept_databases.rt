@@ -35,7 +35,7 @@ impl<I: EnvelopeIndex> Model for KeptDatabase<I> {
         IsKept (record { definitions = k.schema; tables = k.tables.items; loaded = k.loaded.items }) };
 }
 
-/// As many tables without rows as a schema has definitions.
+/// A list of tables without rows, one for each definition of a schema.
 #[tactic(auto, using(std::proofs::lemmas::List::replicate_more))]
 fn empty_tables<I: EnvelopeIndex + Drop>(
     alloc: Global,
@@ -50,7 +50,7 @@ fn empty_tables<I: EnvelopeIndex + Drop>(
     Ok(tables)
 }
 
-/// As many times `false` as this.
+/// A list of `false` of this length.
 #[tactic(auto, using(std::proofs::lemmas::List::replicate_more))]
 fn none_loaded(alloc: Global, count: usize) -> Result<Vec<bool>, AllocError>
     ensures { IfOk result (λ loaded. loaded.items ≡ replicate count false) }

@@ -7,17 +7,17 @@ pub fn rows_are_of_named()
     ensures { RowsAreOfNamed }
 {}
 
-/// So do its lawful plans, the chosen one, and the work of each.
+/// The lawful plans of a query, the one that is chosen and the work of each depend on those tables alone (SQL, FROM).
 pub fn plans_are_of_named()
     ensures { PlansAreOfNamed }
 {}
 
-/// So does the text of its answer, with the header, and under EXPLAIN and EXPLAIN ANALYZE too.
+/// The text of a query's answer, with the header, depends on those tables alone; under EXPLAIN and EXPLAIN ANALYZE too (SQL, FROM).
 pub fn answers_are_of_named()
     ensures { AnswersAreOfNamed }
 {}
 
-/// So does the outcome of a query as it is written, where the tables are those that its names name: its answer or its fault.
+/// The answer or the fault of a query's text depends on the tables alone that its names name (SQL, FROM).
 pub fn outcomes_are_of_named()
     ensures { OutcomesAreOfNamed }
 {}

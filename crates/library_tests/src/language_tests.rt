@@ -56,7 +56,7 @@ fn compared_at(cond: &WrittenCond<'_, Argument<'_>>) -> Option<usize> {
     }
 }
 
-/// The same of the condition of WHERE.
+/// Where the comparison starts that is the first part of the condition of WHERE.
 fn compared_in(query: &Query<'_>) -> Option<usize> {
     compared_at(query.condition.as_ref()?)
 }

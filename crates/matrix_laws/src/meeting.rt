@@ -8,7 +8,8 @@ pub fn predicate_forces_meeting()
     ensures { PredicateForcesMeeting }
 {}
 
-/// The same law for their label matrix (06-103r4, 6.1.2.2 and 6.1.15.3).
+/// Where a predicate that forces meeting holds of two valid geometries by their label matrix, their envelopes meet
+/// (06-103r4, 6.1.2.2 and 6.1.15.3).
 pub fn labels_force_meeting()
     ensures { LabelsForceMeeting }
 {}

@@ -103,7 +103,7 @@ impl Gaps {
         self.named
     }
 
-    /// The same of all edges for which it was filled.
+    /// The sum of `named` over all edges for which it was filled.
     pub fn all_named(&self) -> usize {
         self.all_named
     }

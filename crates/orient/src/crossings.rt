@@ -91,14 +91,14 @@ fn is_at_most(side: i128, is_rightward: bool) -> bool
     (side == 0) | ((side < 0) == is_rightward)
 }
 
-/// The same of a short number.
+/// What `is_below` returns for a side of 64 bits.
 fn is_short_below(side: i64, is_rightward: bool) -> bool
     ensures { result ≡ int_lt (if is_rightward then side else pos 0 -ℤ side) (pos 0) }
 {
     (side != 0) & ((side < 0) == is_rightward)
 }
 
-/// The same of a short number.
+/// What `is_at_most` returns for a side of 64 bits.
 fn is_short_at_most(side: i64, is_rightward: bool) -> bool
     ensures { result ≡ int_le (if is_rightward then side else pos 0 -ℤ side) (pos 0) }
 {

@@ -32,7 +32,7 @@ fn truth_of(
     Ok((truth, work.count()))
 }
 
-/// The same of a query that was read.
+/// The truth of the condition of a query that was read.
 fn truth_by(
     alloc: Global,
     database: &Database<'_, RTree>,
@@ -43,7 +43,7 @@ fn truth_by(
     truth_of(alloc, database, &bound, place)
 }
 
-/// The same of the text of a query.
+/// The truth of the condition in the text of a query.
 fn truth_at(
     alloc: Global,
     database: &Database<'_, RTree>,
@@ -54,7 +54,7 @@ fn truth_at(
     truth_by(alloc, database, &query, place)
 }
 
-/// The same over a table of points.
+/// The truth of the condition in the text of a query, over a table of points.
 fn truth_over(
     alloc: Global,
     points: &str,

@@ -57,7 +57,7 @@ fn asked(
     Ok((unloaded_reference(kept, query), rows))
 }
 
-/// The same of the text of a query, its rows by their places, one number after the other.
+/// Which reference of a query's text names a table that isn't loaded, and the places of its rows, one number after the other.
 fn found(
     alloc: Global,
     kept: &KeptDatabase<RTree>,

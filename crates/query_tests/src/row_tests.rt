@@ -251,7 +251,7 @@ fn busy_steps(
     Ok(busy)
 }
 
-/// The same of steps of 1, 2 and 1,000 looks at most, as a text.
+/// What steps of at most 1, 2 and 1,000 looks give, as a text.
 fn busy_text(
     alloc: Global,
     database: &Database<'_, RTree>,
@@ -298,7 +298,7 @@ fn plan_text(
     Ok(text)
 }
 
-/// The same of the plan that is chosen for a bound query.
+/// The rows by the plan that is chosen for a bound query, as a text.
 fn bound_text(alloc: Global, database: &Database<'_, RTree>, bound: &Bound) -> Result<String, Fail>
     requires bound { IsBound geometry_fits database.now.definitions bound.now }
 {
@@ -306,7 +306,7 @@ fn bound_text(alloc: Global, database: &Database<'_, RTree>, bound: &Bound) -> R
     plan_text(alloc, database, bound, &plan)
 }
 
-/// The same of a query that was read.
+/// The rows of a query that was read, as a text.
 fn query_text(
     alloc: Global,
     database: &Database<'_, RTree>,
@@ -316,13 +316,13 @@ fn query_text(
     bound_text(alloc, database, &bound)
 }
 
-/// The same of the text of a query.
+/// The rows of the text of a query, as a text.
 fn text_over(alloc: Global, database: &Database<'_, RTree>, query: &str) -> Result<String, Fail> {
     let query = read_query(alloc, query)?;
     query_text(alloc, database, &query)
 }
 
-/// The same over tables of these texts.
+/// The rows of the text of a query over tables of these texts, as a text.
 fn found(alloc: Global, schema: &str, texts: &[&[u8]], query: &str) -> Result<String, Fail> {
     let schema = read_schema(alloc, schema.as_bytes())?;
     let database = database_of(alloc, &schema, texts)?;
@@ -338,7 +338,7 @@ fn work_after_a_row_that_is_found(rt: HostRuntime) -> Result<(), Fail> {
     Ok(())
 }
 
-/// The same of a join over so many points and two squares.
+/// The rows of a join of so many points and two squares, as a text.
 fn joined(alloc: Global, count: u8, squares: &[u8]) -> Result<String, Fail> {
     let points = points_up_to(alloc, count)?;
     found(alloc, TWO_SCHEMA, &[points.as_bytes(), squares], JOINED)

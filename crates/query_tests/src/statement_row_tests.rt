@@ -71,7 +71,7 @@ fn written_by(
     Ok(text)
 }
 
-/// The same of a statement of a query.
+/// Runs a query as a statement over kept tables and returns its rows as `run` writes them.
 fn written(alloc: Global, kept: &KeptDatabase<RTree>, query: &str) -> Result<Vec<u8>, Fail> {
     match Statement::prepare(alloc, kept, query) {
         Ok(mut statement) => written_by(alloc, kept, &mut statement),
@@ -113,7 +113,7 @@ fn a_row_is_that_of_a_run(rt: HostRuntime) -> Result<(), Fail> {
 enum Ask {
     /// A step: `end`, or the row that it gives, as `run` writes it.
     Step,
-    /// The same within so many looks, which may be `busy`.
+    /// A step of at most so many looks: `busy`, `end`, or the row that it gives, as `run` writes it.
     StepWithin(u64),
     /// A column and its field in the row that is there, as `name kind|field|number`; `none` where there is none.
     Column(usize),
@@ -132,7 +132,7 @@ fn put_bytes(text: &mut String, bytes: Option<&[u8]>) -> Result<(), Fail> {
     }
 }
 
-/// The same of bytes that were copied.
+/// Adds copied bytes to a text; `none` if there are none.
 fn put_copy(text: &mut String, bytes: &Option<Vec<u8>>) -> Result<(), Fail> {
     match bytes {
         Some(bytes) => put_bytes(text, Some(bytes.as_slice())),
@@ -268,7 +268,7 @@ fn told_by(
     Ok(text)
 }
 
-/// The same of a statement of a query over a database.
+/// Prepares a statement of a query over a database and returns what it says to each thing that is asked.
 fn told_over(
     alloc: Global,
     kept: &KeptDatabase<RTree>,
@@ -281,7 +281,7 @@ fn told_over(
     }
 }
 
-/// The same over both tables.
+/// Prepares a statement of a query over both tables and returns what it says to each thing that is asked.
 fn told(alloc: Global, query: &str, asked: &[Ask]) -> Result<String, Fail> {
     let kept = both(alloc)?;
     told_over(alloc, &kept, query, asked)

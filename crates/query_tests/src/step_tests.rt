@@ -97,7 +97,7 @@ fn planned(
     Ok((header, plan.cost, returned))
 }
 
-/// The same of the text of a query, over ten points.
+/// The header of the text of a query over ten points, and the cost of its plan.
 fn planned_over(alloc: Global, query: &str) -> Result<(ByteRecord, u64, bool), Fail> {
     let schema = read_schema(alloc, POINTS_SCHEMA.as_bytes())?;
     let points = points_up_to(alloc, 10)?;

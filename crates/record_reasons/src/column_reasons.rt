@@ -36,7 +36,7 @@ pub(crate) fn reason_in_column<'s>(
     filled_reason(alloc, column, field, fault)
 }
 
-/// The same of a field that isn't empty.
+/// The reason of a fault in a field that isn't empty; None if the field hasn't the fault. At Err memory ran out.
 fn filled_reason<'s>(
     alloc: Global,
     column: &'s ColumnDef,
@@ -53,7 +53,7 @@ fn filled_reason<'s>(
     }
 }
 
-/// The same of a fault of a geometry.
+/// The reason of a fault in the text of a geometry; None if the text hasn't the fault. At Err memory ran out.
 fn geometry_reason<'s>(
     alloc: Global,
     column: &'s ColumnDef,

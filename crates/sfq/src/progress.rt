@@ -66,8 +66,8 @@ impl<'r> Progress<'r> {
         self.follow(None, input)
     }
 
-    /// The same of a file of CSV, which is reported by its name: that of its table, or of its pairs. Without memory the name is
-    /// left out, and then nothing is printed of it.
+    /// The reader of a CSV file, whose progress is printed under its name: that of its table, or of its pairs. If memory runs out for
+    /// the name, nothing is printed of it.
     pub fn load(&self, path: &str, input: Input) -> Reported<'_> {
         self.opened.set(self.opened.get().saturating_add(1));
         self.follow(self.name_of(path), input)

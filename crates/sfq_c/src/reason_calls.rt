@@ -37,7 +37,8 @@ pub extern "C" fn sfq_proved_why(
     status
 }
 
-/// The same of a kept geometry and itself.
+/// Hands out nine lines that show the cells of the DE-9IM matrix of a kept geometry and itself, as `sfq_proved_why` does of two
+/// (06-103r4, 6.1.15.2; the witnesses and the words: this project's choice).
 #[unsafe(no_mangle)]
 pub extern "C" fn sfq_proved_why_itself(
     alloc: Global,

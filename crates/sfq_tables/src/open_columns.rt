@@ -29,7 +29,7 @@ fn hand_out_found(found: Result<Vec<u8>, Missing>, room: &mut [u8], size: &mut u
     }
 }
 
-/// The same with a text in a sink.
+/// Hands out a text that was written into memory; if there is none, the status says why.
 fn hand_out_sink(found: Result<MemorySink, Missing>, room: &mut [u8], size: &mut usize) -> u32
     ensures { IsHandedOut memory_bytes found room.old room.new size.old size.new result }
 {

@@ -59,7 +59,7 @@ pub struct NamedPart<'w, 's> {
     pub columns: Vec<usize>,
     /// In tiles the name of the mark w, which no column has that is copied; else it is empty.
     pub west: String,
-    /// The same of the mark s.
+    /// In tiles the name of the mark s, which no copied column has; else it is empty.
     pub south: String,
 }
 
@@ -240,7 +240,7 @@ fn all_columns(alloc: Global, count: usize) -> Result<Vec<usize>, AllocError>
     Ok(columns)
 }
 
-/// The same of all columns of a table.
+/// The places of all columns of a table.
 fn every_column(alloc: Global, table: &TableDef) -> Result<Vec<usize>, Mistake>
     ensures { IfOk result (λ columns. columns.items ≡ range_with_len 0 (length table.now.columns)) }
 {

@@ -31,7 +31,7 @@ pub trait Targets {
     ghost makes: { Self → List ℕ → Self → Type 0 };
     /// These are the texts of the tiles of the part of this name, to which nothing was added yet.
     ghost begins_tiles: { Self → List ℕ → Self.Texts → Type 0 };
-    /// The same of its stretches.
+    /// These are the texts of the stretches of the part of this name, to which nothing was added yet.
     ghost begins_stretches: { Self → List ℕ → Self.Texts → Type 0 };
     /// These texts were written whole.
     ghost takes: { Self → Self.Texts → Self → Type 0 };

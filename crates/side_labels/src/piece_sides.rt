@@ -40,7 +40,7 @@ pub fn sides_at(valid: &Valid, p: &RatPoint) -> Sides
     }
 }
 
-/// The same as `sides_at`, if it is known how the point lies relative to the geometry's edges.
+/// What `sides_at` returns, for a caller that knows already how the point lies relative to the geometry's edges.
 pub fn sides_by(valid: &Valid, found: &Crossings) -> Sides
     ensures lower { (p : Point) → AreCrossings found.now (edges valid.now) p
         → result.lower ≡ spec.below valid.now p }

@@ -66,7 +66,7 @@ pub(crate) fn comparison(
     }
 }
 
-/// The same of any two sides.
+/// The truth of a comparison whose sides may be of any type.
 fn comparison_of_sides(
     alloc: Global,
     sign: Comparison,

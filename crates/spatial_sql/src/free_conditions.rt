@@ -26,7 +26,7 @@ pub fn lack_predicates(conditions: &[Cond]) -> bool
     all_lack_predicates(conditions)
 }
 
-/// The same.
+/// Whether a condition has no spatial predicate, followed into its parts.
 #[cycle(predicates)]
 fn lacks_predicates(condition: &Cond) -> bool
     ensures { result ≡ spec.is_free condition.now }

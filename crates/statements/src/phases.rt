@@ -14,7 +14,7 @@ pub enum Phase {
     Count(u64),
     /// The lines of its plan, which isn't written yet.
     Plan,
-    /// The same, and the line of the work, which isn't done yet.
+    /// The lines of its plan and the line of its work, which isn't done yet.
     Analysis,
     /// What is left of these lines.
     Lines,

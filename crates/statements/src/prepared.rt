@@ -123,7 +123,7 @@ impl Statement {
         self.begin(alloc, database);
     }
 
-    /// The same, whatever the rows before.
+    /// Begins before the first row, whatever the rows were until then. It takes no memory.
     pub(crate) fn begin<I: EnvelopeIndex + Drop>(
         &mut self,
         alloc: Global,
@@ -172,8 +172,8 @@ impl Statement {
         }
     }
 
-    /// The same, within so many looks: where none of so many candidates and rows of the outer reference gave a row, it is busy, and
-    /// the same rows are to come. From 1 look a step on, the steps come to an end. The first step of a plan that needs a list isn't
+    /// Finds the next row by at most so many looks: if none of so many candidates and rows of the outer reference gave a row, it is
+    /// busy, and the same rows are to come. From 1 look a step on, the steps come to an end. The first step of a plan that needs a list isn't
     /// busy (this project's choice). That it looks no further changes time alone: it is tested, and no clause says it.
     pub fn step_within<I: EnvelopeIndex + Drop>(
         &mut self,
@@ -260,7 +260,7 @@ impl Statement {
         Ok(StatementStep::Row)
     }
 
-    /// The same, within so many looks.
+    /// Counts rows by at most so many looks, and gives their number once all are counted, but under LIMIT 0.
     fn step_count_within<I: EnvelopeIndex + Drop>(
         &mut self,
         alloc: Global,
@@ -327,7 +327,7 @@ impl Statement {
         Ok(self.step_line(database))
     }
 
-    /// The same, within so many looks.
+    /// Finds rows by at most so many looks, and gives the first line of EXPLAIN ANALYZE once all are found.
     fn step_analysis_within<I: EnvelopeIndex + Drop>(
         &mut self,
         alloc: Global,

@@ -320,7 +320,7 @@ fn before_quote(bytes: &[u8]) -> usize
     }
 }
 
-/// The same, for a quote that is near.
+/// How many bytes there are before the first quote. It finds a quote that is near.
 fn quoted(bytes: &[u8]) -> usize
     ensures within { result ≤ length bytes.now }
     ensures count { result ≡ prefix_len (stays at.Quoted) bytes.now }

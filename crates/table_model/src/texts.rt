@@ -38,7 +38,7 @@ impl<'a> Slice<'a> {
         self.bytes
     }
 
-    /// The same part once more. Nothing is copied.
+    /// A second value for the same bytes. Nothing is copied.
     pub fn again(&self) -> Slice<'a>
         ensures { result ≡ self.now }
     {

@@ -468,7 +468,7 @@ pub fn first_fault(alloc: Global, outline: &Outline) -> Result<Option<ValidityFa
     first_fault_by(alloc, outline, &boxes)
 }
 
-/// The same, where the boxes over all edges are given.
+/// The first fault of a geometry, for a caller that has boxes over all its edges. It fails only when memory runs out.
 pub(crate) fn first_fault_by(
     alloc: Global,
     outline: &Outline,

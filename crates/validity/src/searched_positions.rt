@@ -26,7 +26,7 @@ pub(crate) fn searched_positions(
     }
 }
 
-/// The same positions, ascending, each once.
+/// These positions in ascending order, without repeats.
 fn ascending(alloc: Global, positions: &[GridPoint]) -> Result<Vec<GridPoint>, AllocError>
     ensures ascend { IfOk result (λ found. IsStrictlySortedBy position_order found.items) }
     ensures alike { IfOk result (λ found. HoldAlike found.items positions.now) }
