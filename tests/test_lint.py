@@ -24,7 +24,7 @@ CLEAN = {
 }
 
 # What ./lint counts with.
-TOOLS = ["antt", "common_facts", "contracts", "counts", "edits", "paths", "proved_page", "recorded", "repository", "spread", "twins", "unused"]
+TOOLS = ["antt", "common_facts", "contracts", "counts", "edits", "paths", "proved_page", "recorded", "repository", "spread", "twins", "unused", "unused_lemmas"]
 
 
 def tool(name):

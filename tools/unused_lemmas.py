@@ -3,59 +3,59 @@
 
 usage: python3 tools/unused_lemmas.py [ROOT]
 
-A lemma is used where its name is in a source beyond its own declaration and beyond imports: in proofs, definitions, Rattle's
-sources, edits, and the pages and lists that name laws. So a name that two lemmas share hides that one of them is unused. Answers
-and invariants are left out, as the prover asks for these by their names.
+A lemma is used if its name is in a source beyond its own declaration and beyond imports: in proofs, definitions, Rattle's sources,
+edits, and the pages and lists that name laws. So a name that two lemmas share hides that one of them is unused. Files of answers and
+invariants are left out, because the prover asks for what is in them by name.
 """
 import collections
-import pathlib
+import glob
+import os
 import re
 import sys
-from typing import NamedTuple
 
 import antt
+import repository
 
 # What a name ends at.
 BREAK = re.compile(r"[\s(){}\[\],;.`\"|]+")
 RENAMED = re.compile(r"(\S+) as \S+[,}]")
+IMPORT = re.compile(r"^(?:pub )?use [^{\n]*(?:\{[^}]*\})?", re.M)
+REMARK = re.compile(r"^\s*-- .*", re.M)
 ASKED_FOR = ("Answers.antt", "Invariants.antt", "Proof.antt", "Lib.antt")
 PAGES = ("docs/*.md", "tools/*.txt", "crates/*/must-fail/*.edit", "crates/*/edits/*.edit", "crates/**/*.rt")
 
 
-class Lemma(NamedTuple):
-    """A lemma: its file from the root, its line, and its name."""
-
-    path: str
-    line: int
-    name: str
-
-
 def words_of(text: str) -> collections.Counter[str]:
     """Returns how often each name is in a text without its comments, and of its imports only in those under another name."""
-    kept = re.sub(r"^(?:pub )?use [^{\n]*(?:\{[^}]*\})?", lambda it: " ".join(RENAMED.findall(it[0])), text, flags=re.M)
-    return collections.Counter(BREAK.split(re.sub(r"^\s*-- .*", "", kept, flags=re.M)))
+    kept = IMPORT.sub(lambda it: " ".join(RENAMED.findall(it[0])), text)
+    return collections.Counter(BREAK.split(REMARK.sub("", kept)))
 
 
-def unused(root: pathlib.Path) -> list[Lemma]:
-    """Returns the lemmas that nothing uses, in the order of their files."""
+def read(root: str, path: str) -> str:
+    """Returns the text of a file below the root."""
+    with open(f"{root}/{path}", encoding="utf-8") as file:
+        return file.read()
+
+
+def check(root: str = repository.ROOT) -> list[repository.Finding]:
+    """Returns a finding for each lemma that nothing uses, in the order of the files."""
     uses: collections.Counter[str] = collections.Counter()
     for pattern in PAGES:
-        for path in root.glob(pattern):
-            uses.update(BREAK.split(path.read_text()))
-    lemmas: list[tuple[Lemma, int]] = []
-    for path in sorted(root.glob("crates/*/**/*.antt")):
-        text = path.read_text()
-        words = words_of(text)
-        uses.update(words)
-        if path.name in ASKED_FOR or "proofs" not in path.parts:
-            continue
-        for it in antt.File(text).declarations:
-            if "◌" not in it.name and it.kind in ("lemma", "definition"):
-                own = words_of("\n".join(it.lines))[it.name]
-                lemmas.append((Lemma(str(path.relative_to(root)), it.line, it.name), own))
-    return [it for it, own in lemmas if uses[it.name] <= own]
+        for path in glob.glob(pattern, root_dir=root, recursive=True):
+            uses.update(BREAK.split(read(root, path)))
+    lemmas: list[tuple[str, antt.Declaration]] = []
+    for path in sorted(glob.glob("crates/*/**/*.antt", root_dir=root, recursive=True)):
+        text = read(root, path)
+        uses.update(words_of(text))
+        if os.path.basename(path) not in ASKED_FOR and "/proofs/" in path:
+            lemmas += [(path, it) for it in antt.File(text).declarations if it.kind in ("lemma", "definition") and "◌" not in it.name]
+    return [
+        (path, it.line, f"nothing uses the lemma {it.name}")
+        for path, it in lemmas
+        if uses[it.name] <= words_of(it.text())[it.name]
+    ]
 
 
 if __name__ == "__main__":
-    for found in unused(pathlib.Path(sys.argv[1] if len(sys.argv) > 1 else ".").resolve()):
-        print(f"{found.path}:{found.line}: nothing uses the lemma {found.name}")
+    for found in check(*sys.argv[1:2]):
+        print("{}:{}: {}".format(*found))
