@@ -17,7 +17,7 @@ import antt
 import repository
 
 # What a name ends at.
-BREAK = re.compile(r"[\s(){}\[\],;.`\"|]+")
+BREAK = re.compile(r"[\s(){}\[\],;:.`\"|]+")
 RENAMED = re.compile(r"(\S+) as \S+[,}]")
 IMPORT = re.compile(r"^(?:pub )?use [^{\n]*(?:\{[^}]*\})?", re.M)
 REMARK = re.compile(r"^\s*-- .*", re.M)

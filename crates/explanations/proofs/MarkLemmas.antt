@@ -1,8 +1,26 @@
 -- Which bytes are shown as the characters that they spell, and how many columns they take.
-use Rattle.std.proofs.Common.{◌≡◌, ◌∙◌, ◌+◌, ◌≤◌, ◌<◌, ◌++◌, ◌&&◌, [], ◌∷◌, ℕ, Bool, true, false, List, ap, arith, drop, length, refl, take}
+use Rattle.std.proofs.Common.{◌≡◌, ◌∙◌, ◌+◌, ◌≤◌, ◌<◌, ◌++◌, ◌&&◌, [], ◌∷◌, ℕ, Bool, true, false, List, ap, arith, drop, length, not, refl, sym, take}
 use Rattle.std.proofs.lemmas.List.{drop-append-le, drop_more, get_or-take, length-take-le, take_more}
 use Rattle.std.specs.Prelude.{slice_index}
-use Rattle.explanations.specs.Marks.{begins_character, columns, width}
+use Rattle.std.proofs.lemmas.Str.{IsUtf8-from_is_utf8, is_utf8-from_IsUtf8}
+use Rattle.std.specs.List.{list_any}
+use Rattle.std.specs.Str.{IsUtf8, chars, is_utf8}
+use Rattle.explanations.specs.Marks.{begins_character, columns, is_hidden, is_plain, width}
+
+-- those of a text none of whose characters is hidden
+pub plain_text : (line text : List ℕ) (hidden : Bool) → text ≡ line → IsUtf8 line → hidden ≡ list_any is_hidden (chars text)
+    → not hidden ≡ is_plain line
+plain_text line text hidden same is found =
+    ap not (found ∙ ap (λ t. list_any is_hidden (chars t)) same)
+    ∙ sym (ap (λ b. b && not (list_any is_hidden (chars line))) (is_utf8-from_IsUtf8 line is))
+
+-- not those that aren't UTF-8
+pub plain_none : (line : List ℕ) → ¬ (IsUtf8 line) → false ≡ is_plain line
+plain_none line isnt = go (is_utf8 line) refl
+  where
+    go : (b : Bool) → is_utf8 line ≡ b → false ≡ is_plain line
+    go true e = absurd (isnt (IsUtf8-from_is_utf8 line e))
+    go false e = sym (ap (λ b. b && not (list_any is_hidden (chars line))) e)
 
 -- ---- columns
 

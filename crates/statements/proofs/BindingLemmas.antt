@@ -1,9 +1,21 @@
 -- What binding a constant comes to: a value was put in its place or not; and queries without conditions or rows stay bound.
 use Rattle.std.proofs.Common.{◌≡◌, ◌≢◌, ◌∙◌, ℕ, Bool, true, false, if◌then◌else◌, ap, refl, sym}
+use Rattle.statements.specs.BoundConstants.{ended, without_conditions}
 use Rattle.statements.specs.Constants.{Constant, constant_type, may_replace, with_constant, with_fitting}
 use Rattle.statements.specs.declared.constants.Put.{Put}
 use Rattle.statements.specs.declared.constants.Put.TheVariants as puts
-use Rattle.table_model.specs.SpatialTables.{SpatialQuery}
+use Rattle.table_model.specs.BoundQueries.{IsBound, geometry_fits}
+use Rattle.table_model.specs.SpatialTables.{SpatialQuery, SpatialSchema}
+
+pub without_bound : (query : SpatialQuery) (definitions : SpatialSchema) → IsBound geometry_fits definitions query
+    → IsBound geometry_fits definitions (without_conditions query)
+without_bound query definitions is =
+    record { references = is.references; items = is.items; conjuncts = refl; counted = is.counted }
+
+pub ended_bound : (query : SpatialQuery) (definitions : SpatialSchema) → IsBound geometry_fits definitions query
+    → IsBound geometry_fits definitions (ended query)
+ended_bound query definitions is =
+    record { references = is.references; items = is.items; conjuncts = is.conjuncts; counted = λ e. cc }
 
 -- a value that is put replaces the constant, which takes it
 pub is_put : (k : ℕ) (value : Constant) (old new : SpatialQuery) (put : Put) → put ≡ puts.Done

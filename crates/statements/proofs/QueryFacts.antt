@@ -1,5 +1,5 @@
 -- The laws of the constants of a query, from those of its conjuncts.
-use Rattle.std.proofs.Common.{◌≡◌, ℕ, true, if◌then◌else◌, List, is_none, refl, sym, ap, subst, ◌∙◌}
+use Rattle.std.proofs.Common.{◌≡◌, ℕ, true, if◌then◌else◌, List, [], Some, is_none, refl, sym, ap, subst, ◌∙◌}
 use Rattle.std.specs.Option.{option_map}
 use Rattle.geometry_laws.proofs.FirstFaultFacts.{none_is_found_where_valid}
 use Rattle.geometry_model.specs.Geometries.{Geometry}

@@ -34,6 +34,10 @@ one_constant v (suc k) = refl
 pub is_first : (t : OperandType) (k : ℕ) → k ≡ 0 → sought_one t k ≡ Found t
 is_first t k e = ap (sought_one t) e
 
+pub is_later : (t : OperandType) (k : ℕ) → (k ≡ 0 → ⊥) → sought_one t k ≡ After (k - 1)
+is_later t zero h = absurd (h refl)
+is_later t (suc k) h = ap After (omega arith)
+
 pub found_within : (xs : List Constant) (k : ℕ) (t : OperandType) → sought xs k ≡ Found t → k < length xs
 found_within [] k t e = cc
 found_within (x ∷ xs) zero t e = omega arith

@@ -1,11 +1,12 @@
 -- What the points that two edges share say of shared points.
-use Rattle.std.proofs.Common.{pos, ◌≡◌, Bool, true, false, ◌&&◌, refl, sym, ap, ◌∙◌, List, [], ◌∷◌, All, arith}
+use Rattle.std.proofs.Common.{pos, ◌≡◌, Bool, true, false, ◌&&◌, refl, sym, ap, ap₂, ◌∙◌, List, [], ◌∷◌, All, arith}
 use borrow.Author.Differences.{ints}
 use Rattle.std.specs.Ordering.{int_eq, is_le}
 use Rattle.std.specs.declared.cmp.Ordering.{Ordering}
 use Rattle.std.specs.declared.cmp.Ordering.TheVariants.{Less, Equal}
 use Rattle.std.proofs.lemmas.Bool.{and_parts, and_from}
 use Rattle.geometry_model.specs.Points.{Position, Point, IsPoint, point_at, same_point, compare}
+use Rattle.geometry_model.specs.Envelopes.{Envelope, overlap}
 use Rattle.geometry_model.specs.Geometries.{Edge}
 use Rattle.geometry_model.specs.Sides.{on}
 use Rattle.geometry_model.specs.Dimensions.{area}
@@ -13,6 +14,9 @@ use Rattle.geometry_model.specs.Validity.{SharePoint, ShareOther}
 use Rattle.basics.proofs.Ring.{solve, var, lit, ◌⊕◌, ◌⊖◌, ◌⊗◌}
 use Rattle.basics.proofs.Tests.{equal_yes}
 use Rattle.geometry_laws.proofs.PointOrder.{same_reflexive, same_symmetric, same_transitive, equal_is_same}
+use Rattle.geometry_laws.proofs.SharedPoints.{shared_point_is_decided}
+use Rattle.edge_boxes.specs.RunLaws.{box_of}
+use Rattle.edge_boxes.proofs.OverlappingBoxes.{sharing_boxes_overlap}
 use Rattle.noding.specs.declared.answers.Meet.TheVariants.{Apart, At, Along}
 use Rattle.noding.specs.Meetings.{on_both, IsMeeting}
 
@@ -48,6 +52,17 @@ point_of e f p hp h = let b : (on e p ≡ true) × (on f p ≡ true) = both_on e
 
 other_of : (common : Position) (e f : Edge) (p : Point) → IsPoint p → on_both e f p ≡ true → same_point p (point_at common) ≡ false → ShareOther common e f
 other_of common e f p hp h o = let b : (on e p ≡ true) × (on f p ≡ true) = both_on e f p h in record { at = p; is_point = hp; on_first = b.0; on_second = b.1; other = o }
+
+-- edges of which the bounds are apart share nothing
+pub far_apart : (e f : Edge) (b c : Envelope) (t : Bool) → b ≡ box_of e → c ≡ box_of f → t ≡ overlap b c → t ≡ false → IsMeeting e f Apart
+far_apart e f b c t is_b is_c test far p hp = go (on_both e f p) refl
+  where
+    bounds_apart : overlap (box_of e) (box_of f) ≡ false
+    bounds_apart = ap₂ overlap (sym is_b) (sym is_c) ∙ sym test ∙ far
+
+    go : (held : Bool) → on_both e f p ≡ held → on_both e f p ≡ false
+    go true h = let y : true ≡ false = sym (sharing_boxes_overlap e f ((shared_point_is_decided e f).1 (point_of e f p hp h))) ∙ bounds_apart in absurd cc
+    go false h = h
 
 -- the first and the second point that are named
 head_point : (p : Point) (ps : List Point) → All IsPoint (p ∷ ps) → IsPoint p

@@ -1,10 +1,10 @@
 -- What one ring, line or polygon more adds to the counts, and why what was read is kept.
-use Rattle.std.proofs.Common.{◌≡◌, sym, ap, ◌∙◌, subst, ℕ, ◌+◌, ◌<◌, ◌≤◌, List, [], ◌∷◌, ◌++◌, length, Some, length-append, append-nil, arith}
+use Rattle.std.proofs.Common.{◌≡◌, sym, ap, ◌∙◌, subst, ℕ, ◌+◌, ◌<◌, ◌≤◌, List, [], ◌∷◌, ◌++◌, length, Some, None, length-append, append-nil, arith}
 use Rattle.std.specs.List.{flat_map, All}
 use Rattle.std.proofs.lemmas.Grind.{flat_map-append}
 use Rattle.std.proofs.lemmas.List.Elements.{All-nil, All-cons, All-append, All-head, All-tail, All-weaker}
 use Rattle.geometry_model.specs.Points.{Position}
-use Rattle.geometry_model.specs.Geometries.{Point, LineString, MultiLineString, Polygon, MultiPolygon, joined_rings, edges_of_line, edges_of_lines}
+use Rattle.geometry_model.specs.Geometries.{Point, MultiPoint, LineString, MultiLineString, Polygon, MultiPolygon, joined_rings, edges_of_line, edges_of_lines}
 use Rattle.wkt.specs.KeptGeometries.{IsKeptLine}
 use Rattle.wkt.proofs.KeptLines.{Apart}
 use Rattle.wkb.specs.BinaryReading.{State}
@@ -75,6 +75,24 @@ point_read old new p added = record {
       All-nil HasPositions;
 }
 
+pub no_point_read : (old new : State) → Adds old 0 0 new → IsRead old (Point None) new
+no_point_read old new added = record {
+  positions = added.0;
+  parts = added.1;
+  ends_differ = All-nil Apart;
+  parts_have_positions =
+      All-nil HasPositions;
+}
+
+pub points_read : (old new : State) (ps : List Position) → Adds old (length ps) 0 new → IsRead old (MultiPoint ps) new
+points_read old new ps added = record {
+  positions = added.0;
+  parts = added.1;
+  ends_differ = All-nil Apart;
+  parts_have_positions =
+      All-nil HasPositions;
+}
+
 pub line_read : (old new : State) (line : List Position) → Adds old (length line) 0 new → IsKeptLine line
     → IsRead old (LineString line) new
 line_read old new line added kept = record {
@@ -112,6 +130,10 @@ polygons_read old new es added = record {
       (joined_rings es) added.are_parts;
   parts_have_positions = some_positions (joined_rings es) added.are_parts;
 }
+
+-- elements and rings behind their number
+pub multi_point_read : (a b c : State) (ps : List Position) → Adds a 0 0 b → Adds b (length ps) 0 c → IsRead a (MultiPoint ps) c
+multi_point_read a b c ps head added = points_read a c ps (omega (arith, head.0, added.0), omega (arith, head.1, added.1))
 
 pub multi_line_read : (a b c : State) (lines : List (List Position)) → Adds a 0 0 b → AddsParts b lines c
     → IsRead a (MultiLineString lines) c

@@ -1,12 +1,13 @@
 -- A line or ring without repeats is kept: the ends of each of its edges differ.
-use Rattle.std.proofs.Common.{◌≡◌, ◌≢◌, ℤ, Bool, true, false, cond, List, [], ◌∷◌, map, refl, sym, subst, arith, ◌≤◌}
+use Rattle.std.proofs.Common.{◌≡◌, ◌≢◌, ℤ, Bool, true, false, cond, List, [], ◌∷◌, length, map, refl, sym, subst, arith, ◌≤◌}
 use Rattle.std.specs.List.{All, dedup_from}
 use Rattle.std.specs.Ordering.{int_eq}
 use Rattle.std.proofs.lemmas.Int.{ints}
 use Rattle.std.proofs.lemmas.List.Elements.{All-nil, All-cons, All-append}
 use Rattle.geometry_model.specs.Points.{Position}
 use Rattle.geometry_model.specs.Geometries.{Edge, edges_of_line, edges_of_lines}
-use Rattle.geometry_model.specs.WellKnownText.{same_position, without_repeats}
+use Rattle.geometry_model.specs.WellKnownText.{position_limit, same_position, without_repeats}
+use Rattle.wkt.specs.KeptGeometries.{IsKeptLine}
 
 equals_itself : (z : ℤ) → int_eq z z ≡ true
 equals_itself z = grind (arith, ints)
@@ -58,3 +59,11 @@ line_apart (p ∷ ps) = from_apart p ps
 pub lines_apart : (ls : List (List Position)) → All Apart (edges_of_lines (map without_repeats ls))
 lines_apart [] = All-nil Apart
 lines_apart (l ∷ ls) = All-append Apart (edges_of_line (without_repeats l)) (edges_of_lines (map without_repeats ls)) (line_apart l) (lines_apart ls)
+
+-- a line without repeats is kept
+pub line_is_kept : (ps : List Position) → length ps ≤ position_limit → without_repeats ps ≡ ps → IsKeptLine ps
+line_is_kept ps few steady = record {
+  counted = few;
+  no_repeats = steady;
+  ends_differ = subst (λ l. All Apart (edges_of_line l)) steady (line_apart ps);
+}
