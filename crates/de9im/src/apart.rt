@@ -1,5 +1,5 @@
-//! The cells of two geometries of which no edge shares a point with an edge of the other: all of an edge lies in one part of the
-//! other geometry, and so do the edges that lead on from it.
+//! The cells of two geometries whose edges don't share a point: the whole of an edge lies in one part of the other geometry, and
+//! so do the edges that lead on from it.
 
 ghost use Rattle.std.specs.Prelude.{◌≡◌, ◌≤◌, ◌<◌, true, false, All, Contains, IfSome, Some, length, slice_range};
 ghost use Rattle.geometry_model.specs.Points.{point_at};
@@ -27,7 +27,7 @@ use rtree::{Envelope, Enveloped};
 use side_labels::crossings;
 use validity::Valid;
 
-/// A geometry with this many times as many edges as another isn't walked along for the other's sake.
+/// If a geometry has this many times as many edges as another, its envelope isn't computed for the other's sake.
 const MANY_TIMES: usize = 8;
 
 /// Whether no edge of the first geometry shares a point with an edge of the second (06-103r4, 6.1.15: intersection of point
@@ -58,8 +58,8 @@ fn part_off(second: &Valid, at: GridPoint) -> Location
     off_edges(second.kind(), found.odd_above)
 }
 
-/// In which part of the second geometry an edge's end lies, which is off the geometry's edges. It is located only where the edge
-/// doesn't lead to the position that is known.
+/// In which part of the second geometry the end of an edge lies, which is off that geometry's edges. It is located only if the
+/// edge doesn't lead to the position that is known.
 fn part_of_end(second: &Valid, edge: &Segment, known: &Option<Known>) -> Location
     requires off { IsOffEdges second.now (point_at edge.now.end) }
     requires known { IfSome known.now (λ k. LiesOff second.now k.part k.at) }
@@ -95,9 +95,9 @@ fn raise_edge_apart(
     part
 }
 
-/// The place of an edge of the first geometry from which on no edge before the one at a place can raise a cell, and which
-/// starts in the same part of the second geometry as that one. Once the matrix shows all that edges can show in that part, it
-/// passes over the chain that leads to the edge, as far as none of its edges shares a point with one of the second geometry.
+/// The place, at least `from`, of an edge of the first geometry such that no edge from there to before `place` can raise a
+/// cell, and which starts in the same part of the second geometry as the edge at `place`. Once the matrix shows all that
+/// edges can show in that part, it is where the chain begins that leads to that edge.
 fn left_of_chain(
     first: &Valid,
     second: &Valid,
@@ -150,8 +150,8 @@ fn start_in_part(
     (left, Known { at, part })
 }
 
-/// Whether the edge before a place may be the last of a chain that can be passed over, of edges from another place on: it doesn't
-/// lead to the position that is known, and it isn't in the only chain.
+/// Whether the edge before `end` may be the last of a chain that can be skipped, among the edges from `from` on: it doesn't lead
+/// to the position that is known, and it isn't in the only chain.
 fn ends_chain(first: &Valid, known: &Option<Known>, from: usize, end: usize) -> bool
     requires some { from < end }
     requires within { end ≤ length (edges first.now) }
@@ -162,8 +162,8 @@ fn ends_chain(first: &Valid, known: &Option<Known>, from: usize, end: usize) -> 
     }
 }
 
-/// The place, from one on, from which on no edge of the first geometry before another place can raise a cell, as far as it is
-/// outside the second one's envelope.
+/// The place, at least `from`, such that no edge of the first geometry from there to before `end` can raise a cell, by the
+/// second one's envelope.
 fn left_outside(
     first: &Valid,
     second: &Valid,
@@ -216,7 +216,7 @@ fn left_beside(
 }
 
 /// The envelope of the second geometry, if the first one's edges are several chains, unless the second has many times as many
-/// edges as the first: a walk along these would take longer than what passing over chains saves.
+/// edges as the first: to visit these would take longer than skipping chains saves.
 pub(crate) fn envelope_for_chains(first: &Valid, second: &Valid) -> Option<Envelope>
     ensures { IfSome result (λ e. envelope second.now ≡ Some e) }
 {
@@ -282,8 +282,8 @@ fn raise_edges_apart(first: &Valid, second: &Valid, matrix: &mut MatrixCells)
     raise_run_apart(first, second, &around, 0, first.segments().len(), matrix);
 }
 
-/// The cells of the matrix of two valid geometries of which no edge shares a point with an edge of the other (06-103r4,
-/// 6.1.15.2). It takes no memory.
+/// The cells of the matrix of two valid geometries whose edges don't share a point (06-103r4, 6.1.15.2). It takes no
+/// memory.
 pub(crate) fn find_apart(first: &Valid, second: &Valid) -> MatrixCells
     requires { AreApart first.now second.now }
     ensures labelled { result ≡ labelled_matrix first.now second.now }

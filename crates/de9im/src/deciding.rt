@@ -1,6 +1,6 @@
-//! Whether a predicate holds of two geometries. Crosses and Overlaps never hold of some kinds. Where envelopes of small geometries
-//! don't meet, these settle it, but for some patterns. Intersects and Disjoint are known at the first point that both are found to share, Within, Contains and Equals at a position of
-//! one in the other's exterior, and of a point and an area each by where the point lies.
+//! Whether a predicate holds of two geometries. For Crosses and Overlaps their kinds may settle it, and for most predicates
+//! envelopes of small geometries that don't meet. A first shared point settles Intersects and Disjoint, and a position of one in
+//! the other's exterior Within, Contains and Equals. For a point and an area, the part in which the point lies settles it.
 
 ghost use Rattle.std.specs.Prelude.{◌≡◌, ◌≢◌, ◌↔◌, All, IfOk, IsTrue, OnOk, OnErr, IfSome, Some, Contains, take, true, false};
 ghost use Rattle.basics.specs.Counts.{one_more};
@@ -24,7 +24,7 @@ use side_labels::locate;
 use std::alloc::{AllocError, Global};
 use validity::Valid;
 
-/// Whether the predicate holds of every two geometries that share a point; None where that depends on the parts which share it.
+/// Whether the predicate holds of every two geometries that share a point; None if that depends on the parts which share it.
 fn where_shared(predicate: Predicate) -> Option<bool>
     ensures { result ≡ where_shared predicate }
 {
@@ -41,7 +41,7 @@ fn where_shared(predicate: Predicate) -> Option<bool>
     }
 }
 
-/// Whether the predicate holds of every two geometries of these kinds; None where that depends on the geometries. Crosses is never
+/// Whether the predicate holds of every two geometries of these kinds; None if that depends on the geometries. Crosses is never
 /// true of two points or of two areas, nor Overlaps of geometries of two kinds (06-103r4, 6.1.15.3).
 fn for_kinds(predicate: Predicate, first: Kind, second: Kind) -> Option<bool>
     ensures { IfSome result (HoldsForKinds predicate first second) }
@@ -56,7 +56,7 @@ fn for_kinds(predicate: Predicate, first: Kind, second: Kind) -> Option<bool>
     }
 }
 
-/// Whether the predicate holds of every two geometries whose envelopes don't meet; None where that depends on the geometries.
+/// Whether the predicate holds of every two geometries whose envelopes don't meet; None if that depends on the geometries.
 fn where_far(predicate: Predicate) -> Option<bool>
     ensures { IfSome result (HoldsWhereFar predicate) }
 {
@@ -100,8 +100,8 @@ fn shares_first_position(first: &Valid, second: &Valid) -> bool
     !segments.is_empty() && shares_start(first, &segments[0], second)
 }
 
-/// Whether a predicate holds of two geometries for which a shared point settles it. Their first positions may show one, as where one
-/// geometry is in the other; else their edges do, or the matrix takes one position of each run of edges. It takes no memory.
+/// Whether a predicate holds of two geometries for which a shared point settles it. Their first positions may show one, if one
+/// geometry is in the other; else their edges do, or the matrix, by one position of each run of edges. It takes no memory.
 fn decide_by_edges(predicate: Predicate, shared: bool, first: &Valid, second: &Valid) -> bool
     requires { where_shared predicate ≡ Some shared }
     ensures { IsDecided predicate first.now second.now result }
@@ -120,17 +120,17 @@ fn decide_by_edges(predicate: Predicate, shared: bool, first: &Valid, second: &V
     shared
 }
 
-/// Of two geometries with at most this many edges and listed points each the envelopes are looked at.
+/// The envelopes of two geometries are compared if each has at most this many edges and listed points.
 const FEW: usize = 16;
 
-/// Where Disjoint is asked, geometries of up to this many have their envelopes looked at: most pairs that a query asks of are far
-/// from each other, since no index leaves these out.
+/// For Disjoint, the envelopes of geometries of up to this size are compared: most pairs that a query decides are far from each
+/// other, since no index leaves these out.
 const FEW_WHERE_DISJOINT: usize = 64;
 
 /// How many positions of a geometry are tried.
 const TRIED: usize = 8;
 
-/// Up to how many edges and listed points the envelopes of two geometries are looked at, where a predicate is asked of them.
+/// Up to how many edges and listed points the envelopes of two geometries are compared to decide a predicate.
 fn most_walked(predicate: Predicate) -> usize {
     match predicate {
         Predicate::Disjoint => FEW_WHERE_DISJOINT,
@@ -145,12 +145,12 @@ fn most_walked(predicate: Predicate) -> usize {
     }
 }
 
-/// Whether a geometry has at most so many edges and so many listed points: then a walk along it for its envelope is short.
+/// Whether a geometry has at most this many edges and at most this many listed points: then its envelope is quick to compute.
 fn has_at_most(geometry: &Valid, most: usize) -> bool {
     geometry.segments().len() <= most && geometry.geometry().listed().len() <= most
 }
 
-/// Whether two geometries that are small enough have envelopes that don't meet. If it returns false, that may be so as well.
+/// Whether two geometries that are small enough have envelopes that don't meet. If it returns false, that may be true as well.
 fn are_far(first: &Valid, second: &Valid, most: usize) -> bool
     ensures { result ≡ true → meets (envelope first.now) (envelope second.now) ≡ false }
 {
@@ -285,7 +285,7 @@ fn answer(
     Ok(holds_by(predicate, first, second, &cells))
 }
 
-/// Whether a predicate holds of two geometries, by their matrix (06-103r4, 6.1.15.3). It adds one to the work, also where the
+/// Whether a predicate holds of two geometries, by their matrix (06-103r4, 6.1.15.3). It adds one to the work, also if the
 /// matrix isn't needed. It fails only when memory runs out, and then leaves the work as it was.
 pub fn decide(
     alloc: Global,

@@ -84,7 +84,7 @@ pub(crate) fn is_full_off_by(
 }
 
 /// Whether the matrix shows all that gaps of the first geometry's edges can show on the edges of the second: themselves and, on
-/// their sides, each two parts that the sides of edges can be in.
+/// their sides, each pair of parts in which the sides of edges can be.
 pub(crate) fn is_full_on(first: &Valid, second: &Valid, matrix: &MatrixCells) -> bool
     ensures { result ≡ true → IsFullOn first.now second.now matrix.now }
 {

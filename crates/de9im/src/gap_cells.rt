@@ -70,7 +70,7 @@ fn raise_sides(first: &Sides, second: &Sides, matrix: &mut MatrixCells)
 }
 
 /// Raises cells by a gap that an edge of the second geometry shares: by the gap itself and, if it isn't vertical, by its sides as
-/// they lie in both geometries at a point of it, of which the crossings in the second are given (06-103r4, 6.1.15.2).
+/// they lie in both geometries at a point of it, whose crossings in the second are given (06-103r4, 6.1.15.2).
 fn raise_on(
     first: &Valid,
     second: &Valid,
@@ -92,7 +92,7 @@ fn raise_on(
     }
 }
 
-/// Raises cells by what a pass looks at of a gap, of which a point is given.
+/// Raises cells by what a pass looks at in a gap, one point of which is given.
 fn raise_at(
     pass: Pass,
     first: &Valid,
@@ -116,7 +116,7 @@ fn raise_at(
 }
 
 /// Whether no gap of an edge of the first geometry that lies off the second's edges can raise a cell any more. An edge that is
-/// held has none.
+/// held has no such gap.
 fn is_done_off(
     first: &Valid,
     second: &Valid,

@@ -9,7 +9,7 @@ use crate::MatrixCells;
 use geometry_model::{Dimension, Location};
 use side_labels::{Label, Labels, SideLabels, is_side_pair};
 
-/// The cells of the matrix that labels show: for each two parts the greatest dimension of what has this label, where a node has
+/// The cells of the matrix that labels show: for each pair of parts the greatest dimension of what has this label: a node has
 /// 0, a piece 1, and the side of a piece 2. The two exteriors always share an area (06-103r4, 6.1.15.2; labels: this project's
 /// choice). It takes no memory.
 pub fn matrix_of_labels(labels: &Labels) -> MatrixCells

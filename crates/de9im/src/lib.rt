@@ -1,6 +1,6 @@
 //! The dimensionally extended nine-intersection model of two geometries (06-103r4, 6.1.15). `relate` makes their matrix: it goes
 //! through positions and edges of each, locates them in the other, and skips what can't change a cell any more. Patterns match a
-//! matrix, and predicates follow from it; which of these hold only where envelopes meet is known without one.
+//! matrix, and predicates follow from it; which of these hold only if envelopes meet is known without a matrix.
 #![tactic(auto)]
 
 mod apart;

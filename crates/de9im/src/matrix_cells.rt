@@ -1,5 +1,5 @@
 //! The cells of the DE-9IM matrix of two geometries while they are found: what raises them, and their text (06-103r4,
-//! 6.1.15.2). `find_matrix` finds them, and `relate` makes a matrix of them.
+//! 6.1.15.2). `find_matrix` finds them, and `relate` makes a matrix from them.
 
 ghost use Rattle.std.specs.Prelude.{◌≡◌};
 ghost use Rattle.geometry_model.specs.Patterns.{dimension_character};
@@ -10,26 +10,26 @@ use std::marker::Model;
 
 /// The cells of a DE-9IM matrix of two geometries: the dimension of what each part of the first has in common with each part
 /// of the second. The first word of a field's name is the part of the first geometry, the second word that of the second
-/// (06-103r4, 6.1.15.2). Contracts see them as that matrix; only `relate` makes a matrix of them.
+/// (06-103r4, 6.1.15.2). Contracts see them as that matrix; only `relate` makes a matrix from them.
 #[derive(Clone, Copy, Debug, PartialEq, Eq)]
 pub struct MatrixCells {
-    /// Of both interiors.
+    /// What both interiors have in common.
     pub interior_interior: Dimension,
-    /// Of the interior of the first and the boundary of the second.
+    /// What the interior of the first and the boundary of the second have in common.
     pub interior_boundary: Dimension,
-    /// Of the interior of the first and the exterior of the second.
+    /// What the interior of the first and the exterior of the second have in common.
     pub interior_exterior: Dimension,
-    /// Of the boundary of the first and the interior of the second.
+    /// What the boundary of the first and the interior of the second have in common.
     pub boundary_interior: Dimension,
-    /// Of both boundaries.
+    /// What both boundaries have in common.
     pub boundary_boundary: Dimension,
-    /// Of the boundary of the first and the exterior of the second.
+    /// What the boundary of the first and the exterior of the second have in common.
     pub boundary_exterior: Dimension,
-    /// Of the exterior of the first and the interior of the second.
+    /// What the exterior of the first and the interior of the second have in common.
     pub exterior_interior: Dimension,
-    /// Of the exterior of the first and the boundary of the second.
+    /// What the exterior of the first and the boundary of the second have in common.
     pub exterior_boundary: Dimension,
-    /// Of both exteriors.
+    /// What both exteriors have in common.
     pub exterior_exterior: Dimension,
 }
 

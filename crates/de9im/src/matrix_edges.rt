@@ -33,22 +33,22 @@ use rtree::Envelope;
 use std::alloc::{AllocError, Global};
 use validity::Valid;
 
-/// Once an edge has met others this often, these are merged, if that pays.
+/// Once an edge has met others this often, the others are merged, if that pays.
 const MANY_MEETINGS: usize = 64;
 
-/// It pays once all edges so far have met others as often as there are edges in this part of them: a sixteenth.
+/// Merging pays once all edges so far have met the others at least as often as a sixteenth of their number.
 const FAIR_PART: usize = 16;
 
-/// Of a geometry with at most this many edges each is looked at.
+/// If a geometry has at most this many edges, each of them is looked at.
 const FEW_EDGES: usize = 16;
 
-/// Of a geometry with at most this many edges each is looked at, unless they are `TIMES` as many as the other's.
+/// If a geometry has at most this many edges, each of them is looked at, unless they are `TIMES` as many as the other's.
 const SOME_EDGES: usize = 48;
 
-/// How many times as many edges as the other a geometry has, if those that need no look are searched for.
+/// If a geometry has this many times as many edges as the other, those that need no look are searched for.
 const TIMES: usize = 4;
 
-/// Of an edge with more stops than this it pays to ask whether another shares a stretch with it.
+/// If an edge has more stops than this, it pays to test whether another edge shares a stretch with it.
 const MANY_STOPS: usize = 8;
 
 /// Whether the matrix shows a common point of the two parts in which almost all points of each geometry's own edges lie.
@@ -79,14 +79,14 @@ fn raise_shared(first: &Valid, second: &Valid, shared: &[RatPoint], matrix: &mut
     }
 }
 
-/// Whether no edge of the second geometry shares a stretch with an edge. If it returns false, that may be so as well.
+/// Whether no edge of the second geometry shares a stretch with an edge. If it returns false, that may be true as well.
 fn shares_no_stretch(second: &Valid, edge: &Segment) -> bool
     ensures { result ≡ true → SharesNoStretch edge.now (edges second.now) }
 {
     !Gaps::may_share_stretch(edge, second.segments(), second.boxes())
 }
 
-/// Whether an edge has met so many edges of the second geometry that it pays to merge these.
+/// Whether an edge has met the second geometry's edges so often that it pays to merge these.
 fn has_met_many(second: &Valid, gaps: &Gaps) -> bool {
     gaps.named() > MANY_MEETINGS && gaps.all_named() >= second.segments().len() / FAIR_PART
 }
@@ -177,7 +177,7 @@ fn raise_all(
     Ok(())
 }
 
-/// Raises cells by what of an edge of the first geometry lies off the second's edges. It fails only when memory runs out.
+/// Raises cells by the part of an edge of the first geometry that lies off the second's edges. It fails only when memory runs out.
 fn raise_edge_off(
     first: &Valid,
     second: &Valid,
@@ -260,7 +260,7 @@ fn is_full(pass: Pass, first: &Valid, second: &Valid, matrix: &MatrixCells) -> b
     }
 }
 
-/// Whether the edges of the first geometry are so few that each is looked at.
+/// Whether the first geometry has so few edges that each is looked at.
 fn has_few_edges(first: &Valid, second: &Valid) -> bool {
     let count = first.segments().len();
     count <= FEW_EDGES || count <= SOME_EDGES && count / TIMES < second.segments().len()
@@ -294,8 +294,8 @@ fn raise_few_edges(
     Ok(())
 }
 
-/// The place from which on no edge of the first geometry before a place can raise a cell, by the second one's envelope, if that is
-/// given.
+/// The place such that no edge of the first geometry from there to before `end` can raise a cell, by the second one's envelope, if
+/// that is given.
 fn left_around(
     first: &Valid,
     second: &Valid,
@@ -316,7 +316,7 @@ fn left_around(
     }
 }
 
-/// Raises cells by the edges of the first geometry that share no point with the second one's, from the one before a place back to
+/// Raises cells by the edges of the first geometry that share no point with the second one's, from the one before `end` back to
 /// the first that shares one. Returns the place after that one, or 0.
 fn raise_up_to_shared(
     first: &Valid,
@@ -342,7 +342,7 @@ fn raise_up_to_shared(
     left
 }
 
-/// The place from which on no edge of the first geometry before a place shares a stretch with one of the second.
+/// The place such that no edge of the first geometry from there to before `end` shares a stretch with one of the second.
 fn left_overlapping(first: &Valid, second: &Valid, end: usize) -> usize
     requires within { end ≤ length (edges first.now) }
     ensures before { result ≤ end }
@@ -353,9 +353,9 @@ fn left_overlapping(first: &Valid, second: &Valid, end: usize) -> usize
         .last_overlapping(first.segments(), second.segments(), second.boxes(), end)
 }
 
-/// Whether no edge of the first geometry that shares no stretch with one of the second's can raise a cell any more: the matrix shows
-/// all that gaps can show off the second geometry's edges, and that both meet. It isn't looked for in the second pass, which ends
-/// once the matrix shows so much.
+/// Whether no edge of the first geometry that shares no stretch with one of the second's can raise a cell any more: the matrix
+/// shows all that gaps can show off the second geometry's edges, and that both meet. This isn't tested in the second pass, which
+/// ends once the matrix shows as much.
 fn is_full_but_for_stretches(
     pass: Pass,
     first: &Valid,
@@ -372,10 +372,10 @@ fn is_full_but_for_stretches(
     }
 }
 
-/// Raises cells by edges of the first geometry before a place at which a pass needs no look at each singly. Returns the place after
-/// the next edge that needs one, or 0: one that shares a stretch with an edge of the second geometry, if only those can raise a
-/// cell; else one that shares a point. After an edge that shares several points, as along a border, the next one is taken to share
-/// one too.
+/// Raises cells by edges of the first geometry before a place that a pass needn't look at one by one. Returns the place after the
+/// next edge that it has to look at, or 0: one that shares a stretch with an edge of the second geometry, if only those can raise a
+/// cell; else one that shares a point. After an edge that shares several points, as along a border, the next one is assumed to
+/// share one too.
 fn raise_passed_over(
     pass: Pass,
     first: &Valid,
@@ -404,8 +404,8 @@ fn raise_passed_over(
     raise_up_to_shared(first, second, around, end, matrix)
 }
 
-/// Raises cells by an edge of the first geometry in a pass, and returns how it lies along the second one's edges. How the edge
-/// looked at before it lies there is given. It fails only when memory runs out.
+/// Raises cells by an edge of the first geometry in a pass, and returns how it lies along the second one's edges. `along` says
+/// how the edge lies there that was looked at before it. It fails only when memory runs out.
 fn raise_edge_along(
     pass: Pass,
     first: &Valid,

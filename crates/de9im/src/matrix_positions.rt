@@ -28,9 +28,9 @@ pub(crate) fn raise_point(first: &Valid, second: &Valid, p: &RatPoint, matrix: &
     matrix.raise(locate(first, p), locate(second, p), Dimension::Zero);
 }
 
-/// Raises the cell of the two parts in which a position lies to a point (06-103r4, 6.1.15.2). In which part of the first geometry
-/// it lies is known; it is located in the second one alone. A position outside the second one's envelope, if that is given, is
-/// passed over once the matrix shows where such positions lie.
+/// Raises the cell of the two parts in which a position lies to a point (06-103r4, 6.1.15.2). Its part of the first geometry is
+/// given; it is located only in the second one. A position outside the second one's envelope, if that is given, is skipped once
+/// the matrix shows where such positions lie.
 fn raise_position(
     second: &Valid,
     around: &Option<Envelope>,
@@ -93,8 +93,8 @@ pub(crate) fn raise_listed(first: &Valid, second: &Valid, matrix: &mut MatrixCel
     raise_positions(second, Location::Interior, listed, matrix);
 }
 
-/// Raises cells by the odd ends of the first geometry's lines, which are its boundary (06-103r4, 6.1.8.1: the mod 2 rule). Closed
-/// lines alone have none.
+/// Raises cells by the odd ends of the first geometry's lines, which are its boundary (06-103r4, 6.1.8.1: the mod 2 rule). If all
+/// lines are closed, there are none.
 fn raise_odd_ends(first: &Valid, second: &Valid, matrix: &mut MatrixCells)
     ensures grows { Grows first.now second.now matrix.old matrix.new }
     ensures shows { ShowsOddEnds first.now second.now matrix.new }

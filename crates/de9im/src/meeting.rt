@@ -6,13 +6,13 @@ ghost use Rattle.geometry_model.specs.declared.relations.Predicate.{Predicate};
 
 use geometry_model::{Pattern, PatternCharacter, Predicate};
 
-/// A spatial predicate, by what is known of it without a matrix. Only [`Predicate`] implements it.
+/// A spatial predicate, by what is known about it without a matrix. Only [`Predicate`] implements it.
 pub trait SpatialPredicate {
     /// The predicate that a value is.
     ghost predicate: { Self → Predicate };
 
     /// Whether the predicate can hold only of geometries whose envelopes meet: true of Equals, Intersects, Touches, Crosses,
-    /// Within, Contains and Overlaps, and of a pattern with T, 0, 1 or 2 in a cell of interiors and boundaries alone. It takes
+    /// Within, Contains and Overlaps, and of a pattern with T, 0, 1 or 2 in a cell of interiors and boundaries only. It takes
     /// no memory.
     fn forces_meeting(&self) -> bool
         ensures { result ≡ forces_meeting (predicate self.now) };
@@ -36,7 +36,7 @@ impl SpatialPredicate for Predicate {
     }
 }
 
-/// Whether the pattern matches only where the two geometries share a point.
+/// Whether the pattern matches only if the two geometries share a point.
 fn wants_common_point(pattern: &Pattern) -> bool
     ensures { result ≡ wants_common_point pattern.now }
 {

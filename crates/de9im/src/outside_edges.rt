@@ -1,4 +1,4 @@
-//! Which edges of a geometry can raise a cell of the matrix: those outside the other one's envelope are passed over.
+//! Which edges of a geometry can raise a cell of the matrix: those outside the other one's envelope are skipped.
 
 ghost use Rattle.std.specs.Prelude.{◌≡◌, ◌≤◌, true, length, slice_range, All, Some};
 ghost use Rattle.geometry_model.specs.Geometries.{edges};
@@ -24,7 +24,7 @@ fn is_upright_outside(around: &Envelope, edge: &Segment) -> bool
     is_upright(edge) && !is_between(x, around.least_x(), around.greatest_x())
 }
 
-/// The place from which on all edges before the place given are vertical and outside the envelope.
+/// The place such that all edges from there to before `end` are vertical and outside the envelope.
 fn left_upright(segments: &[Segment], around: &Envelope, end: usize) -> usize
     requires { end ≤ length segments.now }
     ensures before { result ≤ end }
@@ -37,8 +37,8 @@ fn left_upright(segments: &[Segment], around: &Envelope, end: usize) -> usize
     left
 }
 
-/// The place from which on no edge of the first geometry before the place given can raise a cell. Once the matrix shows all that
-/// edges outside the second one's envelope can show, it passes over these; once it shows what vertical ones can, over those.
+/// The place such that no edge of the first geometry from there to before `end` can raise a cell. Once the matrix shows all that
+/// edges outside the second one's envelope can show, those are skipped; once it shows what vertical ones can, those.
 pub(crate) fn left_to_raise(
     first: &Valid,
     second: &Valid,

@@ -14,13 +14,13 @@ use geometry_model::{Dimension, Location};
 use rtree::{Envelope, Enveloped};
 use validity::Valid;
 
-/// A geometry is large beside another if it has more listed positions or lines than this.
+/// A geometry is large compared to another only if it has more listed positions or lines than this.
 const FEW: usize = 16;
 
-/// And at least this many times as many as the other has edges and listed positions.
+/// A large geometry has at least this many times as many of them as the other has edges and listed positions.
 const TIMES: usize = 4;
 
-/// The envelope of the second geometry, if the first one has so many listed positions or lines that it is large beside it.
+/// The envelope of the second geometry, if the first one has so many listed positions or lines that it is large compared to it.
 pub(crate) fn envelope_beside(count: usize, second: &Valid) -> Option<Envelope>
     ensures around { IfSome result (λ around. envelope second.now ≡ Some around) }
     ensures valid { IsValid second.now }
@@ -33,14 +33,14 @@ pub(crate) fn envelope_beside(count: usize, second: &Valid) -> Option<Envelope>
     second.envelope()
 }
 
-/// Whether a number is in a range, its ends counted.
+/// Whether a number is in a range, its ends included.
 pub(crate) fn is_between(number: i32, least: i32, greatest: i32) -> bool
     ensures { result ≡ (int_le number greatest && int_le least number) }
 {
     number <= greatest && least <= number
 }
 
-/// Whether a position is in a rectangle, be it on its sides.
+/// Whether a position is in a rectangle, sides included.
 pub(crate) fn is_in(around: &Envelope, at: GridPoint) -> bool
     ensures { result ≡ overlap (envelope_at at) around.now }
 {

@@ -1,4 +1,4 @@
-//! Whether a predicate holds of one point and an area: the part of the area in which the point lies says so, without a matrix.
+//! Whether a predicate holds of one point and an area: the part of the area in which the point lies settles it, without a matrix.
 
 ghost use Rattle.std.specs.Prelude.{◌≡◌, IfSome};
 ghost use Rattle.geometry_model.specs.Dimensions.{transposed};
@@ -14,8 +14,8 @@ use geometry_model::{Kind, Location, Predicate};
 use side_labels::locate;
 use validity::Valid;
 
-/// Whether a predicate holds of a point and an area, by the part of the area in which the point lies (06-103r4, 6.1.15.3). None of a
-/// pattern.
+/// Whether a predicate holds of a point and an area, by the part of the area in which the point lies (06-103r4, 6.1.15.3). None for
+/// a pattern.
 fn of_point(predicate: Predicate, part: Location) -> Option<bool>
     ensures { IfSome result (λ b. b ≡ holds predicate kinds.Point kinds.Area (beside_area part)) }
 {
@@ -31,8 +31,8 @@ fn of_point(predicate: Predicate, part: Location) -> Option<bool>
     }
 }
 
-/// Whether a predicate holds of an area and a point, by the part of the area in which the point lies (06-103r4, 6.1.15.3). None of a
-/// pattern.
+/// Whether a predicate holds of an area and a point, by the part of the area in which the point lies (06-103r4, 6.1.15.3). None for
+/// a pattern.
 fn of_area(predicate: Predicate, part: Location) -> Option<bool>
     ensures { IfSome result (λ b. b ≡ holds predicate kinds.Area kinds.Point (transposed (beside_area part))) }
 {
@@ -48,7 +48,7 @@ fn of_area(predicate: Predicate, part: Location) -> Option<bool>
     }
 }
 
-/// The part of an area in which a point lies. None of several points.
+/// The part of an area in which a point lies. None if there are several points.
 fn part_of(point: &Valid, area: &Valid) -> Option<Location>
     requires point { kind point.now ≡ kinds.Point }
     requires area { HasSides area.now }
@@ -62,7 +62,7 @@ fn part_of(point: &Valid, area: &Valid) -> Option<Location>
     }
 }
 
-/// Whether a predicate holds of a point and an area. None of several points, and of a pattern.
+/// Whether a predicate holds of a point and an area. None if there are several points, and for a pattern.
 fn decide_of_point(predicate: Predicate, point: &Valid, area: &Valid) -> Option<bool>
     requires point { kind point.now ≡ kinds.Point }
     requires area { HasSides area.now }
@@ -74,7 +74,7 @@ fn decide_of_point(predicate: Predicate, point: &Valid, area: &Valid) -> Option<
     }
 }
 
-/// Whether a predicate holds of an area and a point. None of several points, and of a pattern.
+/// Whether a predicate holds of an area and a point. None if there are several points, and for a pattern.
 fn decide_of_area(predicate: Predicate, area: &Valid, point: &Valid) -> Option<bool>
     requires point { kind point.now ≡ kinds.Point }
     requires area { HasSides area.now }

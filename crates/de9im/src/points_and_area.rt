@@ -1,5 +1,5 @@
-//! The cells of points and an area: they follow from where the points lie in the area. Points have no edges, so nothing of the area
-//! but single points of it lies outside their exterior.
+//! The cells of points and an area: they follow from where the points lie in the area. Points have no edges, so only single points
+//! of the area lie outside their exterior.
 
 ghost use Rattle.std.specs.Prelude.{◌≡◌, ◌≢◌, [], ◌∷◌, true, All, Any, IfSome};
 ghost use Rattle.geometry_model.specs.Geometries.{edges, kind, listed};
@@ -27,14 +27,14 @@ fn is_beside_its_interior(valid: &Valid, end: usize) -> bool
     0 < end && end <= segments.len() && !is_upright(&segments[end - 1])
 }
 
-/// All positions between two x, if these are on the grid.
+/// All positions whose x is between two numbers, if these are on the grid.
 fn strip_between(least_x: i32, greatest_x: i32) -> Option<Envelope> {
     let lowest = GridPoint::new(least_x, -COORDINATE_LIMIT)?;
     let highest = GridPoint::new(greatest_x, COORDINATE_LIMIT)?;
     Envelope::of_positions(&[lowest, highest])
 }
 
-/// Whether the last of the edges that reach between two x isn't vertical.
+/// Whether the last edge that has an x between two numbers isn't vertical.
 fn is_last_beside(valid: &Valid, least_x: i32, greatest_x: i32) -> bool
     ensures { result ≡ true → Any (λ e. e.start.x ≢ e.end.x) (edges valid.now) }
 {
@@ -46,7 +46,7 @@ fn is_last_beside(valid: &Valid, least_x: i32, greatest_x: i32) -> bool
     is_beside_its_interior(valid, end)
 }
 
-/// Whether the last of the edges to the right of an x isn't vertical, or the last of those to the left of it. It is rarely called.
+/// Whether the last edge to the right of an x isn't vertical, or the last one to the left of it. It is rarely called.
 #[inline(never)]
 fn has_sides_off(valid: &Valid, x: i32) -> bool
     ensures { result ≡ true → Any (λ e. e.start.x ≢ e.end.x) (edges valid.now) }
@@ -55,9 +55,9 @@ fn has_sides_off(valid: &Valid, x: i32) -> bool
         || is_last_beside(valid, -COORDINATE_LIMIT, x.saturating_sub(1))
 }
 
-/// Whether the geometry is an area of which an edge that isn't vertical is found: then its interior is on one side of that. Of a valid
-/// area whose last edge is vertical the last ring leaves that edge's line, and the last edge to the right of it, or the last one to the
-/// left of it, leads back to it.
+/// Whether the geometry is an area and an edge of it is found that isn't vertical: then its interior is on one side of that edge.
+/// If the last edge of a valid area is vertical, the last ring leaves that edge's line, and the last edge to the right of it, or
+/// the last one to the left of it, leads back to it.
 pub(crate) fn has_sides(valid: &Valid) -> bool
     ensures { result ≡ true → HasSides valid.now }
 {
@@ -70,8 +70,8 @@ pub(crate) fn has_sides(valid: &Valid) -> bool
     }
 }
 
-/// The cells that an area shows beside points, wherever these lie: its interior has an area in common with their exterior, and its
-/// boundary a line (06-103r4, 6.1.15.2).
+/// The cells of points and an area that are known wherever the points lie: its interior has an area in common with their exterior,
+/// and its boundary a line (06-103r4, 6.1.15.2).
 fn of_area() -> MatrixCells
     ensures { result ≡ of_area }
 {
@@ -82,7 +82,7 @@ fn of_area() -> MatrixCells
     }
 }
 
-/// The position of points that list one alone.
+/// The position of points, if there is only one.
 pub(crate) fn only_position(points: &Valid) -> Option<GridPoint>
     ensures one { IfSome result (λ position. listed points.now ≡ position ∷ []) }
 {

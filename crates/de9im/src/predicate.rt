@@ -108,7 +108,7 @@ fn is_met_in_and_out(cells: &MatrixCells) -> bool
     is_met(cells.interior_interior) && is_met(cells.exterior_interior)
 }
 
-/// Whether the interiors meet in points alone.
+/// Whether the interiors meet only in points.
 fn crosses_lines(cells: &MatrixCells) -> bool
     ensures { result ≡ like (codes "0********") cells.now }
 {

@@ -1,4 +1,4 @@
-//! Edges that an edge of the other geometry has too, as where two areas have a common border.
+//! Edges that have the same ends as an edge of the other geometry, for example where two areas have a common border.
 
 ghost use Rattle.std.specs.Prelude.{◌≡◌, [], ◌∷◌, true, IfSome, Contains};
 ghost use Rattle.geometry_model.specs.Geometries.{edges};
@@ -15,8 +15,8 @@ use orient::Segment;
 use rtree::Envelope;
 use validity::Valid;
 
-/// How many of the edges near an edge are looked at for one with the same ends. A border's edge has three near it: the same one,
-/// and one at each of its ends.
+/// How many of the edges near an edge are compared to find one with the same ends. A border's edge has three near it: the same
+/// one, and one at each of its ends.
 const TRIED: usize = 4;
 
 /// Whether two edges have the same two ends, so that they have the same points.
@@ -59,8 +59,8 @@ fn find_same(second: &Valid, edge: &Segment) -> Option<usize>
     None
 }
 
-/// The place of an edge of the second geometry that has the same ends as an edge: beside the place of the last one that was
-/// found, or among those near the edge. If there is none, it may still be there.
+/// The place of an edge of the second geometry that has the same ends as an edge: next to the place of the last one that
+/// was found, or among those near the edge. If it returns None, there may still be one.
 fn place_of_same(second: &Valid, edge: &Segment, last: Option<usize>) -> Option<usize>
     ensures { IfSome result (λ place. IsHeld (edges second.now) edge.now) }
 {
@@ -81,17 +81,17 @@ fn place_of_same(second: &Valid, edge: &Segment, last: Option<usize>) -> Option<
 /// How the edge of the first geometry that was looked at last lies along the second one's edges.
 #[derive(Clone, Copy)]
 pub(crate) enum Along {
-    /// It shares at most one point with them, or none was looked at.
+    /// It shares at most one point with them, or no edge was looked at.
     Nothing,
-    /// It shares several points with them, or one, as the edge before it does.
+    /// It shares several points with them, or one if the edge before it does too.
     Edges,
-    /// It shares its two ends with them and no cut between: one of them may have the same ends, perhaps that beside this place.
+    /// It shares its two ends with them and no cut between: one of them may have the same ends, perhaps the one next to this place.
     Border(Option<usize>),
 }
 
 impl Along {
-    /// Before the first look: of several chains the last edge is taken to share a point. If it is outside the second geometry's
-    /// envelope, the matrix shows after it what lets pass over all edges there.
+    /// Before the first look: the last edge of several chains is assumed to share a point. If it is outside the second
+    /// geometry's envelope, the matrix then shows what is needed to skip all edges there.
     pub(crate) fn at_first(around: &Option<Envelope>) -> Along {
         match around {
             Some(_) => Along::Edges,
@@ -99,7 +99,7 @@ impl Along {
         }
     }
 
-    /// How the edge lies whose gaps these are. If no edge before it was passed over, one point that it shares is as good as several.
+    /// How the edge with these gaps lies. If no edge before it was skipped, one point that it shares is as good as several.
     pub(crate) fn by(gaps: &Gaps, has_passed: bool) -> Along {
         match gaps.shared().len() {
             0 => Along::Nothing,
@@ -109,7 +109,7 @@ impl Along {
         }
     }
 
-    /// Whether the next edge is taken to share a point, too.
+    /// Whether the next edge is assumed to share a point, too.
     pub(crate) fn leads_on(self) -> bool {
         match self {
             Along::Nothing => false,
@@ -118,7 +118,7 @@ impl Along {
     }
 }
 
-/// Whether an edge of the first geometry that edges of the second hold needs no look in a pass.
+/// Whether an edge of the first geometry, if it is held by edges of the second, needs no look in a pass.
 fn is_covered_if_held(
     pass: Pass,
     first: &Valid,
@@ -138,8 +138,8 @@ fn is_covered_if_held(
     }
 }
 
-/// The place of an edge of the second geometry because of which an edge of the first needs no look in a pass. It is looked for
-/// along a border alone.
+/// The place of an edge of the second geometry because of which an edge of the first needs no look in a pass. It is searched
+/// for only along a border.
 pub(crate) fn place_of_border(
     pass: Pass,
     first: &Valid,

@@ -11,8 +11,8 @@ pub trait PatternText: Sized {
     /// The pattern that a value is.
     ghost pattern: { Self → Pattern };
 
-    /// The pattern that a text of nine characters `T F * 0 1 2` writes, by rows; `t` and `f` are taken too. None for any other
-    /// text (06-103r4, 6.1.15.2; small letters: this project's choice). It takes no memory.
+    /// The pattern that a text of nine characters `T F * 0 1 2` writes, by rows; `t` and `f` are accepted too. None for any
+    /// other text (06-103r4, 6.1.15.2; small letters: this project's choice). It takes no memory.
     fn read(text: &str) -> Option<Self>
         ensures { option_map pattern result ≡ pattern_of_text text.now };
 }
@@ -25,8 +25,8 @@ impl PatternText for Pattern {
     }
 }
 
-/// The pattern that nine bytes `T F * 0 1 2` write, by rows; `t` and `f` are taken too. None for any other bytes. It takes no
-/// memory (06-103r4, 6.1.15.2; small letters: this project's choice).
+/// The pattern that nine bytes `T F * 0 1 2` write, by rows; `t` and `f` are accepted too. None for any other bytes. It takes
+/// no memory (06-103r4, 6.1.15.2; small letters: this project's choice).
 pub fn pattern_in(bytes: &[u8]) -> Option<Pattern>
     ensures { result ≡ pattern_of_text bytes.now }
 {

@@ -2,8 +2,8 @@
 
 use std::marker::Model;
 
-/// How many pairs of geometries were decided: `decide` adds one for a predicate, `relate` one for a matrix. The count stays at the
-/// greatest u64 once it is there.
+/// How many pairs of geometries were decided: `decide` adds one for a predicate, `relate` one for a matrix. The count doesn't grow
+/// past the greatest u64.
 #[derive(Debug, Drop)]
 pub struct Work {
     count: u64,
@@ -21,7 +21,7 @@ impl Work {
     ghost use Rattle.std.specs.Prelude.{◌≡◌};
     ghost use Rattle.basics.specs.Counts.{one_more};
 
-    /// No pair yet.
+    /// The count of no pairs.
     pub fn new() -> Work
         ensures { result ≡ 0 }
     {
@@ -35,7 +35,7 @@ impl Work {
         self.count
     }
 
-    /// One pair more.
+    /// Counts one more pair.
     pub(crate) fn add_one(&mut self)
         ensures { self.new ≡ one_more self.old }
     {

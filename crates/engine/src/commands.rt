@@ -1,4 +1,4 @@
-//! The commands of the program: `serve` does what the command line orders, over readers and sinks of any kind.
+//! The commands of the program: `serve` runs the command that the command line gives, over readers and sinks of any kind.
 
 ghost use Rattle.std.specs.Prelude.{◌≡◌, ◌<◌, ◌⊎◌, [], false, true, length, take, Err, IfErr, IfNone, IfOk, IfSome, OnErr, OnOk};
 ghost use Rattle.command_line.specs.Orders.{asks_why};
@@ -38,18 +38,18 @@ use text_commands::{
     File, query_text, serve_fault, serve_pairs, serve_relate, serve_verdict, serve_witnesses,
 };
 
-/// The type of the index of each geometry column under a query with two references, which may search it for each row.
+/// The type of the index of each geometry column for a query with two references, which may search it for each row.
 type ColumnIndex = CurveTree;
 
-/// The type of the index of each geometry column under a query with a single reference, and in a check: it is searched once at most.
+/// The type of the index of each geometry column for a query with a single reference, and for a check. It is searched at most once.
 type RowIndex = RowTree;
 
-/// How many bytes of a schema's file are read: one more than a schema may have.
+/// The number of bytes of a schema's file that are read: one more than a schema may have.
 const SCHEMA_BYTES: u64 = TEXT_LIMIT as u64 + 1;
 
-/// Does what the order says. It writes the answer to `out` and the line of a failure to `err`; of what explains a fault it writes nothing.
-/// It returns the status of the program: 0, or that of the failure. The opener returns the reader of the file at a path, or None if it
-/// can't be opened.
+/// Runs a command. It writes the answer to `out` and the line of a failure to `err`, and no explanation of a fault. It
+/// returns the status of the program: 0, or that of the failure. The opener returns the reader of the file at a path,
+/// or None if it can't be opened.
 pub fn serve<R: Read + Drop, F: FnMut(&str) -> Option<R>, S: Sink, E: Sink>(
     alloc: Global,
     order: &Order,
@@ -78,10 +78,10 @@ pub fn serve<R: Read + Drop, F: FnMut(&str) -> Option<R>, S: Sink, E: Sink>(
     )
 }
 
-/// Like `serve`, with an opener that learns what each file is. It reports each candidate that a query looks at, and each row that it finds,
-/// to an observer. If the order asks why, it writes to `more` what explains a fault of the schema, of a table, of the query or of a geometry's
-/// text, of which `pairs` may have many, or that the query's file isn't UTF-8; after a check that is done a line for each table that has a
-/// field with a line end, and after a run that is done notes on its query. A caller shows that behind the answer and the line of the fault.
+/// Like `serve`, but the opener learns what each file is, and candidates that are looked at and rows that are found are reported to
+/// an observer. If the command asks why, `more` gets the explanation of a fault of the schema, a table, the query or a geometry's
+/// text (`pairs` may have many), or of a query's file that isn't UTF-8; after a check without fault a line for each table with a
+/// line end in a field; after a run notes on its query. Callers print it after the answer and the fault's line.
 pub fn serve_observed<
     R: Read + Drop,
     F: FnMut(File<'_>) -> Option<R>,
@@ -115,7 +115,7 @@ pub fn serve_observed<
     )
 }
 
-/// Does what the order says, and explains a fault if `why` says so.
+/// Runs a command, and explains a fault if `why` is true.
 fn serve_order<
     R: Read + Drop,
     F: FnMut(File<'_>) -> Option<R>,
@@ -191,7 +191,7 @@ fn serve_order<
     }
 }
 
-/// Where the files of a command are, and whether its fault is explained.
+/// The paths of a command's files, and whether its fault is explained.
 #[derive(Drop)]
 struct Paths<'a> {
     schema: &'a str,
@@ -199,7 +199,7 @@ struct Paths<'a> {
     why: bool,
 }
 
-/// Runs the query that a word gives: its file is read first, if the word names one.
+/// Runs the query in a word of the command line, or in the file that the word names, which is read first.
 #[inline(never)]
 fn serve_query<
     R: Read + Drop,
@@ -241,8 +241,8 @@ fn serve_query<
     )
 }
 
-/// Runs a query: the schema's file is read first, then the schema, then all files of tables are opened in the
-/// schema's order, and then the query is run.
+/// Runs a query: reads the schema's file, then the schema, opens all files of tables in the schema's order, and runs
+/// the query over them.
 fn serve_run<
     R: Read + Drop,
     F: FnMut(File<'_>) -> Option<R>,
@@ -286,7 +286,7 @@ fn serve_run<
     ended(end, err)
 }
 
-/// Opens the files of all tables, and runs a query over them. It counts their rows if that is asked for.
+/// Opens the files of all tables, and runs a query over them. It counts their rows if that is wanted.
 fn run_over<'s, R: Read + Drop, F: FnMut(File<'_>) -> Option<R>, S: Sink, O: RowObserver>(
     alloc: Global,
     schema: &'s Schema,
@@ -312,7 +312,7 @@ fn run_over<'s, R: Read + Drop, F: FnMut(File<'_>) -> Option<R>, S: Sink, O: Row
     }
 }
 
-/// Loads every table, and writes a line for each, in the schema's order: its name and how many rows it has. The files are
+/// Loads every table, and writes a line for each, in the schema's order: its name and its number of rows. The files are
 /// opened as for a run. If one of the tables doesn't load, nothing is written.
 #[inline(never)]
 fn serve_check<R: Read + Drop, F: FnMut(File<'_>) -> Option<R>, S: Sink, E: Sink, M: Sink>(
@@ -339,8 +339,8 @@ fn serve_check<R: Read + Drop, F: FnMut(File<'_>) -> Option<R>, S: Sink, E: Sink
     ended(end, err)
 }
 
-/// Writes what explains the end of a run, if that is asked for and the end is a fault of the query, or one of a table whose reason is found;
-/// and notes on the query of a run that is done.
+/// Writes the explanation of the end of a run, if it is wanted: of a fault of the query, or of a table's fault if its
+/// reason is found, or notes on the query if there is no fault.
 #[inline(never)]
 fn explain_run<R: Read + Drop, F: FnMut(File<'_>) -> Option<R>, M: Sink>(
     alloc: Global,
@@ -372,8 +372,8 @@ fn explain_run<R: Read + Drop, F: FnMut(File<'_>) -> Option<R>, M: Sink>(
     }
 }
 
-/// Writes what explains the end of a check, if that is asked for: a table's fault, if its reason is found; and if there is no fault, which
-/// fields hold a line end.
+/// Writes the explanation of the end of a check, if it is wanted: of a table's fault if its reason is found, or, if
+/// there is no fault, which fields contain a line end.
 #[inline(never)]
 fn explain_check<R: Read + Drop, F: FnMut(File<'_>) -> Option<R>, M: Sink>(
     alloc: Global,
@@ -400,8 +400,8 @@ fn explain_check<R: Read + Drop, F: FnMut(File<'_>) -> Option<R>, M: Sink>(
     }
 }
 
-/// Writes notes on the query of a run that is done: what it means, where most readers think otherwise. Nothing is written if memory ran out,
-/// as for the numbers of rows.
+/// Writes notes on the query of a run without fault: what it means, in places where most readers expect something else.
+/// Nothing is written if memory ran out, as for the numbers of rows.
 fn note_query<M: Sink>(
     alloc: Global,
     schema: &Schema,
@@ -419,7 +419,7 @@ fn note_query<M: Sink>(
     }
 }
 
-/// Writes what explains a fault of a query over the tables of a schema. At Err memory ran out, and nothing is written.
+/// Writes the explanation of a fault of a query over the tables of a schema. At Err memory ran out, and nothing is written.
 fn explain_query<M: Sink>(
     alloc: Global,
     schema: &Schema,
@@ -437,8 +437,8 @@ fn explain_query<M: Sink>(
     Ok(())
 }
 
-/// Writes what explains a failure of reading the text of a schema, if that is asked for and the failure is a fault of the text. At Err
-/// memory ran out, and nothing is written.
+/// Writes the explanation of a failure of reading the text of a schema, if it is wanted and the failure is a fault of
+/// the text. At Err memory ran out, and nothing is written.
 fn explain_schema<M: Sink>(
     alloc: Global,
     why: bool,
@@ -461,7 +461,7 @@ fn explain_schema<M: Sink>(
     }
 }
 
-/// Writes what explains a fault of the text of a schema. At Err memory ran out, and nothing is written.
+/// Writes the explanation of a fault of the text of a schema. At Err memory ran out, and nothing is written.
 fn explain_schema_fault<M: Sink>(
     alloc: Global,
     text: &[u8],
@@ -478,7 +478,7 @@ fn explain_schema_fault<M: Sink>(
     Ok(())
 }
 
-/// Writes what explains the fault of the table of this name, if its reason is found.
+/// Writes the explanation of the fault of the table with this name, if its reason is found.
 fn explain_load<R: Read + Drop, F: FnMut(File<'_>) -> Option<R>, M: Sink>(
     alloc: Global,
     schema: &Schema,
@@ -497,8 +497,8 @@ fn explain_load<R: Read + Drop, F: FnMut(File<'_>) -> Option<R>, M: Sink>(
     }
 }
 
-/// What explains the fault of the table of this name, whose file is read again; None if nothing is found, the file can't be read as it was, or
-/// memory runs out.
+/// The explanation of the fault of the table with this name, whose file is read again. None if nothing is found, if the
+/// file can't be read as it was, or if memory runs out.
 fn fault_explained<R: Read + Drop, F: FnMut(File<'_>) -> Option<R>>(
     alloc: Global,
     schema: &Schema,
@@ -522,7 +522,7 @@ fn fault_explained<R: Read + Drop, F: FnMut(File<'_>) -> Option<R>>(
     explanation_of(alloc, table, text, fault, &said)
 }
 
-/// Whether a text is enough to explain a fault: it is whole, or reading had failed before too.
+/// Whether a text is enough to explain a fault: it is complete, or reading had failed before too.
 fn is_enough(is_whole: bool, fault: LoadFault) -> bool
     ensures { result ≡ true → (is_whole ≡ true) ⊎ (fault ≡ loading.ReadFailed) }
 {
@@ -532,15 +532,15 @@ fn is_enough(is_whole: bool, fault: LoadFault) -> bool
     }
 }
 
-/// The text of a table's file, or a front of it where reading failed.
+/// The text of a table's file, or the part of it before reading failed.
 #[derive(Drop)]
 struct TableText {
     text: Vec<u8>,
     is_whole: bool,
 }
 
-/// Opens the file of the table of this name again, and reads it to its end, or to where reading fails. None is for a file that can't be opened,
-/// and for memory that ran out.
+/// Opens the file of the table with this name again, and reads it to its end, or until reading fails. None if the file
+/// can't be opened or memory runs out.
 fn read_again<R: Read + Drop, F: FnMut(File<'_>) -> Option<R>>(
     alloc: Global,
     directory: &str,
@@ -573,7 +573,7 @@ fn read_again<R: Read + Drop, F: FnMut(File<'_>) -> Option<R>>(
     }
 }
 
-/// What the reason of a table's fault says: its line, the column that it names, and the record with the same key.
+/// What is known of the reason of a table's fault: its line, the column that it names, and the record with the same key.
 #[derive(Drop)]
 struct Said<'s> {
     line: Vec<u8>,
@@ -581,7 +581,7 @@ struct Said<'s> {
     record: Option<usize>,
 }
 
-/// What the reason of a table's fault says in a text; nothing, if there is none. None is for memory that ran out.
+/// What is known of the reason of a table's fault in a text, or of no reason. None if memory runs out.
 fn reason_said<'s>(
     alloc: Global,
     table: &'s TableDef,
@@ -606,7 +606,7 @@ fn reason_said<'s>(
     Some(said)
 }
 
-/// What is said without a reason.
+/// What is known without a reason: nothing.
 fn nothing_said<'s>(alloc: Global) -> Said<'s>
     ensures { result.line.items ≡ [] }
 {
@@ -617,7 +617,7 @@ fn nothing_said<'s>(alloc: Global) -> Said<'s>
     }
 }
 
-/// What a reason says.
+/// What is known of a reason.
 fn line_said<'s>(alloc: Global, reason: &Reason<'s>) -> Result<Said<'s>, AllocError>
     ensures { IfOk result (λ said. said.line.items ≡ reason_line reason.now) }
 {
@@ -663,7 +663,7 @@ fn record_of(reason: &Reason<'_>) -> Option<usize> {
     }
 }
 
-/// The explanation of a table's fault in a front of its text, with what its reason says; None if there is nothing to say, or memory runs out.
+/// The explanation of a table's fault in the read part of its text, with its reason. None if there is none or memory runs out.
 fn explanation_of(
     alloc: Global,
     table: &TableDef,
@@ -695,7 +695,7 @@ fn bytes_of(name: Option<&str>) -> Option<&[u8]> {
     }
 }
 
-/// Whether a fault is clear without a reason: it is of no record, or of a file that is empty.
+/// Whether a fault is clear without a reason: no record has it, or the file is empty.
 fn is_clear(fault: LoadFault, text: &[u8]) -> bool {
     match fault {
         LoadFault::ReadFailed | LoadFault::TooManyRows => true,
@@ -704,7 +704,7 @@ fn is_clear(fault: LoadFault, text: &[u8]) -> bool {
     }
 }
 
-/// The place of the table of this name, in any ASCII case.
+/// The place of the table with this name, in any ASCII case.
 fn table_named(schema: &Schema, name: &str) -> Option<usize>
     ensures within { IfSome result (λ place. place < length schema.now) }
     ensures named { IfSome result (IsNamed schema.now name.now) }
@@ -717,8 +717,8 @@ fn table_named(schema: &Schema, name: &str) -> Option<usize>
     None
 }
 
-/// Writes a line for each table that has a field with a line end, in the schema's order: the first such field of its first such
-/// record. Each file is read again; of one that can't be, nothing is said.
+/// Writes a line for each table that has a field with a line end, in the schema's order: the first such field of its
+/// first such record. Each file is read again. A file that can't be read is skipped.
 fn put_notes<R: Read + Drop, F: FnMut(File<'_>) -> Option<R>, M: Sink>(
     alloc: Global,
     schema: &Schema,
@@ -735,7 +735,7 @@ fn put_notes<R: Read + Drop, F: FnMut(File<'_>) -> Option<R>, M: Sink>(
     }
 }
 
-/// Writes what there is to note of the text of the table of this name, whose file is read again; nothing, if it can't be.
+/// Writes the notes on the text of the table with this name, whose file is read again; nothing if it can't be.
 fn put_note<R: Read + Drop, F: FnMut(File<'_>) -> Option<R>, M: Sink>(
     alloc: Global,
     directory: &str,
@@ -758,8 +758,8 @@ fn put_note<R: Read + Drop, F: FnMut(File<'_>) -> Option<R>, M: Sink>(
     }
 }
 
-/// Writes the line of the first field with a line end in the text of the table of this name, if there is one, and where its quote opens, if
-/// it isn't closed. Nothing is written if memory runs out.
+/// Writes the line of the first field with a line end in the text of the table with this name, if there is one, and
+/// shows where its quote opens, if the quote isn't closed. Nothing is written if memory runs out.
 fn note_text<M: Sink>(alloc: Global, name: &str, text: &[u8], more: &mut M)
     ensures { MayNoteText M.taken M.failures name.now text.now more.old more.new }
 {
@@ -830,7 +830,7 @@ fn put_counts<I: EnvelopeIndex + Drop, S: Sink>(
     Ok(())
 }
 
-/// The bytes of a schema's file, up to one more than a schema may have: the reader of schemas refuses a longer one.
+/// Reads the bytes of a schema's file, up to one more than a schema may have: the reader of schemas refuses a longer one.
 fn schema_text<R: Read + Drop>(alloc: Global, file: R) -> Result<Vec<u8>, Failure<'static>>
     ensures text { IfOk result (λ text. IfSome (R.remaining file)
         (λ bytes. text.items ≡ take SCHEMA_BYTES bytes)) }
@@ -844,8 +844,8 @@ fn schema_text<R: Read + Drop>(alloc: Global, file: R) -> Result<Vec<u8>, Failur
     }
 }
 
-/// The schema in a file, or why there is none; if `why` says so, what explains the fault of its text is written to `more`. None is for a
-/// file that can't be opened.
+/// Reads the schema in a file, or returns the failure. If `why` is true, the explanation of a fault of its text is
+/// written to `more`. The file is None if it can't be opened.
 fn schema_in<R: Read + Drop, M: Sink>(
     alloc: Global,
     file: Option<R>,
@@ -923,7 +923,7 @@ fn table_path(alloc: Global, directory: &str, name: &str) -> Result<String, Allo
     Ok(path)
 }
 
-/// The failure of the program for a fault of a run. That of loading has the table's name in place of its number.
+/// The failure of the program for a fault of a run. A fault of loading has the table's name in place of its number.
 fn run_failure(schema: &Schema, fault: Fault) -> Failure<'_>
     requires { IsOfTables (length schema.now) fault }
     ensures { IsFaultOf schema.entry.now fault result }

@@ -1,6 +1,6 @@
-//! The engine: what each command of the program does, over readers and sinks of any kind. It runs a query, or loads and
-//! counts tables; the crate `text_commands` does the rest. It also exports the calls and faults of the crates below that its
-//! users need.
+//! The engine: runs the commands of the program, over readers and sinks of any kind. It runs a query, or loads tables
+//! and counts their rows; the crate `text_commands` runs the other commands. It also exports the functions and faults
+//! of the crates below that its users need.
 #![tactic(auto)]
 
 mod commands;

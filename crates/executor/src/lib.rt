@@ -1,5 +1,5 @@
-//! Runs plans of bound queries: the walk over the candidates of a plan, which are the rows or pairs of rows that its accesses
-//! give, and the rows that pass. Whichever lawful plan is taken, these are those that the query means.
+//! Runs plans of bound queries. A walk visits the candidates of a plan, which are the rows or pairs of rows that its
+//! accesses find, and returns those that pass. Whichever lawful plan is used, these are the rows that the query means.
 #![tactic(auto)]
 
 mod asked_envelopes;

@@ -1,4 +1,4 @@
-//! What rows are put in the order of: what is read of a column of each.
+//! Keys by which rows are sorted: what is read from a column of each row.
 
 ghost use Rattle.std.specs.Prelude.{◌≡◌, ◌<◌, All, IfOk, string_bytes};
 ghost use Rattle.executor.specs.EqualGroups.{orders_by};
@@ -15,14 +15,14 @@ use spatial_sql::{ReadColumn, Reading, dimension_of, printed};
 use sqlite_items as items;
 use std::alloc::{AllocError, Global};
 
-/// What rows are put in the order of: what is read of a column of each.
+/// A key by which rows are sorted: what is read from a column of each row.
 #[derive(Drop)]
 pub enum OrderKey {
     /// The fields of the column.
     Fields(usize),
-    /// The dimensions of the geometries in it.
+    /// The dimensions of the geometries in the column.
     Dimensions(usize),
-    /// The canonical texts of the geometries in it, which are kept: one for each row, and none of a row without a geometry.
+    /// The canonical texts of the geometries in the column, which are kept: one for each row, None for a row without a geometry.
     Texts(usize, Vec<Option<String>>),
 }
 
@@ -38,7 +38,7 @@ impl OrderKey {
         }
     }
 
-    /// What is read of it.
+    /// What is read from the column.
     pub(crate) fn reading(&self) -> Reading
         ensures { result ≡ spec.reading_of self.now }
     {
@@ -49,7 +49,7 @@ impl OrderKey {
         }
     }
 
-    /// Whether it is what is read of this column.
+    /// Whether the key is what is read from this column.
     pub(crate) fn is_of(&self, read: ReadColumn) -> bool
         ensures { result ≡ orders_by read self.now }
     {
@@ -70,7 +70,7 @@ impl OrderKey {
         }
     }
 
-    /// The value of the row at a place, as a field.
+    /// The key's value for the row at a place, as a field.
     pub(crate) fn value<'a, I: EnvelopeIndex + Drop>(
         &'a self,
         table: &'a Table<I>,
@@ -86,7 +86,7 @@ impl OrderKey {
     }
 }
 
-/// The text that is kept at a place; NULL where there is none.
+/// The text that is kept at a place; NULL if there is none.
 fn kept_text(texts: &[Option<String>], place: usize) -> Field<'_>
     ensures { shown result ≡ spec.kept_text texts.entry.now place }
 {
@@ -96,7 +96,7 @@ fn kept_text(texts: &[Option<String>], place: usize) -> Field<'_>
     }
 }
 
-/// The canonical text of a geometry. It fails only when memory runs out.
+/// Prints the canonical text of a geometry. It fails only when memory runs out.
 pub(crate) fn made_text(alloc: Global, geometry: &Geometry) -> Result<String, AllocError>
     ensures { IfOk result (λ text. string_bytes text ≡ canonical_text geometry.now) }
 {
@@ -112,7 +112,7 @@ pub(crate) fn made_text(alloc: Global, geometry: &Geometry) -> Result<String, Al
     }
 }
 
-/// The canonical text of the geometry in a field; none of a field without one. It fails only when memory runs out.
+/// Prints the canonical text of the geometry in a field; None if there is no geometry. It fails only when memory runs out.
 fn text_of_field(alloc: Global, field: Field<'_>) -> Result<Option<String>, AllocError>
     ensures { IfOk result (λ text. spec.text_value text ≡ value_read readings.Text (shown field.entry)) }
 {
@@ -122,7 +122,7 @@ fn text_of_field(alloc: Global, field: Field<'_>) -> Result<Option<String>, Allo
     }
 }
 
-/// The canonical texts of the geometries in a column, one for each row. It fails only when memory runs out.
+/// Prints the canonical texts of the geometries in a column, one for each row. It fails only when memory runs out.
 fn texts_of<I: EnvelopeIndex + Drop>(
     alloc: Global,
     table: &Table<I>,
@@ -137,7 +137,7 @@ fn texts_of<I: EnvelopeIndex + Drop>(
     Ok(texts)
 }
 
-/// The key of what is read of a column. It fails only when memory runs out.
+/// Makes the key of what is read from a column. It fails only when memory runs out.
 fn key_of<I: EnvelopeIndex + Drop>(
     alloc: Global,
     table: &Table<I>,
@@ -153,7 +153,7 @@ fn key_of<I: EnvelopeIndex + Drop>(
     }
 }
 
-/// The keys of what is read of some columns. It fails only when memory runs out.
+/// Makes the keys of what is read from some columns. It fails only when memory runs out.
 pub(crate) fn keys_of<I: EnvelopeIndex + Drop>(
     alloc: Global,
     table: &Table<I>,

@@ -16,7 +16,7 @@ pub(crate) fn digits(place: usize, buffer: &mut Buffer) -> &str
     buffer.format(place as u128 + 1)
 }
 
-/// The name of the reference at a place; empty where there is none.
+/// The name of the reference at a place; empty if there is none.
 fn name_at(references: &[Reference], place: usize) -> &[u8]
     ensures { result.now ≡ slice_index_or (map (λ r. r.name) references.entry.now) place [] }
 {
@@ -26,7 +26,7 @@ fn name_at(references: &[Reference], place: usize) -> &[u8]
     }
 }
 
-/// Writes the line of an access with the name of its reference and the text of its method, this in two parts.
+/// Writes the line of an access with the name of its reference and the text of its method, which is in two parts.
 fn put_line<'l, S: Sink>(
     sink: &mut S,
     role: &'l [u8],

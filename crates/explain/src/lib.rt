@@ -1,4 +1,4 @@
-//! What EXPLAIN and EXPLAIN ANALYZE say of a plan.
+//! What EXPLAIN and EXPLAIN ANALYZE say about a plan.
 #![tactic(auto)]
 
 mod access_lines;

@@ -12,9 +12,9 @@ use streams::{Sink, SinkFault};
 use table_model::conditions::Bound;
 use table_model::plans::Plan;
 
-/// Writes what EXPLAIN says of a plan of a query: its cost, a line for each access, the filters in the order in which
-/// they are evaluated, and lines for COUNT(*) and LIMIT if they are there. It takes no memory. At Err the sink failed,
-/// and a beginning of the text has been written.
+/// Writes what EXPLAIN says about a plan of a query: its cost, a line for each access, the filters in the order in
+/// which they are evaluated, and lines for COUNT(*) and LIMIT if the query has them. It takes no memory. At Err the
+/// sink failed, and a beginning of the text has been written.
 pub fn explain<S: Sink, A, C>(
     query: &Bound<A, C>,
     plan: &Plan,
@@ -29,8 +29,8 @@ pub fn explain<S: Sink, A, C>(
     put_limit(sink, query.limit)
 }
 
-/// Writes what EXPLAIN ANALYZE says of a plan of a query: the text of EXPLAIN, and the work that was done. It takes no
-/// memory. At Err the sink failed, and a beginning of the text has been written.
+/// Writes what EXPLAIN ANALYZE says about a plan of a query: the text of EXPLAIN, and the work that was done. It takes
+/// no memory. At Err the sink failed, and a beginning of the text has been written.
 pub fn analyze<S: Sink, A, C>(
     query: &Bound<A, C>,
     plan: &Plan,

@@ -1,4 +1,4 @@
-//! The explanation of a fault of a query over the tables of a schema, and what is said of columns by their tables and types.
+//! The explanation of a fault of a query over the tables of a schema, and what is said about columns by their tables and types.
 
 ghost use Rattle.std.specs.Prelude.{◌≡◌, IfOk};
 ghost use Rattle.explanations.specs.Faults.{query_place};
@@ -33,7 +33,7 @@ pub fn query_explained_over(
     explained(alloc, text, place_of(fault), sentence.as_slice())
 }
 
-/// The sentence of a fault of a query over the tables of a schema: by those of FROM, or by the names of the schema.
+/// The sentence about a fault of a query over the tables of a schema: it uses the tables of FROM, or the names of the schema.
 fn sentence_over(alloc: Global, text: &[u8], fault: QueryFault, schema: &Schema) -> Said {
     let list = lex(alloc, text, true)?;
     let tokens = list.as_slice();
@@ -78,7 +78,7 @@ fn table_names(alloc: Global, schema: &Schema) -> Result<Vec<&[u8]>, AllocError>
     Ok(names)
 }
 
-/// Adds the names of a table's columns, but those that are there already.
+/// Adds the names of a table's columns, except those that are there already.
 fn push_columns<'s>(names: &mut Vec<&'s [u8]>, table: &'s TableDef) -> Result<(), AllocError> {
     for column in table.columns.as_slice() {
         if place_in(names.as_slice(), column.name.bytes()).is_none() {
@@ -88,7 +88,7 @@ fn push_columns<'s>(names: &mut Vec<&'s [u8]>, table: &'s TableDef) -> Result<()
     Ok(())
 }
 
-/// The sentence of the columns and types at a place, by the tables of FROM.
+/// The sentence about the columns and types at a place, by the tables of FROM.
 fn column_sentence(
     alloc: Global,
     tokens: &[Token<'_>],
@@ -114,7 +114,7 @@ fn column_sentence(
 
 // ---- types
 
-/// The sentence of a function whose argument isn't a geometry.
+/// The sentence about a function whose argument isn't a geometry.
 fn argument_sentence(
     alloc: Global,
     tokens: &[Token<'_>],
@@ -171,7 +171,7 @@ fn kind_word(kind: Kind) -> &'static str {
     }
 }
 
-/// The sentence of the comparison that begins at a place.
+/// The sentence about the comparison that begins at a place.
 fn comparison_sentence(
     alloc: Global,
     tokens: &[Token<'_>],
@@ -194,7 +194,7 @@ fn comparison_sentence(
     Ok(Some(unequal_sentence(alloc, &left, &right)?))
 }
 
-/// The sentence of a number and a text, and how a number is to be written that the query has as the other of the two.
+/// The sentence about a number and a text that are compared; it says how to write digits as a number or as a text.
 fn unequal_sentence(alloc: Global, left: &Compared, right: &Compared) -> Said {
     let one = kind_word(left.kind).as_bytes();
     let two = kind_word(right.kind).as_bytes();
@@ -213,13 +213,13 @@ fn unequal_sentence(alloc: Global, left: &Compared, right: &Compared) -> Said {
     say(alloc, form, &[both.as_slice()])
 }
 
-/// The place of the next sign that compares, from a place on; past the list, if there is none.
+/// The place of the next sign that compares, from a place on; past the end of the list if there is none.
 fn sign_after(tokens: &[Token<'_>], place: usize) -> usize {
     let found = (place..tokens.len()).find(|at| compares(kind_of(tokens, *at)));
     found.unwrap_or(tokens.len())
 }
 
-/// The value that begins at a place: a number, a text, a column, or a function's.
+/// The value that begins at a place: a number, a text, a column, or the result of a function.
 fn compared_at(
     alloc: Global,
     tokens: &[Token<'_>],
@@ -247,7 +247,7 @@ fn compared_at(
     }
 }
 
-/// A value that the query writes itself, in quotes or none.
+/// A value that the query writes itself, with or without quotes.
 fn literal(
     alloc: Global,
     text: &[u8],
@@ -292,7 +292,7 @@ fn full_name(alloc: Global, column: Column<'_>) -> Said {
 
 // ---- names
 
-/// The sentence of a name that no column of the tables of FROM has.
+/// The sentence about a name that no column of the tables of FROM has.
 fn lacking_sentence(
     alloc: Global,
     tokens: &[Token<'_>],
@@ -321,7 +321,7 @@ fn lacking_sentence(
     }
 }
 
-/// The sentence of a word that is compared with a column of texts, and is near to no column's name.
+/// The sentence about a word that is compared with a column of texts, and is near to no column's name.
 fn text_hint(
     alloc: Global,
     tokens: &[Token<'_>],
@@ -357,7 +357,7 @@ fn compared_column<'t>(tokens: &[Token<'t>], place: usize) -> Option<Column<'t>>
     Some(Column { table, name })
 }
 
-/// The sentence of a table that FROM doesn't have under this name.
+/// The sentence about a table that FROM doesn't have under this name.
 fn table_sentence(alloc: Global, column: Column<'_>, tables: &[Named<'_, '_>]) -> Said {
     let mut names: Vec<&[u8]> = Vec::new(alloc);
     for table in tables {
@@ -376,7 +376,7 @@ fn table_sentence(alloc: Global, column: Column<'_>, tables: &[Named<'_, '_>]) -
     Ok(sentence)
 }
 
-/// The sentence of a column that this table lacks, and that another has, or none.
+/// The sentence about a column that this table lacks, and that another table has, or none.
 fn lacking_words(
     alloc: Global,
     column: Column<'_>,

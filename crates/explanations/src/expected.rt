@@ -14,7 +14,7 @@ pub(crate) enum Expected {
     /// What follows EXPLAIN, and what follows ANALYZE.
     Explained,
     Analyzed,
-    /// What is selected: the first item, and one behind a comma.
+    /// What is selected: the first item, and one after a comma.
     FirstItem,
     Item,
     /// The column of a function that is selected.
@@ -25,12 +25,12 @@ pub(crate) enum Expected {
     AfterCount,
     /// The `*` of COUNT.
     CountStar,
-    /// What follows the point behind a table's name.
+    /// What follows the point after a table's name.
     ColumnName,
     Table,
     Alias,
     Join,
-    /// What follows the first table; a second one behind a comma, behind CROSS JOIN, and behind JOIN.
+    /// What follows the first table; a second one after a comma, after CROSS JOIN, and after JOIN.
     AfterFirst,
     AfterSecond,
     AfterCrossed,
@@ -45,7 +45,7 @@ pub(crate) enum Expected {
     IsNot,
     /// What a predicate is compared with.
     Truth,
-    /// What follows a condition: of ON, in parentheses, and else behind a comparison and behind anything else.
+    /// What follows a condition: of ON, in parentheses, else after a comparison and after anything else.
     AfterOn,
     Grouped,
     AfterComparison,
@@ -237,7 +237,7 @@ fn after_operand(tokens: &[Token<'_>], place: usize) -> Expected {
     }
 }
 
-/// What follows NULL behind IS or NOT, or a value behind the NOT of a condition.
+/// What follows NULL after IS or NOT, or a value after the NOT of a condition.
 fn after_null(tokens: &[Token<'_>], place: usize) -> Expected {
     let before = kind_of(tokens, back(place, 1));
     let second = kind_of(tokens, back(place, 2));

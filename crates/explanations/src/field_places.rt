@@ -36,7 +36,7 @@ pub(crate) struct Cursor {
 }
 
 impl Cursor {
-    /// Before the first byte of a text.
+    /// The cursor before the first byte of a text.
     pub(crate) fn new() -> Cursor
         ensures { spec.cursor result ≡ spec.first_cursor }
     {
@@ -47,7 +47,7 @@ impl Cursor {
         }
     }
 
-    /// After one byte more.
+    /// The cursor after one more byte.
     #[inline(always)]
     pub(crate) fn after(self, byte: u8) -> Cursor
         requires few { (self.records < spec.most) × (self.fields < spec.most) }
@@ -71,7 +71,7 @@ impl Cursor {
         Cursor { reading, ..self }
     }
 
-    /// Where the next record may begin.
+    /// The cursor where the next record may begin.
     #[inline(always)]
     fn at_next_record(self, reading: Reading) -> Cursor
         requires { self.records < spec.most }
@@ -84,7 +84,7 @@ impl Cursor {
         }
     }
 
-    /// After a byte outside quotes.
+    /// The cursor after a byte outside quotes.
     #[inline(always)]
     fn in_field(self, byte: u8) -> Cursor
         requires few { (self.records < spec.most) × (self.fields < spec.most) }
@@ -106,7 +106,7 @@ impl Cursor {
         self.on(Reading::Plain)
     }
 
-    /// After a byte where a field begins.
+    /// The cursor after a byte where a field begins.
     #[inline(always)]
     fn at_field_start(self, byte: u8) -> Cursor
         requires few { (self.records < spec.most) × (self.fields < spec.most) }
@@ -118,7 +118,7 @@ impl Cursor {
         self.in_field(byte)
     }
 
-    /// After a byte where a record may begin.
+    /// The cursor after a byte where a record may begin.
     #[inline(always)]
     fn at_record_start(self, byte: u8) -> Cursor
         requires few { (self.records < spec.most) × (self.fields < spec.most) }
@@ -130,7 +130,7 @@ impl Cursor {
         self.at_field_start(byte)
     }
 
-    /// After a byte behind the carriage return of a record's end.
+    /// The cursor after a byte that follows the carriage return of a record's end.
     #[inline(always)]
     fn after_return(self, byte: u8) -> Cursor
         requires few { (self.records < spec.most) × (self.fields < spec.most) }
@@ -143,7 +143,7 @@ impl Cursor {
         self.at_record_start(byte)
     }
 
-    /// After a byte in quotes.
+    /// The cursor after a byte in quotes.
     #[inline(always)]
     fn in_quotes(self, byte: u8) -> Cursor
         requires { spec.state_of self.reading ≡ st.InQuoted }
@@ -155,7 +155,7 @@ impl Cursor {
         self
     }
 
-    /// After a byte behind a quote in quotes.
+    /// The cursor after a byte that follows a quote in quotes.
     #[inline(always)]
     fn after_quote(self, byte: u8) -> Cursor
         requires few { (self.records < spec.most) × (self.fields < spec.most) }
@@ -180,8 +180,8 @@ impl Cursor {
         }
     }
 
-    /// How many of these bytes, from the first on, leave it as it is: in quotes those before the next quote, in a field outside quotes those
-    /// before the next comma or end of a line. Elsewhere none.
+    /// How many of these bytes, from the first on, leave the cursor as it is: in quotes those before the next quote, in a field
+    /// outside quotes those before the next comma or end of a line. Elsewhere none.
     #[inline(always)]
     fn staying(self, bytes: &[u8]) -> usize
         ensures within { result ≤ length bytes.now }
@@ -194,7 +194,7 @@ impl Cursor {
         }
     }
 
-    /// Whether a field begins here, even if no byte is behind.
+    /// Whether a field begins here, even if no byte follows.
     fn is_field_start(self) -> bool
         ensures { result ≡ spec.is_field_start (spec.state_of self.reading) }
     {
@@ -232,7 +232,7 @@ pub(crate) fn after_mark(text: &[u8]) -> &[u8]
     text
 }
 
-/// The cursor after one byte more of a text.
+/// The cursor after one more byte of a text.
 #[inline(always)]
 #[tactic(auto, using(crate::proofs::FieldLemmas::read_on))]
 fn read_more(body: &[u8], at: usize, cursor: Cursor) -> Cursor
@@ -291,7 +291,7 @@ pub(crate) struct Spot {
 }
 
 impl Spot {
-    /// Before the first byte of a text.
+    /// The spot before the first byte of a text.
     pub(crate) fn first() -> Spot
         ensures { (body : List ℕ) → IsSpot body result }
     {
@@ -301,7 +301,7 @@ impl Spot {
         }
     }
 
-    /// Behind the next byte of a text, and behind those after it that change nothing.
+    /// The spot after the next byte of a text, and after those following it that change nothing.
     #[inline(always)]
     fn next(self, body: &[u8]) -> Spot
         requires spot { IsSpot body.now self }
@@ -329,7 +329,7 @@ impl Spot {
     }
 }
 
-/// Where a field of a record begins, each counted from 0; the header is record 0. It is looked for from a spot on.
+/// Where a field of a record begins, each counted from 0; the header is record 0. The search begins at a spot.
 pub(crate) fn field_spot(body: &[u8], from: Spot, number: usize, field: usize) -> Option<Spot>
     requires from { IsSpot body.now from }
     ensures place { IfSome result (λ spot. IsFieldPlace body.now number field spot.place) }
@@ -351,7 +351,7 @@ pub(crate) fn field_spot(body: &[u8], from: Spot, number: usize, field: usize) -
     None
 }
 
-/// The place where a field of a record begins, looked for from a spot on.
+/// The place where a field of a record begins, searched for from a spot on.
 pub(crate) fn field_place(body: &[u8], from: Spot, number: usize, field: usize) -> Option<usize>
     requires from { IsSpot body.now from }
     ensures place { IfSome result (IsFieldPlace body.now number field) }
@@ -361,7 +361,7 @@ pub(crate) fn field_place(body: &[u8], from: Spot, number: usize, field: usize) 
     Some(spot.place)
 }
 
-/// The place where a record ends, looked for from a spot on: that of the byte that ends it, or the text's end.
+/// The place where a record ends, searched for from a spot on: that of the byte that ends it, or the text's end.
 pub(crate) fn record_end(body: &[u8], from: Spot, number: usize) -> Option<usize>
     requires from { IsSpot body.now from }
     ensures place { IfSome result (IsRecordEnd body.now number) }
@@ -380,7 +380,7 @@ pub(crate) fn record_end(body: &[u8], from: Spot, number: usize) -> Option<usize
     None
 }
 
-/// The most bytes of a field, its quotes counted.
+/// The most bytes of a field, its quotes included.
 pub(crate) const FIELD_BYTES: usize = 1 << 20;
 
 /// The most fields of a record.
@@ -417,7 +417,7 @@ pub(crate) fn long_field(body: &[u8]) -> Option<(usize, usize)> {
     None
 }
 
-/// Whether a text ends in quotes that aren't closed, in this record. The end is looked for from a spot on.
+/// Whether a text ends in quotes that aren't closed, in this record. The end is searched for from a spot on.
 pub(crate) fn ends_in_quotes(body: &[u8], from: Spot, number: usize) -> bool
     requires { IsSpot body.now from }
 {

@@ -1,4 +1,4 @@
-//! What is said of the text of a geometry that is refused, and of one that isn't valid.
+//! What is said about the text of a geometry that is refused, and about a geometry that isn't valid.
 
 use crate::lines::is_white;
 use crate::nearest_names::nearest;
@@ -24,7 +24,7 @@ pub(crate) const TYPES: [&[u8]; 6] = [
     b"MULTIPOLYGON",
 ];
 
-/// What can come at a place of the text of a geometry, behind its type.
+/// What can come at a place of the text of a geometry, after its type.
 #[derive(Clone, Copy, PartialEq, Eq)]
 pub(crate) enum Coming {
     /// What follows the type.
@@ -32,10 +32,10 @@ pub(crate) enum Coming {
     /// The parenthesis of a part, and a position.
     Part,
     Position,
-    /// What follows the first number of a position: right behind its digits, and behind a blank.
+    /// What follows the first number of a position: right after its digits, and after a blank.
     Joined,
     Second,
-    /// What follows a position: also where only a parenthesis can.
+    /// What follows a position, and what follows one after which only a parenthesis can come.
     AfterPosition,
     AfterPoint,
     /// What follows a part, and the whole.
@@ -43,7 +43,7 @@ pub(crate) enum Coming {
     Nothing,
 }
 
-/// The sentence of a fault of a geometry's text.
+/// The sentence about a fault of a geometry's text.
 pub(crate) fn text_sentence(alloc: Global, text: &[u8], fault: TextFault) -> Said {
     match fault {
         TextFault::Syntax(place) => syntax_sentence(alloc, text, place),
@@ -60,7 +60,7 @@ pub(crate) fn text_sentence(alloc: Global, text: &[u8], fault: TextFault) -> Sai
     }
 }
 
-/// The sentence of a text that isn't well-known text.
+/// The sentence about a text that isn't well-known text.
 fn syntax_sentence(alloc: Global, text: &[u8], place: usize) -> Said {
     let written = trimmed(text);
     let name = word(written);
@@ -89,7 +89,7 @@ fn is_binary(name: &[u8]) -> bool {
     name.len() >= 10 && (is(begins, "00") || is(begins, "01")) && is_hex
 }
 
-/// The sentence of a word that is no type.
+/// The sentence about a word that is no type.
 fn type_sentence(alloc: Global, name: &[u8]) -> Said {
     if let Some(form) = said_of(name, &GEOMETRY_TYPES).or(ending_of(name)) {
         return say(alloc, form, &[name]);
@@ -100,7 +100,7 @@ fn type_sentence(alloc: Global, name: &[u8]) -> Said {
     }
 }
 
-/// What is said of a type with Z or M at its end.
+/// What is said about a type with Z or M at its end.
 fn ending_of(name: &[u8]) -> Option<&'static str> {
     let is_type = |count| place_in(&TYPES, front(name, name.len().saturating_sub(count))).is_some();
     let end = last(name).to_ascii_uppercase();
@@ -154,7 +154,7 @@ fn depth(name: &[u8]) -> usize {
     }
 }
 
-/// What can come behind this beginning of the text of a geometry of a type.
+/// What can come after this beginning of the text of a geometry of a type.
 fn coming_after(name: &[u8], text: &[u8]) -> Coming {
     let known = trimmed_back(trimmed(text));
     let open = opened(known);
@@ -171,8 +171,8 @@ fn coming_after(name: &[u8], text: &[u8]) -> Coming {
     }
 }
 
-/// The sign by which rows name what is found behind a text: `..` is its end, `1` a number and `2` several, `,,` a comma or a closing parenthesis
-/// behind a comma; else it is the word or the character.
+/// The sign by which rows name what is found after a text: `..` is its end, `1` a number and `2` several, `,,` a comma or a closing
+/// parenthesis after a comma; else it is the word or the character.
 fn sign_of<'t>(text: &[u8], found: &'t [u8]) -> &'t [u8] {
     let byte = first(found);
     if trimmed(found).is_empty() {
@@ -199,7 +199,7 @@ fn shown_of(found: &[u8]) -> &[u8] {
     }
 }
 
-/// The sentence of what is found behind this beginning of the text of a geometry of a type.
+/// The sentence about what is found after this beginning of the text of a geometry of a type.
 fn place_sentence(alloc: Global, name: &[u8], text: &[u8], found: &[u8]) -> Said {
     let byte = first(found);
     let is_letter = byte.is_ascii_alphabetic() || byte == b'_' || byte >= 128;
@@ -217,7 +217,7 @@ fn place_sentence(alloc: Global, name: &[u8], text: &[u8], found: &[u8]) -> Said
     say(alloc, form.unwrap_or(NO_GEOMETRY), &[name, shown_of(found)])
 }
 
-/// The sentence of what is joined to the digits of a number.
+/// The sentence about what is joined to the digits of a number.
 fn joined_sentence(alloc: Global, text: &[u8], found: &[u8]) -> Said {
     let behind = first(rest(found, 1));
     let is_exponent = is(front(found, 1), "E") && begins_number(behind) && behind != b'.';
@@ -234,7 +234,7 @@ fn joined_sentence(alloc: Global, text: &[u8], found: &[u8]) -> Said {
     say(alloc, form, &[number.as_slice(), character(found)])
 }
 
-/// What to do about a geometry that isn't valid. Of a line with too few positions something else is said than of a ring.
+/// What to do about a geometry that isn't valid. The advice for a line with too few positions isn't that for a ring.
 pub fn advice(fault: ValidityFault, text: &[u8]) -> &'static str {
     let is_line = is_one_of(word(trimmed(text)), "LINESTRING MULTILINESTRING");
     match fault {

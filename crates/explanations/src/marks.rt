@@ -14,7 +14,7 @@ use std::alloc::{AllocError, Global};
 /// How many columns of a line are shown before the place.
 const COLUMNS_BEFORE: usize = 100;
 
-/// How many are shown from it on.
+/// How many columns of a line are shown from the place on.
 const COLUMNS_AFTER: usize = 60;
 
 /// The end of a path, as it is shown: at most its last 100 columns, with two dots before them if it has more. Bytes are shown as in a line of
@@ -28,18 +28,18 @@ pub fn path_shown(alloc: Global, path: &[u8]) -> Result<Vec<u8>, AllocError>
     front_shown(alloc, 0 < from, back, utf8)
 }
 
-/// Two lines that show a place of a text: the number of the line that it is in, a bar and the line, cut to 100 columns before the place and
-/// 60 from it on; and a bar and a caret below the byte at the place. White space at the end of the line and of the text isn't shown, and a
-/// place in that of the text is shown as where it begins. Bytes that aren't printable are shown as escapes; so are characters that aren't
-/// ASCII, where the line isn't UTF-8 or has some that aren't seen or that terminals obey. At Err memory ran out (the form: this project's
-/// choice).
+/// Two lines that show a place of a text: the number of the line that it is in, a bar and the line, cut to 100 columns before the
+/// place and 60 from it on; and a bar and a caret below the byte at the place. White space at the end of the line and of the text
+/// isn't shown, and a place in the text's last white space is shown where that begins. Bytes that aren't printable are shown as
+/// escapes; so are characters that aren't ASCII, if the line isn't UTF-8 or has some that are invisible or that terminals obey. At
+/// Err memory ran out (the form: this project's choice).
 pub fn marked(alloc: Global, text: &[u8], place: usize) -> Result<Vec<u8>, AllocError>
     ensures { IfOk result (λ lines. IsMark text.now place lines.items) }
 {
     shown_place(alloc, text, place, true)
 }
 
-/// What `marked` returns, or the first of its two lines alone, without the caret. At Err memory ran out.
+/// What `marked` returns, or only the first of its two lines, without the caret. At Err memory ran out.
 pub(crate) fn shown_place(
     alloc: Global,
     text: &[u8],
@@ -121,7 +121,7 @@ fn back_shown(alloc: Global, bytes: &[u8], utf8: bool, is_cut: bool) -> Result<V
     Ok(text)
 }
 
-/// Whether a line is shown in UTF-8: it is UTF-8, and each of its characters is seen, and none obeyed by terminals.
+/// Whether a line is shown in UTF-8: it is UTF-8, and none of its characters is invisible or obeyed by terminals.
 #[tactic(auto, using(crate::proofs::MarkLemmas::plain_text, crate::proofs::MarkLemmas::plain_none))]
 pub(crate) fn is_plain(line: &[u8]) -> bool
     ensures { result ≡ spec.is_plain line.now }
@@ -132,7 +132,7 @@ pub(crate) fn is_plain(line: &[u8]) -> bool
     }
 }
 
-/// Whether one of the characters of a text isn't seen, or is obeyed by terminals.
+/// Whether one of the characters of a text is invisible, or obeyed by terminals.
 fn has_hidden(text: &str) -> bool
     ensures { result ≡ list_any spec.is_hidden (chars text.now) }
 {
@@ -144,7 +144,7 @@ fn has_hidden(text: &str) -> bool
     false
 }
 
-/// Whether a character isn't seen, or is obeyed by terminals: those of control, of direction and of no width.
+/// Whether a character is invisible, or obeyed by terminals: those of control, of direction and of no width.
 fn is_hidden(character: char) -> bool
     ensures { result ≡ spec.is_hidden character }
 {
@@ -200,7 +200,7 @@ fn last_shown(text: &[u8], place: usize, end: usize, utf8: bool) -> usize
     to
 }
 
-/// At most how many columns a byte takes that is shown.
+/// The most columns in which a byte is shown.
 fn width(byte: u8, utf8: bool) -> usize
     ensures is { result ≡ spec.width utf8 byte }
     ensures most { result ≤ 4 }
@@ -216,7 +216,7 @@ fn width(byte: u8, utf8: bool) -> usize
     }
 }
 
-/// Two dots, where a line is cut.
+/// Two dots if a line is cut, else nothing.
 fn dots_if(is_cut: bool) -> &'static str
     ensures { result.now ≡ dots is_cut }
 {
@@ -282,7 +282,7 @@ fn characters(text: &[u8]) -> usize
     count
 }
 
-/// Adds so many blanks.
+/// Adds this number of blanks.
 fn push_blanks(text: &mut Vec<u8>, count: usize) -> Result<(), AllocError>
     ensures { OnOk result (text.new.items ≡ text.old.items ++ replicate count 32) }
 {

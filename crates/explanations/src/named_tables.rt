@@ -1,4 +1,4 @@
-//! The tables that a query names in FROM, and the columns that it takes of them, by the tokens of the query.
+//! The tables that a query names in FROM, and the columns of them that it uses, by the tokens of the query.
 
 use crate::geometry_sentences::TYPES;
 use crate::parts::{place_in, trimmed, word};
@@ -15,7 +15,7 @@ pub(crate) struct Named<'t, 's> {
     /// The table's name, as the query writes it, and the byte at which it begins.
     pub(crate) table: &'t [u8],
     pub(crate) at: usize,
-    /// The name by which columns call it: its alias, or its own.
+    /// The name by which columns refer to it: its alias, or its own.
     pub(crate) name: &'t [u8],
     /// The place of its alias among the tokens, if one is written without AS.
     pub(crate) alias: Option<usize>,
@@ -91,13 +91,13 @@ pub(crate) fn byte_of(tokens: &[Token<'_>], place: usize) -> usize {
     }
 }
 
-/// The place and the definition of the table of this name, in any ASCII case.
+/// The place and the definition of the table with this name, in any ASCII case.
 fn table_of<'s>(schema: &'s Schema, name: &[u8]) -> Option<(usize, &'s TableDef)> {
     let mut tables = schema.tables().iter().enumerate();
     tables.find(|(_, table)| name.eq_ignore_ascii_case(table.name.bytes()))
 }
 
-/// The column of this name, in any ASCII case.
+/// The column with this name, in any ASCII case.
 pub(crate) fn column_named<'s>(table: &'s TableDef, name: &[u8]) -> Option<&'s ColumnDef> {
     let mut columns = table.columns.as_slice().iter();
     columns.find(|column| name.eq_ignore_ascii_case(column.name.bytes()))
@@ -131,7 +131,7 @@ pub(crate) fn column_at<'t>(tokens: &[Token<'t>], place: usize) -> Option<Column
     })
 }
 
-/// The place among the tables of the one that a column is of, and its definition.
+/// The place in the list of the table to which a column belongs, and the column's definition.
 pub(crate) fn found_column<'s>(
     tables: &[Named<'_, 's>],
     column: Column<'_>,
@@ -145,7 +145,7 @@ pub(crate) fn found_column<'s>(
     None
 }
 
-/// The places of the first token of each of the two arguments of the function at a place; past every list, if there is none.
+/// The places of the first token of each of the two arguments of the function at a place; past every list if there is none.
 pub(crate) fn arguments(tokens: &[Token<'_>], place: usize) -> (usize, usize) {
     let first = place.saturating_add(2);
     let mut depth: usize = 0;
@@ -165,8 +165,8 @@ pub(crate) fn arguments(tokens: &[Token<'_>], place: usize) -> (usize, usize) {
     (first, usize::MAX)
 }
 
-/// The type of the geometry that begins with the token at a place: that of a column, or of the text of ST_GeomFromText; none of a column
-/// that takes every type.
+/// The type of the geometry that begins with the token at a place: that of a column, or of the text of ST_GeomFromText; None for a
+/// column that accepts every type.
 pub(crate) fn type_at(
     tokens: &[Token<'_>],
     place: usize,
@@ -184,7 +184,7 @@ pub(crate) fn type_at(
     }
 }
 
-/// The type of the geometries of a column, if it takes one alone.
+/// The type of the geometries of a column, if it accepts only one.
 fn type_of(column: &ColumnDef) -> Option<&'static [u8]> {
     match &column.column_type {
         ColumnType::Geometry(Some(shape)) => Some(match shape {
@@ -199,7 +199,7 @@ fn type_of(column: &ColumnDef) -> Option<&'static [u8]> {
     }
 }
 
-/// The role of the function that the token at a place calls, if it calls one of the language's.
+/// The role of the function that the token at a place calls, if it calls a function of the language.
 pub(crate) fn function_at(tokens: &[Token<'_>], place: usize) -> Option<Role> {
     let next = place.saturating_add(1);
     if kind_of(tokens, next) == TokenKind::LeftParenthesis {

@@ -10,9 +10,9 @@ use strsim::generic_levenshtein;
 /// The most bytes of a word that is compared.
 const WORD_BYTES: usize = 64;
 
-/// The place of the name that is nearest to a word, in any ASCII case, where it is near: at most two edits away, and no more than half of
-/// the word's bytes. Of several that are as near the first is taken. None is also for a word of more than 64 bytes. At Err memory ran
-/// out (edits: Levenshtein's; how near: this project's choice).
+/// The place of the name that is nearest to a word, in any ASCII case, if it is near: at most two edits away, and no more than half
+/// of the word's bytes. If several are equally near, it is the first. It is None also for a word of more than 64 bytes. At Err
+/// memory ran out (edits: Levenshtein's; how near: this project's choice).
 pub fn nearest(alloc: Global, word: &[u8], names: &[&[u8]]) -> Result<Option<usize>, AllocError>
     ensures { IfOk result (λ found. IsFound word.now names.now found) }
 {

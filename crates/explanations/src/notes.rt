@@ -17,20 +17,20 @@ use sql_text::lex::lex;
 use std::alloc::{AllocError, Global};
 use table_model::tokens::{Token, TokenKind};
 
-/// How many pairs of rows two tables may have that no condition joins, without a note.
+/// How many pairs of rows two tables that no condition joins may have without a note.
 const PAIRS: usize = 1_000_000;
 
-/// A note: the byte of the query that it speaks of, and its sentence.
+/// A note: the byte of the query that it is about, and its sentence.
 #[derive(Drop)]
 struct Note {
     at: usize,
     sentence: Vec<u8>,
 }
 
-/// Notes on an accepted query over the tables of a schema, of which these are the numbers of rows, in the schema's order: an alias that
-/// others take for a word of JOIN, a comparison of texts that are digits, one with NULL, a predicate that never holds for the types of
-/// its columns, and two tables with more than 1,000,000 pairs of rows that no condition joins. Of each note there are the two lines that
-/// show its place, and a sentence; the first two are taken. At Err memory ran out (which notes: this project's choice).
+/// Notes on an accepted query over the tables of a schema, with the numbers of their rows in the schema's order: on an alias that
+/// others read as a word of JOIN, a comparison of texts that are digits, one with NULL, a predicate that never holds for the types
+/// of its columns, and two tables with more than 1,000,000 pairs of rows that no condition joins. A note is the two lines that show
+/// its place, and a sentence; only the first two are returned. At Err memory ran out (which notes: this project's choice).
 pub fn query_notes(
     alloc: Global,
     text: &[u8],
@@ -44,7 +44,7 @@ pub fn query_notes(
     with_note(alloc, text, notes, second)
 }
 
-/// These lines, and those of a note behind them.
+/// These lines, and those of a note after them.
 fn with_note(alloc: Global, text: &[u8], before: Vec<u8>, note: Option<Note>) -> Said
     ensures { IfOk result (λ notes. AddsNote text.now before.items notes.items) }
 {
@@ -144,14 +144,14 @@ fn note_at(
     Ok(None)
 }
 
-/// A note of this sentence.
+/// A note with this sentence.
 fn note_of(at: usize, sentence: Vec<u8>) -> Result<Option<Note>, AllocError> {
     Ok(Some(Note { at, sentence }))
 }
 
 // ---- aliases
 
-/// The sentence of an alias that is a word of JOIN elsewhere, and comes before JOIN.
+/// The sentence about an alias that is a word of JOIN elsewhere, and comes before JOIN.
 fn alias_sentence(
     alloc: Global,
     tokens: &[Token<'_>],
@@ -175,7 +175,7 @@ fn alias_sentence(
 
 // ---- pairs
 
-/// The sentence of two tables that no condition joins, at the name of the second, where they have many pairs of rows.
+/// The sentence about two tables that no condition joins, at the name of the second, if they have many pairs of rows.
 fn pairs_sentence(
     alloc: Global,
     tokens: &[Token<'_>],
@@ -233,7 +233,7 @@ fn are_joined(tokens: &[Token<'_>], tables: &[Named<'_, '_>]) -> bool {
 
 // ---- predicates
 
-/// The sentence of a predicate that never holds for the types of its arguments.
+/// The sentence about a predicate that never holds for the types of its arguments.
 fn never_sentence(
     alloc: Global,
     tokens: &[Token<'_>],
@@ -268,7 +268,7 @@ fn dimension(name: &[u8]) -> u8 {
     }
 }
 
-/// Whether a predicate of this name never holds of two geometries of these types.
+/// Whether a predicate with this name never holds of two geometries of these types.
 fn never_holds(predicate: &[u8], left: &[u8], right: &[u8]) -> bool {
     let (one, two) = (dimension(left), dimension(right));
     let has_point = is(left, "POINT") || is(right, "POINT");
@@ -289,7 +289,7 @@ fn never_holds(predicate: &[u8], left: &[u8], right: &[u8]) -> bool {
 
 // ---- comparisons
 
-/// The place of a string of digits beside the sign at a place.
+/// The place of a string of digits next to the sign at a place.
 fn digits_beside(tokens: &[Token<'_>], place: usize) -> Option<usize> {
     for at in [place.saturating_add(1), back(place, 1)] {
         if kind_of(tokens, at) == TokenKind::Text && is_digits(written(tokens, at)) {
@@ -299,12 +299,12 @@ fn digits_beside(tokens: &[Token<'_>], place: usize) -> Option<usize> {
     None
 }
 
-/// The sentence of a text of digits that is compared by order, with a number that comes elsewhere than its value does.
+/// The sentence about a text of digits that is compared by order; it shows a number that comes elsewhere as a text.
 fn text_sentence(alloc: Global, text: &[u8]) -> Said {
     say(alloc, order_words(text), &[text, text])
 }
 
-/// What is said of a text of digits, with a number that comes elsewhere than its value does, if there is a short one.
+/// What is said about a text of digits, with a number that comes elsewhere as a text, if there is a short one.
 fn order_words(text: &[u8]) -> &'static str {
     let begins = first(text);
     let is_plain = begins != b'0' && text.len() <= 18;
@@ -317,7 +317,7 @@ fn order_words(text: &[u8]) -> &'static str {
     }
 }
 
-/// Whether NULL is beside the sign at a place.
+/// Whether NULL is next to the sign at a place.
 fn is_null_beside(tokens: &[Token<'_>], place: usize) -> bool {
     kind_of(tokens, place.saturating_add(1)) == TokenKind::Null
         || kind_of(tokens, back(place, 1)) == TokenKind::Null

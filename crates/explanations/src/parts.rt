@@ -112,7 +112,7 @@ pub(crate) fn place_in(words: &[&[u8]], text: &[u8]) -> Option<usize> {
         .position(|word| text.eq_ignore_ascii_case(word))
 }
 
-/// Whether a text is one of these words, which have a blank between them, in any ASCII case.
+/// Whether a text is one of these words, which are separated by blanks, in any ASCII case.
 pub(crate) fn is_one_of(text: &[u8], words: &str) -> bool {
     words.split(' ').any(|word| is(text, word))
 }
@@ -128,7 +128,7 @@ pub(crate) fn said_of(text: &[u8], rows: &[&'static str]) -> Option<&'static str
     None
 }
 
-/// The sentence of the first row with a word of at most five bytes that the text begins with, of several the longest.
+/// The sentence of the first row with a word of at most five bytes that the text begins with, the longest one of several.
 pub(crate) fn said_of_front(text: &[u8], rows: &[&'static str]) -> Option<&'static str> {
     for length in [5, 4, 3, 2, 1] {
         if let Some(sentence) = said_of(front(text, length), rows) {

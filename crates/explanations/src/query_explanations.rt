@@ -21,7 +21,7 @@ use table_model::faults::QueryFault;
 pub struct Names<'n> {
     /// The names of the tables of the schema.
     pub tables: &'n [&'n [u8]],
-    /// Those of their columns.
+    /// The names of the columns of these tables.
     pub columns: &'n [&'n [u8]],
 }
 
@@ -71,7 +71,7 @@ pub(crate) fn place_of(fault: QueryFault) -> Option<usize>
     }
 }
 
-/// The sentence of a fault of a query.
+/// The sentence about a fault of a query.
 pub(crate) fn query_sentence(
     alloc: Global,
     text: &[u8],
@@ -106,7 +106,7 @@ fn string_at(text: &[u8], at: usize) -> &[u8] {
     before(rest(text, at.saturating_add(1)), b'\'')
 }
 
-/// What is said of a number that is too large, after this text.
+/// What is said about a number that is too large, after this text.
 fn greatness(text: &[u8]) -> &'static str {
     if is(last_word(text), "LIMIT") {
         "{} is past 64 bits: leave LIMIT out for all rows"
@@ -121,7 +121,7 @@ fn is_compared(text: &[u8], at: usize) -> bool {
     before == b'=' || before == b'<' || before == b'>'
 }
 
-/// The sentence of a name that none of a list is, in a form that says so.
+/// The sentence about a name that isn't in a list, in a form that says so.
 fn unknown(alloc: Global, form: &str, name: &[u8], names: &[&[u8]]) -> Said {
     let close = nearest(alloc, name, names)?;
     proposed(say(alloc, form, &[name])?, close, names)
@@ -144,7 +144,7 @@ pub(crate) fn proposed(front: Vec<u8>, close: Option<usize>, names: &[&[u8]]) ->
     Ok(sentence)
 }
 
-/// The sentence of a name that no column has: of a truth, or of a name.
+/// The sentence about a name that no column has: a truth value, or another name.
 fn unknown_name(alloc: Global, text: &[u8], at: usize, names: &Names<'_>) -> Said {
     let name = word(rest(text, at));
     if is_one_of(name, "TRUE FALSE") {
@@ -154,7 +154,7 @@ fn unknown_name(alloc: Global, text: &[u8], at: usize, names: &Names<'_>) -> Sai
     unknown(alloc, form, name, names.columns)
 }
 
-/// What is said of a truth, with which something is compared or not.
+/// What is said about a truth value; `is_compared` says whether something is compared with it.
 fn truth_words(name: &[u8], is_compared: bool) -> &'static str {
     if !is_compared {
         "{} isn't there: write the condition alone, and NOT turns it around"
@@ -165,7 +165,7 @@ fn truth_words(name: &[u8], is_compared: bool) -> &'static str {
     }
 }
 
-/// The sentence of a pattern that isn't one.
+/// The sentence about a pattern that isn't one.
 fn pattern_sentence(alloc: Global, pattern: &[u8]) -> Said {
     match pattern.iter().position(|byte| !b"TF*012".contains(byte)) {
         Some(place) if pattern.len() == 9 => {

@@ -1,4 +1,4 @@
-//! What is said of a query that isn't in the grammar, by the token at the place of the fault and what can come there.
+//! What is said about a query that isn't in the grammar, by the token at the place of the fault and what can come there.
 
 ghost use Rattle.std.specs.Prelude.{◌≡◌, ◌<◌, length, IfSome, slice_get, Some};
 ghost use Rattle.table_model.specs.declared.tokens.Token.{Token};
@@ -18,7 +18,7 @@ use sql_text::lex::lex;
 use std::alloc::{AllocError, Global};
 use table_model::tokens::{Token, TokenKind};
 
-/// The tokens around the place of a fault, as they are written, and what can come there; nothing where there is no token.
+/// The tokens around the place of a fault, as they are written, and what can come there; a text is empty if there is no token.
 #[derive(Clone, Copy)]
 struct Around<'t> {
     expected: Expected,
@@ -69,7 +69,7 @@ fn tokens_around<'t>(tokens: &[Token<'t>], place: usize) -> Around<'t> {
     }
 }
 
-/// Whether nothing is between two tokens, of which the first is no text.
+/// Whether nothing is between two tokens, the first of which isn't a text.
 fn are_joined(tokens: &[Token<'_>], first: usize, second: usize) -> bool {
     if first >= tokens.len() || second >= tokens.len() {
         return false;
@@ -80,7 +80,7 @@ fn are_joined(tokens: &[Token<'_>], first: usize, second: usize) -> bool {
         == tokens[second].at
 }
 
-/// The sentence of a token that can't be there.
+/// The sentence about a token that can't be there.
 pub(crate) fn syntax_sentence(alloc: Global, text: &[u8], at: usize, names: &Names<'_>) -> Said {
     let list = lex(alloc, text, true)?;
     let tokens = list.as_slice();
@@ -114,7 +114,7 @@ pub(crate) fn syntax_sentence(alloc: Global, text: &[u8], at: usize, names: &Nam
 
 // ---- ends
 
-/// The sentence of a query that ends too early.
+/// The sentence about a query that ends too early.
 fn end_sentence(alloc: Global, text: &[u8], near: &Around<'_>) -> Said {
     if near.before.is_empty() && near.before_kind == TokenKind::End {
         return say(alloc, "the query is empty: it begins with SELECT", &[]);
@@ -134,7 +134,7 @@ fn end_sentence(alloc: Global, text: &[u8], near: &Around<'_>) -> Said {
     say(alloc, "the query ends where {=}{=}", &parts)
 }
 
-/// What is said of a comment at a text's end, which may be two signs.
+/// What is said about a comment at a text's end, which may be two signs.
 fn comment_words(text: &[u8]) -> &'static str {
     let line = match text.iter().rposition(|byte| *byte == b'\n') {
         Some(at) => rest(text, at),
@@ -151,7 +151,7 @@ fn comment_words(text: &[u8]) -> &'static str {
 
 // ---- words
 
-/// The word of a clause that others have, and what to do instead: before the place, where it was taken as a name, or at it.
+/// The word of another engine's clause, and what to do instead: it is before the place, if it was read as a name, or at it.
 fn listed<'t>(near: &Around<'t>, names: &Names<'_>) -> Option<(&'t [u8], &'static str)> {
     if near.before_kind == TokenKind::Word
         && !names.has(near.before)
@@ -174,7 +174,7 @@ fn listed<'t>(near: &Around<'t>, names: &Names<'_>) -> Option<(&'t [u8], &'stati
     Some((near.here, said_of(near.here, &CLAUSES)?))
 }
 
-/// What is said of a token where something else can come.
+/// What is said about a token where something else can come.
 fn said_at(near: &Around<'_>) -> Option<&'static str> {
     if let Some(sentence) = said_of_signs(near) {
         return Some(sentence);
@@ -187,7 +187,7 @@ fn said_at(near: &Around<'_>) -> Option<&'static str> {
     said_of(here, tokens_at(near.expected))
 }
 
-/// What is said of tokens that are something together, or after one that isn't at the place.
+/// What is said about tokens that mean something together, or about one that can't be at the place.
 fn said_of_signs(near: &Around<'_>) -> Option<&'static str> {
     let here = near.here;
     let opens = is(here, "(") && is(near.next, "SELECT");
@@ -212,7 +212,7 @@ fn said_of_signs(near: &Around<'_>) -> Option<&'static str> {
     }
 }
 
-/// What is said of a sign behind one that compares.
+/// What is said about a sign after one that compares.
 fn said_of_comparison(near: &Around<'_>) -> Option<&'static str> {
     if is(near.before, "=") && is(near.here, "=") {
         Some("== isn't there: write = once")
@@ -235,7 +235,7 @@ fn begins_statement(expected: Expected) -> bool {
     )
 }
 
-/// The sentence of a statement that isn't a query.
+/// The sentence about a statement that isn't a query.
 fn statement_sentence(alloc: Global, near: &Around<'_>) -> Said {
     if let Some(sentence) = said_of(near.here, &STATEMENTS) {
         return say(alloc, sentence, &[near.here]);
@@ -276,7 +276,7 @@ fn is_function(near: &Around<'_>) -> bool {
     }
 }
 
-/// The sentence of a function that can't be there.
+/// The sentence about a function that can't be there.
 fn function_sentence(alloc: Global, near: &Around<'_>) -> Said {
     let prefixed = say(alloc, "ST_{}", &[near.here])?;
     if let Some(sentence) = said_of(near.here, &FUNCTIONS) {
@@ -308,7 +308,7 @@ fn function_sentence(alloc: Global, near: &Around<'_>) -> Said {
     }
 }
 
-/// What is said of a function of the language in the wrong place.
+/// What is said about a function of the language in the wrong place.
 fn misplaced(role: Role) -> &'static str {
     if role.is_condition() {
         "{} is a condition: write it after WHERE or ON, or where one is to come"
@@ -317,7 +317,7 @@ fn misplaced(role: Role) -> &'static str {
     }
 }
 
-/// What is said of a function of the language with too few or too many arguments, after its name.
+/// What is said about a function of the language with too few or too many arguments, after its name.
 fn call_sentence<'t>(tokens: &[Token<'t>], place: usize) -> Option<(&'t [u8], &'static str)> {
     let (called, commas) = enclosing(tokens, place)?;
     let function = written(tokens, called);
@@ -340,7 +340,7 @@ fn call_sentence<'t>(tokens: &[Token<'t>], place: usize) -> Option<(&'t [u8], &'
 
 // ---- numbers
 
-/// The sentence of what is joined to a number, or comes before a text, and isn't one here.
+/// The sentence about what is joined to a number and doesn't belong to one here.
 fn number_sentence(alloc: Global, near: &Around<'_>) -> Result<Option<Vec<u8>>, AllocError> {
     let is_number = near.before_kind == TokenKind::Integer;
     let goes_on = near.next_kind == TokenKind::Integer;
@@ -367,7 +367,7 @@ fn number_sentence(alloc: Global, near: &Around<'_>) -> Result<Option<Vec<u8>>, 
     joined_number(alloc, whole, near.here, b"", after)
 }
 
-/// The sentence of a number in three parts.
+/// The sentence about a number in three parts.
 fn joined_number(
     alloc: Global,
     whole: &[u8],
@@ -391,7 +391,7 @@ fn has_exponent(here: &[u8]) -> bool {
 
 // ---- other tokens
 
-/// The sentence of any other token that can't be there.
+/// The sentence about any other token that can't be there.
 fn other_sentence(alloc: Global, near: &Around<'_>, names: &Names<'_>) -> Said {
     if near.kind == TokenKind::Text {
         return text_sentence(alloc, near, names);
@@ -434,7 +434,7 @@ fn is_table_before(expected: Expected) -> bool {
     is_joined || matches!(expected, Expected::AfterFirst | Expected::AfterSecond)
 }
 
-/// The sentence of a text that can't be there: it is a name, comes behind a word such as DATE, or is a text.
+/// The sentence about a text that can't be there: it is a name, comes after a word such as DATE, or is a text.
 fn text_sentence(alloc: Global, near: &Around<'_>, names: &Names<'_>) -> Said {
     if names.has(near.here) {
         return say(alloc, "names aren't quoted: write {}", &[near.here]);
@@ -450,7 +450,7 @@ fn text_sentence(alloc: Global, near: &Around<'_>, names: &Names<'_>) -> Said {
 
 // ---- bytes
 
-/// The sentence of a byte that begins no token, or of a string that isn't closed.
+/// The sentence about a byte that begins no token, or about a string that isn't closed.
 pub(crate) fn byte_sentence(alloc: Global, text: &[u8], at: usize, names: &Names<'_>) -> Said {
     let found = rest(text, at);
     let byte = first(found);
@@ -483,7 +483,7 @@ pub(crate) fn byte_sentence(alloc: Global, text: &[u8], at: usize, names: &Names
 /// How quotes begin in UTF-8 that aren't the plain ones.
 const QUOTE_MARKS: [&[u8]; 4] = [b"\xe2\x80", b"\xc2\xb4", b"\xc2\xab", b"\xc2\xbb"];
 
-/// What is said of such quotes.
+/// What is said about quotes that aren't the plain ones.
 const QUOTES: &str = "a quote of this kind isn't there: texts are in single quotes, '";
 
 /// Whether a text has a backslash before a quote.
@@ -491,7 +491,7 @@ fn has_backslash(text: &[u8]) -> bool {
     (0..text.len()).any(|at| is(front(rest(text, at), 2), "\\'"))
 }
 
-/// The sentence of what is between double quotes: a name, a number, or a text, which is compared or isn't a name.
+/// The sentence about what is between double quotes: a name, a number, or a text, if it is compared or isn't a name.
 fn quoted_sentence(alloc: Global, text: &[u8], inside: &[u8], names: &Names<'_>) -> Said {
     let behind = trimmed_back(text);
     let is_value = is_one_of(rest(behind, behind.len().saturating_sub(1)), "= < > (");

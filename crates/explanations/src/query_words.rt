@@ -3,7 +3,7 @@
 use crate::expected::Expected;
 use crate::parts::{is, is_one_of, place_in};
 
-/// The words of the language that can come at a place, of which the nearest is proposed.
+/// The words of the language that can come at a place, the nearest of which is proposed.
 pub(crate) fn own_words(expected: Expected) -> &'static [&'static [u8]] {
     match expected {
         Expected::Statement => &[b"SELECT", b"EXPLAIN"],
@@ -46,9 +46,9 @@ pub(crate) enum Role {
     Pattern,
     /// A condition on one geometry.
     Test,
-    /// A number or a text of one geometry.
+    /// A number or a text from one geometry.
     Value,
-    /// A geometry of a text.
+    /// A geometry from a text.
     Geometry,
     /// The number of rows.
     Count,
@@ -66,7 +66,7 @@ impl Role {
     }
 }
 
-/// The role of the function of this name, in any ASCII case, if the language has it. Those without a word of their own here are relations.
+/// The role of the function with this name, in any ASCII case, if the language has it. Functions without a word here are relations.
 pub(crate) fn role_of(name: &[u8]) -> Option<Role> {
     place_in(&OWN_FUNCTIONS, name)?;
     Some(if is(name, "ST_Relate") {

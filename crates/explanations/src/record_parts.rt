@@ -6,7 +6,7 @@ use crate::field_places::{Reading, Spot, field_place, record_end};
 use crate::parts::{first, front, last, rest};
 use std::alloc::{AllocError, Global};
 
-/// A record, as it is written, without what ends it; nothing, if it isn't there. It is looked for from a spot on. The header is record 0.
+/// A record, as it is written, without what ends it; empty, if there is none. The search begins at a spot. The header is record 0.
 pub(crate) fn record_at(body: &[u8], from: Spot, number: usize) -> &[u8]
     requires { IsSpot body.now from }
 {
@@ -24,7 +24,7 @@ fn ends_field(reading: Reading, byte: u8) -> bool {
     reading != Reading::Quoted && (byte == b',' || byte == b'\r' || byte == b'\n')
 }
 
-/// How a field is read on after a byte of it.
+/// How the reading of a field goes on after a byte of it.
 fn within_field(reading: Reading, byte: u8) -> Reading {
     match reading {
         Reading::FieldStart | Reading::QuoteEnd if byte == b'"' => Reading::Quoted,
@@ -34,7 +34,7 @@ fn within_field(reading: Reading, byte: u8) -> Reading {
     }
 }
 
-/// The place in a text where the field ends that begins at another.
+/// The place in a text where the field that begins at `from` ends.
 fn field_end(record: &[u8], from: usize) -> usize {
     let mut reading = Reading::FieldStart;
     for at in from..record.len() {
@@ -46,7 +46,7 @@ fn field_end(record: &[u8], from: usize) -> usize {
     record.len()
 }
 
-/// The fields of a record, as they are written, but at most so many.
+/// The first fields of a record, at most this number, as they are written.
 pub(crate) fn fields_of<'t>(
     alloc: Global,
     record: &'t [u8],
@@ -80,7 +80,7 @@ pub(crate) fn field_count(record: &[u8]) -> usize {
     count
 }
 
-/// A field without its quotes, each doubled quote being one.
+/// A field without its quotes, with one quote for each doubled one.
 pub(crate) fn unquoted(alloc: Global, field: &[u8]) -> Result<Vec<u8>, AllocError> {
     if first(field) != b'"' {
         return Vec::from_slice(alloc, field);
@@ -97,7 +97,7 @@ pub(crate) fn unquoted(alloc: Global, field: &[u8]) -> Result<Vec<u8>, AllocErro
     Ok(text)
 }
 
-/// The name that a field of a header is: what is between its quotes, if it has some.
+/// The name in a field of a header: what is between its quotes, if it has some.
 pub(crate) fn name_of(field: &[u8]) -> &[u8] {
     if first(field) == b'"' && last(field) == b'"' && field.len() >= 2 {
         return rest(front(field, field.len() - 1), 1);
@@ -105,7 +105,7 @@ pub(crate) fn name_of(field: &[u8]) -> &[u8] {
     field
 }
 
-/// The field that a text begins with, up to the comma or the end of a line behind it.
+/// The field that a text begins with, up to the comma or the end of a line after it.
 pub(crate) fn field_from(text: &[u8]) -> &[u8] {
     front(text, field_end(text, 0))
 }

@@ -32,7 +32,7 @@ pub fn said_line(alloc: Global, sentence: &[u8]) -> Result<Vec<u8>, AllocError>
     Ok(line)
 }
 
-/// The line that says something of a file: its path, and words that come after it. At Err memory ran out.
+/// The line that says something about a file: its path, and words that come after it. At Err memory ran out.
 pub fn file_explained(alloc: Global, path: &[u8], words: &str) -> Result<Vec<u8>, AllocError>
     ensures { IfOk result (λ line. SaysOfFile path.now words.now line.items) }
 {

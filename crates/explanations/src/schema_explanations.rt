@@ -64,7 +64,7 @@ const TYPES: [&[u8]; 11] = [
     b"MULTIPOLYGON",
 ];
 
-/// The sentence of a fault of a schema.
+/// The sentence about a fault of a schema.
 fn schema_sentence(alloc: Global, text: &[u8], fault: SchemaFault) -> Said {
     let form = schema_form(fault);
     match fault {
@@ -94,14 +94,14 @@ pub(crate) enum Expected {
     Create,
     Table,
     Name,
-    /// The parenthesis behind a table's name.
+    /// The parenthesis after a table's name.
     Columns,
     Column,
     Type,
     /// What follows PRIMARY and NOT.
     Key,
     Null,
-    /// What follows a type or a mark behind it.
+    /// What follows a type or a mark after it.
     Mark,
     /// What follows a table.
     Behind,
@@ -152,7 +152,7 @@ fn is_inside(tokens: &[Token<'_>], start: usize) -> bool {
     before == TokenKind::LeftParenthesis || before == TokenKind::Comma
 }
 
-/// The sentence of what can't be there.
+/// The sentence about what can't be there.
 fn syntax_sentence(alloc: Global, text: &[u8], at: usize) -> Said {
     let list = lex(alloc, text, false)?;
     let tokens = list.as_slice();
@@ -182,8 +182,8 @@ fn syntax_sentence(alloc: Global, text: &[u8], at: usize) -> Said {
     }
 }
 
-/// The sentence of a constraint of a table, or of an index, by the text before the place and what begins at it. It is a word where a column is
-/// to come, with an opening parenthesis, `KEY`, `INDEX` or `USING` behind it or behind a name; or `CONSTRAINT` and such a word.
+/// The sentence about a table's constraint or an index, by the text before the place and what begins at it: a word where a column
+/// has to come, with `(`, `KEY`, `INDEX` or `USING` after it or after a name; or `CONSTRAINT` and such a word.
 fn constraint_sentence(text: &[u8], found: &[u8]) -> Option<&'static str> {
     let before = last_word(text);
     let here = word(found);
@@ -208,7 +208,7 @@ fn constraint_sentence(text: &[u8], found: &[u8]) -> Option<&'static str> {
     None
 }
 
-/// What is said of a word that can't be there, and comes behind another one.
+/// What is said about a word that can't be there, and comes after another one.
 fn word_form(here: &[u8], expected: Expected, before: &[u8]) -> &'static str {
     match said_of(here, &TABLE_WORDS) {
         Some(form) if matches!(expected, Expected::Table | Expected::Behind) => form,
@@ -224,7 +224,7 @@ fn word_form(here: &[u8], expected: Expected, before: &[u8]) -> &'static str {
     }
 }
 
-/// The sentence of a word that is no type.
+/// The sentence about a word that is no type.
 fn type_sentence(alloc: Global, here: &[u8]) -> Said {
     if let Some(form) = said_of(here, &COLUMN_TYPES).or(said_of(here, &MARKS)) {
         return say(alloc, form, &[here]);
@@ -241,7 +241,7 @@ fn type_sentence(alloc: Global, here: &[u8]) -> Said {
     }
 }
 
-/// The sentence of a word behind a type.
+/// The sentence about a word after a type.
 fn mark_sentence(alloc: Global, tokens: &[Token<'_>], place: usize, here: &[u8]) -> Said {
     let start = part_start(tokens, place);
     let kind = written(tokens, start.saturating_add(1));
@@ -255,7 +255,7 @@ fn mark_sentence(alloc: Global, tokens: &[Token<'_>], place: usize, here: &[u8])
     say(alloc, said_of(here, &AFTER_TYPE).unwrap_or(""), &[])
 }
 
-/// The sentence of a name in quotes.
+/// The sentence about a name in quotes.
 fn quoted_sentence(alloc: Global, found: &[u8], quote: u8) -> Said {
     let name = before(rest(found, 1), quote);
     let form = if word(name).len() < name.len() {
@@ -266,7 +266,7 @@ fn quoted_sentence(alloc: Global, found: &[u8], quote: u8) -> Said {
     say(alloc, form, &[name])
 }
 
-/// The sentence of a symbol that can't be there.
+/// The sentence about a symbol that can't be there.
 fn symbol_sentence(
     alloc: Global,
     text: &[u8],
@@ -297,7 +297,7 @@ fn symbol_sentence(
     byte_sentence(alloc, text, at, &Names::NONE)
 }
 
-/// What is said of a symbol that can't be there, behind a token.
+/// What is said about a symbol that can't be there, after a token.
 fn symbol_words(byte: u8, before: &[u8], expected: Expected) -> Option<&'static str> {
     match byte {
         b'.' => Some("tables have no schema before their name: write the name alone"),

@@ -1,5 +1,5 @@
-//! Sentences by the word, the sign or the fault that they are said of. A row of a table has words with blanks between them, ` => `, and the
-//! sentence, in which `{}` is the word that is there.
+//! Sentences, by the word, the sign or the fault that they are about. A row of a table has words with blanks between them, ` => `,
+//! and the sentence, in which `{}` is that word.
 
 use crate::expected::Expected;
 use crate::geometry_sentences::Coming;
@@ -42,7 +42,7 @@ pub(crate) fn to_come(expected: Expected) -> &'static str {
     }
 }
 
-/// What is said of tokens where something else can come: a text is `'`, and a row without words is for every token.
+/// What is said about tokens where something else can come: a text is `'`, and a row without words is for every token.
 pub(crate) fn tokens_at(expected: Expected) -> &'static [&'static str] {
     match expected {
         Expected::FirstItem | Expected::Item => &[
@@ -133,7 +133,7 @@ pub(crate) fn tokens_at(expected: Expected) -> &'static [&'static str] {
     }
 }
 
-/// The row of a third table.
+/// The row about a third table.
 const THIRD: &str =
     ", JOIN INNER CROSS => a third table isn't there: a query takes two; write the output of one as a table for the next";
 
@@ -210,7 +210,7 @@ pub(crate) const COLUMN_TYPES: [&str; 10] = [
     "CIRCULARSTRING COMPOUNDCURVE CURVEPOLYGON CURVE => {} isn't a type here: curves aren't taken; write lines for them",
 ];
 
-/// Words that other engines have behind a type.
+/// Words that other engines have after a type.
 pub(crate) const MARKS: [&str; 4] = [
     "UNSIGNED => {} isn't there: write INTEGER alone",
     "UNIQUE DEFAULT AUTOINCREMENT AUTO_INCREMENT CHECK REFERENCES COLLATE GENERATED CONSTRAINT IDENTITY COMMENT => {} isn't there: after a type come NOT NULL and PRIMARY KEY alone",
@@ -218,7 +218,7 @@ pub(crate) const MARKS: [&str; 4] = [
     "SRID => {} isn't there: reference systems aren't taken",
 ];
 
-/// What is said of other words behind a type.
+/// What is said about other words after a type.
 pub(crate) const AFTER_TYPE: [&str; 4] = [
     "PRIMARY => PRIMARY KEY is there twice: leave one out",
     "NOT => NOT NULL is there twice: leave one out",
@@ -226,7 +226,7 @@ pub(crate) const AFTER_TYPE: [&str; 4] = [
     " => a comma is to come between columns",
 ];
 
-/// Words that other engines have before a table's name and behind its columns.
+/// Words that other engines have before a table's name and after its columns.
 pub(crate) const TABLE_WORDS: [&str; 2] = [
     "TEMPORARY TEMP => {} isn't there: write CREATE TABLE and the name",
     "WITHOUT STRICT ENGINE AS => {} isn't there: the table ends with ) and ;",
@@ -242,7 +242,7 @@ pub(crate) const CONSTRAINTS: [&str; 6] = [
     "KEY INDEX FULLTEXT SPATIAL => indexes aren't written: a query makes those that it needs; leave this one out",
 ];
 
-/// Words that others begin a geometry with.
+/// Words with which other engines begin a geometry.
 pub(crate) const GEOMETRY_TYPES: [&str; 10] = [
     "GEOMETRYCOLLECTION => {} isn't taken: relate its parts one by one",
     "CIRCULARSTRING COMPOUNDCURVE CURVEPOLYGON MULTICURVE => {} isn't taken: curves aren't; write lines for them",
@@ -256,7 +256,7 @@ pub(crate) const GEOMETRY_TYPES: [&str; 10] = [
     "SRID EPSG => {} isn't a type: write the geometry alone",
 ];
 
-/// What texts begin with that are no geometry's; the part is what comes before the first `;`.
+/// What texts that are no geometry's begin with; the part is what comes before the first `;`.
 pub(crate) const TEXT_FRONTS: [&str; 5] = [
     "{ => this looks like GeoJSON: write the geometry as text, as POINT(1 2); sfq-import reads GeoJSON",
     "' \" => leave the quotes out: a geometry begins with its type, as POINT(1 2)",
@@ -265,7 +265,7 @@ pub(crate) const TEXT_FRONTS: [&str; 5] = [
     "\u{feff} => the text begins with a byte order mark: save it without one",
 ];
 
-/// What is said of other texts that are no geometry's.
+/// What is said about other texts that are no geometry's.
 pub(crate) const NO_TEXT: &str =
     "the text is empty: a geometry begins with its type, as POINT(1 2)";
 
@@ -274,7 +274,7 @@ pub(crate) const NO_GEOMETRY: &str = "a geometry begins with its type, as POINT(
 pub(crate) const BINARY: &str =
     "this looks like WKB in hexadecimal digits: write the geometry as text, as POINT(1 2); sfq-import does";
 
-/// What is said of a type with a Z or an M at its end, and of a word that is near to a type, which is the second part, or to none.
+/// What is said about a type that ends with Z or M, and about a word that is near to a type, the second part, or to none.
 pub(crate) const HEIGHTS: &str = "{}: heights aren't taken; leave Z and the third numbers out";
 
 pub(crate) const MEASURES: &str = "{}: measures aren't taken; leave M and the third numbers out";
@@ -284,9 +284,9 @@ pub(crate) const NEAR_SHAPE: &str = "{} isn't a type: did you mean {=}?";
 pub(crate) const NO_SHAPE: &str =
     "{} isn't a type: there are POINT, MULTIPOINT, LINESTRING, MULTILINESTRING, POLYGON, MULTIPOLYGON";
 
-/// What is said in the text of a geometry of what begins with a word or a sign, where something else can come: `..` is the text's end, `1` a
-/// number, `2` several, `,,` a comma or ) behind a comma, and a row without words is for all else. The parts are the geometry's type and what is
-/// there.
+/// What is said about what begins with a word or a sign in the text of a geometry, where something else can come: `..` is the
+/// text's end, `1` a number, `2` several, `,,` a comma or ) after a comma, and a row without words is for all else. The parts are
+/// the geometry's type and what is there.
 pub(crate) fn forms_at(coming: Coming) -> &'static [&'static str] {
     match coming {
         Coming::Opening => &[
@@ -356,14 +356,14 @@ const PART_ENDS: &str = ".. => the text ends where a comma or ) is to come";
 
 const COMMA_COMES: &str = " => {-}a comma or ) is to come, and not {}";
 
-/// What is said of a number where a parenthesis is to come, by the type.
+/// What is said about a number where a parenthesis has to come, by the type.
 pub(crate) const UNOPENED: [&str; 3] = [
     "POLYGON => ( is to come here: each ring of a {} has parentheses of its own",
     "MULTIPOLYGON => ( is to come here: each polygon of a {} has parentheses of its own",
     "MULTILINESTRING => ( is to come here: each line of a {} has parentheses of its own",
 ];
 
-/// What is said of a parenthesis where a number is to come, by the type.
+/// What is said about a parenthesis where a number has to come, by the type.
 pub(crate) const OVEROPENED: [&str; 4] = [
     "POLYGON MULTIPOLYGON => a number is to come here: a ring of a {} has one pair of parentheses",
     "MULTILINESTRING => a number is to come here: a line of a {} has one pair of parentheses",
@@ -371,21 +371,21 @@ pub(crate) const OVEROPENED: [&str; 4] = [
     " => a number is to come here: a {} has one pair of parentheses",
 ];
 
-/// What is said of a comma behind the only position of a part, by the type.
+/// What is said about a comma after the only position of a part, by the type.
 pub(crate) const ONE_POSITION: [&str; 2] = [
     "POINT => a {} has one position: write MULTIPOINT for several",
     " => ) is to come: each point of a {} has parentheses of its own, or none",
 ];
 
-/// What is said of letters that are joined to the digits of a number.
+/// What is said about letters that are joined to the digits of a number.
 pub(crate) const EXPONENT: &str = "a number has no exponent: write all its digits";
 
 pub(crate) const FOREIGN: &str = "{-}{} isn't in a number: coordinates are whole numbers";
 
 pub(crate) const LETTERS: &str = "{} isn't a number: write it in digits, 0 to 9";
 
-/// What is said of a fault of a geometry's text, but for one of its grammar: a number with an exponent or without, which is the part, or a text with
-/// too many positions or too many elements.
+/// What is said about a fault of a geometry's text, other than one of its grammar: a number with an exponent or without, which is
+/// the part, or a text with too many positions or too many elements.
 pub(crate) fn text_form(fault: TextFault, is_first: bool) -> &'static str {
     match fault {
         TextFault::OffGrid(_) if is_first => "{} has an exponent: write all its digits",
@@ -422,7 +422,7 @@ pub(crate) fn validity_form(fault: ValidityFault) -> &'static str {
 pub(crate) const SHORT_LINE: &str =
     "a line has at least two positions that differ: write a POINT, or leave the line out";
 
-/// What texts begin with where no token of the language does.
+/// What texts begin with that no token of the language begins with.
 pub(crate) const SYMBOLS: [&str; 13] = [
     "\u{feff} => the text begins with a byte order mark: save it without one",
     "/* // # => {} isn't there: a comment begins with -- and ends with its line",
@@ -445,7 +445,7 @@ pub(crate) const ALIASES: [&str; 2] = [
     "NATURAL => {} is an alias of {} here: the rows are those for which ON holds",
 ];
 
-/// What is said of a fault of a schema, but for one of its grammar: the name that comes twice, or the table without a key, is the part.
+/// What is said about a fault of a schema, except of its grammar: the part is the name given twice, or the table without a key.
 pub(crate) fn schema_form(fault: SchemaFault) -> &'static str {
     match fault {
         SchemaFault::DoubleName(_) =>
@@ -476,17 +476,17 @@ pub(crate) fn schema_to_come(expected: InSchema) -> &'static str {
     }
 }
 
-/// What is said of a schema that ends where this is to come.
+/// What is said about a schema that ends where this has to come.
 pub(crate) const SCHEMA_ENDS: &str = "the schema ends where {=}";
 
-/// What is said of a word that is no type of a column, and is near to one, which is the second part.
+/// What is said about a word that is no type of a column, and is near to one, which is the second part.
 pub(crate) const NEAR_TYPE: &str = "{} isn't a type here: did you mean {=}?";
 
-/// What is said of a word that is near to no type of a column.
+/// What is said about a word that is near to no type of a column.
 pub(crate) const NO_TYPE: &str =
     "{} isn't a type here: there are INTEGER, INT, BIGINT, TEXT, GEOMETRY, POINT, MULTIPOINT, LINESTRING, MULTILINESTRING, POLYGON, MULTIPOLYGON";
 
-/// What is said of a fault of a table of which one thing is said; of a geometry of another type than its column's that type is the part.
+/// What is said about a table's fault that has just one sentence; the part is the column's type if a geometry has another one.
 pub(crate) fn load_form(fault: LoadFault) -> &'static str {
     match fault {
         LoadFault::DoubleHeader => "case doesn't count: rename one of the two",
@@ -500,17 +500,17 @@ pub(crate) fn load_form(fault: LoadFault) -> &'static str {
     }
 }
 
-/// What is said of a key that an earlier record has: the parts are the number of that record, and that of its line.
+/// What is said about a key that an earlier record has: the parts are the number of that record, and that of its line.
 pub(crate) const EQUAL_KEYS: &str =
     "keys are unique, and record {=} on line {=} has this one: give one of the two another key";
 
-/// What a file begins with that is no table.
+/// What a file that is no table begins with.
 pub(crate) const HEADER_FRONTS: [&str; 2] = [
     "sep= => sep= is a line of Excel's: leave it out; sfq takes commas",
     "{ [ => this looks like JSON: write CSV; sfq-import reads GeoJSON",
 ];
 
-/// What is said of other files that are no tables, and of names with a blank, which are the part.
+/// What is said about other files that are no tables, and about names with a blank, which are the part.
 pub(crate) const EMPTY_FILE: &str = "the file is empty: its first line names the columns";
 
 pub(crate) const ZEROS: &str = "the file has bytes that are 0: is it UTF-16? save it as UTF-8";
@@ -519,8 +519,8 @@ pub(crate) const BLANK_BEFORE: &str = "'{}' begins with a blank: leave it out";
 
 pub(crate) const BLANK_BEHIND: &str = "'{}' ends with a blank: leave it out";
 
-/// What is said of a header without a column: one of its names is near, which is the part; else what is before and behind its names, of which some
-/// are columns, or none.
+/// What is said about a header without a column: that one of its names, which is the part, is near; else what comes before and
+/// after its names, some of which are columns, or none.
 pub(crate) const HEADER_NEAR: &str =
     "the header has {}: did you mean that? change the name here or in the schema";
 
@@ -537,7 +537,7 @@ pub(crate) const SEPARATORS: [&str; 3] = [
     "| => {} is one field: is | the separator? sfq takes commas",
 ];
 
-/// What is said of a record with more fields than the header, or fewer; of a geometry that commas cut, which is the part.
+/// What is said about a record with more fields than the header, or fewer; and about a geometry that commas cut, which is the part.
 pub(crate) const OPEN_GEOMETRY: &str = "a geometry with a comma needs quotes: \"{}\"";
 
 pub(crate) const END_COMMA: &str = "the record ends with a comma: leave it out";
@@ -552,7 +552,7 @@ pub(crate) const LINE_END: &str = "a field holds a line end: is its quote closed
 pub(crate) const FEW: &str =
     "write one field for each column of the header; leave it empty for NULL";
 
-/// What is said of a record that is past a bound, or a field.
+/// What is said about a record or a field that is past a bound.
 pub(crate) const MANY_FIELDS: &str =
     "this is field 100001 of the record, and 100000 are taken: split the table";
 
@@ -565,10 +565,10 @@ pub(crate) const OPEN_QUOTE: &str =
 pub(crate) const LONG_FIELD: &str =
     "the field that begins here has more than 1048576 bytes: shorten it, or keep it outside the table";
 
-/// What is said of a record whose fields are all empty.
+/// What is said about a record whose fields are all empty.
 pub(crate) const EMPTY_RECORD: &str = "the record's fields are all empty: leave the line out";
 
-/// What is said of a field by what it holds, which is the part, and by its column.
+/// What is said about a field, by its content, which is the part, and by its column.
 pub(crate) fn field_form(held: Held, takes: Takes) -> &'static str {
     match (held, takes) {
         (Held::Nothing | Held::Blanks | Held::Null, Takes::Key) =>
@@ -595,8 +595,8 @@ pub(crate) fn field_form(held: Held, takes: Takes) -> &'static str {
     }
 }
 
-/// What is said of a fault of a query, or how that begins: a table or a column is the part, and of a column in two tables the second part is
-/// one of these.
+/// What is said about a fault of a query, or how it begins: a table or a column is the part, and for a column in two tables one
+/// of these is the second part.
 pub(crate) fn query_form(fault: QueryFault) -> &'static str {
     match fault {
         QueryFault::UnknownTable(_) => "there is no table {}",

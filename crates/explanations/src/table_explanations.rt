@@ -21,23 +21,23 @@ use std::alloc::{AllocError, Global};
 use table_model::definitions::ROW_LIMIT;
 use table_model::faults::LoadFault;
 
-/// What was found where the records of a table with a fault were read again.
+/// What was found when the records of a table with a fault were read again.
 #[derive(Clone, Copy)]
 pub struct Found<'r> {
-    /// The line that says what is wrong, with its line feed; it comes behind the place. Nothing, if there is none.
+    /// The line that says what is wrong, with its line feed; it comes after the place. It is empty if there is none.
     pub line: &'r [u8],
-    /// The name of the column with the fault, if it is one of a column.
+    /// The name of the column with the fault, if the fault is in one.
     pub column: Option<&'r [u8]>,
     /// The number of an earlier record with the same key, from 1, if the fault is that.
     pub record: Option<usize>,
 }
 
-/// The explanation of a table's fault in the text of its file, or in a front of it that has the record of the fault: the line of the file
-/// with a caret below the place, the line that says what is wrong, and a sentence that says what to do. The place is where the field
-/// begins; of a fault of a geometry's text the byte of that, behind the quote before it; of a name given twice the second; of a record with
-/// too many fields the first of these, and of one with too few its end. Of a column that the header lacks, and of a record too many, the
-/// line alone is shown. If the text has no such place, the line that says what is wrong is all. Of a read that failed, something is said only if the text has a field or a record that is too long, or one with too
-/// many fields. The record is looked for once. At Err memory ran out (the form: this project's choice).
+/// Explains a table's fault in the text of its file, or in a front of it with the record of the fault: the line with a caret below
+/// the place, the line that says what is wrong, and a sentence that says what to do. The place is where the field begins; for a
+/// geometry's text its byte, after the quote; for a name given twice the second; for too many fields the first of these, for too
+/// few the record's end. For a column that the header lacks, and for a record too many, there is no caret. If the text has no such
+/// place, only what is wrong is said. A failed read is explained only if a field or record is too long or has too many fields. The
+/// record is searched for once. At Err memory ran out (the form: this project's choice).
 pub fn table_explained(
     alloc: Global,
     text: &[u8],
@@ -80,7 +80,7 @@ pub fn table_explained(
     Ok(lines)
 }
 
-/// The number of the record that a fault is in, if it is in one that is known: that of one too many, and 0 of the header.
+/// The number of the record that a fault is in, if that is known: its own for one record too many, and 0 for the header.
 fn record_of(fault: LoadFault) -> usize {
     match fault {
         LoadFault::UnequalRecord(number)
@@ -96,7 +96,7 @@ fn record_of(fault: LoadFault) -> usize {
     }
 }
 
-/// The record and the field that are too long, where reading failed.
+/// The record and the field that are too long, if reading failed.
 fn long_in(body: &[u8], fault: LoadFault) -> Option<(usize, usize)> {
     match fault {
         LoadFault::ReadFailed => long_field(body),
@@ -104,7 +104,7 @@ fn long_in(body: &[u8], fault: LoadFault) -> Option<(usize, usize)> {
     }
 }
 
-/// Where a record begins, looked for from where an earlier one does; before the first byte, if it isn't there.
+/// Where a record begins, searched for from an earlier one on; the spot before the first byte, if there is no such record.
 fn begin_of(body: &[u8], earlier: Option<Spot>, number: usize) -> Spot
     requires { IfSome earlier (IsSpot body.now) }
     ensures { IsSpot body.now result }
@@ -155,7 +155,7 @@ fn has_caret(fault: LoadFault) -> bool
     }
 }
 
-/// Adds the line of a sentence; nothing, if it is empty.
+/// Adds the line of a sentence; nothing if it is empty.
 fn push_said(lines: &mut Vec<u8>, sentence: &[u8]) -> Result<(), AllocError>
     ensures { OnOk result (SaysMore lines.old.items lines.new.items) }
 {
@@ -167,7 +167,7 @@ fn push_said(lines: &mut Vec<u8>, sentence: &[u8]) -> Result<(), AllocError>
     lines.extend_from_slice(b"\n")
 }
 
-/// The place of a fault, by its field; the record is looked for from a spot on.
+/// The place of a fault, by its field; the record is searched for from a spot on.
 fn fault_place(
     body: &[u8],
     from: Spot,
@@ -234,7 +234,7 @@ fn place_in_record(
     }
 }
 
-/// How many bytes behind the place where its field begins the fault of a geometry is: that of its text, behind the quote.
+/// How many bytes after the beginning of its field the fault of a geometry is: for a fault of its text, after the quote.
 fn behind(body: &[u8], place: usize, why: GeometryFault) -> usize
     ensures { result ≡ min (spec.behind body.now place why) fields.most }
 {
@@ -258,7 +258,7 @@ fn quote_at(body: &[u8], place: usize) -> usize
     0
 }
 
-/// The number of the field that a fault is in, if it is in one; where reading failed, none is looked for.
+/// The number of the field that a fault is in, if it is in one; None if reading failed.
 fn field_of(
     alloc: Global,
     table: &TableDef,
@@ -278,7 +278,7 @@ fn field_of(
     }
 }
 
-/// The place in the definition of the column with the fault: that of the key, where two records have the same.
+/// The place in the definition of the column with the fault: that of the key, if two records have the same.
 fn column_of(table: &TableDef, fault: LoadFault, found: &Found<'_>) -> Option<usize> {
     if let LoadFault::DoubleKey(_) = fault {
         return Some(table.key);
@@ -286,7 +286,7 @@ fn column_of(table: &TableDef, fault: LoadFault, found: &Found<'_>) -> Option<us
     place_of_column(table, found.column?)
 }
 
-/// The number of the field of a fault, which the header has under the name of its column; of a name given twice, the second field of that name.
+/// The number of the field of a fault, under the name of its column in the header; for a name given twice, the second such field.
 fn named_field(
     alloc: Global,
     table: &TableDef,
@@ -307,7 +307,7 @@ fn named_field(
     Ok(None)
 }
 
-/// A field as it is written; nothing, if there is none.
+/// A field as it is written; empty, if there is none.
 fn field_text(body: &[u8], from: Spot, number: usize, field: Option<usize>) -> &[u8]
     requires { IsSpot body.now from }
 {
@@ -320,7 +320,7 @@ fn field_text(body: &[u8], from: Spot, number: usize, field: Option<usize>) -> &
     }
 }
 
-/// The number of the line of a spot behind the byte order mark of a text; 0, if there is none.
+/// The number of the line of a spot after the byte order mark of a text; 0, if there is none.
 fn line_at(text: &[u8], spot: Option<Spot>) -> usize
     requires { IfSome spot (IsSpot (fields.without_mark text.now)) }
 {
@@ -330,8 +330,8 @@ fn line_at(text: &[u8], spot: Option<Spot>) -> usize
     }
 }
 
-/// What is said of a table that is loaded, and in which a field holds a line end: the place of the field and a sentence, if that is
-/// the last and its quote isn't closed; else nothing. The number of the record and that of the field are from 1. At Err memory ran out.
+/// What is said about a loaded table in which a field has a line end: the place of the field and a sentence, if that is the last
+/// and its quote isn't closed; else nothing. The numbers of the record and the field count from 1. At Err memory ran out.
 pub fn open_quote_explained(
     alloc: Global,
     text: &[u8],

@@ -1,4 +1,4 @@
-//! What is said of a table's fault: what is there and what to do, by the field, its record and the header.
+//! What is said about a table's fault: what is there and what to do, by the field, its record and the header.
 
 use crate::field_places::{FIELD_BYTES, RECORD_FIELDS};
 use crate::geometry_sentences::{TYPES, advice, opened, text_sentence};
@@ -21,7 +21,7 @@ use sql_text::{ColumnDef, TableDef};
 use std::alloc::{AllocError, Global};
 use table_model::faults::LoadFault;
 
-/// What a sentence may speak of.
+/// What a sentence may be about.
 #[derive(Clone, Copy)]
 pub(crate) struct Near<'t> {
     /// The definition of the table.
@@ -39,7 +39,7 @@ pub(crate) struct Near<'t> {
     pub(crate) line: usize,
 }
 
-/// Which column a field is of: the key, one that takes NULL, or one that doesn't.
+/// The kind of a field's column: the key, one that accepts NULL, or one that doesn't.
 #[derive(Clone, Copy, PartialEq, Eq)]
 pub(crate) enum Takes {
     Key,
@@ -47,10 +47,10 @@ pub(crate) enum Takes {
     Value,
 }
 
-/// What a field of numbers or of geometries holds that it can't.
+/// What is in a field of numbers or of geometries that can't be there.
 #[derive(Clone, Copy, PartialEq, Eq)]
 pub(crate) enum Held {
-    /// Nothing; blanks alone; and a word for NULL.
+    /// Nothing; only blanks; and a word for NULL.
     Nothing,
     Blanks,
     Null,
@@ -66,7 +66,7 @@ pub(crate) enum Held {
     Text,
 }
 
-/// The sentence of a table's fault; nothing of one that has none.
+/// The sentence about a table's fault; empty for one that has none.
 pub(crate) fn table_sentence(alloc: Global, fault: LoadFault, near: &Near<'_>) -> Said {
     match fault {
         LoadFault::MissingColumn => header_sentence(alloc, near),
@@ -96,7 +96,7 @@ fn column_of<'t>(near: &Near<'t>) -> Option<&'t ColumnDef> {
     near.table.columns.as_slice().get(near.column?)
 }
 
-/// Which column the field is of.
+/// The kind of the field's column.
 fn kind_of_column(near: &Near<'_>) -> Takes {
     match column_of(near) {
         _ if near.column == Some(near.table.key) => Takes::Key,
@@ -105,7 +105,7 @@ fn kind_of_column(near: &Near<'_>) -> Takes {
     }
 }
 
-/// What is said of an empty field.
+/// What is said about an empty field.
 fn null_form(near: &Near<'_>) -> &'static str {
     if near.record.iter().all(|byte| *byte == b',') {
         EMPTY_RECORD
@@ -121,7 +121,7 @@ const FIELDS: usize = 1000;
 
 const NAME_BYTES: usize = 64;
 
-/// The sentence of a header that lacks a column.
+/// The sentence about a header that lacks a column.
 fn header_sentence(alloc: Global, near: &Near<'_>) -> Said {
     let header = near.header;
     if let Some(form) = other_file(header) {
@@ -140,7 +140,7 @@ fn header_sentence(alloc: Global, near: &Near<'_>) -> Said {
     name_sentence(alloc, near, fields.as_slice())
 }
 
-/// What is said of a file that is no table, by the line that it begins with.
+/// What is said about a file that is no table, by the line that it begins with.
 fn other_file(header: &[u8]) -> Option<&'static str> {
     if header.is_empty() {
         Some(EMPTY_FILE)
@@ -151,7 +151,7 @@ fn other_file(header: &[u8]) -> Option<&'static str> {
     }
 }
 
-/// The place of the column of this name.
+/// The place of the column with this name.
 pub(crate) fn place_of_column(table: &TableDef, name: &[u8]) -> Option<usize> {
     table
         .columns
@@ -173,7 +173,7 @@ fn separator_form(record: &[u8]) -> Option<&'static str> {
     None
 }
 
-/// The sentence of a header by its names: one is near to the column's, none is a column's, or the column's isn't there.
+/// The sentence about a header by its names: one is near to the column's, none is a column's, or the column's isn't there.
 fn name_sentence(alloc: Global, near: &Near<'_>, fields: &[&[u8]]) -> Said {
     let mut names: Vec<&[u8]> = Vec::new(alloc);
     let mut others: Vec<&[u8]> = Vec::new(alloc);
@@ -204,7 +204,7 @@ fn name_sentence(alloc: Global, near: &Near<'_>, fields: &[&[u8]]) -> Said {
 
 // ---- records
 
-/// The sentence of a record with more or fewer fields than the header.
+/// The sentence about a record with more or fewer fields than the header.
 fn length_sentence(alloc: Global, near: &Near<'_>) -> Said {
     let record = near.record;
     let fields = fields_of(alloc, record, FIELDS)?;
@@ -251,7 +251,7 @@ fn balanced(text: &[u8]) -> &[u8] {
     text
 }
 
-/// The sentence of a key that an earlier record has.
+/// The sentence about a key that an earlier record has.
 fn key_sentence(alloc: Global, near: &Near<'_>) -> Said {
     if near.earlier == 0 {
         return say(alloc, load_form(LoadFault::DoubleKey(0)), &[]);
@@ -264,7 +264,7 @@ fn key_sentence(alloc: Global, near: &Near<'_>) -> Said {
     say(alloc, EQUAL_KEYS, &parts)
 }
 
-/// What is said of a field of this number that is too long or one too many, or that is the first of a record that is too long.
+/// What is said about a field of this number that is too long or one too many, or that is the first of a record that is too long.
 fn long_form(field: &[u8], number: usize) -> &'static str {
     if number >= RECORD_FIELDS {
         MANY_FIELDS
@@ -279,7 +279,7 @@ fn long_form(field: &[u8], number: usize) -> &'static str {
 
 // ---- fields
 
-/// The sentence of a field that isn't a whole number.
+/// The sentence about a field that isn't a whole number.
 fn integer_sentence(alloc: Global, near: &Near<'_>) -> Said {
     let value = unquoted(alloc, near.field)?;
     let text = trimmed_back(trimmed(value.as_slice()));
@@ -291,7 +291,7 @@ fn integer_sentence(alloc: Global, near: &Near<'_>) -> Said {
     say(alloc, field_form(held, kind_of_column(near)), &[text])
 }
 
-/// What a field holds that is no whole number, without the blanks around it.
+/// What is in a field that is no whole number, without the blanks around it.
 fn held_in(text: &[u8]) -> Held {
     let digits = unsigned(text);
     if text.is_empty() {
@@ -317,7 +317,7 @@ fn held_in(text: &[u8]) -> Held {
     }
 }
 
-/// Whether a text is a date, as 2026-01-31.
+/// Whether a text is a date, such as 2026-01-31.
 fn is_date(text: &[u8]) -> bool {
     let (year, month) = (front(text, 4), rest(text, 5));
     let day = rest(month, 3);
@@ -333,7 +333,7 @@ fn unsigned(text: &[u8]) -> &[u8] {
     text
 }
 
-/// What is behind the digits at a text's beginning.
+/// What comes after the digits at a text's beginning.
 fn after_digits(text: &[u8]) -> &[u8] {
     let end = text.iter().position(|byte| !byte.is_ascii_digit());
     rest(text, end.unwrap_or(text.len()))
@@ -360,7 +360,7 @@ fn is_of_numbers(byte: &u8) -> bool {
     byte.is_ascii_digit() || b",.'-+ ".contains(byte)
 }
 
-/// The sentence of a field that isn't the text of a valid geometry.
+/// The sentence about a field that isn't the text of a valid geometry.
 fn geometry_sentence(alloc: Global, near: &Near<'_>, why: GeometryFault) -> Said {
     let value = unquoted(alloc, near.field)?;
     let text = value.as_slice();

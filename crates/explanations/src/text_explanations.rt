@@ -40,7 +40,7 @@ pub fn validity_explained(
     explained(alloc, text, None, advice(fault, text).as_bytes())
 }
 
-/// What is said of a geometry that is refused: what is there and what to do, or what to do about one that isn't valid. At Err memory ran out.
+/// What is said about a refused geometry: what is there and what to do, or how to mend an invalid one. At Err memory ran out.
 pub fn geometry_said(
     alloc: Global,
     text: &[u8],

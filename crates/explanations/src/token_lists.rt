@@ -18,7 +18,7 @@ pub(crate) fn kind_of(tokens: &[Token<'_>], place: usize) -> TokenKind {
     }
 }
 
-/// The place so many before another; past every list, if there is none.
+/// The place that is `count` before another; past the end of every list if there is none.
 pub(crate) fn back(place: usize, count: usize) -> usize {
     if count <= place {
         place - count
@@ -40,7 +40,7 @@ pub(crate) fn compares(kind: TokenKind) -> bool {
     is_order(kind) || matches!(kind, TokenKind::Equal | TokenKind::NotEqual)
 }
 
-/// The place of the word before the parenthesis at a place, which calls a function; none, if no word is there.
+/// The place of the word before the parenthesis at a place, which calls a function; None if no word is there.
 pub(crate) fn called_by(tokens: &[Token<'_>], place: usize) -> Option<usize> {
     let before = back(place, 1);
     if kind_of(tokens, before) == TokenKind::Word {

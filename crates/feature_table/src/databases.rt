@@ -27,8 +27,8 @@ pub(crate) enum HeldTables<'s, I: EnvelopeIndex> {
     Lent(&'s Vec<Table<I>>),
 }
 
-/// The tables of a schema, which it borrows: lawful definitions, and for each the rows of its table
-/// (06-104r4, feature tables).
+/// The tables of a schema, which it borrows: lawful definitions, and for each the rows of its table (06-104r4, feature
+/// tables).
 #[derive(Drop)]
 pub struct Database<'s, I: EnvelopeIndex> {
     schema: &'s Schema,
@@ -49,7 +49,7 @@ impl<'s, I: EnvelopeIndex> Model for Database<'s, I> {
         IsDatabase takes (record { definitions = d.schema.now; tables = rows_of d.tables }) };
 }
 
-/// Loads the table at a place of a schema, and adds that place to a fault. The header and the records are read into `last`.
+/// Loads the table at a place of a schema. A fault has that place added. The header and the records are read into `last`.
 fn load_table<I: EnvelopeIndex + Drop, R: Read + Drop>(
     alloc: Global,
     schema: &Schema,
@@ -77,7 +77,7 @@ fn load_table<I: EnvelopeIndex + Drop, R: Read + Drop>(
     }
 }
 
-/// Loads the tables of a schema in its order, each from the CSV text of one reader, whose header and records are read into `last`.
+/// Loads the tables of a schema in order, each from the CSV text of one reader. Their headers and records are read into `last`.
 fn load_tables<I: EnvelopeIndex + Drop, R: Read + Drop>(
     alloc: Global,
     schema: &Schema,
@@ -103,11 +103,10 @@ fn load_tables<I: EnvelopeIndex + Drop, R: Read + Drop>(
 }
 
 impl<'s, I: EnvelopeIndex + Drop> Database<'s, I> {
-    /// Loads the tables of a schema in its order, each from the CSV text of one reader. The answer is the
-    /// first fault where there is one, with its table: `Table::load` says which. So also a fault of reading
-    /// is that of the first table whose reading failed: each table before it has loaded. Whatever the readers
-    /// are, there are records of which this is the answer, and at Ok the tables are those of a database
-    /// (06-104r4, feature tables).
+    /// Loads the tables of a schema in its order, each from the CSV text of one reader. The error is the first fault,
+    /// if there is one, with its table: `Table::load` says which fault is the first. So a fault of reading is that of
+    /// the first table whose reading failed, and each table before it has loaded. Whatever the readers return, there
+    /// are records that give this result, and at Ok the tables are those of a database (06-104r4, feature tables).
     pub fn load<R: Read + Drop>(
         alloc: Global,
         schema: &'s Schema,
@@ -127,9 +126,9 @@ impl<'s, I: EnvelopeIndex + Drop> Database<'s, I> {
         Database::load_into(alloc, schema, readers, &mut LastRecords::new(alloc))
     }
 
-    /// Like `Database::load`, but the header and the records of each table are read into `last`. If a table has a fault, its header is
-    /// left there, and the record that shows the fault. A caller that shows them needs no second reading of the text. No record shows a
-    /// fault of the header, a repeated key, a row too many, a fault of reading or that memory ran out.
+    /// Like `Database::load`, but reads the header and the records of each table into `last`. If a table has a fault, its
+    /// header and the record with the fault are left there, so a caller that shows them needn't read the text again. No
+    /// record shows a fault of the header, a repeated key, a row too many, a fault of reading, or that memory ran out.
     pub fn load_into<R: Read + Drop>(
         alloc: Global,
         schema: &'s Schema,
@@ -156,7 +155,7 @@ impl<'s, I: EnvelopeIndex + Drop> Database<'s, I> {
         })
     }
 
-    /// The database of a schema and of tables that something else keeps, one for each definition. It takes no memory.
+    /// Makes a database from a schema and from tables that something else keeps, one for each definition. It needs no memory.
     pub fn lent(schema: &'s Schema, tables: &'s Vec<Table<I>>) -> Database<'s, I>
         requires { IsDatabase takes (record { definitions = schema.now; tables = tables.now.items }) }
         ensures { result ≡ record { definitions = schema.entry.now; tables = tables.entry.now.items } }
@@ -167,8 +166,8 @@ impl<'s, I: EnvelopeIndex + Drop> Database<'s, I> {
         }
     }
 
-    /// Lends the definitions of the tables, in the order of the schema. With its tables they are a database
-    /// (06-104r4, feature tables).
+    /// Lends the definitions of the tables, in the order of the schema. With its tables they are a database (06-104r4,
+    /// feature tables).
     pub fn definitions(&self) -> &'s [TableDef]
         ensures value { result.now ≡ self.now.definitions }
         ensures database { IsDatabase takes self.now }

@@ -17,17 +17,17 @@ use table_model::faults::LoadFault;
 use table_model::texts::OwnedText;
 use table_model::values::Value;
 
-/// Ten times this number, and a digit more, are within the 64 bits of a number with a sign.
+/// Ten times a number up to this one, with one more digit, fits in 64 bits with a sign.
 const GREATEST_TENTH: u64 = 922_337_203_685_477_579;
 
-/// Whether a byte is a blank, which may be around a number: a space or a tab.
+/// Whether a byte is a blank: a space or a tab, which a number may have around it.
 fn is_blank(byte: u8) -> bool
     ensures { result ≡ spec.is_space_or_tab byte }
 {
     byte == b' ' || byte == b'\t'
 }
 
-/// How many blanks are at the front of a text.
+/// The number of blanks at the front of a text.
 fn blanks_at_front(text: &[u8]) -> usize
     ensures within { result ≤ length text.now }
     ensures count { result ≡ prefix_len spec.is_space_or_tab text.now }
@@ -35,7 +35,7 @@ fn blanks_at_front(text: &[u8]) -> usize
     text.iter().take_while(|byte| is_blank(**byte)).count()
 }
 
-/// How many blanks are at the end of a text.
+/// The number of blanks at the end of a text.
 fn blanks_at_end(text: &[u8]) -> usize
     ensures within { result ≤ length text.now }
     ensures count { result ≡ prefix_len spec.is_space_or_tab (reverse text.now) }
@@ -46,7 +46,7 @@ fn blanks_at_end(text: &[u8]) -> usize
         .count()
 }
 
-/// A text from a place on.
+/// The rest of a text from a place on.
 fn from_place(text: &[u8], place: usize) -> &[u8]
     requires { place ≤ length text.now }
     ensures { result.now ≡ drop place text.now }
@@ -74,7 +74,7 @@ fn digit_of(byte: u8) -> Option<u64>
     Some((byte - b'0') as u64)
 }
 
-/// The whole number that digits write. None if there are other bytes, or if the number may have more than 64 bits.
+/// The whole number that digits spell; None if there are other bytes, or if the number may have more than 64 bits.
 fn digits_in(text: &[u8]) -> Option<i64>
     ensures { IfSome result (λ n. spec.number_in text.now ≡ Some n) }
 {
@@ -92,7 +92,7 @@ fn digits_in(text: &[u8]) -> Option<i64>
     Some(number as i64)
 }
 
-/// The whole number that a text writes, if it writes one of 64 bits. Most texts are digits alone.
+/// The whole number of 64 bits that a text spells, or None. A text of digits alone, as most are, is read faster.
 fn number_in(text: &[u8]) -> Option<i64>
     ensures { result ≡ spec.number_in text.now }
 {
@@ -102,7 +102,7 @@ fn number_in(text: &[u8]) -> Option<i64>
     parsed_number(text)
 }
 
-/// The whole number that a text writes, whatever its bytes; None if it writes none of 64 bits.
+/// The whole number of 64 bits that a text spells, whatever its bytes; None if it spells none.
 fn parsed_number(text: &[u8]) -> Option<i64>
     ensures { result ≡ spec.number_in text.now }
 {
@@ -112,7 +112,7 @@ fn parsed_number(text: &[u8]) -> Option<i64>
     }
 }
 
-/// The whole number of 64 bits that a field writes, perhaps with blanks around it; None if it writes none (SQL, INTEGER).
+/// The whole number of 64 bits that a field spells, perhaps with blanks around it; None if it spells none (SQL, INTEGER).
 #[tactic(auto, unfolding(table_model::specs::Loading::integer_of))]
 pub fn integer_of(field: &[u8]) -> Option<i64>
     ensures { result ≡ spec.integer_of field.now }
@@ -120,7 +120,7 @@ pub fn integer_of(field: &[u8]) -> Option<i64>
     number_in(trimmed(field))
 }
 
-/// The value of a field in a column, of the record with this number: an empty field is null.
+/// The value of a field in a column, where the number is that of the record. An empty field is null.
 #[tactic(auto, unfolding(table_model::specs::Loading::value_of))]
 pub(crate) fn value_of(
     alloc: Global,

@@ -1,4 +1,4 @@
-//! Rows of one width, kept one after another.
+//! Rows with the same number of values, kept one after another.
 
 ghost use Rattle.std.specs.Prelude.{◌≡◌, ◌*◌, ◌<◌, Some, length, slice_get};
 ghost use Rattle.feature_table.specs.FlatRows.{first_rows};
@@ -11,18 +11,18 @@ use std::marker::Model;
 pub(crate) struct ReadRows {
     /// The values, row after row.
     pub(crate) values: Values,
-    /// How many rows there are.
+    /// The number of rows.
     pub(crate) count: usize,
 }
 
-/// Rows of one width, one after another. Contracts see them as the list of these rows.
+/// Rows with the same number of values, one after another. Contracts see them as a list of rows.
 #[derive(Drop)]
 pub struct FlatRows {
-    /// The values, row after row: for each as many as there are columns.
+    /// The values, row after row: each row has as many as there are columns.
     values: Values,
-    /// How many values a row has.
+    /// The number of values in a row.
     width: usize,
-    /// How many rows there are.
+    /// The number of rows.
     count: usize,
 }
 
@@ -40,7 +40,7 @@ impl Model for FlatRows {
 }
 
 impl FlatRows {
-    /// The rows of this width that the values are, this many.
+    /// Makes rows from these values: the width is the number of values in a row, and the count is the number of rows.
     pub(crate) fn new(values: Values, width: usize, count: usize) -> FlatRows
         requires { length values ≡ count * width }
         ensures { result ≡ first_rows width values count }
@@ -52,7 +52,7 @@ impl FlatRows {
         }
     }
 
-    /// How many rows there are.
+    /// The number of rows.
     pub fn len(&self) -> usize
         ensures { result ≡ length self.now }
     {

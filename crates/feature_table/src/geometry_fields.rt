@@ -1,4 +1,4 @@
-//! What is in a geometry column: how a field is read as a geometry of its type.
+//! Geometry columns: how a field is read as a geometry of its column's type.
 
 ghost use Rattle.std.specs.Prelude.{◌≡◌, IfErr, false};
 ghost use Rattle.feature_table.specs.GeometryFields.{reading};
@@ -13,10 +13,10 @@ use std::alloc::Global;
 use table_model::faults::LoadFault;
 use validity::{Valid, read_valid};
 
-/// A geometry of a field (06-103r4, 6.1).
+/// The geometry in a field (06-103r4, 6.1).
 pub type Geometry = Valid;
 
-/// Whether a column takes geometries of a type.
+/// Whether a column can contain geometries of a type.
 fn takes_type(shape: ColumnShape, geometry_type: GeometryType) -> bool
     ensures { result ≡ spec.takes_type shape geometry_type }
 {
@@ -26,8 +26,8 @@ fn takes_type(shape: ColumnShape, geometry_type: GeometryType) -> bool
     }
 }
 
-/// The geometry of a field in a column of this type, of the record with this number: its text is read first, then its
-/// validity is tested, then its type.
+/// The geometry of a field in a column of this type, where the number is that of the record. Its text is read first,
+/// then its validity is tested, then its type.
 pub(crate) fn geometry_of(
     alloc: Global,
     number: usize,

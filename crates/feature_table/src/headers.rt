@@ -1,4 +1,4 @@
-//! Where the columns of a table are in a header.
+//! The places of a table's columns in a header.
 
 ghost use Rattle.std.specs.Prelude.{◌≡◌, ◌≢◌, [], IfErr, IfOk, MatchResult, None, Some, false, length, vec_len};
 ghost use Rattle.std.specs.List.{slice_index_or};
@@ -14,23 +14,23 @@ use std::alloc::Global;
 use table_model::faults::LoadFault;
 use table_model::texts::same_name;
 
-/// Where a table finds its columns in a header.
+/// Where the columns of a table are in a header.
 #[derive(Drop)]
 pub struct Layout {
     /// The place in the header of each column, in the order of the columns.
     pub places: Vec<usize>,
-    /// How many fields the header has.
+    /// The number of fields in the header.
     pub width: usize,
 }
 
-/// The field of a record at a place; empty if there is none.
+/// The field at a place of a record; empty if the record has no such place.
 pub fn field_at(record: &ByteRecord, place: usize) -> &[u8]
     ensures { result.now ≡ slice_index_or (fields_of record.now) place [] }
 {
     record.get(place).unwrap_or(&[])
 }
 
-/// The place of the one field of a header that has this name; MissingColumn if none has it, DoubleHeader if several have.
+/// The place of the only field of a header with this name. The error is MissingColumn if none has it, DoubleHeader if several do.
 fn place_of(header: &ByteRecord, name: &[u8]) -> Result<usize, LoadFault>
     ensures not_reading { IfErr result (λ f. is_of_reading f ≡ false) }
     ensures place { MatchResult result
@@ -50,7 +50,7 @@ fn place_of(header: &ByteRecord, name: &[u8]) -> Result<usize, LoadFault>
     found.ok_or(LoadFault::MissingColumn)
 }
 
-/// Where each column is in a header, or the first fault of a column's name there.
+/// The place of each column in a header. The error is the first fault of a column's name there.
 pub fn layout_of(
     alloc: Global,
     columns: &[ColumnDef],

@@ -13,17 +13,17 @@ use rtree::{Envelope, EnvelopeIndex};
 use sql_text::{ColumnType, TableDef};
 use std::alloc::{AllocError, Global};
 
-/// An index for each geometry column, and one that all other columns share, which lists an absent envelope for each row.
+/// An index for each geometry column, and one index for all other columns, which lists an absent envelope for each row.
 #[derive(Drop)]
 pub struct Indexes<I> {
-    /// For each column its own index, where there is one.
+    /// For each column its own index, if it is a geometry column.
     own: Vec<Option<I>>,
-    /// The index of a column that holds no geometry.
+    /// The index of the columns that have no geometries.
     bare: I,
 }
 
 impl<I: EnvelopeIndex + Drop> Indexes<I> {
-    /// The indexes of the columns of a table. It fails only when memory runs out.
+    /// Builds the indexes of the columns of a table. It fails only when memory runs out.
     pub fn build(alloc: Global, table: &TableDef, rows: &FlatRows) -> Result<Indexes<I>, AllocError>
         requires { AreRows takes table.now rows.now }
         ensures { IfOk result (λ indexes. ListColumns I.indexed rows.now indexes) }
@@ -50,7 +50,7 @@ impl<I: EnvelopeIndex + Drop> Indexes<I> {
     }
 }
 
-/// The index of a column of geometries; other columns have none of their own.
+/// Builds the index of a geometry column. Other columns have no index of their own.
 fn own_index<I: EnvelopeIndex + Drop>(
     alloc: Global,
     column_type: &ColumnType,
@@ -67,7 +67,7 @@ fn own_index<I: EnvelopeIndex + Drop>(
     }
 }
 
-/// The index of what is in a column.
+/// Builds the index of the geometries in a column.
 fn index_of<I: EnvelopeIndex + Drop>(
     alloc: Global,
     rows: &FlatRows,
@@ -82,7 +82,7 @@ fn index_of<I: EnvelopeIndex + Drop>(
     I::build(alloc, envelopes.as_slice())
 }
 
-/// The index of as many absent envelopes as there are rows.
+/// Builds an index of as many absent envelopes as there are rows.
 fn bare_index<I: EnvelopeIndex + Drop>(alloc: Global, rows: &FlatRows) -> Result<I, AllocError>
     ensures { IfOk result (λ index. I.indexed index ≡ map absent rows.now) }
 {
@@ -93,7 +93,7 @@ fn bare_index<I: EnvelopeIndex + Drop>(alloc: Global, rows: &FlatRows) -> Result
     I::build(alloc, envelopes.as_slice())
 }
 
-/// The envelope of what is in a column of a row.
+/// The envelope of the geometry in a column of a row, if there is one.
 fn envelope_in(row: &Row<'_>, column: usize) -> Option<Envelope>
     ensures { result ≡ field_envelope (field_in column row.now) }
 {

@@ -21,7 +21,7 @@ use std::collections::BTreeSet;
 use table_model::faults::LoadFault;
 use table_model::values::Value;
 
-/// The number at the key's place of a row.
+/// The number in a row at the place of the key.
 pub fn key_of(row: &[Value<Geometry>], key: usize) -> i64
     ensures { result ≡ spec.key_of key row.now }
 {
@@ -31,7 +31,7 @@ pub fn key_of(row: &[Value<Geometry>], key: usize) -> i64
     }
 }
 
-/// The number at the key's place of a row that is lent.
+/// The number in a lent row at the place of the key.
 fn key_in(row: &Row<'_>, key: usize) -> i64
     ensures { result ≡ spec.key_of key row.now }
 {
@@ -41,7 +41,7 @@ fn key_in(row: &Row<'_>, key: usize) -> i64
     }
 }
 
-/// The keys of the first rows of this width, this many.
+/// The keys of the first `count` rows, which have this width.
 fn keys_of(
     alloc: Global,
     values: &Values,
@@ -60,7 +60,7 @@ fn keys_of(
     Ok(keys)
 }
 
-/// Whether each key is below the next.
+/// Whether each key is less than the next.
 fn ascend(keys: &[i64]) -> bool
     ensures { IsAllAdjacentAnswer (λ key next below. below ≡ int_lt key next) keys.now result }
 {
@@ -81,21 +81,21 @@ pub fn double_key(alloc: Global, keys: &[i64]) -> Result<Option<usize>, AllocErr
     Ok(None)
 }
 
-/// The first places, this many, from 0.
+/// The places from 0 to just below `count`.
 fn first_places(alloc: Global, count: usize) -> Result<Vec<usize>, AllocError>
     ensures { IfOk result (λ places. places.items ≡ range_with_len 0 count) }
 {
     (0..count).collect(alloc)
 }
 
-/// A place beside the key there, so that the sort looks into no row.
+/// A place with the key that is there, so that sorting by key needn't look into the rows.
 #[derive(Drop)]
 pub(crate) struct KeyPlace {
     number: i64,
     place: usize,
 }
 
-/// The places of keys, each beside its key.
+/// The places of keys, each with its key.
 fn with_places(alloc: Global, keys: &[i64]) -> Result<Vec<KeyPlace>, AllocError>
     ensures { IfOk result (λ keyed. keyed.items ≡ map (key_place keys.now) (range_with_len 0 (length keys.now))) }
 {
@@ -109,14 +109,14 @@ fn with_places(alloc: Global, keys: &[i64]) -> Result<Vec<KeyPlace>, AllocError>
     Ok(keyed)
 }
 
-/// The places of those that are beside their keys.
+/// The places without their keys.
 fn places_of(alloc: Global, keyed: &[KeyPlace]) -> Result<Vec<usize>, AllocError>
     ensures { IfOk result (λ places. places.items ≡ map (λ k. k.place) keyed.now) }
 {
     keyed.iter().map(|key_place| key_place.place).collect(alloc)
 }
 
-/// Sorts places that are beside their keys into the order of the keys.
+/// Sorts places by their keys.
 fn sort_keyed(keyed: &mut Vec<KeyPlace>)
     ensures moved { IsPermutation keyed.old.items keyed.new.items }
     ensures sorted { IsSortedByKey (λ k. k.number) int_cmp keyed.new.items }
@@ -124,15 +124,15 @@ fn sort_keyed(keyed: &mut Vec<KeyPlace>)
     keyed.sort_unstable_by_key(|key_place| key_place.number);
 }
 
-/// Whether each key is below the next, of places that are beside their keys.
+/// Whether the key of each place is less than that of the next.
 fn keyed_ascend(keyed: &[KeyPlace]) -> bool
     ensures { IsAllAdjacentAnswer (λ place next below. below ≡ int_lt place.number next.number) keyed.now result }
 {
     keyed.is_sorted_by(|place, next| place.number < next.number)
 }
 
-/// The number, from 1, of the first key that equals an earlier one. The places are beside the same keys, sorted: if these
-/// strictly ascend, there is none, and no set of keys is made.
+/// The number, from 1, of the first key that equals an earlier one. `keyed` has these keys with their places, sorted.
+/// If the keys strictly ascend there, no two are equal, and no set of keys is made.
 fn double_among(
     alloc: Global,
     keys: &[i64],

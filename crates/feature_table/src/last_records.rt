@@ -6,18 +6,18 @@ ghost use Rattle.csv.specs.Records.{fields_of};
 use csv::ByteRecord;
 use std::alloc::Global;
 
-/// The header of a table and the record that was read last. Who loads a table lends them, and finds there what a fault of the table is
-/// in: loading reads into them, so they cost nothing while there is no fault.
+/// The header of a table and the record that was read last. A caller that loads a table lends them, and finds there the
+/// record that has a fault. Loading reads into them anyway, so they cost nothing if there is no fault.
 #[derive(Drop)]
 pub struct LastRecords {
     /// The header.
     pub header: ByteRecord,
-    /// The record that was read last, behind the header.
+    /// The record that was read last, after the header.
     pub record: ByteRecord,
 }
 
 impl LastRecords {
-    /// Before a table: both are empty.
+    /// Makes both empty, as they are before a table is loaded.
     pub fn new(alloc: Global) -> LastRecords
         ensures header { fields_of result.header ≡ [] }
         ensures record { fields_of result.record ≡ [] }

@@ -1,5 +1,5 @@
-//! Feature tables in the style of OGC 06-104r4 (Simple Features, part 2): lawful schemas; records of CSV; tables of typed rows by
-//! ascending key, loaded from them, with an index for each geometry column; databases.
+//! Feature tables in the style of OGC 06-104r4 (Simple Features, part 2): lawful schemas, records of CSV, databases,
+//! and tables of typed rows that are loaded from records, ascend by key and have an index for each geometry column.
 #![tactic(auto)]
 
 mod cells;

@@ -23,8 +23,8 @@ use std::io::Read;
 use table_model::definitions::ROW_LIMIT;
 use table_model::faults::LoadFault;
 
-/// Reads the next record, appends its row to those of earlier records, and returns whether there was one. A record that has a fault is
-/// left in `record`.
+/// Reads the next record, appends its row to those of earlier records, and returns whether there was one. A record that
+/// has a fault is left in `record`.
 fn push_next_row<R: Read + Drop>(
     alloc: Global,
     table: &TableDef,
@@ -59,8 +59,8 @@ fn push_next_row<R: Read + Drop>(
     Ok(true)
 }
 
-/// Reads the records after the header, each into `record`, and returns their rows or the first fault. TooManyRows is the fault of the
-/// first record that is too many. A record that has a fault is left in `record`.
+/// Reads the records after the header, each into `record`, and returns their rows or the first fault. TooManyRows is
+/// the fault of the first record over the limit. A record that has a fault is left in `record`.
 pub(crate) fn read_rows<R: Read + Drop>(
     alloc: Global,
     table: &TableDef,

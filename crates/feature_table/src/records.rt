@@ -1,4 +1,4 @@
-//! The records of a table's CSV text, as `csv` reads them.
+//! The records of a table's CSV text, as the crate `csv` reads them.
 
 ghost use Rattle.std.specs.Prelude.{◌≡◌, ◌+◌, ◌<◌, [], ℕ, IfErr, IfOk, List, OnErr, OnOk, Some, false, true, if◌then◌else◌};
 ghost use Rattle.csv.specs.Reading.{error_kind, is_io};
@@ -14,18 +14,18 @@ use std::alloc::Global;
 use std::io::Read;
 use table_model::faults::LoadFault;
 
-/// The records of a table's CSV text, with the header, read one by one. At most 100,002 are asked for: the header, as many
-/// as a table may have rows, and one that shows that there are more.
+/// The records of a table's CSV text, with the header, read one by one. At most 100,002 are read: the header, the
+/// 100,000 rows that a table may have, and one more, which shows that there are too many.
 #[derive(Drop)]
 pub struct Records<R> {
     reader: Reader<R>,
-    /// How many records `csv` was asked for.
+    /// How many records were asked of `csv`.
     asked: usize,
-    /// Whether `csv` returned the last time that reading failed.
+    /// Whether the last call of `csv` reported that reading failed.
     read_failed: bool,
 }
 
-/// A reader of records: no header is set apart, and records may differ in length.
+/// Makes a reader of records. It treats the header as a record, and the records may differ in length.
 pub fn record_reader<R: Read + Drop>(alloc: Global, reader: R) -> Reader<R>
     ensures steady { IsSteady result }
     ensures gives { (text : List ℕ) → R.remaining reader ≡ Some text
@@ -38,7 +38,7 @@ pub fn record_reader<R: Read + Drop>(alloc: Global, reader: R) -> Reader<R>
 }
 
 impl<R: Read + Drop> Records<R> {
-    /// The records of the CSV text that a reader gives. None is read yet.
+    /// Makes the records of the CSV text that a reader gives. None is read yet.
     pub fn new(alloc: Global, reader: R) -> Records<R>
         ensures ready { IsReady result }
         ensures none { asked result ≡ 0 }
@@ -53,22 +53,22 @@ impl<R: Read + Drop> Records<R> {
         }
     }
 
-    /// How many records `csv` was asked for.
+    /// How many records were asked of `csv`.
     pub fn asked(&self) -> usize
         ensures { result ≡ asked self.now }
     {
         self.asked
     }
 
-    /// Whether `csv` returned the last time that reading failed.
+    /// Whether the last call of `csv` reported that reading failed.
     pub fn read_failed(&self) -> bool
         ensures { result ≡ read_failed self.now }
     {
         self.read_failed
     }
 
-    /// Asks `csv` for the next record, and returns whether there is one. An error is that of `csv`: reading failed or memory ran
-    /// out. It leaves the record empty, and no record is asked for after it.
+    /// Asks `csv` for the next record, and returns whether there is one. The error is that of `csv`: reading failed or
+    /// memory ran out. After an error the record is empty, and no more records are asked for.
     pub fn read(&mut self, record: &mut ByteRecord) -> Result<bool, Error>
         requires ready { IsReady self.old }
         requires limit { asked self.old < record_limit }
@@ -94,7 +94,7 @@ impl<R: Read + Drop> Records<R> {
     }
 }
 
-/// The fault of an error: one of reading only where `csv` reports a fault of reading.
+/// The fault of an error of `csv`: ReadFailed if reading failed, and else OutOfMemory.
 pub fn fault_of(error: &Error) -> LoadFault
     ensures { result ≡ (if is_io (error_kind error.now) then fault.ReadFailed else fault.OutOfMemory) }
 {
@@ -105,7 +105,7 @@ pub fn fault_of(error: &Error) -> LoadFault
     }
 }
 
-/// Reads the next record, and returns whether there is one. The fault is ReadFailed or OutOfMemory; it leaves the record empty.
+/// Reads the next record, and returns whether there is one. The fault is ReadFailed or OutOfMemory, and then the record is empty.
 pub fn next_record<R: Read + Drop>(
     records: &mut Records<R>,
     record: &mut ByteRecord,

@@ -27,7 +27,7 @@ use std::io::Read;
 use std::marker::Model;
 use table_model::faults::LoadFault;
 
-/// A table: the rows of a lawful definition, by ascending key, with an index of each geometry column (06-104r4,
+/// A table: the rows of a lawful definition, by ascending key, with an index for each geometry column (06-104r4,
 /// feature tables). Contracts see it as the list of its rows.
 #[derive(Drop)]
 pub struct Table<I: EnvelopeIndex> {
@@ -50,7 +50,7 @@ impl<I: EnvelopeIndex> Model for Table<I> {
 }
 
 impl<I: EnvelopeIndex + Drop> Table<I> {
-    /// The table of a lawful definition that has no rows. It fails only when memory runs out.
+    /// Makes the table of a lawful definition without rows. It fails only when memory runs out.
     pub fn empty(alloc: Global, table: &TableDef) -> Result<Table<I>, AllocError>
         requires { IsTrue (lawful (table.now ∷ [])) }
         ensures { IfOk result (λ t. t ≡ []) }
@@ -60,11 +60,11 @@ impl<I: EnvelopeIndex + Drop> Table<I> {
         Ok(Table { rows, indexes })
     }
 
-    /// Loads the table of a lawful definition from the CSV text that a reader gives. The error is the first fault: of the
-    /// header, then of the records in order, then a repeated key; `ReadFailed` comes where reading failed, and `OutOfMemory` may
-    /// come in place of any result. Whatever the reader is, there are records whose table or fault this is. It is
-    /// `Table::load_from` over the records of the reader, so at most 100,002 of them are read, with the header
-    /// (06-104r4, feature tables).
+    /// Loads the table of a lawful definition from the CSV text that a reader gives. The error is the first fault: of
+    /// the header, then of the records in order, then a repeated key. It is `ReadFailed` if reading failed, and
+    /// `OutOfMemory` may come in place of any result. Whatever the reader returns, there are records that give this
+    /// table or fault. The function is `Table::load_from` over the records of the reader, so it reads at most 100,002
+    /// of them, with the header (06-104r4, feature tables).
     pub fn load<R: Read + Drop>(
         alloc: Global,
         table: &TableDef,
@@ -79,7 +79,7 @@ impl<I: EnvelopeIndex + Drop> Table<I> {
         Table::load_reader(alloc, table, reader, &mut LastRecords::new(alloc))
     }
 
-    /// Like `Table::load`, but the header and the records are read into `last`, where those with the fault are left.
+    /// Like `Table::load`, but reads the header and the records into `last`, and leaves there those that have the fault.
     pub(crate) fn load_reader<R: Read + Drop>(
         alloc: Global,
         table: &TableDef,
@@ -97,9 +97,9 @@ impl<I: EnvelopeIndex + Drop> Table<I> {
         Table::load_into(alloc, table, &mut records, last)
     }
 
-    /// Loads the table of a lawful definition from records of which none was read yet. The result is that of `Table::load`. It
-    /// asks for at most 100,002 records, with the header. It returns `ReadFailed` only if `csv` returned an error of reading and
-    /// no record before has a fault.
+    /// Loads the table of a lawful definition from records of which none was read yet. The result is that of
+    /// `Table::load`. It reads at most 100,002 records, with the header. It returns `ReadFailed` only if `csv` reported
+    /// a failure of reading and no earlier record has a fault.
     pub fn load_from<R: Read + Drop>(
         alloc: Global,
         table: &TableDef,
@@ -121,7 +121,7 @@ impl<I: EnvelopeIndex + Drop> Table<I> {
         Table::load_into(alloc, table, records, &mut LastRecords::new(alloc))
     }
 
-    /// Like `Table::load_from`, but the header and the records are read into `last`, where those with the fault are left.
+    /// Like `Table::load_from`, but reads the header and the records into `last`, and leaves there those that have the fault.
     pub fn load_into<R: Read + Drop>(
         alloc: Global,
         table: &TableDef,
@@ -157,8 +157,8 @@ impl<I: EnvelopeIndex + Drop> Table<I> {
         Ok(Table { rows, indexes })
     }
 
-    /// How many rows there are: at most 100,000. They strictly ascend by key, and each value fits its column (06-104r4,
-    /// feature tables).
+    /// The number of rows, at most 100,000. The rows strictly ascend by key, and each value is of its column's type
+    /// (06-104r4, feature tables).
     pub fn rows(&self) -> usize
         ensures count { result ≡ length self.now }
         ensures table { IsTable takes self.now }
@@ -174,8 +174,8 @@ impl<I: EnvelopeIndex + Drop> Table<I> {
         self.rows.row(i)
     }
 
-    /// Lends the index of a column: it lists the envelope of the column's geometry in each row. NULL and an empty geometry have
-    /// none, and in a column that isn't one of geometries no row has one (06-103r4, 6.1.2.2: Envelope).
+    /// Lends the index of a column: it lists the envelope of the column's geometry in each row. A NULL and an empty
+    /// geometry have no envelope, and neither has a value in another type of column (06-103r4, 6.1.2.2: Envelope).
     pub fn index(&self, column: usize) -> &I
         ensures { I.indexed result.now ≡ column_envelopes column self.now }
     {

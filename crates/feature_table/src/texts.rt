@@ -6,7 +6,7 @@ ghost use Rattle.feature_table.specs.Texts.{IsCut, text_at};
 use std::alloc::{AllocError, Global};
 use std::marker::Model;
 
-/// Where a text is among the bytes of all: from a place on, and to the place before another.
+/// Where a text is among the bytes of all texts: the place at which it begins, and the place just after its end.
 #[derive(Clone, Copy)]
 pub(crate) struct Cut {
     start: usize,
@@ -21,7 +21,7 @@ fn text_of(all: &str, cut: Cut) -> &str
     &all[cut.start..cut.end]
 }
 
-/// Texts one behind another, in one piece of memory. Contracts see the list of their bytes.
+/// Texts one after another in one piece of memory. Contracts see them as the list of their bytes.
 #[derive(Drop)]
 pub(crate) struct Texts {
     all: String,
@@ -41,7 +41,7 @@ impl Model for Texts {
 }
 
 impl Texts {
-    /// No texts.
+    /// Makes an empty list of texts.
     pub(crate) fn new(alloc: Global) -> Texts
         ensures { result ≡ [] }
     {
@@ -51,14 +51,14 @@ impl Texts {
         }
     }
 
-    /// How many texts there are.
+    /// The number of texts.
     pub(crate) fn len(&self) -> usize
         ensures { result ≡ length self.now }
     {
         self.cuts.len()
     }
 
-    /// Appends a copy of a text. If memory runs out, the texts are as before.
+    /// Appends a copy of a text. If memory runs out, nothing is appended.
     pub(crate) fn push(&mut self, text: &str) -> Result<(), AllocError>
         ensures { self.new ≡ (if is_ok result then self.old ++ text.now ∷ [] else self.old) }
     {

@@ -25,14 +25,14 @@ use table_model::definitions::ROW_LIMIT;
 use table_model::faults::LoadFault;
 use table_model::values::Value;
 
-/// Whether the column at a place takes no null.
+/// Whether the column at a place can't be null.
 fn is_required(table: &TableDef, place: usize, column: &ColumnDef) -> bool
     ensures { result ≡ spec.is_required table.now (place, column.now) }
 {
     column.not_null || place == table.key
 }
 
-/// The value of a record's field in the column at a place. The columns are at these places of the header.
+/// The value of a record's field in the column at a place. `places` says where the columns are in the header.
 fn value_at(
     alloc: Global,
     table: &TableDef,
@@ -62,7 +62,7 @@ fn value_at(
     )
 }
 
-/// Appends the values of a record's fields in the columns of a table, which are at these places of the header.
+/// Appends the values of a record's fields in the columns of a table. `places` says where these are in the header.
 fn push_row(
     alloc: Global,
     table: &TableDef,
@@ -85,7 +85,7 @@ fn push_row(
     Ok(())
 }
 
-/// The values of a record's fields in the columns of a table, which are at these places of the header.
+/// The values of a record's fields in the columns of a table. `places` says where these are in the header.
 pub fn row_of(
     alloc: Global,
     table: &TableDef,
@@ -107,7 +107,7 @@ pub fn row_of(
     Ok(Items::from_vec(values))
 }
 
-/// Appends the row of the record with this number, whose length is tested first, then the number of rows.
+/// Appends the row of the record with this number, after testing its length and then the number of rows.
 pub(crate) fn push_checked_row(
     alloc: Global,
     table: &TableDef,

@@ -1,4 +1,4 @@
-//! The values of rows, one after another: a cell for each, with the texts and geometries beside.
+//! The values of rows, one after another: a cell for each, and the texts and geometries to which cells refer.
 
 ghost use Rattle.std.specs.Prelude.{◌≡◌, ◌++◌, ◌∷◌, ◌<◌, [], IfOk, OnOk, Some, length, option_map, slice_get};
 ghost use Rattle.std.specs.List.{All, flat_map};
@@ -13,7 +13,7 @@ use std::alloc::{AllocError, Global};
 use std::marker::Model;
 use table_model::values::Value;
 
-/// A value of a table: what isn't of one word is kept beside it, at a place.
+/// A value of a table in one word. Texts and geometries are kept elsewhere, and the cell has their place.
 #[derive(Clone, Copy)]
 pub(crate) enum Cell {
     /// No value.
@@ -26,7 +26,7 @@ pub(crate) enum Cell {
     Geom(usize),
 }
 
-/// The field that a cell names.
+/// The field to which a cell refers.
 fn field_of<'a>(texts: &'a Texts, geometries: &'a [Geometry], cell: Cell) -> Field<'a>
     ensures { shown result ≡ value_in texts.entry.now geometries.entry.now cell }
 {
@@ -44,7 +44,7 @@ fn field_of<'a>(texts: &'a Texts, geometries: &'a [Geometry], cell: Cell) -> Fie
     }
 }
 
-/// Keeps the text or geometry of a value behind the others, and returns the value's cell.
+/// Appends the text or geometry of a value to those that are kept, and returns the value's cell.
 fn cell_of(
     texts: &mut Texts,
     geometries: &mut Vec<Geometry>,
@@ -71,7 +71,7 @@ fn cell_of(
     }
 }
 
-/// The cells of the row at a place, of rows of this width.
+/// The cells of the row at a place, if rows have this width.
 fn cells_at(cells: &[Cell], width: usize, place: usize) -> &[Cell]
     requires { IsWithin width cells.now place }
     ensures { result.now ≡ row_at width cells.now place }
@@ -80,7 +80,7 @@ fn cells_at(cells: &[Cell], width: usize, place: usize) -> &[Cell]
     &cells[start..start + width]
 }
 
-/// The cells of the rows of this width at these places, one row after another.
+/// The cells of the rows at these places, one row after another, if rows have this width.
 fn cells_in_order(
     alloc: Global,
     cells: &[Cell],
@@ -97,7 +97,7 @@ fn cells_in_order(
     Ok(moved)
 }
 
-/// Values one after another: a cell for each, its texts and geometries beside. Contracts see the list of the values.
+/// Values one after another: a cell for each, with its texts and geometries. Contracts see them as the list of the values.
 #[derive(Drop)]
 pub(crate) struct Values {
     cells: Vec<Cell>,
@@ -119,7 +119,7 @@ impl Model for Values {
 }
 
 impl Values {
-    /// No values.
+    /// Makes an empty list of values.
     pub(crate) fn new(alloc: Global) -> Values
         ensures { result ≡ [] }
     {
@@ -139,7 +139,7 @@ impl Values {
         Ok(())
     }
 
-    /// Keeps the rows of this width at these places, in this order.
+    /// Keeps the rows at these places, in this order, if rows have this width.
     pub(crate) fn put_in_order(
         &mut self,
         alloc: Global,
@@ -154,7 +154,7 @@ impl Values {
         Ok(())
     }
 
-    /// Lends the row at a place, of rows of this width.
+    /// Lends the row at a place, if rows have this width.
     pub(crate) fn row(&self, width: usize, place: usize) -> Row<'_>
         requires { IsWithin width self.now place }
         ensures { result ≡ row_at width self.now place }
@@ -167,11 +167,11 @@ impl Values {
     }
 }
 
-/// A row of a table, which contracts see as the list of its values (06-104r4, feature tables).
+/// A row of a table. Contracts see it as the list of its values (06-104r4, feature tables).
 #[derive(Drop)]
 pub struct Row<'a> {
     cells: &'a [Cell],
-    /// The texts and geometries that cells name.
+    /// The texts to which cells refer.
     texts: &'a Texts,
     geometries: &'a [Geometry],
 }
@@ -187,7 +187,7 @@ impl<'a> Model for Row<'a> {
 }
 
 impl<'a> Row<'a> {
-    /// How many fields the row has: as many as its table has columns.
+    /// The number of fields in the row: as many as its table has columns.
     pub fn len(&self) -> usize
         ensures { result ≡ length self.now }
     {

@@ -1,5 +1,5 @@
 //! The program `gauge`: it does one thing to well-known texts, as often as it is asked to, so that the measures in bench/ can
-//! time it beside others. Without words it writes the canonical text of a geometry.
+//! compare it with others. Without words it writes the canonical text of a geometry.
 #![tactic(auto)]
 
 ghost use Rattle.std.specs.Prelude.{OnOk};
@@ -17,15 +17,15 @@ use std::str::Lines;
 use validity::{CheckFault, Valid, check};
 use wkt::{Sink, StdSink, WktFault, print, put_all, read};
 
-/// The most bytes that the texts have here: of longer ones a part could spell something else, so none of it is taken.
+/// The most bytes that texts may have here: a part of a longer text could spell something else, so none of it is read.
 const TEXT_BYTES: u64 = 1 << 24;
 
-/// Why a measure ends without an answer; each has its status.
+/// Why a measure ends without a result; each reason has its status.
 #[derive(Clone, Copy)]
 enum Failure {
     /// The words of the command line aren't those of a measure.
     Misuse,
-    /// A text spells no geometry, or none that can be located in.
+    /// A text spells no geometry, or one in which points can't be located.
     NoGeometry,
     /// Reading or writing failed, or the texts are too long.
     Failed,
@@ -75,7 +75,7 @@ fn main(rt: HostRuntime) -> ExitCode {
     }
 }
 
-/// Does what the words of the command line say to what is on standard input, and writes the answer.
+/// Does to the text on standard input what the words of the command line say, and writes the result.
 fn gauge(rt: &HostRuntime) -> Result<(), Failure> {
     let words = words_of(rt)?;
     let text = read_input(rt)?;
@@ -105,7 +105,7 @@ fn read_input(rt: &HostRuntime) -> Result<String, Failure> {
     }
 }
 
-/// Writes what the words of the command line ask of a text.
+/// Does to a text what the words of the command line say, and writes the result.
 fn put_answer<S: Sink>(
     alloc: Global,
     words: &[String],
@@ -142,8 +142,8 @@ fn put_number<S: Sink>(number: usize, sink: &mut S) -> Result<(), Failure> {
     put(buffer.format(number).as_bytes(), sink)
 }
 
-/// Does one thing this often, and writes its result: of `relate` the matrix of the geometries in the first two lines, else a
-/// number.
+/// Does one thing this often, and writes its result: for `relate` the matrix of the geometries in the first two lines, else
+/// a number.
 fn put_measured<S: Sink>(
     alloc: Global,
     word: &str,
@@ -158,7 +158,7 @@ fn put_measured<S: Sink>(
     put_number(measured(alloc, word, times, text)?, sink)
 }
 
-/// Relates the geometries in the first two lines this often, and once before.
+/// Relates the geometries in the first two lines this often, and once more at first.
 fn related(alloc: Global, times: u32, text: &str) -> Result<Matrix, Failure> {
     let mut lines = text.lines();
     let first = checked(alloc, lines.next())?;
@@ -166,7 +166,7 @@ fn related(alloc: Global, times: u32, text: &str) -> Result<Matrix, Failure> {
     Ok(relate_often(alloc, &first, &second, times)?)
 }
 
-/// Relates two geometries this often, and once before.
+/// Relates two geometries this often, and once more at first.
 fn relate_often(
     alloc: Global,
     first: &Valid,
@@ -181,13 +181,13 @@ fn relate_often(
     Ok(matrix)
 }
 
-/// The valid geometry that a line spells; no line is an empty one.
+/// The valid geometry that a line spells; a line that is missing counts as an empty one.
 fn checked(alloc: Global, line: Option<&str>) -> Result<Valid, Failure> {
     let geometry = read(alloc, line.unwrap_or("").as_bytes())?;
     Ok(check(alloc, geometry)?)
 }
 
-/// Relates the geometries of each two lines.
+/// Relates the geometries of each pair of lines.
 fn put_pairs<S: Sink>(alloc: Global, text: &str, sink: &mut S) -> Result<(), Failure> {
     let mut lines = text.lines();
     while let Some(first) = lines.next() {
@@ -211,7 +211,7 @@ fn put_pair<S: Sink>(
     }
 }
 
-/// The valid geometry that a text spells; None where it has a fault of validity.
+/// The valid geometry that a text spells; None if it has a fault of validity.
 fn valid(alloc: Global, text: &str) -> Result<Option<Valid>, Failure> {
     match check(alloc, read(alloc, text.as_bytes())?) {
         Ok(valid) => Ok(Some(valid)),
@@ -235,8 +235,8 @@ fn put_both<S: Sink>(
     put(b"\n", sink)
 }
 
-/// Does one thing this often, and returns its number: of `read` its lines or rings, of `check` 1 where the geometry is valid, of
-/// `locate` how many of the points in the further lines aren't in its exterior.
+/// Does one thing this often, and returns its number: for `read` that of its lines or rings, for `check` 1 if the geometry is
+/// valid, for `locate` that of the points in the further lines that aren't in its exterior.
 fn measured(alloc: Global, word: &str, times: u32, text: &str) -> Result<usize, Failure> {
     match word {
         "read" => read_often(alloc, first_line(text), times),
@@ -279,7 +279,7 @@ fn read_often(alloc: Global, text: &[u8], times: u32) -> Result<usize, Failure> 
     Ok(lines)
 }
 
-/// Reads and tests a text this often; returns 1 where the geometry is valid, and else 0.
+/// Reads and tests a text this often; returns 1 if the geometry is valid, and else 0.
 fn check_often(alloc: Global, text: &[u8], times: u32) -> Result<usize, Failure> {
     let mut answer = 0;
     for _ in 0..times {

@@ -16,7 +16,7 @@ use std::alloc::{AllocError, Global};
 use std::marker::Model;
 use table_model::texts::same_name;
 
-/// A schema, and for each of its definitions a table, which has no rows until it is loaded (06-104r4, feature tables).
+/// A schema with a table for each of its definitions. A table has no rows until it is loaded (06-104r4, feature tables).
 #[derive(Drop)]
 pub struct KeptDatabase<I: EnvelopeIndex> {
     schema: Schema,
@@ -35,7 +35,7 @@ impl<I: EnvelopeIndex> Model for KeptDatabase<I> {
         IsKept (record { definitions = k.schema; tables = k.tables.items; loaded = k.loaded.items }) };
 }
 
-/// A list of tables without rows, one for each definition of a schema.
+/// Makes a list of tables without rows, one for each definition of a schema.
 #[tactic(auto, using(std::proofs::lemmas::List::replicate_more))]
 fn empty_tables<I: EnvelopeIndex + Drop>(
     alloc: Global,
@@ -50,7 +50,7 @@ fn empty_tables<I: EnvelopeIndex + Drop>(
     Ok(tables)
 }
 
-/// A list of `false` of this length.
+/// Makes a list of `false` of this length.
 #[tactic(auto, using(std::proofs::lemmas::List::replicate_more))]
 fn none_loaded(alloc: Global, count: usize) -> Result<Vec<bool>, AllocError>
     ensures { IfOk result (λ loaded. loaded.items ≡ replicate count false) }
@@ -63,7 +63,7 @@ fn none_loaded(alloc: Global, count: usize) -> Result<Vec<bool>, AllocError>
 }
 
 impl<I: EnvelopeIndex + Drop> KeptDatabase<I> {
-    /// The database of a schema, of which no table is loaded. It fails only when memory runs out.
+    /// Makes the database of a schema. None of its tables is loaded yet. It fails only when memory runs out.
     pub fn open(alloc: Global, schema: Schema) -> Result<KeptDatabase<I>, AllocError>
         ensures { IfOk result (λ kept. kept ≡ opened schema) }
     {
@@ -77,9 +77,9 @@ impl<I: EnvelopeIndex + Drop> KeptDatabase<I> {
         })
     }
 
-    /// Loads the table at a place of the schema from its CSV text. The result is that of `Table::load`. At Ok the table is that
-    /// of the text, also where another was there, and is loaded; a fault leaves all as it was. Both tables are in memory until
-    /// the new one has loaded (06-104r4, feature tables).
+    /// Loads the table at a place of the schema from its CSV text. The result is that of `Table::load`. At Ok, the
+    /// table is loaded from the text, and replaces one that was loaded before; a fault changes nothing. Both tables are
+    /// in memory until the new one has loaded (06-104r4, feature tables).
     pub fn load(&mut self, alloc: Global, place: usize, text: &[u8]) -> Result<(), LoadFault>
         requires { place < length self.old.definitions }
         ensures loads { (d : Definition Shape)
@@ -95,7 +95,7 @@ impl<I: EnvelopeIndex + Drop> KeptDatabase<I> {
         Ok(())
     }
 
-    /// Whether the table at a place is loaded; where there is no table, it isn't.
+    /// Whether the table at a place is loaded; false if there is no such table.
     pub fn is_loaded(&self, place: usize) -> bool
         ensures { result ≡ is_loaded self.now place }
     {
@@ -105,8 +105,8 @@ impl<I: EnvelopeIndex + Drop> KeptDatabase<I> {
         }
     }
 
-    /// Lends the definitions of the tables, in the order of the schema. With its tables they are a database, in which those that
-    /// aren't loaded have no rows (06-104r4, feature tables).
+    /// Lends the definitions of the tables, in the order of the schema. With its tables they are a database, in which
+    /// tables that aren't loaded have no rows (06-104r4, feature tables).
     pub fn definitions(&self) -> &[TableDef]
         ensures value { result.now ≡ self.now.definitions }
         ensures kept { IsKept self.now }
@@ -114,7 +114,7 @@ impl<I: EnvelopeIndex + Drop> KeptDatabase<I> {
         self.schema.tables()
     }
 
-    /// The place of a table by its name, without regard to ASCII case (SQL, names of tables).
+    /// Finds the place of a table by its name, without regard to ASCII case (SQL, names of tables).
     pub fn place_of(&self, name: &[u8]) -> Option<usize>
         ensures { result ≡ spec.table_place self.now.definitions name.now }
     {
@@ -123,7 +123,7 @@ impl<I: EnvelopeIndex + Drop> KeptDatabase<I> {
             .position(|table| same_name(table.name.bytes(), name))
     }
 
-    /// Lends the database of these tables. A table that isn't loaded has no rows. It takes no memory.
+    /// Lends the database of these tables, in which tables that aren't loaded have no rows. It allocates nothing.
     pub fn database(&self) -> Database<'_, I>
         ensures value { result ≡ lent self.now }
         ensures empty { (place : ℕ) → is_loaded self.now place ≡ false → slice_index_or result.tables place [] ≡ [] }

@@ -1,5 +1,5 @@
-//! A database that is kept while queries are asked: it owns its schema, and each table is loaded by itself, when it is needed.
-//! Laws say that a query depends on the tables alone that it names.
+//! A database that is kept between queries. It owns its schema, and each table is loaded separately, when it is needed.
+//! Laws say that a query depends only on the tables that it names.
 #![tactic(auto)]
 
 mod kept_databases;

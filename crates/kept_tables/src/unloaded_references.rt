@@ -1,4 +1,4 @@
-//! Which reference of a query names a table that isn't loaded.
+//! Finds the reference of a query that names a table which isn't loaded.
 
 ghost use Rattle.std.specs.Prelude.{◌≡◌};
 ghost use Rattle.std.specs.List.{position};
@@ -9,8 +9,8 @@ use rtree::EnvelopeIndex;
 use sql_text::Query;
 use table_model::queries::WrittenReference;
 
-/// Whether a reference names a table of the schema that isn't loaded. A name that the schema lacks is none: it is refused when
-/// the query is bound.
+/// Whether a reference names a table of the schema that isn't loaded. False for a name that isn't in the schema:
+/// binding the query refuses it.
 fn names_unloaded<I: EnvelopeIndex + Drop>(
     kept: &KeptDatabase<I>,
     written: &WrittenReference<'_>,
@@ -23,8 +23,8 @@ fn names_unloaded<I: EnvelopeIndex + Drop>(
     }
 }
 
-/// The place in FROM of the first reference that names a table which isn't loaded; none where all tables that the query names
-/// are loaded. It takes no memory (SQL, FROM).
+/// The place in FROM of the first reference that names a table which isn't loaded; None if all tables that the query
+/// names are loaded. It allocates nothing (SQL, FROM).
 pub fn unloaded_reference<I: EnvelopeIndex + Drop>(
     kept: &KeptDatabase<I>,
     query: &Query<'_>,

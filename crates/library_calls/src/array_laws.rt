@@ -8,7 +8,7 @@ pub fn arrays_are_as_texts()
     ensures { ArraysAreAsTexts }
 {}
 
-/// The tests of counts and of positions are true exactly where the limits hold (this project's choice).
+/// The tests of counts and of positions are true exactly if the limits hold (this project's choice).
 pub fn tests_are_limits()
     ensures { TestsAreLimits }
 {}

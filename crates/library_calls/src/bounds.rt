@@ -10,8 +10,8 @@ use rtree::Envelope;
 use std::alloc::{AllocError, AllocFailed, Global};
 use std::marker::Model;
 
-/// The least x, the greatest x, the least y and the greatest y of an envelope, in grid steps (06-103r4, 6.1.2.2: Envelope). An empty
-/// geometry's are 0, -1, 0 and -1; others in which a least is past a greatest, or one is past the limit, are those of none.
+/// The least x, the greatest x, the least y and the greatest y of an envelope, in grid steps (06-103r4, 6.1.2.2: Envelope). An
+/// empty geometry's are 0, -1, 0 and -1; others whose least exceeds the greatest, or past the limit, are invalid.
 #[repr(C)]
 #[derive(Clone, Copy, Debug)]
 pub struct Bounds {
@@ -49,7 +49,7 @@ impl Bounds {
         self.least_x == 0 && self.greatest_x == -1 && self.least_y == 0 && self.greatest_y == -1
     }
 
-    /// The envelope with these bounds, absent where they are those of an empty geometry; nothing where they are no bounds.
+    /// The envelope with these bounds, absent if they are those of an empty geometry; None if they are invalid.
     pub fn envelope(&self) -> Option<Option<Envelope>>
         ensures envelope { IfSome result (λ e. e ≡ bounded self.now) }
         ensures taken { is_some result ≡ are_bounds self.now }
@@ -77,7 +77,7 @@ fn corner(x: i32, y: i32) -> Option<GridPoint>
 /// Why no index is built.
 #[derive(Clone, Copy, Debug)]
 pub enum Unbuilt {
-    /// What is at this position of the list are no bounds.
+    /// The bounds at this position of the list are invalid.
     At(usize),
     /// Memory ran out.
     OutOfMemory,
@@ -105,7 +105,7 @@ impl<T: Drop> From<AllocFailed<T>> for Unbuilt {
     }
 }
 
-/// The envelopes with these bounds; or the position of the first that are no bounds.
+/// The envelopes with these bounds; or the position of the first ones that are invalid.
 pub(crate) fn envelopes_within(
     alloc: Global,
     bounds: &[Bounds],

@@ -43,7 +43,7 @@ fn lines_of<'a>(
     Ok((lines, left))
 }
 
-/// Polygons of these numbers of rings, whose sizes are given one after another.
+/// Polygons with these numbers of rings; the sizes of the rings are given one after another.
 fn polygons_of(
     alloc: Global,
     counts: &[usize],

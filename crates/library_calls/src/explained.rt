@@ -19,8 +19,8 @@ use validity::Valid;
 use witnesses::witness::Witnesses;
 use witnesses::{Verdict, find_witnesses, put_verdict, put_witnesses, verdict_of};
 
-/// Hands out nine lines that show the cells of the DE-9IM matrix of two geometries, in its order: their length, and the text at the
-/// front of the room; status 5 where the room is too small (06-103r4, 6.1.15.2; the witnesses and the words: this project's choice).
+/// Writes nine lines that show the cells of the DE-9IM matrix of two geometries, in its order: their length, and the text at the
+/// front of `room`; status 5 if `room` is too small (06-103r4, 6.1.15.2; the witnesses and the words: this project's choice).
 pub fn write_why(
     alloc: Global,
     first: &Valid,
@@ -61,10 +61,10 @@ fn text_of_witnesses(alloc: Global, found: &Witnesses) -> Result<MemorySink, All
     }
 }
 
-/// Hands out whether the geometry of a text is valid, in one line: `valid`, or its first fault and where it has it. `size` is the
-/// line's length, and the room begins with the line; status 5 where the room is too small. Status 1 where the text spells no
-/// geometry, with its first fault in numbers (06-103r4, 7.2, 6.1.7, 6.1.11.1 and 6.1.14; the order of faults, which place, the
-/// words and the numbers: this project's choice).
+/// Writes whether the geometry of a text is valid, in one line: `valid`, or its first fault and where it has it. `size` is the
+/// line's length, and `room` begins with the line; status 5 if `room` is too small. Status 1 if the text spells no geometry, with
+/// its first fault in numbers (06-103r4, 7.2, 6.1.7, 6.1.11.1 and 6.1.14; the order of faults, which place, the words and the
+/// numbers: this project's choice).
 pub fn write_reason(
     alloc: Global,
     text: &[u8],
@@ -115,7 +115,7 @@ fn text_of_verdict(alloc: Global, verdict: &Verdict) -> Result<MemorySink, Alloc
     }
 }
 
-/// Writes how many items there are, as the bytes of a text, and the items at the front of the room, if that is enough.
+/// Writes how many items there are, such as the bytes of a text, and the items at the front of `room`, if it is large enough.
 pub fn hand_out<T: Copy>(items: &[T], room: &mut [T], size: &mut usize) -> u32
     ensures size { size.new ≡ length items.now }
     ensures items { result ≡ ok → room.new ≡ items.now ++ drop (length items.now) room.old }

@@ -1,4 +1,4 @@
-//! Why a call gives nothing, in numbers that cross to C.
+//! Why a call gives no result, in numbers that cross to C.
 
 ghost use Rattle.std.specs.Prelude.{◌≡◌};
 ghost use Rattle.library_calls.specs.Refusals.{fault_after, fault_in_numbers, status_of, text_fault_in_numbers, validity_fault_in_numbers};
@@ -6,8 +6,8 @@ ghost use Rattle.library_calls.specs.Refusals.{fault_after, fault_in_numbers, st
 use geometry_model::{GeometryFault, TextFault, ValidityFault};
 use std::alloc::AllocError;
 
-/// A fault of a text in numbers: its letter, `W` or `V`; its number; and where it is. Of W1, W2 and W3 `first` is the byte, from
-/// 0. Of V1 to V8 `first` and `second` are the numbers of the line, ring or elements, from 0. What a fault doesn't use is 0.
+/// A fault of a text in numbers: its letter, `W` or `V`; its number; and where it is. For W1, W2 and W3 `first` is the byte, from
+/// 0. For V1 to V8 `first` and `second` are the numbers of the line, ring or elements, from 0. What a fault doesn't use is 0.
 #[repr(C)]
 #[derive(Clone, Copy, Debug)]
 pub struct Fault {
@@ -66,19 +66,19 @@ impl Fault {
     }
 }
 
-/// Why a call over texts gives nothing.
+/// Why a call over texts gives no result.
 #[derive(Clone, Copy, Debug)]
 pub enum Refusal {
     /// The first text, or the only one, isn't the text of a valid geometry.
     First(GeometryFault),
-    /// The first text is, and the second isn't.
+    /// The second text isn't the text of a valid geometry, and the first is.
     Second(GeometryFault),
     /// Memory ran out.
     OutOfMemory,
 }
 
 impl Refusal {
-    /// The status to return. A fault of a text is written; running out of memory leaves what was there.
+    /// The status to return. A fault of a text is written; running out of memory leaves the fault as it was.
     pub fn report(self, fault: &mut Fault) -> u32
         ensures status { result ≡ status_of self }
         ensures fault { fault.new ≡ fault_after self fault.old }

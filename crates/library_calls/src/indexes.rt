@@ -9,7 +9,7 @@ use crate::explained::hand_out;
 use rtree::{CurveTree, EnvelopeIndex};
 use std::alloc::Global;
 
-/// The index of the envelopes with these bounds; or the position of the first that are no bounds.
+/// The index of the envelopes with these bounds; or the position of the first ones that are invalid.
 pub fn build_index(alloc: Global, bounds: &[Bounds]) -> Result<CurveTree, Unbuilt>
     ensures built { IfOk result (λ index. index ≡ map bounded bounds.now) }
     ensures all { IfOk result (λ _. first_unbounded 0 bounds.now ≡ None) }
@@ -22,8 +22,8 @@ pub fn build_index(alloc: Global, bounds: &[Bounds]) -> Result<CurveTree, Unbuil
     }
 }
 
-/// Writes how many envelopes of an index meet the window with these bounds, and their positions, ascending, at the front of the
-/// room; status 5 where the room is too small, and 4 where the window has no bounds (06-103r4, 6.1.2.2: Envelope; the numbers: this
+/// Writes how many envelopes of an index meet the window with these bounds, and their positions, ascending, at the front of `room`;
+/// status 5 if `room` is too small, and 4 if the window's bounds are invalid (06-103r4, 6.1.2.2: Envelope; the numbers: this
 /// project's choice).
 pub fn write_found(
     alloc: Global,

@@ -1,4 +1,4 @@
-//! What is asked of valid geometries. Each call returns the status that C gets.
+//! Calls about valid geometries. Each call returns the status that C gets.
 
 ghost use Rattle.std.specs.Prelude.{◌≡◌, ◌≢◌, ◌⊎◌, ◌++◌, drop, IfOk, IfSome, length, Some};
 ghost use Rattle.std.specs.Option.{option_map_or};
@@ -37,7 +37,7 @@ pub fn write_matrix(alloc: Global, first: &Valid, second: &Valid, matrix: &mut [
     }
 }
 
-/// Writes whether the relation of this number holds of two geometries (06-103r4, 6.1.15.3); status 4 where no relation has it.
+/// Writes whether the relation of this number holds of two geometries (06-103r4, 6.1.15.3); status 4 if no relation has it.
 pub fn write_holds(
     alloc: Global,
     relation: u32,
@@ -82,7 +82,7 @@ fn find_relation(
     Ok(holds(relation, first.kind(), second.kind(), &found))
 }
 
-/// Writes whether the matrix of two geometries matches a pattern of nine characters (06-103r4, 6.1.15.2); status 4 where the bytes
+/// Writes whether the matrix of two geometries matches a pattern of nine characters (06-103r4, 6.1.15.2); status 4 if the bytes
 /// are no pattern.
 pub fn write_matches(
     alloc: Global,
@@ -119,8 +119,8 @@ fn printed(alloc: Global, geometry: &Valid) -> Result<MemorySink, AllocError>
     }
 }
 
-/// Writes the length of the canonical text of a geometry, and the text at the front of the room; status 5 where the room is too
-/// small (06-103r4, 6.1.2.2: AsText).
+/// Writes the length of the canonical text of a geometry, and the text at the front of `room`; status 5 if `room` is too small
+/// (06-103r4, 6.1.2.2: AsText).
 pub fn write_text(alloc: Global, geometry: &Valid, room: &mut [u8], size: &mut usize) -> u32
     ensures text { result ≡ ok
         → room.new ≡ canonical_text geometry.now ++ drop (length (canonical_text geometry.now)) room.old }
@@ -139,7 +139,7 @@ pub fn write_text(alloc: Global, geometry: &Valid, room: &mut [u8], size: &mut u
     }
 }
 
-/// Writes items, as the bytes of a text, at the front of the room, if it is enough.
+/// Writes items, such as the bytes of a text, at the front of `room`, if it is large enough.
 pub(crate) fn write_front<T: Copy>(items: &[T], room: &mut [T]) -> u32
     ensures items { result ≡ ok → room.new ≡ items.now ++ drop (length items.now) room.old }
     ensures kept { result ≢ ok → room.new ≡ room.old }
@@ -152,7 +152,7 @@ pub(crate) fn write_front<T: Copy>(items: &[T], room: &mut [T]) -> u32
     0
 }
 
-/// The dimension of a geometry's type: 0 of points, 1 of lines, 2 of areas, also where it is empty (06-103r4, 6.1.2.2:
+/// The dimension of a geometry's type: 0 for points, 1 for lines, 2 for areas, also if it is empty (06-103r4, 6.1.2.2:
 /// Dimension).
 pub fn dimension_of(geometry: &Valid) -> u32
     ensures { result ≡ dimension_of_kind (kind geometry.now) }
@@ -164,7 +164,7 @@ pub fn dimension_of(geometry: &Valid) -> u32
     }
 }
 
-/// Writes the least x, the greatest x, the least y and the greatest y of a geometry; status 6 where it is empty (06-103r4,
+/// Writes the least x, the greatest x, the least y and the greatest y of a geometry; status 6 if it is empty (06-103r4,
 /// 6.1.2.2: Envelope).
 pub fn write_envelope(geometry: &Valid, bounds: &mut [i32; 4]) -> u32
     ensures bounds { IfSome (envelope geometry.now) (λ e. bounds.new ≡ bounds_of e) }
@@ -185,7 +185,7 @@ pub fn write_envelope(geometry: &Valid, bounds: &mut [i32; 4]) -> u32
     }
 }
 
-/// Writes where the position (x, y) lies in a geometry: 0 in its interior, 1 on its boundary, 2 in its exterior; status 4 where a
+/// Writes where the position (x, y) lies in a geometry: 0 in its interior, 1 on its boundary, 2 in its exterior; status 4 if a
 /// coordinate is past the limit (06-103r4, 6.1.15.2; the numbers and the limit: this project's choice). It takes no memory.
 pub fn write_place(geometry: &Valid, x: i32, y: i32, place: &mut u32) -> u32
     ensures place { result ≡ ok → LiesAt geometry.now x y place.new }

@@ -8,8 +8,8 @@ use std::alloc::Global;
 use std::marker::Model;
 use validity::Valid;
 
-/// A valid geometry behind one pointer. C holds that pointer. It hands the geometry to one call at a time, which hands
-/// it back, and at the end to the one that frees it. Contracts see which geometry it is.
+/// A valid geometry behind one pointer. C holds that pointer. It passes the geometry to one call at a time, which
+/// returns it, and at the end to the call that frees it. Contracts see which geometry it is.
 #[repr(C)]
 pub struct KeptGeometry {
     at: *mut u8,

@@ -8,8 +8,8 @@ use rtree::CurveTree;
 use std::alloc::Global;
 use std::marker::Model;
 
-/// An index of envelopes behind one pointer, as a [`KeptGeometry`](crate::KeptGeometry) is a geometry. Contracts see which list of
-/// envelopes it was built of.
+/// An index of envelopes behind one pointer, like a [`KeptGeometry`](crate::KeptGeometry). Contracts see the list of envelopes
+/// from which it was built.
 #[repr(C)]
 pub struct KeptIndex {
     at: *mut u8,
@@ -65,7 +65,7 @@ impl Drop for KeptIndex {
 
 unsafe impl Send for KeptIndex {}
 
-/// A kept index, or none, as a [`Slot`](crate::Slot) has a geometry or none.
+/// A kept index, or none, like a [`Slot`](crate::Slot) for a geometry.
 #[derive(Drop)]
 #[repr(C)]
 pub struct IndexSlot {

@@ -1,7 +1,7 @@
 //! What the C library does (06-103r4, 6.1, 7.2 and 8.2; the numbers, arrays and limits: this project's choice): with texts, with
-//! arrays of whole coordinates, which are as texts with these numbers, and with valid geometries that a caller keeps behind a
-//! pointer: their matrix, the relations by number, what shows why, and faults in numbers; and with indexes of envelopes. The crate
-//! `sfq_c` exports it.
+//! arrays of whole coordinates, which mean what texts with these numbers mean, and with valid geometries that a caller keeps
+//! behind a pointer: their matrix, the relations by number, what shows why, and faults in numbers; and with indexes of envelopes.
+//! The crate `sfq_c` exports it.
 #![tactic(auto)]
 
 pub mod array_laws;

@@ -6,11 +6,11 @@ ghost use Rattle.std.specs.Box.Ownership.{box_owns};
 use std::alloc::Allocator;
 use std::marker::Model;
 
-/// What a box is made of, with its fields visible: what C keeps behind a pointer is made of them, and they of it.
+/// The parts of a box, with visible fields. What C keeps behind a pointer is made from them, and they from it.
 pub struct Parts<T, A: Allocator> {
     /// Where the value is.
     pub at: *mut T,
-    /// What frees it.
+    /// The allocator that frees it.
     pub alloc: A,
     pub ghost value: { T },
 }

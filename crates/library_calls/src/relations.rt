@@ -11,8 +11,8 @@ use de9im::{Matrix, MatrixPattern, PatternText, has_position_outside, holds as p
 use geometry_model::{Kind, Pattern, Predicate};
 use validity::Valid;
 
-/// A relation of two geometries that has a number: the eight named predicates (06-103r4, 6.1.15.3), and three that engines
-/// besides have (their patterns: this project's choice).
+/// A relation of two geometries that has a number: the eight named predicates (06-103r4, 6.1.15.3), and three more that
+/// engines have (their patterns: this project's choice).
 #[derive(Clone, Copy, Debug, PartialEq, Eq)]
 pub enum Relation {
     Equals,
@@ -31,7 +31,7 @@ pub enum Relation {
     ContainsProperly,
 }
 
-/// The relation of this number, counted from 0 in the order of [`Relation`]; none from 11 on.
+/// The relation of this number, counted from 0 in the order of [`Relation`]; None from 11 on.
 pub fn relation_of(number: u32) -> Option<Relation>
     ensures { result ≡ relation_of number }
 {
@@ -51,7 +51,7 @@ pub fn relation_of(number: u32) -> Option<Relation>
     }
 }
 
-/// The named predicate that a relation is; none of the three that engines besides have. Without it the matrix decides, later.
+/// The named predicate that a relation is; None for the three others. Those are decided later, by the matrix.
 pub(crate) fn predicate_of(relation: Relation) -> Option<Predicate>
     ensures { IfSome result (λ p. (k l : Kind) (m : Matrix) → relation_holds relation k l m ≡ predicates.holds p k l m) }
 {
@@ -69,7 +69,7 @@ pub(crate) fn predicate_of(relation: Relation) -> Option<Predicate>
 }
 
 /// Whether a position of one geometry in the other's exterior shows that one of these three relations doesn't hold. If it returns
-/// false, the relation may not hold either, and the matrix decides, later.
+/// false, the relation may not hold either, and the matrix decides later.
 pub(crate) fn is_refuted(relation: Relation, first: &Valid, second: &Valid) -> bool
     ensures { result ≡ true → (number : ℕ) → relation_of number ≡ Some relation
         → HasRelation number first.now second.now false }

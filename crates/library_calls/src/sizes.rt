@@ -5,7 +5,7 @@ ghost use Rattle.library_calls.specs.Written.{fits, fitting_type, type_numbered,
 
 use geometry_model::GeometryType;
 
-/// The type of a number, as well-known binary counts them (06-103r4, 8.2: wkbPoint to wkbMultiPolygon).
+/// The type with this number, as well-known binary counts them (06-103r4, 8.2: wkbPoint to wkbMultiPolygon).
 fn type_numbered(number: u32) -> Option<GeometryType>
     ensures { result ≡ type_numbered number }
 {
@@ -34,7 +34,7 @@ fn use_up(sizes: &[usize], count: usize) -> bool
     left == 0
 }
 
-/// Whether a type has parts of these sizes over so many positions.
+/// Whether a type has parts of these sizes over `count` positions.
 fn fits(geometry_type: GeometryType, count: usize, lines: &[usize], polygons: &[usize]) -> bool
     ensures { result ≡ fits geometry_type count lines.now polygons.now }
 {
@@ -50,7 +50,7 @@ fn fits(geometry_type: GeometryType, count: usize, lines: &[usize], polygons: &[
     }
 }
 
-/// The type of this number, if it has parts of these sizes over so many positions (06-103r4, 8.2). It takes no memory.
+/// The type with this number, if it has parts of these sizes over `count` positions (06-103r4, 8.2). It takes no memory.
 pub fn fitting_type(
     number: u32,
     count: usize,

@@ -9,8 +9,8 @@ use std::alloc::Global;
 use std::marker::Model;
 use validity::Valid;
 
-/// A kept geometry, or none. It has the form of a [`KeptGeometry`]: C takes the pointer out of it where a call has written one
-/// there. A slot that is written over forgets what it had, so C hands in only empty ones.
+/// A kept geometry, or none. It has the form of a [`KeptGeometry`]: C takes the pointer out of it if a call has written one
+/// there. A slot that is overwritten forgets what it had, so C passes only empty ones.
 #[derive(Drop)]
 #[repr(C)]
 pub struct Slot {

@@ -1,4 +1,4 @@
-//! The plan that is chosen.
+//! Chooses the plan.
 
 ghost use Rattle.std.specs.Prelude.{◌≡◌, IfOk, Some};
 ghost use Rattle.planner.specs.Nestings.{accesses_in, chosen_for};
@@ -12,7 +12,7 @@ use std::alloc::{AllocError, Global};
 use table_model::conditions::{Bound, Cond, GeometryArgument};
 use table_model::plans::{Access, Plan};
 
-/// The accesses of a nesting as a list, the outer one first.
+/// Makes the list of the accesses of a nesting, the outer one first.
 fn listed(alloc: Global, nesting: Nesting) -> Result<Items<Access>, AllocError>
     ensures { IfOk result (λ accesses. accesses ≡ accesses_in nesting) }
 {
@@ -27,7 +27,7 @@ fn listed(alloc: Global, nesting: Nesting) -> Result<Items<Access>, AllocError>
     }
 }
 
-/// The plan that has these accesses.
+/// Makes the plan with these accesses.
 fn plan_of<A>(
     alloc: Global,
     rows: &[u32],
@@ -45,8 +45,8 @@ fn plan_of<A>(
     })
 }
 
-/// The chosen plan of a bound query, where `rows` has the number of rows of each reference's table, in the query's order:
-/// the first lawful plan of least cost. It fails only when memory runs out.
+/// Chooses the plan of a bound query: the first lawful plan of least cost. `rows` has the number of rows of each
+/// reference's table, in the query's order. It fails only when memory runs out.
 pub fn choose_by_counts<G, C>(
     alloc: Global,
     query: &Bound<GeometryArgument<G>, C>,

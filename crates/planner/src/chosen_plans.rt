@@ -1,4 +1,4 @@
-//! The chosen plan of a query over a database.
+//! Chooses the plan of a query over a database.
 
 ghost use Rattle.std.specs.Prelude.{◌≡◌, ◌<◌, All, IfOk, Some, length};
 ghost use Rattle.table_model.specs.BoundQueries.{IsBound, geometry_fits};
@@ -13,7 +13,7 @@ use std::alloc::{AllocError, Global};
 use table_model::conditions::Reference;
 use table_model::plans::Plan;
 
-/// The number of rows of a table; it is at most 100,000.
+/// The number of rows of a table, at most 100,000.
 fn row_count<I: EnvelopeIndex + Drop>(table: &Table<I>) -> u32
     ensures { result ≡ length table.now }
 {
@@ -39,8 +39,8 @@ fn row_counts<I: EnvelopeIndex + Drop>(
     Ok(counts)
 }
 
-/// The chosen plan of a query that was bound to a database: the first lawful plan of least cost. It fails only when memory
-/// runs out.
+/// Chooses the plan of a query that was bound to a database: the first lawful plan of least cost. It fails only when
+/// memory runs out.
 pub fn choose<I: EnvelopeIndex + Drop>(
     alloc: Global,
     database: &Database<'_, I>,

@@ -1,4 +1,4 @@
-//! What plans cost, counted in rows.
+//! The costs of plans, counted in rows.
 
 ghost use Rattle.std.specs.Prelude.{◌≡◌, ◌<◌, ◌^◌, slice_index_or};
 ghost use Rattle.planner.specs.Nestings.{accesses_in};
@@ -18,7 +18,7 @@ fn row_count(rows: &[u32], reference: usize) -> u64
     }
 }
 
-/// What an access costs: a scan the rows of its table, a probe a tenth of them and a constant.
+/// The cost of an access: for a scan the number of rows of its table, for a probe a tenth of that and a constant.
 fn access_cost(rows: &[u32], access: Access) -> u64
     ensures cost { result ≡ spec.access_cost (slice_index_or rows.now access.reference 0) access.method }
     ensures fits { result < 2 ^ 32 }
@@ -30,7 +30,7 @@ fn access_cost(rows: &[u32], access: Access) -> u64
     }
 }
 
-/// How many rows an access is expected to give.
+/// The number of rows that an access is expected to find.
 fn expected_rows(rows: &[u32], access: Access) -> u64
     ensures expected { result
         ≡ spec.expected_rows (slice_index_or rows.now access.reference 0) access.method }
@@ -43,7 +43,7 @@ fn expected_rows(rows: &[u32], access: Access) -> u64
     }
 }
 
-/// What a nesting of accesses costs: the inner access is made for each row that is expected of the outer one.
+/// The cost of a nesting of accesses: the inner access runs once for each row that is expected of the outer one.
 pub(crate) fn cost(rows: &[u32], nesting: Nesting) -> u64
     ensures { result ≡ spec.cost rows.now (accesses_in nesting) }
 {

@@ -8,7 +8,7 @@ use sqlite_items::Items;
 use std::alloc::{AllocError, Global};
 use table_model::conditions::Cond;
 
-/// A number of predicates less those of a condition; none if the condition has more.
+/// A number of predicates minus those of a condition; None if the condition has more.
 #[cycle(counting)]
 fn left_after<A>(condition: &Cond<A>, predicates: usize) -> Option<usize>
     ensures { result ≡ left_after (spec.predicate_count condition.now) predicates }
@@ -22,7 +22,7 @@ fn left_after<A>(condition: &Cond<A>, predicates: usize) -> Option<usize>
     }
 }
 
-/// A number of predicates less those of all these conditions; none if they have more.
+/// A number of predicates minus those of all these conditions; None if they have more.
 #[cycle(counting)]
 fn left_after_all<A>(conditions: &[Cond<A>], predicates: usize) -> Option<usize>
     ensures { result ≡ left_after (sum_by spec.predicate_count conditions.now) predicates }
@@ -44,8 +44,8 @@ fn has_count<A>(condition: &Cond<A>, count: usize) -> bool
     }
 }
 
-/// How many numbers of predicates a conjunct may have: from 0 to that of all conjuncts together. None if they don't fit in
-/// a usize.
+/// The number of different counts of predicates that a conjunct may have: from 0 to the count of all conjuncts
+/// together. None if it doesn't fit in a usize.
 fn possible_counts<A>(conjuncts: &[Cond<A>]) -> Option<usize>
     ensures { IfSome result (λ n. n ≡ sum_by spec.predicate_count conjuncts.now + 1) }
 {
@@ -86,7 +86,7 @@ fn push_places<A>(
     Ok(())
 }
 
-/// The places of all conjuncts: those without predicate of geometries, then those with one, and so on.
+/// The places of all conjuncts: those without predicates of geometries, then those with one, and so on.
 pub(crate) fn filters<A>(alloc: Global, conjuncts: &[Cond<A>]) -> Result<Items<usize>, AllocError>
     ensures { IfOk result (λ places. places ≡ spec.filters conjuncts.now) }
 {

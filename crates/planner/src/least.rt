@@ -1,4 +1,4 @@
-//! Finds the first access, or pair of accesses, of least cost: the least so far is kept, and no list of all.
+//! Finds the first access, or pair of accesses, of least cost. It keeps only the least so far, and no list of all.
 
 ghost use Rattle.std.specs.Prelude.{◌∷◌, [], map};
 ghost use Rattle.planner.specs.Nestings.{Takes, accesses_in, all_pairs};
@@ -7,7 +7,7 @@ use crate::costs::cost;
 use crate::lawful_accesses::Nesting;
 use table_model::plans::Access;
 
-/// The cheaper one of what was the least so far and the next; the earlier one of two that cost the same.
+/// The cheaper of the least so far and the next one; the earlier one if they cost the same.
 fn cheaper(rows: &[u32], least: Option<Nesting>, next: Nesting) -> Nesting
     ensures { Takes rows.now least (Some result) (accesses_in next ∷ []) }
 {
@@ -23,7 +23,7 @@ fn cheaper(rows: &[u32], least: Option<Nesting>, next: Nesting) -> Nesting
     }
 }
 
-/// Takes each access alone into account.
+/// Compares each access alone with the least so far.
 pub(crate) fn take_singles(rows: &[u32], least: &mut Option<Nesting>, accesses: &[Access])
     ensures { Takes rows.now least.old least.new (map (λ a. a ∷ []) accesses.now) }
 {
@@ -39,7 +39,7 @@ pub(crate) fn take_singles(rows: &[u32], least: &mut Option<Nesting>, accesses: 
     }
 }
 
-/// Takes an outer access with each inner one into account.
+/// Compares an outer access with each inner one with the least so far.
 fn take_pairs(rows: &[u32], least: &mut Option<Nesting>, outer: Access, inners: &[Access])
     ensures { Takes rows.now least.old least.new (map (λ inner. outer ∷ inner ∷ []) inners.now) }
 {
@@ -55,7 +55,7 @@ fn take_pairs(rows: &[u32], least: &mut Option<Nesting>, outer: Access, inners: 
     }
 }
 
-/// Takes each outer access with each inner one into account: by the outer one's, then by the inner one's.
+/// Compares each outer access with each inner one with the least so far, in order of the outer, then the inner.
 pub(crate) fn take_all_pairs(
     rows: &[u32],
     least: &mut Option<Nesting>,

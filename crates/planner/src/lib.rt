@@ -1,5 +1,5 @@
-//! The plan of a bound query: the first of least cost among all lawful ways and orders to find the rows of its tables, and the
-//! order in which its conjuncts are evaluated. It depends only on the conjuncts and on the tables' numbers of rows.
+//! The plan of a bound query: the first of least cost among all lawful ways and orders to find the rows of its tables, and
+//! the order in which its conjuncts are evaluated. It depends only on the conjuncts and on the tables' numbers of rows.
 #![tactic(auto)]
 
 mod choosing;

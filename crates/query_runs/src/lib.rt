@@ -1,5 +1,5 @@
-//! Runs of queries: `run` reads a query's text, loads the tables from readers, binds, plans, and writes the answer. The records
-//! of an answer are here too: its header, and that of a row.
+//! Runs queries: `run` reads a query's text, loads the tables, binds the names, chooses a plan, and writes the answer.
+//! The records of an answer are here too: its header, and the record of a row.
 #![tactic(auto)]
 
 mod record_fields;

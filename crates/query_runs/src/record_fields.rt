@@ -1,4 +1,4 @@
-//! The records of an answer: the header, made in memory, and those of rows, which are written field by field.
+//! The records of an answer: the header, which is made in memory, and those of rows, which are written field by field.
 
 ghost use Rattle.std.specs.Prelude.{◌≡◌, ◌++◌, IfOk, OnOk, codes};
 ghost use Rattle.std.specs.Fmt.{signed_decimal};
@@ -20,7 +20,7 @@ use std::alloc::{AllocError, Global};
 use streams::{PutFault, RecordWriter, Sink};
 use table_model::conditions::{ColumnPlace, Item, Reference};
 
-/// The header record of a query's answer. It fails only when memory runs out.
+/// Makes the header record of a query's answer. It fails only when memory runs out.
 pub fn header_record(
     alloc: Global,
     definitions: &[TableDef],
@@ -36,8 +36,8 @@ pub fn header_record(
     Ok(fields)
 }
 
-/// Writes the record of the query's items at these rows, one for each reference of the query: all of it at Ok, and perhaps a
-/// beginning of it if the sink fails or memory runs out. At Ok the writer is ready for the next record.
+/// Writes the record of the query's items at these rows, one for each reference of the query. At Ok all of it is written, and
+/// the writer is ready for the next record. If the sink fails or memory runs out, a beginning of it may be written.
 pub fn put_row<S: Sink>(
     alloc: Global,
     query: &Bound,
@@ -56,7 +56,7 @@ pub fn put_row<S: Sink>(
     writer.end(alloc, sink)
 }
 
-/// The header of an item.
+/// Makes the header of an item.
 fn item_header(
     alloc: Global,
     definitions: &[TableDef],
@@ -80,7 +80,7 @@ fn item_header(
     }
 }
 
-/// The header of a function of a column: its name with a parenthesis, the column's header, and a parenthesis.
+/// Makes the header of a function of a column: the function's name, then the column's header in parentheses.
 fn function_header(
     alloc: Global,
     name: &[u8],
@@ -98,7 +98,7 @@ fn function_header(
     Ok(text)
 }
 
-/// The header of a column.
+/// Makes the header of a column.
 fn column_header(
     alloc: Global,
     definitions: &[TableDef],
@@ -116,7 +116,7 @@ fn column_header(
     }
 }
 
-/// The header of a column of a reference, which may be the only one.
+/// Makes the header of a column of a reference, which may be the only reference.
 fn reference_header(
     alloc: Global,
     definitions: &[TableDef],

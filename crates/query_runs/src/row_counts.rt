@@ -1,4 +1,4 @@
-//! How many rows the tables of a run have.
+//! The numbers of rows of the tables of a run.
 
 ghost use Rattle.std.specs.Prelude.{◌≡◌, IfOk, if◌then◌else◌, length, map};
 ghost use Rattle.query_runs.specs.RowCounts.{CountsTables};
@@ -7,19 +7,19 @@ use feature_table::Database;
 use rtree::EnvelopeIndex;
 use std::alloc::{AllocError, Global};
 
-/// How many rows each table of a schema has, in its order, where a run is asked for that.
+/// The number of rows of each table of a schema, in its order, if a run is asked for them.
 #[derive(Drop)]
 pub enum RowCounts {
-    /// Nobody asks for them.
+    /// The numbers aren't wanted.
     Unasked,
-    /// They are asked for, and aren't counted.
+    /// The numbers are wanted, and not counted yet.
     Asked,
-    /// They were counted.
+    /// The numbers that were counted.
     Counted(Vec<usize>),
 }
 
 impl RowCounts {
-    /// Not counted yet, and asked for or not.
+    /// Makes row counts that aren't counted yet, and are wanted if `asks` is true.
     pub fn new(asks: bool) -> RowCounts
         ensures { result ≡ (if asks then RowCounts.Asked else RowCounts.Unasked) }
     {
@@ -31,7 +31,7 @@ impl RowCounts {
     }
 }
 
-/// Counts the rows of the tables of a database, if that is asked for. If memory runs out, nothing is counted.
+/// Counts the rows of the tables of a database, if that is wanted. If memory runs out, nothing is counted.
 pub(crate) fn count_rows<I: EnvelopeIndex + Drop>(
     alloc: Global,
     database: &Database<'_, I>,
@@ -47,7 +47,7 @@ pub(crate) fn count_rows<I: EnvelopeIndex + Drop>(
     }
 }
 
-/// How many rows each table of a database has, in the order of its schema. It fails only when memory runs out.
+/// The number of rows of each table of a database, in the order of its schema. It fails only when memory runs out.
 fn rows_of<I: EnvelopeIndex + Drop>(
     alloc: Global,
     database: &Database<'_, I>,

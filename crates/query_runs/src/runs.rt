@@ -1,4 +1,4 @@
-//! A run of a query: it reads the text, loads the tables, binds the names, chooses the plan and writes the answer.
+//! Runs a query: reads the text, loads the tables, binds the names, chooses the plan and writes the answer.
 
 ghost use Rattle.std.specs.Prelude.{◌≡◌, ◌∷◌, [], ℕ, IfErr, IfOk, List, Ok, Some, length, map, OnOk};
 ghost use Rattle.csv.specs.Records.{fields_of};
@@ -40,17 +40,17 @@ use streams::{PutFault, RecordWriter, RowObserver, Sink, Unobserved};
 use table_model::plans::Plan;
 use table_model::queries::Explain;
 
-/// Runs a query over tables. There is one reader for each table of the schema, in its order. `run` reads the query, loads all
-/// tables, binds names, chooses the plan, and writes the header and the rows, or what EXPLAIN prints. It returns the work of
-/// the chosen plan: how many DE-9IM predicates without a NULL argument were decided. A pair that the probe or an earlier
-/// condition rules out costs none; under EXPLAIN the work is 0.
+/// Runs a query over tables. There is one reader for each table of the schema, in its order. `run` reads the query,
+/// loads all tables, binds names, chooses the plan, and writes the header and the rows, or what EXPLAIN prints. It
+/// returns the work of the chosen plan: the number of DE-9IM predicates without a NULL argument that were decided. A
+/// pair that the probe or an earlier condition rules out adds nothing to it. Under EXPLAIN the work is 0.
 ///
-/// If the readers' bytes are known, the answer is that of the records that `csv` reads from them. Whatever the readers are,
-/// there are records whose answer it is.
+/// If the readers' bytes are known, the answer is that of the records that `csv` reads from them. Whatever the readers
+/// return, there are records with this answer.
 ///
-/// The error is the first fault: of the query's text, of loading a table, of binding the query, of the sink; `Memory` may
-/// come in place of any result. Nothing is written before the query is bound. If the sink fails or memory runs out later, a
-/// beginning of the answer may have been written.
+/// The error is the first fault: of the query's text, of loading a table, of binding the query, of the sink; `Memory`
+/// may come in place of any result. Nothing is written before the query is bound. If the sink fails or memory runs out
+/// later, a beginning of the answer may have been written.
 pub fn run<I: EnvelopeIndex + Drop, R: Read + Drop, S: Sink>(
     alloc: Global,
     schema: &Schema,
@@ -65,7 +65,7 @@ pub fn run<I: EnvelopeIndex + Drop, R: Read + Drop, S: Sink>(
     run_observed::<I, R, S, Unobserved>(alloc, schema, readers, query, sink, &mut Unobserved)
 }
 
-/// Runs a query like `run`, and reports each candidate that it looks at and each row that it finds to an observer, as tests want.
+/// Runs a query like `run`, and reports each candidate that it looks at and each row that it finds to an observer. Tests use it.
 pub fn run_observed<I: EnvelopeIndex + Drop, R: Read + Drop, S: Sink, O: RowObserver>(
     alloc: Global,
     schema: &Schema,
@@ -82,10 +82,10 @@ pub fn run_observed<I: EnvelopeIndex + Drop, R: Read + Drop, S: Sink, O: RowObse
     run_counted::<I, I, R, S, O>(alloc, schema, readers, query, &mut counts, sink, observer)
 }
 
-/// Like `run_observed`, with a type of index for each kind of query: `I` under a query with two references, and `L` under one with a
-/// single reference, which searches an index once at most. This changes time alone. If the numbers of rows of the tables are asked for,
-/// it counts them once all tables have loaded, and they stay counted if it fails after that. Where memory runs out for that alone, they
-/// stay asked for.
+/// Like `run_observed`, but with a type of index for each kind of query: `I` for a query with two references, and `L`
+/// for one with a single reference, which searches an index at most once. Only the time depends on it. If the numbers
+/// of rows of the tables are wanted, it counts them once all tables have loaded, and they stay counted if it fails
+/// after that. If memory runs out for the counts alone, the run goes on and they stay wanted.
 pub fn run_counted<
     I: EnvelopeIndex + Drop,
     L: EnvelopeIndex + Drop,
@@ -119,8 +119,8 @@ pub fn run_counted<
     load_and_answer::<I, R, S, O>(alloc, schema, readers, &query, counts, sink, observer)
 }
 
-/// Loads all tables, counts their rows if that is asked for, and runs a query over them. What it promises holds for each text that is
-/// read as this query.
+/// Loads all tables, counts their rows if that is wanted, and runs a query over them. Its promises hold for each text
+/// that is read as this query.
 #[inline(never)]
 fn load_and_answer<I: EnvelopeIndex + Drop, R: Read + Drop, S: Sink, O: RowObserver>(
     alloc: Global,
@@ -147,8 +147,8 @@ fn load_and_answer<I: EnvelopeIndex + Drop, R: Read + Drop, S: Sink, O: RowObser
     answer_query(alloc, query, &database, sink, observer)
 }
 
-/// Runs a query over a database: binds it, chooses its plan, and writes its answer. At Ok all of the answer has been
-/// written; nothing if the query can't be bound, and perhaps a beginning if the sink failed or memory ran out.
+/// Runs a query over a database: binds it, chooses its plan, and writes its answer. At Ok all of the answer is written.
+/// If the query can't be bound, nothing is. If the sink fails or memory runs out, a beginning of it may be.
 fn answer_query<I: EnvelopeIndex + Drop, S: Sink, O: RowObserver>(
     alloc: Global,
     query: &Query<'_>,
@@ -216,7 +216,7 @@ fn put_rows<I: EnvelopeIndex + Drop, S: Sink, O: RowObserver>(
     Ok(rows.into_work())
 }
 
-/// Writes what EXPLAIN prints of a plan. Nothing is executed, so there is no work.
+/// Writes what EXPLAIN prints of a plan. Nothing is run, so the work is 0.
 fn put_plan<S: Sink>(query: &Bound, plan: &Plan, sink: &mut S) -> Result<Work, PutFault>
     ensures text { PutsText result (explain_text query.now plan.now)
         (S.taken sink.old) (S.taken sink.new) (S.failures sink.old) (S.failures sink.new) }
@@ -226,7 +226,7 @@ fn put_plan<S: Sink>(query: &Bound, plan: &Plan, sink: &mut S) -> Result<Work, P
     Ok(Work::new())
 }
 
-/// Executes a lawful plan to its end, writes what EXPLAIN ANALYZE prints of it, and returns the work.
+/// Runs a lawful plan to its end, writes what EXPLAIN ANALYZE prints of it, and returns the work.
 fn put_analysis<I: EnvelopeIndex + Drop, S: Sink, O: RowObserver>(
     alloc: Global,
     database: &Database<'_, I>,
@@ -251,8 +251,8 @@ fn put_analysis<I: EnvelopeIndex + Drop, S: Sink, O: RowObserver>(
     Ok(work)
 }
 
-/// Writes the answer of a query whose rows these are: under COUNT(*) how many there are, else the header and the record of
-/// each row, as it comes.
+/// Writes the answer of a query with these rows: their number under COUNT(*), else the header and the record of each
+/// row as it comes.
 fn put_answer<I: EnvelopeIndex + Drop, S: Sink, O: RowObserver>(
     alloc: Global,
     database: &Database<'_, I>,
@@ -279,7 +279,7 @@ fn put_answer<I: EnvelopeIndex + Drop, S: Sink, O: RowObserver>(
     put_records(alloc, database, query, rows, &mut writer, sink, observer)
 }
 
-/// Writes the header of COUNT(*) and the record of the number, which is left out under LIMIT 0.
+/// Writes the header of COUNT(*) and the record of the number. Under LIMIT 0 that record is left out.
 fn put_count<S: Sink>(
     alloc: Global,
     limit: Option<u64>,
@@ -299,7 +299,7 @@ fn put_count<S: Sink>(
     put_field(alloc, digits.format(count).as_bytes(), writer, sink)
 }
 
-/// A record of this one field. It fails only when memory runs out.
+/// Makes a record of this one field. It fails only when memory runs out.
 pub fn one_field(alloc: Global, field: &[u8]) -> Result<ByteRecord, AllocError>
     ensures { IfOk result (λ r. fields_of r ≡ field.now ∷ []) }
 {
@@ -308,7 +308,7 @@ pub fn one_field(alloc: Global, field: &[u8]) -> Result<ByteRecord, AllocError>
     Ok(fields)
 }
 
-/// Writes the record of this one field.
+/// Writes a record of this one field.
 fn put_field<S: Sink>(
     alloc: Global,
     field: &[u8],
@@ -349,7 +349,7 @@ fn put_records<I: EnvelopeIndex + Drop, S: Sink, O: RowObserver>(
     Ok(())
 }
 
-/// Writes the record of a pair of rows, as `put_row` writes that of rows (SQL, the query).
+/// Writes the record of a pair of rows, as `put_row` writes the record of rows (SQL, the query).
 pub fn put_pair<I: EnvelopeIndex + Drop, S: Sink>(
     alloc: Global,
     database: &Database<'_, I>,

@@ -1,4 +1,4 @@
-//! The reason of a fault in one column.
+//! Finds the reason of a fault in one column.
 
 ghost use Rattle.std.specs.Prelude.{◌≡◌, IfErr, IfOk, Ok};
 ghost use Rattle.geometry_model.specs.Geometries as shapes;
@@ -19,8 +19,8 @@ use table_model::faults::LoadFault;
 use witnesses::place_of;
 use wkt::{Geometry, read};
 
-/// The reason of a fault in a field of this column; None if the field hasn't the fault. An empty field has none, since it is null. At Err
-/// memory ran out.
+/// The reason of a fault in a field of this column; None if the field doesn't have the fault. An empty field is null,
+/// and has none. The error is that memory ran out.
 pub(crate) fn reason_in_column<'s>(
     alloc: Global,
     column: &'s ColumnDef,
@@ -36,7 +36,7 @@ pub(crate) fn reason_in_column<'s>(
     filled_reason(alloc, column, field, fault)
 }
 
-/// The reason of a fault in a field that isn't empty; None if the field hasn't the fault. At Err memory ran out.
+/// The reason of a fault in a field that isn't empty; None if the field doesn't have the fault. The error is that memory ran out.
 fn filled_reason<'s>(
     alloc: Global,
     column: &'s ColumnDef,
@@ -53,7 +53,7 @@ fn filled_reason<'s>(
     }
 }
 
-/// The reason of a fault in the text of a geometry; None if the text hasn't the fault. At Err memory ran out.
+/// The reason of a fault in the text of a geometry; None if the text doesn't have the fault. The error is that memory ran out.
 fn geometry_reason<'s>(
     alloc: Global,
     column: &'s ColumnDef,
@@ -79,7 +79,7 @@ fn geometry_reason<'s>(
     }
 }
 
-/// The text of a field, if its column is one of whole numbers and it writes none.
+/// The reason that the text of a field isn't a whole number, if its column's type is INTEGER.
 fn no_integer_in<'s>(
     alloc: Global,
     column: &'s ColumnDef,
@@ -100,7 +100,7 @@ fn no_integer_in<'s>(
     }))
 }
 
-/// That a field isn't UTF-8, if its column is one of texts.
+/// The reason that a field isn't UTF-8, if its column's type is TEXT.
 fn not_utf8_in<'s>(column: &'s ColumnDef, field: &[u8]) -> Option<Reason<'s>>
     ensures { Finds (IsNotUtf8In column.entry.now field.now) result }
 {
@@ -115,7 +115,7 @@ fn not_utf8_in<'s>(column: &'s ColumnDef, field: &[u8]) -> Option<Reason<'s>>
     }
 }
 
-/// Which geometries a column takes, if it is one of geometries.
+/// The types of geometry that a column can contain, if it is a geometry column.
 fn shape_of(column: &ColumnDef) -> Option<ColumnShape>
     ensures { result ≡ spec.shape_of column.now }
 {
@@ -125,7 +125,7 @@ fn shape_of(column: &ColumnDef) -> Option<ColumnShape>
     }
 }
 
-/// The geometry that a field spells, or the first fault of its text. At Err memory ran out.
+/// The geometry that a field spells, or the first fault of its text. The error is that memory ran out.
 fn geometry_in(alloc: Global, field: &[u8]) -> Result<Result<Geometry, TextFault>, LoadFault>
     ensures text { IfOk result (λ read. read_text field.now ≡ read) }
     ensures spelled { IfOk result (λ read. IfOk read (Spells field.now)) }
@@ -141,7 +141,7 @@ fn geometry_in(alloc: Global, field: &[u8]) -> Result<Result<Geometry, TextFault
     }
 }
 
-/// That the text of a field has this fault.
+/// The reason that the text of a field has this fault.
 fn refused_in<'s>(
     alloc: Global,
     column: &'s ColumnDef,
@@ -163,7 +163,7 @@ fn refused_in<'s>(
     }))
 }
 
-/// Where the geometry of a field has this fault.
+/// The reason that the geometry of a field has this fault, and where.
 fn invalid_in<'s>(
     alloc: Global,
     column: &'s ColumnDef,
@@ -186,7 +186,7 @@ fn invalid_in<'s>(
     }))
 }
 
-/// The type of the geometry of a field, if it isn't the one that the column takes.
+/// The reason that the geometry of a field isn't of its column's type, if so.
 fn other_type_in<'s>(
     alloc: Global,
     column: &'s ColumnDef,

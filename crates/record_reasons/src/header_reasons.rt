@@ -1,4 +1,4 @@
-//! The reason of a fault of a header.
+//! Finds the reason of a fault of a header.
 
 ghost use Rattle.std.specs.Prelude.{◌≡◌, count_by};
 ghost use Rattle.csv.specs.Records.{fields_of};
@@ -10,7 +10,7 @@ use csv::ByteRecord;
 use feature_table::{ColumnDef, TableDef, field_at};
 use table_model::texts::same_name;
 
-/// The first column whose name a header lacks.
+/// The first column whose name isn't in a header.
 pub(crate) fn missing<'s>(table: &'s TableDef, header: &ByteRecord) -> Option<Reason<'s>>
     ensures { Finds (IsOfName (IsMissingName (fields_of header.now)) table.entry.now) result }
 {
@@ -22,7 +22,7 @@ pub(crate) fn missing<'s>(table: &'s TableDef, header: &ByteRecord) -> Option<Re
     None
 }
 
-/// The first column whose name a header has more than once.
+/// The first column whose name is in a header more than once.
 pub(crate) fn repeated<'s>(table: &'s TableDef, header: &ByteRecord) -> Option<Reason<'s>>
     ensures { Finds (IsOfName (IsRepeatedName (fields_of header.now)) table.entry.now) result }
 {
@@ -34,7 +34,7 @@ pub(crate) fn repeated<'s>(table: &'s TableDef, header: &ByteRecord) -> Option<R
     None
 }
 
-/// The name of a column, if a header lacks it.
+/// The name of a column, if it isn't in a header.
 fn missing_name<'s>(column: &'s ColumnDef, header: &ByteRecord) -> Option<Reason<'s>>
     ensures { Finds (IsMissingName (fields_of header.now) column.entry.now) result }
 {
@@ -46,7 +46,7 @@ fn missing_name<'s>(column: &'s ColumnDef, header: &ByteRecord) -> Option<Reason
     })
 }
 
-/// The name of a column, if a header has it more than once.
+/// The name of a column, if it is in a header more than once.
 fn repeated_name<'s>(column: &'s ColumnDef, header: &ByteRecord) -> Option<Reason<'s>>
     ensures { Finds (IsRepeatedName (fields_of header.now) column.entry.now) result }
 {
@@ -58,7 +58,7 @@ fn repeated_name<'s>(column: &'s ColumnDef, header: &ByteRecord) -> Option<Reaso
     })
 }
 
-/// How many fields of a header have a name, in any ASCII case.
+/// The number of fields of a header that have a name, in any ASCII case.
 fn occurrences(header: &ByteRecord, name: &[u8]) -> usize
     ensures { result ≡ count_by (spec.same_name name.now) (fields_of header.now) }
 {

@@ -1,5 +1,5 @@
-//! Why a table has its fault: what is wrong in its header, or in which column of a record, found when the table is read again, and
-//! the line that says so.
+//! Finds why a table has its fault: what is wrong in its header, or in which column of a record, by reading the table
+//! again; and writes the line that says so.
 #![tactic(auto)]
 
 mod column_reasons;

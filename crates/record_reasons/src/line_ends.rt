@@ -1,4 +1,4 @@
-//! The first field of a CSV text that holds a line end.
+//! Finds the first field of a CSV text that contains a line end.
 
 ghost use Rattle.std.specs.Prelude.{◌≡◌, ℕ, IfErr, IfNone, IfOk, IfSome, List, Option, true};
 ghost use Rattle.csv.specs.Records.{fields_of};
@@ -16,19 +16,19 @@ use std::io::Read;
 use table_model::definitions::ROW_LIMIT;
 use table_model::faults::LoadFault;
 
-/// Where a field holds a line end.
+/// Where a field contains a line end.
 #[derive(Clone, Copy, Debug)]
 pub struct LineEnd {
-    /// The number of the record, from 1; 0 of the header.
+    /// The number of the record, from 1; 0 for the header.
     pub number: usize,
     /// The number of the field in its record, from 1.
     pub field: usize,
 }
 
-/// The first record that has a field with a line feed or a carriage return, and the first such field of it, where no record was read
-/// yet. At most 100,002 records are read, the header among them. None is for a text of which none of these has one. The fault is
-/// ReadFailed only if `csv` returned an error of reading, or else OutOfMemory (RFC 4180, 2.6: a quoted field may hold a line end; that it is looked for: this project's
-/// choice).
+/// Finds the first record, and its first field, that contains a line feed or a carriage return. No record may have been
+/// read yet. At most 100,002 records are read, with the header. None if none of these has such a field. The fault is
+/// ReadFailed only if `csv` reported that reading failed, or else OutOfMemory (RFC 4180, 2.6: a quoted field may
+/// contain a line end; looking for one is this project's choice).
 pub fn first_line_end<R: Read + Drop>(
     alloc: Global,
     records: &mut Records<R>,
@@ -52,7 +52,7 @@ pub fn first_line_end<R: Read + Drop>(
     Ok(None)
 }
 
-/// The number, from 1, of the first field of a record that holds a line end.
+/// The number, from 1, of the first field of a record that contains a line end.
 fn line_end_in(record: &ByteRecord) -> Option<usize>
     ensures found { IfSome result (IsFirstField (fields_of record.now)) }
     ensures none { IfNone result (NoFieldHolds (fields_of record.now)) }
@@ -65,7 +65,7 @@ fn line_end_in(record: &ByteRecord) -> Option<usize>
     None
 }
 
-/// Whether a field holds a line feed or a carriage return.
+/// Whether a field contains a line feed or a carriage return.
 fn has_line_end(field: &[u8]) -> bool
     ensures { result ≡ spec.has_line_end field.now }
 {

@@ -1,4 +1,4 @@
-//! The line that says which field of a table holds a line end.
+//! Writes the line that says which field of a table contains a line end.
 
 ghost use Rattle.std.specs.Prelude.{◌++◌, codes, OnErr, OnOk};
 ghost use Rattle.std.specs.Io.KnownBytes.{Appends};
@@ -9,9 +9,9 @@ use crate::line_ends::LineEnd;
 use itoa::Buffer;
 use streams::{Sink, SinkFault, put_parts};
 
-/// Writes the line of a field with a line end: `sfq: note: parcels record 12: field 2 holds a line end`, or
-/// `sfq: note: parcels header: field 2 holds a line end` (this project's choice). It takes no memory. At Err the sink failed, and a
-/// beginning of the line has been written.
+/// Writes the line of a field with a line end: `sfq: note: parcels record 12: field 2 holds a line end`, or `sfq: note:
+/// parcels header: field 2 holds a line end` (this project's choice). It allocates nothing. The error is that the sink
+/// failed, and a beginning of the line has been written.
 pub fn put_line_end<S: Sink>(table: &str, at: LineEnd, sink: &mut S) -> Result<(), SinkFault>
     ensures ok { OnOk result (Appends (S.taken sink.old) (S.taken sink.new) (note_line table.now at)) }
     ensures front { OnErr result
@@ -27,7 +27,7 @@ pub fn put_line_end<S: Sink>(table: &str, at: LineEnd, sink: &mut S) -> Result<(
     put_note(sink, table, "record ", number.format(at.number), field)
 }
 
-/// Writes the line of a table of this name with the word of a record or header, the digits of a number and those of a field.
+/// Writes the line for a table with this name, from the word for a record or header and the digits of its number and of the field.
 fn put_note<'t, S: Sink>(
     sink: &mut S,
     table: &'t str,

@@ -1,4 +1,4 @@
-//! The reason of a field that is empty where it mustn't be.
+//! Finds the reason of a field that is empty where its column can't be null.
 
 ghost use Rattle.std.specs.Prelude.{◌≡◌};
 ghost use Rattle.csv.specs.Records.{fields_of};
@@ -10,7 +10,7 @@ use crate::reason::Reason;
 use csv::ByteRecord;
 use feature_table::{ColumnDef, TableDef};
 
-/// The first column that takes no null, and whose field is empty.
+/// The first column that can't be null and whose field is empty.
 pub(crate) fn null_field<'s>(
     table: &'s TableDef,
     header: &ByteRecord,
@@ -28,7 +28,7 @@ pub(crate) fn null_field<'s>(
     None
 }
 
-/// The name of a column, if its field is empty and mustn't be.
+/// The name of a column, if its field is empty and it can't be null.
 fn null_in<'s>(column: &'s ColumnDef, is_required: bool, field: &[u8]) -> Option<Reason<'s>>
     ensures { Finds (IsNullIn is_required column.entry.now field.now) result }
 {

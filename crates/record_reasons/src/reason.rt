@@ -24,27 +24,27 @@ use table_model::definitions::ROW_LIMIT;
 use table_model::faults::LoadFault;
 use witnesses::Place;
 
-/// What is wrong where a table isn't loaded. Names of columns are lent, as the schema spells them.
+/// What is wrong in a table that isn't loaded. Names of columns are lent, as the schema spells them.
 #[derive(Debug, Drop)]
 pub enum Reason<'s> {
-    /// L1: the header lacks the name of a column.
+    /// L1: the name of a column isn't in the header.
     Missing {
         /// The name of the column.
         column: &'s str,
     },
-    /// L2: the header has the name of a column more than once.
+    /// L2: the name of a column is in the header more than once.
     Repeated {
         /// The name of the column.
         column: &'s str,
     },
     /// L3: the record has another number of fields than the header.
     Lengths {
-        /// How many fields the record has.
+        /// The number of fields of the record.
         found: usize,
-        /// How many the header has.
+        /// The number of fields of the header.
         wanted: usize,
     },
-    /// L8: a column that takes no null has an empty field.
+    /// L8: a column that can't be null has an empty field.
     Null {
         /// The name of the column.
         column: &'s str,
@@ -53,7 +53,7 @@ pub enum Reason<'s> {
     NoInteger {
         /// The name of the column.
         column: &'s str,
-        /// The text of the field as it is shown: its first 60 bytes, escaped, and two dots if it has more.
+        /// The text of the field as it is printed: its first 60 bytes, escaped, and two dots if it has more.
         text: Vec<u8>,
     },
     /// L6: the text in a column isn't that of a geometry.
@@ -95,10 +95,10 @@ pub enum Reason<'s> {
     },
 }
 
-/// The reason of a table's fault, whose header and records are read again for it, from the first; for any fault but TooManyRows,
-/// ReadFailed and OutOfMemory. Of several columns the first that has this fault is shown, and of several records with a key the first. None comes
-/// where what is read now hasn't the fault, and for a number past 100,001. At most 100,002 records are read. The fault is ReadFailed
-/// only if `csv` returned an error of reading, or else OutOfMemory (06-104r4, feature tables; which reason: this project's choice).
+/// Finds the reason of a table's fault, other than TooManyRows, ReadFailed and OutOfMemory, by reading the header and records again
+/// from the first. It is that of the first column with this fault, or of the first record with a repeated key. None if the fault
+/// isn't found again, or the number is over 100,001. At most 100,002 records are read. The fault is ReadFailed only if `csv`
+/// reported that reading failed, or else OutOfMemory (06-104r4, feature tables; which reason: this project's choice).
 pub fn reason_of<'s, R: Read + Drop>(
     alloc: Global,
     table: &'s TableDef,
@@ -120,7 +120,7 @@ pub fn reason_of<'s, R: Read + Drop>(
     }
 }
 
-/// The reason of a fault that one record shows, or the header.
+/// Finds the reason of a fault that one record or the header shows.
 fn record_reason<'s, R: Read + Drop>(
     alloc: Global,
     table: &'s TableDef,
@@ -152,7 +152,7 @@ fn record_reason<'s, R: Read + Drop>(
     reason_in(alloc, table, &seen.header, &seen.record, fault)
 }
 
-/// The number of the record that a fault has; 0 of a fault of the header, and of one that no record shows.
+/// The number of the record of a fault; 0 for a fault of the header, and for one that no record shows.
 fn record_number(fault: LoadFault) -> usize
     ensures { result ≡ spec.record_number fault }
 {
@@ -188,7 +188,7 @@ fn reason_in<'s>(
     }
 }
 
-/// How many fields the record and the header have, where these numbers differ.
+/// The numbers of fields of the record and the header, if they differ.
 fn lengths<'s>(header: &ByteRecord, record: &ByteRecord) -> Option<Reason<'s>>
     ensures { Finds (IsOfLengths (fields_of header.now) (fields_of record.now)) result }
 {

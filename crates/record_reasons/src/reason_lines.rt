@@ -1,4 +1,4 @@
-//! The line that says what is wrong where a table isn't loaded.
+//! Writes the line that says what is wrong in a table that isn't loaded.
 
 ghost use Rattle.std.specs.Prelude.{◌≡◌, ◌++◌, codes, OnErr, OnOk};
 ghost use Rattle.std.specs.Io.KnownBytes.{Appends};
@@ -18,7 +18,7 @@ use witnesses::{Place, put_reason};
 /// Writes the line of a reason: `sfq: column pop isn't in the header`, `sfq: column pop is in the header more than once`,
 /// `sfq: the record has 2 fields, the header 3`, `sfq: column pop is empty`, `sfq: column pop: "1.5" isn't a whole number of 64 bits`,
 /// `sfq: column geom: W1 at 5`, `sfq: column geom: V3 0: 0 0 to 4 4 and 4 0 to 0 4 share 2 2`,
-/// `sfq: column geom has a POINT, not a POLYGON`, `sfq: column name isn't UTF-8` or `sfq: record 3 has the key 7` (this project's choice). It takes no memory. At Err the sink failed, and a beginning of the line has been written.
+/// `sfq: column geom has a POINT, not a POLYGON`, `sfq: column name isn't UTF-8` or `sfq: record 3 has the key 7` (this project's choice). It allocates nothing. The error is that the sink failed, and a beginning of the line has been written.
 pub fn put_record_reason<S: Sink>(reason: &Reason<'_>, sink: &mut S) -> Result<(), SinkFault>
     ensures ok { OnOk result (Appends (S.taken sink.old) (S.taken sink.new) (reason_line reason.now)) }
     ensures front { OnErr result
@@ -62,7 +62,7 @@ fn put_same_key<S: Sink>(sink: &mut S, number: usize, key: i64) -> Result<(), Si
     put_key(sink, first.format(number), second.format(key))
 }
 
-/// Writes the line of a record with these digits, which has a key with those.
+/// Writes the line of a record with the same key, from the digits of its number and those of the key.
 fn put_key<'t, S: Sink>(sink: &mut S, number: &'t str, key: &'t str) -> Result<(), SinkFault>
     ensures ok { OnOk result (Appends (S.taken sink.old) (S.taken sink.new)
         (codes "sfq: record " ++ number.now ++ codes " has the key " ++ key.now ++ codes "\n")) }
@@ -106,7 +106,7 @@ fn put_no_integer<'t, S: Sink>(
     )
 }
 
-/// Writes the line of a column's name: what is wrong with it.
+/// Writes a line of a column's name and what is wrong with the column.
 fn put_named<'t, S: Sink>(sink: &mut S, column: &'t str, words: &'t str) -> Result<(), SinkFault>
     ensures ok { OnOk result (Appends (S.taken sink.old) (S.taken sink.new)
         (codes "sfq: column " ++ column.now ++ words.now)) }
@@ -120,7 +120,7 @@ fn put_named<'t, S: Sink>(sink: &mut S, column: &'t str, words: &'t str) -> Resu
     )
 }
 
-/// Writes the line of a text that isn't one of a geometry.
+/// Writes the line of a text that isn't the text of a geometry.
 fn put_refused<'t, S: Sink>(
     sink: &mut S,
     column: &'t str,
@@ -141,7 +141,7 @@ fn put_refused<'t, S: Sink>(
     }
 }
 
-/// Writes the line of a column with the code of a fault, and the digits of its place.
+/// Writes the line of a column, from the code of a fault and the digits of its place.
 fn put_code<'t, S: Sink>(
     sink: &mut S,
     column: &'t str,
@@ -167,7 +167,7 @@ fn put_code<'t, S: Sink>(
     )
 }
 
-/// Writes the line of two lengths.
+/// Writes the line of two different numbers of fields.
 fn put_lengths<S: Sink>(sink: &mut S, found: usize, wanted: usize) -> Result<(), SinkFault>
     ensures ok { OnOk result
         (Appends (S.taken sink.old) (S.taken sink.new) (reason_line (kinds.Lengths found wanted))) }
@@ -180,7 +180,7 @@ fn put_lengths<S: Sink>(sink: &mut S, found: usize, wanted: usize) -> Result<(),
     put_counts(sink, first.format(found), second.format(wanted))
 }
 
-/// Writes the line of two lengths with these digits.
+/// Writes the line of two different numbers of fields, from their digits.
 fn put_counts<'t, S: Sink>(sink: &mut S, found: &'t str, wanted: &'t str) -> Result<(), SinkFault>
     ensures ok { OnOk result (Appends (S.taken sink.old) (S.taken sink.new)
         (codes "sfq: the record has " ++ found.now ++ codes " fields, the header " ++ wanted.now ++ codes "\n")) }
@@ -200,7 +200,7 @@ fn put_counts<'t, S: Sink>(sink: &mut S, found: &'t str, wanted: &'t str) -> Res
     )
 }
 
-/// Writes the line of a geometry that isn't valid: the column's name, the fault and a place of it.
+/// Writes the line of a geometry that isn't valid: the column's name, the fault and where it is.
 fn put_invalid<'t, S: Sink>(
     sink: &mut S,
     column: &'t str,
@@ -228,7 +228,7 @@ fn put_column<'t, S: Sink>(sink: &mut S, column: &'t str) -> Result<(), SinkFaul
     put_parts(sink, &[b"sfq: column ", column.as_bytes(), b": "])
 }
 
-/// Writes the line of a geometry of a type with this word, in a column that wants another.
+/// Writes the line of a geometry whose type has this word, in a column of another type.
 fn put_types<'t, S: Sink>(
     sink: &mut S,
     column: &'t str,
@@ -255,7 +255,7 @@ fn put_types<'t, S: Sink>(
     )
 }
 
-/// The word of a type of geometry.
+/// The word for a type of geometry.
 fn word_of(geometry_type: GeometryType) -> &'static str
     ensures { result.now ≡ type_word geometry_type }
 {

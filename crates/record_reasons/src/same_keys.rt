@@ -1,4 +1,4 @@
-//! The reason of a key that an earlier record has.
+//! Finds the reason of a key that an earlier record has.
 
 ghost use Rattle.std.specs.Prelude.{◌≡◌, ◌+◌, ◌<◌, ◌≤◌, IfErr, IfNone, IfOk, IfSome, List, None, Option, Some, ℕ, length, slice_get, true};
 ghost use Rattle.csv.specs.Records.{fields_of};
@@ -20,8 +20,8 @@ use std::io::Read;
 use table_model::definitions::ROW_LIMIT;
 use table_model::faults::LoadFault;
 
-/// The first record with the key of the record of this number, if it is before that one. None comes for a number past 100,001. At Err
-/// reading failed or memory ran out.
+/// The first record with the key of the record of this number, if it comes before that one. None for a number over
+/// 100,001. The error is that reading failed or memory ran out.
 pub(crate) fn same_key<R: Read + Drop>(
     alloc: Global,
     table: &TableDef,
@@ -55,7 +55,7 @@ pub(crate) fn same_key<R: Read + Drop>(
     }))
 }
 
-/// The place of the first of so many keys that is this one.
+/// The place of the first of the first `count` keys that equals this key.
 fn place_of_key(keys: &[Option<i64>], count: usize, key: i64) -> Option<usize>
     requires { count ≤ length keys.now }
     ensures within { IfSome result (λ place. place < count) }
@@ -73,7 +73,7 @@ fn place_of_key(keys: &[Option<i64>], count: usize, key: i64) -> Option<usize>
     None
 }
 
-/// The key of a record under a header, if its field writes one.
+/// The key of a record under a header, if its field spells a number.
 fn key_of(table: &TableDef, header: &ByteRecord, record: &ByteRecord) -> Option<i64>
     ensures { result ≡ key_under table.now (fields_of header.now) (fields_of record.now) }
 {
@@ -81,8 +81,8 @@ fn key_of(table: &TableDef, header: &ByteRecord, record: &ByteRecord) -> Option<
     integer_of(field_named(header, record, column.name.bytes()))
 }
 
-/// Reads the header and the records up to the one of this number, where none was read yet, and returns the keys of the records. None is for a text that hasn't so
-/// many records. The fault is ReadFailed or OutOfMemory.
+/// Reads the header and the records up to the one of this number, before any is read, and returns the keys of the
+/// records. None if the text has fewer records. The fault is ReadFailed or OutOfMemory.
 fn seen_keys<R: Read + Drop>(
     alloc: Global,
     records: &mut Records<R>,

@@ -1,4 +1,4 @@
-//! The header of a CSV text and one record of it.
+//! Reads the header of a CSV text and one of its records.
 
 ghost use Rattle.std.specs.Prelude.{◌≡◌, ◌+◌, ◌<◌, ◌≤◌, ℕ, IfErr, IfNone, IfOk, IfSome, List, OnOk, Option, true};
 ghost use Rattle.csv.specs.Records.{fields_of};
@@ -37,7 +37,7 @@ pub(crate) fn take_record<R: Read + Drop>(
     next_record(records, record)
 }
 
-/// Reads the header, where no record was read yet; None is for a text without records. The fault is ReadFailed or OutOfMemory.
+/// Reads the header, before any record is read; None if the text has no records. The fault is ReadFailed or OutOfMemory.
 pub(crate) fn seen_header<R: Read + Drop>(
     alloc: Global,
     records: &mut Records<R>,
@@ -58,7 +58,7 @@ pub(crate) fn seen_header<R: Read + Drop>(
     Ok(Some(header))
 }
 
-/// Reads the header and the record of this number, from 1, where none was read yet; None is for a text that has no such record. The
+/// Reads the header and the record of this number, from 1, before any is read; None if the text has no such record. The
 /// fault is ReadFailed or OutOfMemory.
 pub(crate) fn seen_record<R: Read + Drop>(
     alloc: Global,

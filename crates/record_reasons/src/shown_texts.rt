@@ -1,4 +1,4 @@
-//! The text of a field as a line shows it.
+//! The text of a field as a line prints it.
 
 ghost use Rattle.std.specs.Prelude.{◌≡◌, ◌++◌, ◌≤◌, IfOk, OnOk, length, take};
 ghost use Rattle.std.specs.Char.Escape.{escape_ascii};
@@ -6,11 +6,11 @@ ghost use Rattle.record_reasons.specs.ShownTexts as spec;
 
 use std::alloc::{AllocError, Global};
 
-/// How many bytes of a field are shown.
+/// The number of bytes of a field that are printed.
 pub const SHOWN_BYTES: usize = 60;
 
-/// The first 60 bytes of a field, with each quote, each backslash and each byte that isn't printable ASCII escaped as in Rust, and two
-/// dots if the field has more bytes. At Err memory ran out.
+/// The first 60 bytes of a field, with each quote, each backslash and each byte that isn't printable ASCII escaped as
+/// in Rust, and two dots if the field has more bytes. The error is that memory ran out.
 pub(crate) fn shown_text(alloc: Global, field: &[u8]) -> Result<Vec<u8>, AllocError>
     ensures { IfOk result (λ text. text.items ≡ spec.shown_text field.now) }
 {
@@ -30,7 +30,7 @@ fn front(field: &[u8]) -> &[u8]
     beginning(field, SHOWN_BYTES)
 }
 
-/// So many bytes of a field.
+/// The first `count` bytes of a field.
 fn beginning(field: &[u8], count: usize) -> &[u8]
     requires { count ≤ length field.now }
     ensures { result.now ≡ take count field.now }
@@ -38,7 +38,7 @@ fn beginning(field: &[u8], count: usize) -> &[u8]
     &field[..count]
 }
 
-/// Two dots after a field of more than 60 bytes.
+/// Two dots for a field of more than 60 bytes, else nothing.
 fn dots_after(field: &[u8]) -> &'static str
     ensures { result.now ≡ spec.dots_after field.now }
 {
@@ -48,7 +48,7 @@ fn dots_after(field: &[u8]) -> &'static str
     ""
 }
 
-/// Adds bytes, escaped.
+/// Adds bytes, each escaped.
 fn push_escaped(text: &mut Vec<u8>, field: &[u8]) -> Result<(), AllocError>
     ensures { OnOk result (text.new.items ≡ text.old.items ++ spec.escaped field.now) }
 {
@@ -58,7 +58,7 @@ fn push_escaped(text: &mut Vec<u8>, field: &[u8]) -> Result<(), AllocError>
     Ok(())
 }
 
-/// Adds a byte, escaped.
+/// Adds a byte, escaped if it needs to be.
 fn push_byte(text: &mut Vec<u8>, byte: u8) -> Result<(), AllocError>
     ensures { OnOk result (text.new.items ≡ text.old.items ++ escape_ascii byte) }
 {

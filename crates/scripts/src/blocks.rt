@@ -4,12 +4,12 @@ use crate::played_commands::{DIRECTORY, SCHEMA};
 use crate::short_forms::written_out;
 use std::alloc::{AllocError, Global};
 
-/// What a block says.
+/// What a block is.
 #[derive(Drop)]
 pub(crate) enum Block {
-    /// Nothing: it is a comment, or empty.
+    /// A comment, or nothing.
     Comment,
-    /// What the file at a path holds.
+    /// The text of the file at a path.
     File {
         /// The path of the file.
         path: String,
@@ -26,7 +26,7 @@ pub(crate) enum Block {
 }
 
 impl Block {
-    /// Reads the lines of a block. Fails where memory runs out.
+    /// Reads the lines of a block. Fails if memory runs out.
     pub(crate) fn read(alloc: Global, lines: &str) -> Result<Block, AllocError> {
         let text = joined(alloc, lines)?;
         let Some((head, body)) = text.as_str().split_once("\n") else {
@@ -46,14 +46,14 @@ impl Block {
     }
 }
 
-/// The lines of a block, each with its end but for those that end with `\`.
+/// The lines of a block, each with its line feed, except those that end with `\`.
 fn joined(alloc: Global, lines: &str) -> Result<String, AllocError> {
     let mut text = String::from_str(alloc, lines.trim_matches('\n'))?;
     text.push_str("\n")?;
     text.as_str().replace(alloc, "\\\n", "")
 }
 
-/// The path of the file that a block gives whose first line is this.
+/// The path of the file that a block with this first line gives.
 fn path_of(alloc: Global, head: &str) -> Result<Option<String>, AllocError> {
     if head == "schema" {
         return Ok(Some(String::from_str(alloc, SCHEMA)?));

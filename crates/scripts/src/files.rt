@@ -2,7 +2,7 @@
 
 use std::alloc::{AllocError, Global};
 
-/// A file: where it is, and what it holds.
+/// A file: where it is, and what is in it.
 #[derive(Drop)]
 struct File {
     path: String,
@@ -23,7 +23,7 @@ impl Files {
         }
     }
 
-    /// Adds a file. Fails where memory runs out.
+    /// Adds a file. Fails if memory runs out.
     pub(crate) fn add(&mut self, path: String, text: Vec<u8>) -> Result<(), AllocError> {
         self.files.push(File { path, text })?;
         Ok(())

@@ -1,5 +1,5 @@
 //! The program `scripts`: it plays the scripts that its words name, and prints each row whose command prints something
-//! else than is written below it. The head of `data/queries.txt` explains what a script is.
+//! else than what is written below it. The head of `data/queries.txt` explains what a script is.
 #![tactic(auto)]
 
 mod blocks;
@@ -37,7 +37,7 @@ fn play_all(rt: &HostRuntime) -> io::Result<u64> {
     Ok(tally.differing())
 }
 
-/// The script at a path. Where it can't be read, its path is printed.
+/// The script at a path. If it can't be read, its path is printed.
 fn read_script(rt: &HostRuntime, path: &str) -> io::Result<String> {
     let script = fs::read_to_string(rt, path);
     if script.is_err() {

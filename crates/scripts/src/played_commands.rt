@@ -13,7 +13,7 @@ pub(crate) const SCHEMA: &str = "s";
 pub(crate) const DIRECTORY: &str = "d";
 
 /// What a command prints over some files: its standard output, then its standard error after `! `, then its status
-/// unless it is 0. For a command line that isn't an order it is the status alone. Fails only when memory runs out.
+/// unless it is 0. For a command line that isn't an order it is only the status. Fails only when memory runs out.
 pub(crate) fn output(alloc: Global, files: &Files, command: &str) -> Result<Vec<u8>, AllocError> {
     if command == "sfq" || command.starts_with("sfq | ") {
         return output_of_words(alloc, files, command);

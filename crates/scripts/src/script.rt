@@ -41,8 +41,8 @@ impl Tally {
     }
 }
 
-/// Plays a script, which begins without files, and counts its rows. It returns the report: of each row that differs the
-/// name of the script, the command, and both texts. Fails where memory runs out.
+/// Plays a script, which begins without files, and counts its rows. It returns the report: for each row that differs,
+/// the name of the script, the command, and both texts. It fails if memory runs out.
 pub(crate) fn play(
     alloc: Global,
     name: &str,

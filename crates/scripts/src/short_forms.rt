@@ -6,7 +6,7 @@ use std::alloc::{AllocError, Global};
 const SQUARE: &str = "ST_GeomFromText('POLYGON((0 0,4 0,4 4,0 4,0 0))')";
 
 /// A text with its short forms written out: `$S` as the square, `{1 to 3 of PART}` as PART three times with 1, 2 and 3
-/// for its `$`, `{byte 10}` as that byte. Fails where memory runs out.
+/// for its `$`, `{byte 10}` as that byte. It fails if memory runs out.
 pub(crate) fn written_out(alloc: Global, text: &str) -> Result<Vec<u8>, AllocError> {
     let text = text.replace(alloc, "$S", SQUARE)?;
     let mut written = Vec::new(alloc);

@@ -12,8 +12,8 @@ use library_calls::{
 };
 use std::alloc::Global;
 
-/// Keeps a valid geometry of a type, by its number in well-known binary, of these positions and parts: how many positions each line
-/// or ring has, and of several polygons how many rings each has. Status 4 where no type has such parts; status 1 where it isn't
+/// Keeps a valid geometry of a type, by its number in well-known binary, from these positions and parts: how many positions each
+/// line or ring has, and for several polygons how many rings each has. Status 4 if no type has such parts; status 1 if it isn't
 /// valid, with its first fault in numbers, W3 with the number of the position (06-103r4, 6.1 and 8.2; the order and the numbers:
 /// this project's choice).
 #[unsafe(no_mangle)]

@@ -7,9 +7,9 @@ ghost use Rattle.library_calls.specs.Refusals.{ok, out_of_memory, too_small, unk
 use library_calls::{Bounds, IndexSlot, KeptIndex, Unbuilt, build_index, write_found};
 use std::alloc::Global;
 
-/// Keeps an index of the envelopes with these bounds, of which 0, -1, 0, -1 are those of an empty geometry. Status 4 where a least
-/// is past a greatest or one is past the limit, with the position of the first such (06-103r4, 6.1.2.2: Envelope; the numbers and
-/// the limit: this project's choice).
+/// Keeps an index of the envelopes with these bounds; 0, -1, 0, -1 are those of an empty geometry. Status 4 if a least exceeds the
+/// greatest or one is past the limit, with the position of the first such bounds (06-103r4, 6.1.2.2: Envelope; the numbers and the
+/// limit: this project's choice).
 #[unsafe(no_mangle)]
 pub extern "C" fn sfq_proved_index_build(
     alloc: Global,
@@ -49,9 +49,9 @@ fn keep_index(alloc: Global, bounds: &[Bounds]) -> Result<KeptIndex, Unbuilt>
     }
 }
 
-/// Writes how many envelopes of a kept index meet the window with these bounds, and their positions, ascending, where the room is
-/// enough: they share a point with it, be it on their sides; those of empty geometries meet one another. Status 4 where the window's
-/// are no bounds (06-103r4, 6.1.2.2: Envelope; the numbers: this project's choice).
+/// Writes how many envelopes of a kept index meet the window with these bounds, and their positions, ascending, if `room` is large
+/// enough: they share a point with it, sides included; those of empty geometries meet one another. Status 4 if the window's bounds
+/// are invalid (06-103r4, 6.1.2.2: Envelope; the numbers: this project's choice).
 #[unsafe(no_mangle)]
 pub extern "C" fn sfq_proved_index_search(
     alloc: Global,

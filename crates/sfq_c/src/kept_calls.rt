@@ -18,7 +18,7 @@ use library_calls::{
 use std::alloc::Global;
 use validity::Valid;
 
-/// Reads a valid geometry from a text into the slot; status 1 where the text is refused, with its first fault in
+/// Reads a valid geometry from a text into the slot; status 1 if the text is refused, with its first fault in
 /// numbers (06-103r4, 7.2 and 6.1; the order and the numbers: this project's choice).
 #[unsafe(no_mangle)]
 pub extern "C" fn sfq_proved_read(
@@ -205,7 +205,7 @@ pub extern "C" fn sfq_proved_matches_itself(
     status
 }
 
-/// Writes the length of the canonical text of a kept geometry, and the text where the room is enough (06-103r4, 6.1.2.2: AsText).
+/// Writes the length of the canonical text of a kept geometry, and the text if `room` is large enough (06-103r4, 6.1.2.2: AsText).
 #[unsafe(no_mangle)]
 pub extern "C" fn sfq_proved_text(
     alloc: Global,
@@ -230,7 +230,7 @@ pub extern "C" fn sfq_proved_text(
     status
 }
 
-/// The dimension of a kept geometry's type: 0 of points, 1 of lines, 2 of areas, also where it is empty (06-103r4, 6.1.2.2:
+/// The dimension of a kept geometry's type: 0 for points, 1 for lines, 2 for areas, also if it is empty (06-103r4, 6.1.2.2:
 /// Dimension).
 #[unsafe(no_mangle)]
 pub extern "C" fn sfq_proved_dimension(kept: KeptGeometry, back: &mut Slot) -> u32
@@ -257,7 +257,7 @@ pub extern "C" fn sfq_proved_is_empty(kept: KeptGeometry, back: &mut Slot) -> bo
     found
 }
 
-/// The least x, the greatest x, the least y and the greatest y of a kept geometry; status 6 where it is empty (06-103r4, 6.1.2.2:
+/// The least x, the greatest x, the least y and the greatest y of a kept geometry; status 6 if it is empty (06-103r4, 6.1.2.2:
 /// Envelope).
 #[unsafe(no_mangle)]
 pub extern "C" fn sfq_proved_envelope(
@@ -277,7 +277,7 @@ pub extern "C" fn sfq_proved_envelope(
     status
 }
 
-/// Where the position (x, y) lies in a kept geometry: 0 in its interior, 1 on its boundary, 2 in its exterior; status 4 where a
+/// Where the position (x, y) lies in a kept geometry: 0 in its interior, 1 on its boundary, 2 in its exterior; status 4 if a
 /// coordinate is past the limit (06-103r4, 6.1.15.2; the numbers and the limit: this project's choice).
 #[unsafe(no_mangle)]
 pub extern "C" fn sfq_proved_locate(

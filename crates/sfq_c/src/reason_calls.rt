@@ -8,8 +8,8 @@ use crate::kept_calls::put_back;
 use library_calls::{Fault, KeptGeometry, Slot, write_reason, write_why};
 use std::alloc::Global;
 
-/// Hands out nine lines that show the cells of the DE-9IM matrix of two kept geometries, as the command `why` prints them: their
-/// length, and the text where the room is enough (06-103r4, 6.1.15.2; the witnesses and the words: this project's choice).
+/// Writes nine lines that show the cells of the DE-9IM matrix of two kept geometries, as the command `why` prints them: their
+/// length, and the text if `room` is large enough (06-103r4, 6.1.15.2; the witnesses and the words: this project's choice).
 #[unsafe(no_mangle)]
 pub extern "C" fn sfq_proved_why(
     alloc: Global,
@@ -37,7 +37,7 @@ pub extern "C" fn sfq_proved_why(
     status
 }
 
-/// Hands out nine lines that show the cells of the DE-9IM matrix of a kept geometry and itself, as `sfq_proved_why` does of two
+/// Writes nine lines that show the cells of the DE-9IM matrix of a kept geometry and itself, as `sfq_proved_why` does for two
 /// (06-103r4, 6.1.15.2; the witnesses and the words: this project's choice).
 #[unsafe(no_mangle)]
 pub extern "C" fn sfq_proved_why_itself(
@@ -60,8 +60,8 @@ pub extern "C" fn sfq_proved_why_itself(
     status
 }
 
-/// Hands out the line that the command `why` prints of one text: whether its geometry is valid, and if not, its first fault and
-/// where it has it; status 1 where the text spells no geometry, with its first fault in numbers (06-103r4, 7.2, 6.1.7, 6.1.11.1
+/// Writes the line that the command `why` prints for one text: whether its geometry is valid, and if not, its first fault and
+/// where it has it; status 1 if the text spells no geometry, with its first fault in numbers (06-103r4, 7.2, 6.1.7, 6.1.11.1
 /// and 6.1.14; the order of faults, which place, the words and the numbers: this project's choice).
 #[unsafe(no_mangle)]
 pub extern "C" fn sfq_proved_reason(

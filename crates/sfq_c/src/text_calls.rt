@@ -1,4 +1,4 @@
-//! Calls over texts alone.
+//! Calls that need only texts.
 
 ghost use Rattle.std.specs.Prelude.{◌≡◌, ◌≢◌, ◌⊎◌};
 ghost use Rattle.geometry_model.specs.CheckedTexts.{geometry_in_text};
@@ -8,8 +8,8 @@ ghost use Rattle.library_calls.specs.Texts.{AreAnswers, IsRefusedFor, IsTextOfMa
 use library_calls::{Fault, all_hold, matrix_of, read_one, read_two};
 use std::alloc::Global;
 
-/// Why a text is refused: 0 where it is that of a valid geometry, 1 where it isn't, with its first fault in numbers, 3 where
-/// memory ran out (06-103r4, 7.2 and 6.1; the order and the numbers: this project's choice).
+/// Why a text is refused: 0 if it is that of a valid geometry, 1 if it isn't, with its first fault in numbers, 3 if memory
+/// ran out (06-103r4, 7.2 and 6.1; the order and the numbers: this project's choice).
 #[unsafe(no_mangle)]
 pub extern "C" fn sfq_proved_fault(alloc: Global, text: &[u8], fault: &mut Fault) -> u32
     ensures status { (result ≡ out_of_memory) ⊎ (result ≡ status_of_text (geometry_in_text text.now)) }
@@ -53,7 +53,7 @@ pub extern "C" fn sfq_proved_relate_texts(
     }
 }
 
-/// The matrix of two texts as [`sfq_proved_relate_texts`] gives it, and with it which of the eleven relations hold, by their numbers
+/// The matrix of two texts as [`sfq_proved_relate_texts`] gives it, and which of the eleven relations hold, by their numbers
 /// (06-103r4, 6.1.15.2 and 6.1.15.3).
 #[unsafe(no_mangle)]
 pub extern "C" fn sfq_proved_answer_texts(

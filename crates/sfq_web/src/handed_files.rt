@@ -1,4 +1,4 @@
-//! The files of a command as a caller hands them in, who has read them before.
+//! The files of a command as a caller hands them in, which has read them before.
 
 ghost use Rattle.std.specs.Prelude.{◌≡◌, IfSome, option_map};
 ghost use Rattle.sfq_web.specs.HandedFiles.{bytes_in, fails_behind, fails_in, file_at, found_of, is_standard, is_text, is_text_of, is_there, opened_text, words_of};
@@ -15,22 +15,22 @@ const STANDARD_INPUT: &str = "-";
 pub enum Found {
     /// A file, which can be read again.
     Lasting,
-    /// What can be read once, such as a pipe.
+    /// Something that can be read only once, such as a pipe.
     Passing,
-    /// A folder: it can be opened, and not be read.
+    /// A folder, which can be opened, but not read.
     Folder,
-    /// What couldn't be read to its end.
+    /// Something that couldn't be read to its end.
     Broken,
     /// Nothing.
     Nothing,
-    /// What this user may not read.
+    /// Something that this user may not read.
     Denied,
-    /// What can't be opened.
+    /// Something that can't be opened.
     Closed,
 }
 
 impl Found {
-    /// What a number says: 0 to 5 in the order above, and any other that it can't be opened.
+    /// What a number means: 0 to 5 are in the order above, and any other means that it can't be opened.
     pub fn of(number: u8) -> Found
         ensures { result ≡ found_of number }
     {
@@ -55,14 +55,14 @@ impl Found {
         }
     }
 
-    /// Whether reading it fails behind what was read.
+    /// Whether reading it fails after what was read.
     pub(crate) fn fails(self) -> bool
         ensures { result ≡ fails_behind self }
     {
         matches!(self, Found::Folder | Found::Broken)
     }
 
-    /// What is said after its path where it can't be opened or is a folder; nothing of a file.
+    /// What is written after its path if it can't be opened or is a folder; None for a file.
     pub(crate) fn words(self) -> Option<&'static str>
         ensures { option_map (λ words. words.now) result ≡ words_of self }
     {
@@ -100,7 +100,7 @@ impl<'f> HandedFile<'f> {
     }
 }
 
-/// A reader of a text, which fails at its end if that couldn't be read.
+/// A reader of a text; it fails at the end of the text if the rest couldn't be read.
 #[derive(Clone, Copy, Debug)]
 pub struct HandedText<'t> {
     rest: &'t [u8],
@@ -127,12 +127,12 @@ impl Read for HandedText<'_> {
     }
 }
 
-/// A reader of a file that is handed in. What is CSV has a bound.
+/// A reader of a file that is handed in. The one of a CSV file has a bound.
 #[derive(Drop)]
 pub enum HandedReader<'t> {
-    /// Of CSV.
+    /// The reader of a CSV file.
     Records(BoundedReader<HandedText<'t>>),
-    /// Of another text, of which a command reads only so much.
+    /// The reader of another text, of which a command reads only a limited part.
     Text(HandedText<'t>),
 }
 

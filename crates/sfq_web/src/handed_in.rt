@@ -1,4 +1,4 @@
-//! What a caller hands in, as words and files: texts are one after another, each of its length.
+//! What a caller hands in, as words and files: texts come one after another, with a list of their lengths.
 
 ghost use Rattle.std.specs.Prelude.{◌≡◌, IfOk, IfSome, None, length, map};
 ghost use Rattle.sfq_web.specs.HandedFiles.{AreFiles};
@@ -11,7 +11,7 @@ use crate::handing::Handing;
 use crate::served::{Served, serve_words};
 use std::alloc::{AllocError, Global};
 
-/// The words of a command line as a caller hands them in: they are one after another, each of its length.
+/// The words of a command line as a caller hands them in: one after another, with a list of their lengths.
 #[derive(Clone, Copy)]
 pub struct Given<'g> {
     /// The texts.
@@ -25,7 +25,7 @@ pub struct Given<'g> {
 pub struct Input<'g> {
     /// Its bytes, if it was read.
     pub text: Option<&'g [u8]>,
-    /// Whether reading it fails behind them.
+    /// Whether reading it fails after them.
     pub is_broken: bool,
 }
 
@@ -34,7 +34,7 @@ impl<'g> Input<'g> {
     ghost use Rattle.sfq_web.specs.HandedFiles.{fails_behind};
     ghost use Rattle.sfq_web.specs.Servings.{input_of};
 
-    /// These bytes, where something was found.
+    /// These bytes, if something was found.
     pub fn of(found: Found, text: &'g [u8]) -> Input<'g>
         ensures text { option_map (λ bytes. bytes.now) result.text ≡ input_of found text.entry.now }
         ensures broken { result.is_broken ≡ fails_behind found }
@@ -46,7 +46,7 @@ impl<'g> Input<'g> {
     }
 }
 
-/// Does what words order over files. None is for words or paths that aren't UTF-8, and for another number of paths, texts or numbers.
+/// Does what words order over files. None if a word or path isn't UTF-8, or if the numbers of paths, texts and numbers differ.
 pub fn serve_given(
     alloc: Global,
     words: Given<'_>,
@@ -78,7 +78,7 @@ pub fn serve_given(
     Ok(Some(served))
 }
 
-/// Cuts a text into strings of these lengths; none where one isn't UTF-8.
+/// Cuts a text into strings of these lengths; None if one isn't UTF-8.
 fn strings_of<'t>(
     alloc: Global,
     text: &'t [u8],

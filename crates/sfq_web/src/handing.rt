@@ -15,7 +15,7 @@ use text_commands::File;
 pub struct Missed {
     /// What it is for the command: 0 the schema, 1 a table, 2 a query, 3 a geometry, 4 pairs.
     pub role: u8,
-    /// Its path; none where memory ran out.
+    /// Its path; None if memory ran out.
     pub path: Option<String>,
 }
 
@@ -23,7 +23,7 @@ impl Missed {
     ghost use Rattle.std.specs.Prelude.{◌≡◌, ◌↔◌, true};
     ghost use Rattle.sfq_web.specs.Servings.{IsMissed, handed_of};
 
-    /// Whether it isn't handed in, among these files and this standard input. Without its path nobody knows.
+    /// Whether it isn't among these files and this standard input. True if its path isn't known.
     fn is_missing(&self, files: &[HandedFile<'_>], input: Option<&[u8]>) -> bool
         ensures { (result ≡ true) ↔ IsMissed (handed_of files.now input.entry) self.now }
     {
@@ -37,7 +37,7 @@ impl Missed {
     }
 }
 
-/// The files that are handed in, and standard input, if that is; and the first file that was asked for and isn't.
+/// The files that are handed in, and standard input if it is; and the first file that was asked for and isn't handed in.
 #[derive(Drop)]
 pub struct Handing<'f> {
     pub(crate) files: &'f [HandedFile<'f>],
@@ -55,7 +55,7 @@ impl<'f> Handing<'f> {
     ghost use Rattle.sfq_web.specs.HandedFiles.{OpensAs, OpensInput, fails_as, fails_in};
     ghost use Rattle.sfq_web.specs.Servings.{IsMissed, handed, handed_of};
 
-    /// These files, and standard input, whose reading may fail behind its bytes. Nothing is missed, and nothing is said of a file.
+    /// These files, and standard input, whose reading may fail after its bytes. No file is missed, and nothing is said about one.
     pub fn new(
         alloc: Global,
         files: &'f [HandedFile<'f>],
@@ -107,7 +107,7 @@ impl<'f> Handing<'f> {
         }
     }
 
-    /// Keeps why the file at a path can't be opened or read, unless that is kept of one before.
+    /// Keeps why the file at a path can't be opened or read, unless one is kept for an earlier file.
     fn say(&mut self, alloc: Global, path: &str, found: Found)
         ensures files { handed self.new ≡ handed self.old }
         ensures broken { self.new.is_broken ≡ self.old.is_broken }
@@ -120,7 +120,7 @@ impl<'f> Handing<'f> {
         }
     }
 
-    /// What is said of the first file that can't be opened, or of the first folder, after a command that couldn't open or read one.
+    /// What is said about the first file that can't be opened, or the first folder, after a command that couldn't open or read one.
     pub(crate) fn reason(&mut self, alloc: Global) -> &[u8] {
         let folder = self.files.iter().find(|file| file.found == Found::Folder);
         if let Some(folder) = folder {
@@ -147,7 +147,7 @@ impl<'f> Handing<'f> {
         }
     }
 
-    /// Keeps which file is missing, unless one is before.
+    /// Keeps which file is missing, unless an earlier one is kept.
     fn miss(&mut self, alloc: Global, file: File<'_>)
         ensures files { handed self.new ≡ handed self.old }
         ensures broken { self.new.is_broken ≡ self.old.is_broken }
@@ -190,7 +190,7 @@ fn is_absent(files: &[HandedFile<'_>], input: Option<&[u8]>, file: File<'_>) -> 
     file_at(files, file.path()).is_none()
 }
 
-/// The line that says of a file why it isn't opened: its path, and these words behind it. A path that is empty can't be shown.
+/// The line that says why a file isn't opened: its path, and these words after it. An empty path can't be shown.
 fn unopened(alloc: Global, path: &str, words: &str) -> Result<Vec<u8>, AllocError> {
     if path.is_empty() {
         return said_line(alloc, b"the path is empty: name a file");
@@ -198,7 +198,7 @@ fn unopened(alloc: Global, path: &str, words: &str) -> Result<Vec<u8>, AllocErro
     file_explained(alloc, path.as_bytes(), words)
 }
 
-/// The number of what a file is for a command.
+/// The number of the role that a file has for a command.
 fn role_of(file: File<'_>) -> u8
     ensures { result ≡ number_of file.entry }
 {
@@ -211,7 +211,7 @@ fn role_of(file: File<'_>) -> u8
     }
 }
 
-/// What this number says for a command, at a path; none for another number.
+/// The file at a path in the role with this number; None for another number.
 fn file_of(role: u8, path: &str) -> Option<File<'_>>
     ensures file { IfSome result (IsFileOf role path.entry.now) }
     ensures any { (file : File) → IsFileOf role path.entry.now file → is_some result ≡ true }

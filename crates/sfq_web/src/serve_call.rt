@@ -13,7 +13,7 @@ use crate::served::{Served, Written, add};
 use library_calls::hand_out;
 use std::alloc::Global;
 
-/// What is said of a text that is handed out.
+/// What is said about a text that is handed out.
 #[derive(Clone, Copy)]
 #[repr(C)]
 pub struct Said {
@@ -21,22 +21,22 @@ pub struct Said {
     pub size: usize,
     /// How many of its bytes are for standard output.
     pub out: usize,
-    /// How many of the bytes behind these are for standard error; what is left is what explains a fault.
+    /// How many of the bytes after these are for standard error; the rest explains a fault.
     pub err: usize,
     /// The status of the command; or what a missing file is for it: 0 the schema, 1 a table, 2 a query, 3 a geometry, 4 pairs.
     pub code: u8,
 }
 
-/// Does what the words of a command line order, the program's name first, as `sfq` does, and hands out what it writes: standard output,
-/// standard error, and what explains a fault, one after another. Its files are handed in, each with its path as the words name it, and a
-/// number that says what was found there: 0 a file, 1 what can be read only once, 2 a folder, 3 what can't be read to its end, 4 nothing,
-/// 5 what this user may not read, another what can't be opened; so is standard input. Texts are one after another, each of its length.
+/// Does what the words of a command line order, the program's name first, as `sfq` does, and hands out what it writes: standard
+/// output, standard error, and what explains a fault, one after another. Its files are handed in, each with its path as in these
+/// words and a number for what was found: 0 a file, 1 what can be read only once, 2 a folder, 3 what can't be read to its end, 4
+/// nothing, 5 what this user may not read, another what can't be opened; so is standard input. Texts come one after another, with
+/// their lengths.
 ///
-/// The status is 0 where the order was done or failed, and 1 where the words are none. Where it is 6, the order can't be done without a file
-/// that isn't handed in, whose path is handed out: a caller reads it, and calls again. It is 5 where the room is too small for what would be
-/// handed out, whose size is said; 4 where a word or a path isn't UTF-8, or there are more or fewer texts or numbers than paths; and 3 where
-/// memory ran out; after these two what is said is as it was (SQL, the query; 06-103r4, 6.1 and 7.2; the order of all else: this project's
-/// choice).
+/// The status is 0 if the order was done or failed, and 1 if the words are none. If it is 6, the order needs a file that isn't
+/// handed in, whose path is handed out: read it, and call again. It is 5 if `room` is too small for what would be handed out, whose
+/// size is said; 4 if a word or path isn't UTF-8, or paths, texts and numbers aren't equally many; and 3 if memory ran out; after
+/// these two, what is said is as it was (SQL, the query; 06-103r4, 6.1 and 7.2; the order of all else: this project's choice).
 #[unsafe(no_mangle)]
 pub extern "C" fn sfq_proved_serve(
     alloc: Global,
@@ -94,7 +94,7 @@ pub extern "C" fn sfq_proved_serve(
     }
 }
 
-/// Hands out what a command wrote, if the room is large enough; then the status is the one that says it is done.
+/// Hands out what a command wrote, if `room` is large enough; then the status is the one that says it is done.
 fn hand_out_texts(written: Written, done: u32, room: &mut [u8], said: &mut Said) -> u32
     requires { done < 2 }
     ensures texts { result ≡ done → HandsOutTexts (AreWritten written) room.old room.new said.new ok }
@@ -124,7 +124,7 @@ fn hand_out_texts(written: Written, done: u32, room: &mut [u8], said: &mut Said)
     done
 }
 
-/// Hands out the path of a missing file, if the room is large enough.
+/// Hands out the path of a missing file, if `room` is large enough.
 fn hand_out_path(missed: &Missed, room: &mut [u8], said: &mut Said) -> u32
     ensures path { result ≡ none_there → HandsOutPath (IsPathOf missed.now) room.old room.new said.new ok }
     ensures kept { result ≢ none_there → room.new ≡ room.old }

@@ -25,7 +25,7 @@ pub struct Written {
     pub out: MemorySink,
     /// Standard error.
     pub err: MemorySink,
-    /// What explains a fault, or notes on a query, which a terminal shows in colour: it is written to standard error too, behind the rest.
+    /// What explains a fault, or notes on a query, in colour at a terminal: it is written to standard error too, after the rest.
     pub more: MemorySink,
 }
 
@@ -127,7 +127,7 @@ fn explained(
     Ok(said)
 }
 
-/// What `clap` says of words that are no order: help and the version are for standard output, all else for standard error.
+/// What `clap` says about words that are no order: help and the version are for standard output, all else for standard error.
 fn misused(alloc: Global, misuse: &Misuse) -> Result<Served, AllocError>
     ensures { IfOk result (IsMisusedAs misuse.now) }
 {

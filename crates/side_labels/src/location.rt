@@ -13,10 +13,10 @@ use orient::Segment;
 use validity::Valid;
 use wkt::LineString;
 
-/// Where a point lies in a geometry (06-103r4, 6.1.15.2). Points: the listed ones are the interior, and the boundary is empty
-/// (6.1.4 and 6.1.5). Lines: the boundary is the points at which an odd number of line ends meet, and the interior is the rest
-/// of the lines (6.1.8.1: the mod 2 rule). An area: the boundary is its rings, and the interior is what has an odd number of
-/// their edges above it (6.1.11.1 and 6.1.14). It takes no memory.
+/// Where a point lies in a geometry (06-103r4, 6.1.15.2). For points the interior is the listed positions, and the boundary is
+/// empty (6.1.4 and 6.1.5). For lines the boundary is the points at which an odd number of line ends meet, and the interior is
+/// the rest of the lines (6.1.8.1: the mod 2 rule). For an area the boundary is its rings, and the interior is what has an odd
+/// number of their edges above it (6.1.11.1 and 6.1.14). It takes no memory.
 pub fn locate(valid: &Valid, p: &RatPoint) -> Location
     ensures { result ≡ spec.locate valid.now p.now }
 {

@@ -40,7 +40,7 @@ pub fn sides_at(valid: &Valid, p: &RatPoint) -> Sides
     }
 }
 
-/// What `sides_at` returns, for a caller that knows already how the point lies relative to the geometry's edges.
+/// What `sides_at` returns, for a caller that already knows how the point lies relative to the geometry's edges.
 pub fn sides_by(valid: &Valid, found: &Crossings) -> Sides
     ensures lower { (p : Point) → AreCrossings found.now (edges valid.now) p
         → result.lower ≡ spec.below valid.now p }
@@ -63,7 +63,7 @@ pub fn crossings(valid: &Valid, p: &RatPoint) -> Crossings
     valid.boxes().crossings(valid.segments(), p)
 }
 
-/// The interior where the point is inside, else the exterior.
+/// The interior if the point is inside, else the exterior.
 fn if_inside(is_inside: bool) -> Location
     ensures { result ≡ (if is_inside then Location.Interior else Location.Exterior) }
 {

@@ -1,4 +1,4 @@
-//! Arguments of functions and predicates of geometries.
+//! Binds the arguments of functions and predicates of geometries.
 
 ghost use Rattle.spatial_sql.specs.Scopes.{Binds, argument_in, place_in};
 ghost use Rattle.std.specs.Prelude.{◌≡◌};
@@ -19,7 +19,7 @@ use table_model::queries::{Name, WrittenColumn, WrittenGeometry};
 use table_model::typing::{OperandType, Typed};
 use validity::read_valid;
 
-/// The part if it is a geometry, else `TypeMismatch` at the first byte of its predicate or call.
+/// Returns the part if it is a geometry. The fault is `TypeMismatch` at the first byte of its predicate or call.
 pub fn geometry_only<P: Drop>(at: usize, typed: Typed<P>) -> Result<P, QueryFault>
     ensures { result ≡ spec.geometry_only at typed }
 {
@@ -31,8 +31,8 @@ pub fn geometry_only<P: Drop>(at: usize, typed: Typed<P>) -> Result<P, QueryFaul
     }
 }
 
-/// ST_GeomFromText of a string. The geometry is read and tested here, once; `BadGeometry` at the string if it has a fault,
-/// whose byte is counted in the string's value (06-104r4, 7.2).
+/// Binds ST_GeomFromText of a string. The geometry is read and tested here, once. Its fault is `BadGeometry` at the
+/// string, and the byte in the fault is counted in the string's value (06-104r4, 7.2).
 fn literal(alloc: Global, string: &Name<'_>) -> Result<Typed<Argument>, QueryFault>
     ensures { Binds result
         (geometries.literal string.now.at (geometry_in_text (spec.unquoted string.now.text))) }
@@ -47,7 +47,7 @@ fn literal(alloc: Global, string: &Name<'_>) -> Result<Typed<Argument>, QueryFau
     }
 }
 
-/// An argument of a condition: a column of any type, or ST_GeomFromText of a string (06-104r4, 7.2).
+/// Binds an argument in a condition: a column of any type, or ST_GeomFromText of a string (06-104r4, 7.2).
 pub fn bound_argument(
     alloc: Global,
     scope: Scope<'_>,
@@ -67,7 +67,7 @@ pub fn bound_argument(
     }
 }
 
-/// An argument of the select list: a column of any type (06-104r4, 7.2).
+/// Binds an argument in the select list: a column of any type (06-104r4, 7.2).
 pub fn bound_place(
     scope: Scope<'_>,
     written: &WrittenColumn<'_>,

@@ -1,4 +1,4 @@
-//! Queries bound to a database.
+//! Binds queries to a database.
 
 ghost use Rattle.std.specs.Prelude.{IfOk};
 ghost use Rattle.table_model.specs.Binding as spec;
@@ -13,10 +13,10 @@ use sql_text::Query;
 use std::alloc::Global;
 use table_model::faults::QueryFault;
 
-/// Binds a query to a database. Names of tables and columns become their places, without regard to ASCII case; strings become
-/// their values; each text of ST_GeomFromText becomes a valid geometry, read and tested once. The tables and columns of what
-/// it returns are there, and its types fit. The faults, each with its byte, and their order are those of `bind_to_tables` over
-/// the definitions of the database (SQL; 06-104r4, 7.2; the order: this project's choice).
+/// Binds a query to a database. Names of tables and columns become places, without regard to ASCII case; strings become
+/// their values; each text of ST_GeomFromText becomes a valid geometry, read and tested once. The bound query has only
+/// tables and columns that exist, and its types match. The faults, each with its byte, and their order are those of
+/// `bind_to_tables` over the definitions of the database (SQL; 06-104r4, 7.2; the order: this project's choice).
 pub fn bind<I: EnvelopeIndex + Drop>(
     alloc: Global,
     query: &Query<'_>,

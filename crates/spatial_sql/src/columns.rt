@@ -1,4 +1,4 @@
-//! Names of columns.
+//! Finds columns by their names.
 
 ghost use Rattle.std.specs.Prelude.{◌≡◌};
 ghost use Rattle.table_model.specs.Binding as spec;
@@ -26,7 +26,7 @@ pub fn columns_of<'s>(
     }
 }
 
-/// The type of a column as that of a part of a query.
+/// The type of a part of a query that is a column of this type.
 fn type_of(column_type: &ColumnType<ColumnShape>) -> OperandType
     ensures { result ≡ spec.type_of column_type.now }
 {
@@ -37,7 +37,7 @@ fn type_of(column_type: &ColumnType<ColumnShape>) -> OperandType
     }
 }
 
-/// The first column of a name, with its place and its type.
+/// The first column with a name: its place and its type.
 fn column_named(columns: &[ColumnDef<ColumnShape>], name: &[u8]) -> Option<(usize, OperandType)>
     ensures { result ≡ spec.column_named name.now 0 columns.now }
 {
@@ -49,7 +49,7 @@ fn column_named(columns: &[ColumnDef<ColumnShape>], name: &[u8]) -> Option<(usiz
     None
 }
 
-/// Whether a column with or without a reference may be one of the reference of this name.
+/// Whether a column that is written with or without a reference may be a column of the reference with this name.
 fn refers_to(reference: &Option<Name<'_>>, name: &[u8]) -> bool
     ensures { result ≡ spec.refers_to reference.now name.now }
 {
@@ -59,7 +59,7 @@ fn refers_to(reference: &Option<Name<'_>>, name: &[u8]) -> bool
     }
 }
 
-/// The column that a written one can be of the reference at a place.
+/// The column of the reference at a place that a written column can mean.
 fn column_meant(
     definitions: &[TableDef],
     written: &WrittenColumn<'_>,
@@ -80,7 +80,7 @@ fn column_meant(
     Some(Found { place, column_type })
 }
 
-/// A column, found by its names; at its first byte `UnknownColumn` if no reference has it, `AmbiguousColumn` if two have.
+/// Finds a column. The fault at its first byte is `UnknownColumn` if no reference has it, `AmbiguousColumn` if two have it.
 pub fn bound_column(scope: Scope<'_>, written: &WrittenColumn<'_>) -> Result<Found, QueryFault>
     ensures { result ≡ spec.bound_column scope.entry.definitions.now scope.entry.references.now written.now }
 {

@@ -15,7 +15,7 @@ use std::cmp::Ordering;
 use table_model::conditions::{Comparison, Operand};
 use table_model::values::Truth;
 
-/// Whether a comparison is true of two sides in this order.
+/// Whether a comparison is true of two sides with this order.
 fn takes(sign: Comparison, order: Ordering) -> bool
     ensures { result ≡ spec.takes sign order }
 {
@@ -29,15 +29,15 @@ fn takes(sign: Comparison, order: Ordering) -> bool
     }
 }
 
-/// The truth of a comparison by the order of its sides; without an order it is unknown.
+/// The truth of a comparison by the order of its sides; unknown if they have no order.
 fn compared(sign: Comparison, order: Option<Ordering>) -> Truth
     ensures { result ≡ spec.compared sign order }
 {
     order.map_or(Truth::Unknown, |order| truth_of(takes(sign, order)))
 }
 
-/// The truth of a comparison of two sides at the rows (SQL, comparison). Only ST_AsText takes memory. Most comparisons are
-/// of a column with a constant, for which no side is made.
+/// The truth of a comparison of two sides at the rows (SQL, comparison). Only ST_AsText allocates. Most comparisons are
+/// of a column with a constant, which are decided without making sides.
 pub(crate) fn comparison(
     alloc: Global,
     sign: Comparison,
@@ -84,7 +84,7 @@ fn comparison_of_sides(
     Ok(compared(sign, order_of(&left, &right)))
 }
 
-/// The truth of IS NULL of a side at the rows (SQL, the null predicate). Only ST_AsText takes memory.
+/// The truth of IS NULL of a side at the rows (SQL, the null predicate). Only ST_AsText allocates.
 pub(crate) fn null_test(
     alloc: Global,
     operand: &Operand<Argument>,
@@ -98,7 +98,7 @@ pub(crate) fn null_test(
     Ok(truth_of(side.is_null()))
 }
 
-/// The truth of ST_IsEmpty of an argument's geometry at the rows; of NULL it is unknown (06-103r4, 6.1.2.2).
+/// The truth of ST_IsEmpty of an argument's geometry at the rows; unknown for NULL (06-103r4, 6.1.2.2).
 pub(crate) fn emptiness(argument: &Argument, rows: &[Row<'_>]) -> Truth
     ensures { result ≡ spec.emptiness (denoted rows.now argument.now) }
 {

@@ -1,4 +1,4 @@
-//! Conditions, bound as they are written.
+//! Binds conditions as they are written.
 
 ghost use Rattle.spatial_sql.specs.Scopes.{
   Binds,
@@ -32,7 +32,7 @@ type WrittenOperand<'a> = table_model::queries::WrittenOperand<'a, WrittenArgume
 /// A condition as it is written (SQL, the search condition).
 pub type WrittenCond<'a> = table_model::queries::WrittenCond<'a, WrittenArgument<'a>>;
 
-/// A comparison that starts at a byte; its sides are bound first (SQL, comparison).
+/// Binds a comparison that starts at a byte. Its sides are bound before their types are compared (SQL, comparison).
 fn comparison(
     alloc: Global,
     scope: Scope<'_>,
@@ -51,7 +51,7 @@ fn comparison(
     Ok(Cond::Compare(sign, left.part, right.part))
 }
 
-/// IS NULL (SQL, the null predicate).
+/// Binds IS NULL (SQL, the null predicate).
 fn null_test(
     alloc: Global,
     scope: Scope<'_>,
@@ -63,7 +63,7 @@ fn null_test(
     Ok(Cond::IsNull(operand.part))
 }
 
-/// ST_IsEmpty that starts at a byte (06-103r4, 6.1.2.2).
+/// Binds ST_IsEmpty that starts at a byte (06-103r4, 6.1.2.2).
 fn emptiness(
     alloc: Global,
     scope: Scope<'_>,
@@ -76,7 +76,7 @@ fn emptiness(
     Ok(Cond::IsEmpty(geometry_only(at, typed)?))
 }
 
-/// The predicate that is written, its pattern read (06-103r4, 6.1.15).
+/// Binds a written predicate, and reads its pattern if it has one (06-103r4, 6.1.15).
 fn bound_predicate(alloc: Global, written: &WrittenPredicate<'_>) -> Result<Predicate, QueryFault>
     ensures { Binds result (spec.bound_predicate bound_pattern written.now) }
 {
@@ -86,8 +86,8 @@ fn bound_predicate(alloc: Global, written: &WrittenPredicate<'_>) -> Result<Pred
     }
 }
 
-/// A predicate of two geometries that starts at a byte. Its arguments are bound first, then its pattern; then the arguments
-/// have to be geometries (06-103r4, 6.1.15.3).
+/// Binds a predicate of two geometries that starts at a byte: first its arguments, then its pattern. After that it
+/// tests that the arguments are geometries (06-103r4, 6.1.15.3).
 fn relation(
     alloc: Global,
     scope: Scope<'_>,
@@ -106,14 +106,14 @@ fn relation(
     Ok(Cond::Relates(predicate, left, right))
 }
 
-/// NOT of a bound condition (SQL, the search condition).
+/// Makes NOT of a bound condition (SQL, the search condition).
 fn negated(alloc: Global, part: Cond) -> Result<Cond, QueryFault>
     ensures { Binds result (Ok (conds.Not part)) }
 {
     Ok(Cond::Not(Boxed::new(alloc, part)?))
 }
 
-/// A written condition, bound as it is written, or its first fault from left to right (SQL, the search condition).
+/// Binds a condition as it is written, or returns its first fault from left to right (SQL, the search condition).
 #[cycle(conditions)]
 pub fn bound_cond(
     alloc: Global,
@@ -136,7 +136,7 @@ pub fn bound_cond(
     }
 }
 
-/// The parts of a written condition, bound as they are written.
+/// Binds the parts of a condition as they are written.
 #[cycle(conditions)]
 fn bound_parts(
     alloc: Global,

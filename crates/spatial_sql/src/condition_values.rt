@@ -19,11 +19,11 @@ use std::alloc::{AllocError, Global};
 use table_model::values::Truth;
 
 /// The truth of a condition at rows, one row for each reference in the query's order. TEXT is compared by bytes. A
-/// comparison or a spatial predicate with NULL is unknown, and so is NOT of what is unknown. Each predicate is
+/// comparison or a spatial predicate with NULL is unknown, and so is NOT of an unknown condition. Each predicate is
 /// evaluated, from left to right, without short cut. A predicate of two geometries computes their matrix once, and the
 /// work counts it. A place that the rows don't have is NULL (SQL's three-valued logic; 06-103r4, 6.1.15.3; order of
-/// texts: this project's choice). It fails only when memory runs out; the work is then not less than before. It takes
-/// no memory if no matrix is computed and the condition has no ST_AsText.
+/// texts: this project's choice). It fails only when memory runs out, and then the work isn't less than before. It
+/// allocates nothing if no matrix is computed and the condition has no ST_AsText.
 pub fn value(
     alloc: Global,
     cond: &Cond,
@@ -43,7 +43,7 @@ pub fn value(
     truth
 }
 
-/// The truth of a condition at rows. Its clauses speak of the work cut to 64 bits; `value` shows that it always fits.
+/// The truth of a condition at rows. Its clauses are about the work cut to 64 bits; `value` shows that the work always fits.
 #[cycle(value)]
 fn evaluated(
     alloc: Global,
@@ -73,7 +73,7 @@ fn evaluated(
     }
 }
 
-/// The truth at rows of parts joined by AND or OR. Each of them is evaluated, from left to right.
+/// The truth at rows of parts that are joined by AND or OR. Each part is evaluated, from left to right.
 #[cycle(value)]
 fn joined_parts(
     alloc: Global,

@@ -12,7 +12,7 @@ use sqlite_items::Items;
 use std::alloc::{AllocError, Global};
 use table_model::faults::QueryFault;
 
-/// A list of one conjunct.
+/// Makes a list of one conjunct.
 fn only(alloc: Global, cond: Cond) -> Result<Items<Cond>, AllocError>
     ensures { IfOk result (λ conjuncts. conjuncts ≡ cond ∷ []) }
 {
@@ -21,7 +21,7 @@ fn only(alloc: Global, cond: Cond) -> Result<Items<Cond>, AllocError>
     Ok(conjuncts)
 }
 
-/// The list of conjuncts that has only this written condition, bound.
+/// Binds a written condition, and makes a list with it as the only conjunct.
 fn alone(
     alloc: Global,
     scope: Scope<'_>,
@@ -33,8 +33,8 @@ fn alone(
     Ok(only(alloc, cond)?)
 }
 
-/// The conjuncts of a written condition, bound, or its first fault. The conjuncts of an AND are those of its parts, in order;
-/// any other condition is one (SQL, the search condition).
+/// Binds a written condition as conjuncts, or returns its first fault. The conjuncts of an AND are those of its parts,
+/// in order; any other condition is one conjunct (SQL, the search condition).
 #[cycle(conjuncts)]
 pub fn bound_conjuncts(
     alloc: Global,
@@ -54,7 +54,7 @@ pub fn bound_conjuncts(
     }
 }
 
-/// The conjuncts of the parts of an AND, in order.
+/// Binds the parts of an AND, and returns their conjuncts in order.
 #[cycle(conjuncts)]
 fn joined(
     alloc: Global,

@@ -1,4 +1,4 @@
-//! The fields at places and the geometries of arguments, at rows.
+//! The fields at places, and the geometries of arguments, at rows.
 
 ghost use Rattle.std.specs.Prelude.{◌≡◌};
 ghost use Rattle.std.specs.Option.{option_copied};
@@ -11,7 +11,7 @@ use feature_table::{Field, Row};
 use table_model::conditions::{ColumnPlace, GeometryArgument};
 use validity::Valid;
 
-/// The field at a place. A place that the rows don't have is NULL.
+/// The field at a place; NULL if the rows don't have the place.
 pub fn field_at<'a>(rows: &[Row<'a>], place: ColumnPlace) -> Field<'a>
     ensures { shown result ≡ field_at rows.now place }
 {
@@ -23,7 +23,7 @@ pub fn field_at<'a>(rows: &[Row<'a>], place: ColumnPlace) -> Field<'a>
     Field::Null
 }
 
-/// The geometry in a field; NULL has none (06-104r4, 7.2).
+/// The geometry in a field; None for NULL (06-104r4, 7.2).
 fn geometry_in(field: Field<'_>) -> Option<&Valid>
     ensures { option_copied result ≡ spec.geometry_in (shown field.entry) }
 {
@@ -33,7 +33,7 @@ fn geometry_in(field: Field<'_>) -> Option<&Valid>
     }
 }
 
-/// The geometry of an argument at the rows; none if its column is NULL there (06-104r4, 7.2).
+/// The geometry of an argument at the rows; None if its column is NULL there (06-104r4, 7.2).
 pub(crate) fn geometry_at<'a>(rows: &[Row<'a>], argument: &'a Argument) -> Option<&'a Valid>
     ensures { option_copied result ≡ spec.denoted rows.now argument.entry.now }
 {

@@ -10,7 +10,7 @@ ghost use Rattle.table_model.specs.Work.{computed};
 
 use crate::Cond;
 
-/// Whether a condition has no spatial predicate, so that it computes no matrix at any rows.
+/// Whether a condition has no spatial predicate, so that evaluating it computes no matrix at any rows.
 pub(crate) fn is_free(condition: &Cond) -> bool
     ensures value { result ≡ spec.is_free condition.now }
     ensures none { result ≡ true → (rows : Rows Geometry) → computed denoted rows condition.now ≡ 0 }
@@ -18,7 +18,7 @@ pub(crate) fn is_free(condition: &Cond) -> bool
     lacks_predicates(condition)
 }
 
-/// Whether no condition has a spatial predicate, so that asking them computes no matrix at any rows.
+/// Whether no condition has a spatial predicate, so that evaluating them computes no matrix at any rows.
 pub fn lack_predicates(conditions: &[Cond]) -> bool
     ensures { result ≡ true → All (λ condition. (rows : Rows Geometry) → computed denoted rows condition ≡ 0)
         conditions.now }
@@ -26,7 +26,7 @@ pub fn lack_predicates(conditions: &[Cond]) -> bool
     all_lack_predicates(conditions)
 }
 
-/// Whether a condition has no spatial predicate, followed into its parts.
+/// Whether a condition and its parts have no spatial predicate.
 #[cycle(predicates)]
 fn lacks_predicates(condition: &Cond) -> bool
     ensures { result ≡ spec.is_free condition.now }

@@ -1,4 +1,4 @@
-//! The select list.
+//! Binds the select list.
 
 ghost use Rattle.spatial_sql.specs.Scopes.{Binds, item_in, items_in};
 ghost use Rattle.std.specs.Prelude.{◌≡◌, ◌++◌, map, IfOk, OnOk};
@@ -22,7 +22,7 @@ type WrittenItem<'a> = table_model::queries::WrittenItem<'a, WrittenColumn<'a>>;
 
 type Selection<'a> = table_model::queries::Selection<'a, WrittenColumn<'a>>;
 
-/// An item of the select list (SQL, the select list; of geometries: 06-103r4, 6.1.2.2).
+/// Binds an item of the select list (SQL, the select list; of geometries: 06-103r4, 6.1.2.2).
 fn bound_item(scope: Scope<'_>, written: &WrittenItem<'_>) -> Result<Item, QueryFault>
     ensures { result ≡ item_in scope.entry written.now }
 {
@@ -57,7 +57,7 @@ fn push_columns(
     Ok(())
 }
 
-/// All columns, those of the first reference first (SQL, the asterisk).
+/// Makes the items of `*`: all columns, those of the first reference first (SQL, the asterisk).
 fn all_items(alloc: Global, scope: Scope<'_>) -> Result<Items<Item>, AllocError>
     ensures { IfOk result
         (λ items. items ≡ spec.all_items scope.entry.definitions.now scope.entry.references.now) }
@@ -69,7 +69,7 @@ fn all_items(alloc: Global, scope: Scope<'_>) -> Result<Items<Item>, AllocError>
     Ok(items)
 }
 
-/// The items that are listed.
+/// Binds the items of a select list.
 fn listed_items(
     alloc: Global,
     scope: Scope<'_>,
@@ -84,7 +84,7 @@ fn listed_items(
     Ok(items)
 }
 
-/// What SELECT lists, bound, or the first fault from left to right (SQL, the select list).
+/// Binds the select list, or returns its first fault from left to right (SQL, the select list).
 pub fn bound_items(
     alloc: Global,
     scope: Scope<'_>,

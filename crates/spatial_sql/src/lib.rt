@@ -1,6 +1,6 @@
-//! What a query means over a database, in the style of OGC 06-104r4 (Simple Features, part 2): `bind` turns its names into places
-//! and its texts into geometries, and `value` is the truth of a condition at rows, in SQL's three-valued logic. Filters say which
-//! rows pass all conjuncts, and of which it is sure beforehand that they don't.
+//! The meaning of a query over a database, in the style of OGC 06-104r4 (Simple Features, part 2). `bind` turns its
+//! names into places and its texts into geometries. `value` is the truth of a condition at rows, in SQL's three-valued
+//! logic. Filters say which rows pass all conjuncts, and which rows certainly don't.
 #![tactic(auto)]
 
 mod argument_binding;

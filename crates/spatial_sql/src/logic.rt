@@ -6,7 +6,7 @@ ghost use Rattle.spatial_sql.specs.Evaluation.{joined_by, of_none};
 
 use table_model::values::Truth;
 
-/// NOT; of unknown it is unknown (SQL's three-valued logic).
+/// NOT of a truth; NOT of unknown is unknown (SQL's three-valued logic).
 pub(crate) fn not(a: Truth) -> Truth
     ensures { result ≡ spec.not_of a }
 {
@@ -26,7 +26,7 @@ pub(crate) enum Junction {
     Any,
 }
 
-/// AND: false if a side is, else unknown if a side is (SQL's three-valued logic).
+/// AND of two truths: false if one of them is, else unknown if one of them is, else true (SQL's three-valued logic).
 fn and(a: Truth, b: Truth) -> Truth
     ensures { result ≡ spec.and_of a b }
 {
@@ -38,7 +38,7 @@ fn and(a: Truth, b: Truth) -> Truth
     }
 }
 
-/// OR: true if a side is, else unknown if a side is (SQL's three-valued logic).
+/// OR of two truths: true if one of them is, else unknown if one of them is, else false (SQL's three-valued logic).
 fn or(a: Truth, b: Truth) -> Truth
     ensures { result ≡ spec.or_of a b }
 {
@@ -50,7 +50,7 @@ fn or(a: Truth, b: Truth) -> Truth
     }
 }
 
-/// The truth of AND or OR of no parts, from which joining starts (SQL's three-valued logic).
+/// The truth of AND or OR without parts, from which joining starts (SQL's three-valued logic).
 pub(crate) fn of_none(junction: Junction) -> Truth
     ensures { result ≡ of_none junction }
 {

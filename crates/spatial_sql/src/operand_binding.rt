@@ -1,4 +1,4 @@
-//! Sides of comparisons, and which of them can be compared.
+//! Binds sides of comparisons, and says which types can be compared.
 
 ghost use Rattle.spatial_sql.specs.Scopes.{Binds, operand_in};
 ghost use Rattle.std.specs.Prelude.{◌≡◌};
@@ -16,7 +16,7 @@ use table_model::faults::QueryFault;
 use table_model::queries::WrittenOperand;
 use table_model::typing::{OperandType, Typed};
 
-/// A side of a comparison, with its type (SQL, comparison; of geometries: 06-103r4, 6.1.2.2).
+/// Binds a side of a comparison, and returns it with its type (SQL, comparison; of geometries: 06-103r4, 6.1.2.2).
 pub fn bound_operand(
     alloc: Global,
     scope: Scope<'_>,

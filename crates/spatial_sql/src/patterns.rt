@@ -1,4 +1,4 @@
-//! Patterns of ST_Relate.
+//! Reads patterns of ST_Relate.
 
 ghost use Rattle.spatial_sql.specs.Scopes.{Binds};
 ghost use Rattle.std.specs.Prelude.{◌≡◌};
@@ -12,7 +12,7 @@ use std::alloc::Global;
 use table_model::faults::QueryFault;
 use table_model::queries::Name;
 
-/// The pattern that bytes write (06-103r4, 6.1.15.2).
+/// The pattern that bytes spell, if they spell one (06-103r4, 6.1.15.2).
 fn pattern_in(bytes: &[u8]) -> Option<Pattern>
     ensures { result ≡ pattern_of_text bytes.now }
 {
@@ -22,7 +22,7 @@ fn pattern_in(bytes: &[u8]) -> Option<Pattern>
     }
 }
 
-/// The pattern of ST_Relate (06-103r4, 6.1.15.2); of a string that writes none `BadPattern` at the string.
+/// Reads the pattern of ST_Relate (06-103r4, 6.1.15.2). The fault is `BadPattern` at a string that isn't a pattern.
 pub fn bound_pattern(alloc: Global, string: &Name<'_>) -> Result<Pattern, QueryFault>
     ensures { Binds result (geometries.bound_pattern string.now) }
 {

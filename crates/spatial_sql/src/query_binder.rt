@@ -6,18 +6,18 @@ use sqlite_items::Boxed;
 use table_model::conditions::{ColumnPlace, GeometryArgument};
 use validity::Valid;
 
-/// The type of a geometry column: one type of geometry, or none for GEOMETRY, which takes them all (06-104r4, 7.2).
+/// The type of a geometry column: one type of geometry, or None for GEOMETRY, which allows all types (06-104r4, 7.2).
 pub type ColumnShape = Option<GeometryType>;
 
 /// A table of a schema (06-104r4, feature tables).
 pub type TableDef = table_model::definitions::TableDef<ColumnShape>;
 
-/// A geometry argument of a condition: the place of a column, or a valid geometry that was read once and is behind a
-/// pointer, so that conditions stay small (06-104r4, 7.2).
+/// A geometry argument of a condition: the place of a column, or a valid geometry that was read once. A geometry is
+/// behind a pointer, so that conditions stay small (06-104r4, 7.2).
 pub type Argument = GeometryArgument<Boxed<Valid>>;
 
 /// A condition over the rows of a bound query (SQL, the search condition).
 pub type Cond = table_model::conditions::Cond<Argument>;
 
-/// A query whose names have become places of a schema's tables (SQL, the query).
+/// A query whose names are replaced by places of a schema's tables and columns (SQL, the query).
 pub type Bound = table_model::conditions::Bound<Argument, ColumnPlace>;

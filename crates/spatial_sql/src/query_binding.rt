@@ -1,4 +1,4 @@
-//! A query bound to the tables of a schema.
+//! Binds a query to the tables of a schema.
 
 ghost use Rattle.spatial_sql.specs.Scopes.{Binds, condition_in};
 ghost use Rattle.std.specs.Prelude.{IfOk};
@@ -18,7 +18,7 @@ use sqlite_items::Items;
 use std::alloc::Global;
 use table_model::faults::QueryFault;
 
-/// The conjuncts of ON or of WHERE; none if it isn't written.
+/// Binds the condition of ON or of WHERE as conjuncts. There are none if it isn't written.
 fn bound_condition(
     alloc: Global,
     scope: Scope<'_>,
@@ -32,7 +32,7 @@ fn bound_condition(
     }
 }
 
-/// A query bound to the tables of a schema: its tables first, then the select list, ON and WHERE.
+/// Binds a query to the tables of a schema: its tables first, then the select list, ON and WHERE.
 fn bound_query(
     alloc: Global,
     query: &Query<'_>,
@@ -60,17 +60,17 @@ fn bound_query(
     })
 }
 
-/// Binds a query to the tables of a schema. Names of tables and columns become their places, without regard to ASCII
-/// case; strings become their values; each text of ST_GeomFromText becomes a valid geometry, read and tested once. The
-/// tables and columns of what it returns are there, and its types fit (SQL; 06-104r4, 7.2).
+/// Binds a query to the tables of a schema. Names of tables and columns become places, without regard to ASCII case;
+/// strings become their values; each text of ST_GeomFromText becomes a valid geometry, read and tested once. The bound
+/// query has only tables and columns that exist, and its types match (SQL; 06-104r4, 7.2).
 ///
 /// FROM is bound first, then the select list, ON and WHERE. The error is the first fault from left to right, with its
-/// byte; in a predicate or a call the arguments come before the whole (the order: this project's choice):
-/// `UnknownTable` at a table's name; `SameName` at the name of a second reference that has the first's name;
-/// `UnknownColumn` or `AmbiguousColumn` at a column's first byte; `BadGeometry` at the string of ST_GeomFromText, with the
-/// fault of its text or geometry, whose byte is counted in the string's value; `BadPattern` at the string of ST_Relate;
-/// `TypeMismatch` at the first byte of a predicate or call whose argument isn't a geometry, or of a comparison whose sides
-/// aren't both INTEGER or both TEXT (NULL is either); or `OutOfMemory`.
+/// byte; a predicate's or a call's arguments are tested before the predicate or call (the order: this project's
+/// choice). The faults are `UnknownTable` at a table's name; `SameName` at the name of a second reference that has the
+/// first's name; `UnknownColumn` or `AmbiguousColumn` at a column's first byte; `BadGeometry` at the string of
+/// ST_GeomFromText, with the fault of its text or geometry, whose byte is counted in the string's value; `BadPattern`
+/// at the string of ST_Relate; `TypeMismatch` at the first byte of a predicate or call whose argument isn't a geometry,
+/// or of a comparison whose sides aren't both INTEGER or both TEXT (NULL is either); or `OutOfMemory`.
 pub fn bind_to_tables(
     alloc: Global,
     query: &Query<'_>,

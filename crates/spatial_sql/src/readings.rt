@@ -1,4 +1,4 @@
-//! What a side of a comparison reads of a column: its field, or the text or the dimension of the geometry in it.
+//! What a side of a comparison reads from a column: its field, or the text or the dimension of the geometry in it.
 
 ghost use Rattle.std.specs.Prelude.{◌≡◌};
 ghost use Rattle.feature_table.specs.Cells.{shown};
@@ -11,10 +11,10 @@ use feature_table::Field;
 use table_model::conditions::{ColumnPlace, GeometryArgument, Operand};
 use validity::Valid;
 
-/// What is read of a column.
+/// What is read from a column.
 #[derive(Clone, Copy, PartialEq, Eq)]
 pub enum Reading {
-    /// Its field.
+    /// The column's field.
     Field,
     /// ST_AsText of its geometry (06-103r4, 6.1.2.2).
     Text,
@@ -22,7 +22,7 @@ pub enum Reading {
     Dimension,
 }
 
-/// A column, and what is read of it.
+/// A column, and what is read from it.
 #[derive(Clone, Copy, PartialEq, Eq)]
 pub struct ReadColumn {
     pub place: ColumnPlace,
@@ -32,13 +32,13 @@ pub struct ReadColumn {
 /// A value that was read.
 #[derive(Clone, Copy)]
 pub enum ReadValue<'a> {
-    /// That of a field.
+    /// The value of a field.
     Field(Field<'a>),
-    /// The canonical text of a geometry, which isn't made yet.
+    /// The canonical text of a geometry, which isn't built yet.
     TextOf(&'a Valid),
 }
 
-/// Whether two readings are the same.
+/// Whether two readings are equal.
 fn is_same_reading(a: Reading, b: Reading) -> bool
     ensures { result ≡ spec.is_same_reading a b }
 {
@@ -58,7 +58,7 @@ fn is_same_reading(a: Reading, b: Reading) -> bool
     }
 }
 
-/// Whether two columns are the same, and the same is read of them.
+/// Whether two columns are the same, and the same thing is read from both.
 pub(crate) fn is_same(a: ReadColumn, b: ReadColumn) -> bool
     ensures { result ≡ spec.is_same a b }
 {
@@ -67,7 +67,7 @@ pub(crate) fn is_same(a: ReadColumn, b: ReadColumn) -> bool
         && is_same_reading(a.reading, b.reading)
 }
 
-/// The column of an argument, of which this is read; none of a literal.
+/// The column of an argument, with what is read from it; None for a literal.
 fn column_of(reading: Reading, argument: &Argument) -> Option<ReadColumn>
     ensures { result ≡ spec.column_of reading argument.now }
 {
@@ -80,7 +80,7 @@ fn column_of(reading: Reading, argument: &Argument) -> Option<ReadColumn>
     }
 }
 
-/// The column that a side of a comparison reads; none of a constant.
+/// The column that a side of a comparison reads; None for a constant.
 pub(crate) fn read_column(operand: &Operand<Argument>) -> Option<ReadColumn>
     ensures { result ≡ spec.read_column operand.now }
 {
@@ -95,7 +95,7 @@ pub(crate) fn read_column(operand: &Operand<Argument>) -> Option<ReadColumn>
     }
 }
 
-/// ST_Dimension of the geometry in a field, as a field; NULL of a field without one (06-103r4, 6.1.2.2).
+/// ST_Dimension of the geometry in a field, as a field; NULL if the field has no geometry (06-103r4, 6.1.2.2).
 pub fn dimension_of(field: Field<'_>) -> Field<'_>
     ensures { shown result ≡ spec.value_read readings.Dimension (shown field.entry) }
 {
@@ -105,7 +105,7 @@ pub fn dimension_of(field: Field<'_>) -> Field<'_>
     }
 }
 
-/// ST_AsText of the geometry in a field, which isn't made; NULL of a field without one (06-103r4, 6.1.2.2).
+/// ST_AsText of the geometry in a field, not built yet; NULL if the field has no geometry (06-103r4, 6.1.2.2).
 fn text_of(field: Field<'_>) -> ReadValue<'_>
     ensures { spec.value_of result ≡ spec.value_read readings.Text (shown field.entry) }
 {
@@ -115,7 +115,7 @@ fn text_of(field: Field<'_>) -> ReadValue<'_>
     }
 }
 
-/// What is read of a field.
+/// Reads a field, or the text or dimension of its geometry.
 pub(crate) fn read_field(reading: Reading, field: Field<'_>) -> ReadValue<'_>
     ensures { spec.value_of result ≡ spec.value_read reading (shown field.entry) }
 {

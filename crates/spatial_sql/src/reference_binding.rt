@@ -1,4 +1,4 @@
-//! The tables of FROM.
+//! Binds the tables of FROM.
 
 ghost use Rattle.std.specs.Prelude.{◌≡◌};
 ghost use Rattle.table_model.specs.Binding as spec;
@@ -14,7 +14,7 @@ use table_model::queries::{Name, WrittenReference};
 use table_model::references::References;
 use table_model::texts::same_name;
 
-/// The place of a table by its name.
+/// Finds the place of a table by its name.
 fn table_place(definitions: &[TableDef], name: &[u8]) -> Option<usize>
     ensures { result ≡ spec.table_place definitions.now name.now }
 {
@@ -23,7 +23,7 @@ fn table_place(definitions: &[TableDef], name: &[u8]) -> Option<usize>
         .position(|table| same_name(table.name.bytes(), name))
 }
 
-/// The name of a reference: its alias, else its table's name as the schema spells it.
+/// The name of a reference: its alias, or its table's name as the schema spells it if it has no alias.
 fn reference_name<'n>(
     definitions: &'n [TableDef],
     place: usize,
@@ -48,7 +48,7 @@ pub fn name_start(name: &Name<'_>, before: &Option<Name<'_>>) -> usize
     }
 }
 
-/// A reference of FROM.
+/// Binds a reference of FROM.
 fn bound_reference(
     alloc: Global,
     definitions: &[TableDef],
@@ -64,8 +64,8 @@ fn bound_reference(
     Ok(Reference { table, name })
 }
 
-/// The references of FROM, from left to right; `UnknownTable` at a table's name, or `SameName` at the name of a reference that
-/// an earlier one has.
+/// Binds the references of FROM, from left to right. The fault is `UnknownTable` at a table's name, or `SameName` at
+/// the name of a reference that an earlier one has.
 pub fn bound_references(
     alloc: Global,
     definitions: &[TableDef],

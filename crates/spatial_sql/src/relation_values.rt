@@ -34,8 +34,8 @@ fn related(
     Ok(truth_of(answer))
 }
 
-/// The truth of a predicate of two arguments' geometries. With a NULL it is unknown, and no matrix is computed. Only the
-/// matrix takes memory. After a refusal the work is not less than before (06-103r4, 6.1.15.3).
+/// The truth of a predicate of two arguments' geometries. If one is NULL, the truth is unknown and no matrix is
+/// computed. Only the matrix allocates. If memory runs out, the work isn't less than before (06-103r4, 6.1.15.3).
 pub(crate) fn relation(
     alloc: Global,
     predicate: Predicate,

@@ -3,7 +3,7 @@
 use crate::query_binder::TableDef;
 use table_model::conditions::Reference;
 
-/// The tables of a schema, and the references of a query to some of them.
+/// The tables of a schema, and a query's references to some of them.
 #[derive(Clone, Copy)]
 pub struct Scope<'s> {
     /// The tables of the schema.

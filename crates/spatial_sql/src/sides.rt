@@ -44,7 +44,7 @@ fn field_side(field: Field<'_>) -> Side<'_>
     }
 }
 
-/// The canonical text of a geometry, which is ST_AsText (06-103r4, 6.1.2.2). It fails only when memory runs out.
+/// Prints the canonical text of a geometry, which is ST_AsText (06-103r4, 6.1.2.2). It fails only when memory runs out.
 pub fn printed(alloc: Global, geometry: &Valid) -> Result<MemorySink, AllocError>
     ensures { IfOk result (λ sink. memory_bytes sink ≡ canonical_text geometry.now) }
 {
@@ -56,7 +56,7 @@ pub fn printed(alloc: Global, geometry: &Valid) -> Result<MemorySink, AllocError
     }
 }
 
-/// ST_AsText of an argument's geometry; NULL of NULL (06-103r4, 6.1.2.2).
+/// ST_AsText of an argument's geometry; NULL for NULL (06-103r4, 6.1.2.2).
 fn text_side<'a>(alloc: Global, geometry: Option<&Valid>) -> Result<Side<'a>, AllocError>
     ensures { IfOk result (λ side. side_value side ≡ spec.text_value (option_copied geometry.entry)) }
 {
@@ -66,7 +66,7 @@ fn text_side<'a>(alloc: Global, geometry: Option<&Valid>) -> Result<Side<'a>, Al
     }
 }
 
-/// The dimension of geometries of a kind: 0 of points, 1 of lines, 2 of areas (06-103r4, 6.1.2.2).
+/// The dimension of geometries of a kind: 0 for points, 1 for lines, 2 for areas (06-103r4, 6.1.2.2).
 pub fn dimension(kind: Kind) -> i64
     ensures { result ≡ spec.dimension kind }
 {
@@ -77,7 +77,7 @@ pub fn dimension(kind: Kind) -> i64
     }
 }
 
-/// ST_Dimension of an argument's geometry; NULL of NULL (06-103r4, 6.1.2.2).
+/// ST_Dimension of an argument's geometry; NULL for NULL (06-103r4, 6.1.2.2).
 fn dimension_side<'a>(geometry: Option<&Valid>) -> Side<'a>
     ensures { side_value result ≡ spec.dimension_value (option_copied geometry.entry) }
 {
@@ -87,7 +87,7 @@ fn dimension_side<'a>(geometry: Option<&Valid>) -> Side<'a>
     }
 }
 
-/// The value of a side of a comparison at the rows. Only ST_AsText takes memory.
+/// The value of a side of a comparison at the rows. Only ST_AsText allocates.
 pub(crate) fn operand_side<'a>(
     alloc: Global,
     rows: &[Row<'a>],
@@ -108,7 +108,7 @@ pub(crate) fn operand_side<'a>(
 }
 
 impl Side<'_> {
-    /// The bytes of a text; none of another value.
+    /// The bytes of a text; None for another value.
     fn text(&self) -> Option<&[u8]>
         ensures { option_copied result ≡ text_in (side_value self.now) }
     {
@@ -130,7 +130,7 @@ impl Side<'_> {
     }
 }
 
-/// The order of a field and a number, by value; none of another field.
+/// The order of a field and a number, by value; None for a field of another type.
 pub(crate) fn order_to_number(field: Field<'_>, number: i64) -> Option<Ordering>
     ensures { result ≡ spec.order_of (shown field.entry) (values.Integer number) }
 {
@@ -140,7 +140,7 @@ pub(crate) fn order_to_number(field: Field<'_>, number: i64) -> Option<Ordering>
     }
 }
 
-/// The order of a field and a text, by bytes; none of another field.
+/// The order of a field and a text, by bytes; None for a field of another type.
 pub(crate) fn order_to_text(field: Field<'_>, text: &[u8]) -> Option<Ordering>
     ensures { result ≡ spec.order_of (shown field.entry) (values.Text text.now) }
 {
@@ -150,7 +150,7 @@ pub(crate) fn order_to_text(field: Field<'_>, text: &[u8]) -> Option<Ordering>
     }
 }
 
-/// The order of two texts, by bytes; none if one is missing.
+/// The order of two texts, by bytes; None if one is missing.
 fn order_of_texts(a: Option<&[u8]>, b: Option<&[u8]>) -> Option<Ordering>
     ensures { result ≡ order_of_texts (option_copied a.entry) (option_copied b.entry) }
 {
@@ -160,7 +160,7 @@ fn order_of_texts(a: Option<&[u8]>, b: Option<&[u8]>) -> Option<Ordering>
     }
 }
 
-/// The order of two sides: numbers by value, texts by bytes; NULL, a geometry or two types have none.
+/// The order of two sides: numbers by value, texts by bytes; None for a NULL, a geometry or two different types.
 pub(crate) fn order_of(a: &Side<'_>, b: &Side<'_>) -> Option<Ordering>
     ensures { result ≡ spec.order_of (side_value a.now) (side_value b.now) }
 {

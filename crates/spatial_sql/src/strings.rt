@@ -7,7 +7,7 @@ ghost use Rattle.table_model.specs.Binding as spec;
 use sqlite_items::Items;
 use std::alloc::{AllocError, Global};
 
-/// What comes after the first byte of a string's value, where two quotes in a row are one byte of it.
+/// The rest of a string after the first byte of its value. Two quotes in a row are one byte of the value.
 fn after_first(text: &[u8]) -> &[u8]
     ensures { result.now ≡ after_first text.entry.now }
 {
@@ -22,7 +22,7 @@ fn after_first(text: &[u8]) -> &[u8]
     more
 }
 
-/// The value of a string: two quotes in a row are one (SQL, character strings). It fails only when memory runs out.
+/// The value of a string, in which two quotes in a row are one (SQL, character strings). It fails only when memory runs out.
 pub fn unquoted(alloc: Global, text: &[u8]) -> Result<Items<u8>, AllocError>
     ensures { IfOk result (λ bytes. bytes ≡ spec.unquoted text.now) }
 {

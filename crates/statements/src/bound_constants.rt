@@ -1,4 +1,4 @@
-//! Statements with a value in place of one of their constants.
+//! Replaces constants of statements by values.
 
 ghost use Rattle.std.specs.Prelude.{◌≡◌, ◌≢◌, [], IfOk, OnErr, OnOk, if◌then◌else◌, Some};
 ghost use Rattle.statements.specs.BoundConstants as spec;
@@ -21,7 +21,7 @@ use std::mem;
 use table_model::plans::Plan;
 use table_model::queries::Explain;
 
-/// A lawful plan of a query without its conditions.
+/// Chooses a lawful plan of a query without its conditions.
 #[tactic(auto, using(crate::proofs::BindingLemmas::without_bound))]
 fn plan_without_conditions<I: EnvelopeIndex + Drop>(
     alloc: Global,
@@ -39,9 +39,9 @@ fn plan_without_conditions<I: EnvelopeIndex + Drop>(
 }
 
 impl Statement {
-    /// Lets a value take the place of the k-th constant of its query, as `put_constant` has it, chooses the plan and begins anew. Where the
-    /// value is refused nothing changes. It fails only when memory runs out; then no row is to come, also after a reset, no work is
-    /// done, and the query has LIMIT 0 and no EXPLAIN, over the same references and with the same items (SQL, ON and WHERE).
+    /// Replaces the k-th constant of the query by a value, as `put_constant` does, chooses the plan and starts again. If the
+    /// value is refused, nothing changes. It fails only when memory runs out. Then no row is to come, also after a reset, no
+    /// work is done, and the query has LIMIT 0 and no EXPLAIN, but the same references and items (SQL, ON and WHERE).
     pub fn bind<I: EnvelopeIndex + Drop>(
         &mut self,
         alloc: Global,
@@ -82,7 +82,7 @@ impl Statement {
         }
     }
 
-    /// Chooses the plan and begins anew. Where memory runs out, `spare` is the plan of the query without its conditions.
+    /// Chooses the plan and starts again. If memory runs out, it uses `spare`, the plan of the query without its conditions.
     #[tactic(auto, using(crate::proofs::BindingLemmas::without_bound))]
     fn begin_planned<I: EnvelopeIndex + Drop>(
         &mut self,
@@ -115,7 +115,7 @@ impl Statement {
         }
     }
 
-    /// No row is there, and none is to come, also after a reset.
+    /// Removes the current row and all rows to come, also after a reset.
     #[tactic(auto, using(crate::proofs::BindingLemmas::ended_bound))]
     fn close<I: EnvelopeIndex + Drop>(&mut self, alloc: Global, database: &Database<'_, I>)
         requires bound { IsBound geometry_fits database.now.definitions self.old.bound }

@@ -1,4 +1,4 @@
-//! What the fields of a column are.
+//! The kinds of columns.
 
 ghost use Rattle.std.specs.Prelude.{◌≡◌, ◌∷◌, [], Some, slice_get};
 ghost use Rattle.statements.specs.Columns as spec;
@@ -10,7 +10,7 @@ use spatial_sql::Bound;
 use table_model::conditions::{ColumnPlace, Item, Reference};
 use table_model::queries::Explain;
 
-/// What the fields of a column are, where they aren't NULL.
+/// The kind of the fields of a column that aren't NULL.
 #[derive(Clone, Copy, Debug, PartialEq, Eq)]
 pub enum ColumnKind {
     /// Whole numbers of 64 bits with a sign.
@@ -61,7 +61,7 @@ fn item_kind(
     }
 }
 
-/// This kind at the first column, and none behind it.
+/// The kind if the column is the first one; None for a later one.
 fn only(kind: ColumnKind, column: usize) -> Option<ColumnKind>
     ensures { result ≡ slice_get (kind ∷ []) column }
 {

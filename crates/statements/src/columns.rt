@@ -1,4 +1,4 @@
-//! The columns of a statement's rows: how many there are, their names and kinds, and the fields of the row that is there.
+//! The columns of a statement's rows: their number, names and kinds, and the fields of the current row.
 
 ghost use Rattle.std.specs.Prelude.{◌≡◌, ◌∷◌, [], IfOk, IfSome, Some, decimal, length, slice_get};
 ghost use Rattle.std.specs.Fmt.{signed_decimal};
@@ -18,7 +18,7 @@ use rtree::EnvelopeIndex;
 use std::alloc::{AllocError, Global};
 use table_model::queries::Explain;
 
-/// The digits of a number of rows, which is the only field.
+/// The digits of a number of rows, as the only field.
 fn count_field(alloc: Global, count: u64, column: usize) -> Result<Option<Vec<u8>>, AllocError>
     ensures { IfOk result (λ field. option_map (λ text. text.items) field
         ≡ slice_get (decimal count ∷ []) column) }
@@ -31,7 +31,7 @@ fn count_field(alloc: Global, count: u64, column: usize) -> Result<Option<Vec<u8
     Ok(Some(text))
 }
 
-/// A line, which is the only field.
+/// A line, as the only field.
 fn line_field(alloc: Global, line: &[u8], column: usize) -> Result<Option<Vec<u8>>, AllocError>
     ensures { IfOk result (λ field. option_map (λ text. text.items) field
         ≡ slice_get (line.now ∷ []) column) }
@@ -43,7 +43,7 @@ fn line_field(alloc: Global, line: &[u8], column: usize) -> Result<Option<Vec<u8
     Ok(Some(text))
 }
 
-/// A number of rows, which is the only field, if it is one of 64 bits with a sign.
+/// A number of rows, as the only field, if it fits in 64 bits with a sign.
 fn count_number(count: u64, column: usize) -> Option<i64>
     ensures { result ≡ option_and_then spec.count_number (slice_get (count ∷ []) column) }
 {
@@ -54,7 +54,7 @@ fn count_number(count: u64, column: usize) -> Option<i64>
 }
 
 impl Statement {
-    /// How many columns its rows have: one under COUNT(*) and under EXPLAIN.
+    /// The number of columns of the rows: one under COUNT(*) and under EXPLAIN.
     pub fn column_count(&self) -> usize
         ensures { (definitions : SpatialSchema) → result ≡ length (header_of definitions self.now.bound) }
     {
@@ -69,7 +69,7 @@ impl Statement {
         }
     }
 
-    /// The name of a column, as the header has it; None past the last column. It fails only when memory runs out.
+    /// The name of a column, as in the header; None after the last column. It fails only when memory runs out.
     pub fn column_name<I: EnvelopeIndex + Drop>(
         &self,
         alloc: Global,
@@ -86,8 +86,8 @@ impl Statement {
         }
     }
 
-    /// What the fields of a column are: of a column of a table what its type says, of ST_AsText a text, of ST_Dimension,
-    /// ST_IsEmpty and COUNT(*) a number, and of EXPLAIN a text; None past the last column (SQL, the select list).
+    /// The kind of a column's fields: for a column of a table that of its type, for ST_AsText a text, for ST_Dimension,
+    /// ST_IsEmpty and COUNT(*) a number, and for EXPLAIN a text; None after the last column (SQL, the select list).
     pub fn column_kind<I: EnvelopeIndex + Drop>(
         &self,
         database: &Database<'_, I>,
@@ -98,8 +98,8 @@ impl Statement {
         column_kind(database.definitions(), &self.bound, column)
     }
 
-    /// The field of a column of the row that is there, without quotes; None where no row is there and past the last column. NULL
-    /// is the empty text, and nothing else is: no text loads as empty. It fails only when memory runs out (SQL, the select list).
+    /// The field of a column of the current row, without quotes; None if there is no row, and after the last column. NULL is the
+    /// empty text, and no other field is: no text loads as empty. It fails only when memory runs out (SQL, the select list).
     pub fn field<I: EnvelopeIndex + Drop>(
         &self,
         alloc: Global,
@@ -120,8 +120,8 @@ impl Statement {
         }
     }
 
-    /// The number in a column of the row that is there; None where no row is there, past the last column, at NULL, and where the
-    /// field is no number of 64 bits with a sign. Where it is there, its digits are the field (SQL, the select list).
+    /// The number in a column of the current row. None if there is no row, after the last column, for NULL, and for a
+    /// field that isn't a number of 64 bits with a sign. The digits of the number are the field (SQL, the select list).
     pub fn integer<I: EnvelopeIndex + Drop>(
         &self,
         database: &Database<'_, I>,

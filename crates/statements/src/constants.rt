@@ -1,4 +1,4 @@
-//! The constants of a bound query: how many there are, their types, and the query with a value in place of one.
+//! The constants of a bound query: their number, their types, and the query with a value in place of one.
 
 ghost use Rattle.std.specs.Prelude.{◌≡◌, IfOk, OnErr, OnOk, true, if◌then◌else◌, length, min};
 ghost use Rattle.statements.specs.Constants as spec;
@@ -15,16 +15,16 @@ use std::mem;
 use table_model::typing::OperandType;
 use table_model::values::Value;
 
-/// What became of a value that was to replace a constant.
+/// The result of replacing a constant by a value.
 #[derive(Drop)]
 pub enum Put {
-    /// It replaces the constant.
+    /// The value replaces the constant.
     Done,
-    /// There is no such constant, or its type doesn't take the value, which is given back.
+    /// There is no such constant, or the value's type isn't allowed for it. The value is returned.
     Refused(Constant),
 }
 
-/// How many constants a query has; `usize::MAX`, if they are more (SQL, ON and WHERE).
+/// The number of constants of a query, or `usize::MAX` if it is greater (SQL, ON and WHERE).
 pub fn count_of_constants(bound: &Bound) -> usize
     ensures { result ≡ min (length (spec.constants_of bound.now)) usize.MAX }
 {
@@ -34,7 +34,7 @@ pub fn count_of_constants(bound: &Bound) -> usize
     }
 }
 
-/// The type of the k-th constant of a query, from the left and counted from 0; none, if there are fewer (SQL, ON and WHERE).
+/// The type of the k-th constant of a query, from the left, counted from 0; None if there are fewer (SQL, ON and WHERE).
 pub fn type_of_constant(bound: &Bound, k: usize) -> Option<OperandType>
     ensures { result ≡ spec.constant_type k bound.now }
 {
@@ -44,7 +44,7 @@ pub fn type_of_constant(bound: &Bound, k: usize) -> Option<OperandType>
     }
 }
 
-/// The type of a value. If it is a geometry, that is valid.
+/// The type of a value. A value that is a geometry is valid.
 fn type_of(value: &Constant) -> OperandType
     ensures of { result ≡ spec.type_of value.now }
     ensures sound { IsSound value.now }
@@ -72,7 +72,7 @@ fn takes(constant: OperandType, value: OperandType) -> bool
     }
 }
 
-/// Whether a value may be put in place of the k-th constant.
+/// Whether a value may replace the k-th constant.
 fn may_replace(bound: &Bound, k: usize, value: &Constant) -> bool
     ensures may { result ≡ spec.may_replace (spec.constant_type k bound.now) value.now }
     ensures sound { IsSound value.now }
@@ -84,9 +84,9 @@ fn may_replace(bound: &Bound, k: usize, value: &Constant) -> bool
     }
 }
 
-/// Lets a value take the place of the k-th constant of a query, from the left and counted from 0. A number takes the place of a number, a
-/// text that of a text, a valid geometry that of a geometry, and NULL that of any but a geometry. The query stays bound. It fails
-/// only when memory runs out; then the query has no conditions and no rows from then on (SQL, ON and WHERE).
+/// Replaces the k-th constant of a query, from the left, counted from 0. A number may replace a number, a text a text,
+/// a valid geometry a geometry, and NULL any constant but a geometry. The query stays bound. It fails only when memory
+/// runs out; then the query has no conditions and no rows from then on (SQL, ON and WHERE).
 pub fn put_constant(
     alloc: Global,
     bound: &mut Bound,

@@ -1,8 +1,8 @@
-//! The row that is there after a step.
+//! The current row, after a step.
 
 use executor::RowPair;
 
-/// The row that is there after a step.
+/// The current row, after a step.
 #[derive(Clone, Copy)]
 pub enum CurrentRow {
     /// No row: before the first step, after the last row, or after a step that failed.
@@ -11,6 +11,6 @@ pub enum CurrentRow {
     Pair(RowPair),
     /// The number of rows that the query means.
     Count(u64),
-    /// A line of EXPLAIN: where it begins in the text, and where it ends.
+    /// A line of EXPLAIN: the places in the text where it begins and where it ends.
     Line(usize, usize),
 }

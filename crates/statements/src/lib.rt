@@ -1,6 +1,6 @@
-//! Statements: queries that are read, bound and planned once, whose rows are found step by step over a database that each step
-//! borrows anew. Between steps they borrow nothing. A law says that their rows, written in order, are what `run` writes. Constants
-//! of a bound query are replaced by others.
+//! Statements: queries that are read, bound and planned once. Their rows are found step by step, and each step borrows
+//! the database, which a statement doesn't borrow between steps. A law says that these rows, written in order, are what
+//! `run` writes. Constants of a bound query can be replaced by other values.
 #![tactic(auto)]
 
 mod bound_constants;

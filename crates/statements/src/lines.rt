@@ -4,14 +4,14 @@ ghost use Rattle.std.specs.Prelude.{◌≡◌, ◌≢◌, ◌≤◌, ◌+◌, �
 ghost use Rattle.std.specs.List.{position};
 ghost use Rattle.statements.specs.StatementRows.{lines};
 
-/// Where a text has its first line feed, if it has one.
+/// The place of the first line feed in a text, if it has one.
 fn first_feed(text: &[u8]) -> Option<usize>
     ensures { result ≡ position (λ byte. byte == 10) text.now }
 {
     text.iter().position(|byte| *byte == b'\n')
 }
 
-/// How many bytes the first line of a text has, without the line feed that ends it.
+/// The number of bytes in the first line of a text, without the line feed that ends it.
 pub(crate) fn first_line(text: &[u8]) -> usize
     ensures within { result ≤ length text.now }
     ensures first { text.now ≢ []

@@ -1,28 +1,28 @@
-//! What a statement gives next.
+//! What a statement returns next.
 
 ghost use Rattle.std.specs.Prelude.{◌≡◌};
 ghost use Rattle.statements.specs.StatementRows.{first_phase};
 
 use table_model::queries::Explain;
 
-/// What a statement gives next.
+/// What a statement returns next.
 #[derive(Clone, Copy)]
 pub enum Phase {
     /// The rows or pairs of rows that its query means.
     Rows,
-    /// Their number, of which so many are counted already.
+    /// The number of rows. This many are already counted.
     Count(u64),
     /// The lines of its plan, which isn't written yet.
     Plan,
-    /// The lines of its plan and the line of its work, which isn't done yet.
+    /// The lines of its plan and the line of its work. The plan's rows aren't all found yet.
     Analysis,
-    /// What is left of these lines.
+    /// The remaining lines.
     Lines,
     /// Nothing.
     Nothing,
 }
 
-/// What comes first.
+/// What a statement returns first.
 pub(crate) fn first_phase(explain: Explain, counts: bool) -> Phase
     ensures { result ≡ first_phase explain counts }
 {

@@ -1,5 +1,5 @@
-//! Where the constants of conditions are: each call is given which constant is sought, counted from 0, and finds it, or says
-//! which one of those behind it is.
+//! Finds constants in conditions. Each call gets the number of the constant, from 0, and finds it, or returns its
+//! number among the constants of the parts that come next.
 
 ghost use Rattle.std.specs.Prelude.{◌≡◌, ◌++◌};
 ghost use Rattle.statements.specs.Constants.{of_argument, of_condition, of_conditions, of_operand};
@@ -9,16 +9,16 @@ use spatial_sql::{Argument, Cond};
 use table_model::conditions::{GeometryArgument, Operand};
 use table_model::typing::OperandType;
 
-/// What a search for a constant comes to.
+/// The result of a search for a constant.
 #[derive(Clone, Copy)]
 pub enum Sought {
-    /// It is there, and this is its type.
+    /// The constant was found, and this is its type.
     Found(OperandType),
-    /// It isn't, and is this one of the constants behind.
+    /// The constant wasn't found. The number is its number among the constants of the parts that come next.
     After(usize),
 }
 
-/// The only constant of some part.
+/// Searches a part that has only this constant.
 #[tactic(auto, using(crate::proofs::SearchFacts::is_first, crate::proofs::SearchFacts::is_later))]
 fn only(constant: OperandType, k: usize) -> Sought
     ensures { result ≡ sought_one constant k }
@@ -107,16 +107,16 @@ pub(crate) fn in_conditions(conditions: &[Cond], k: usize) -> Sought
     Sought::After(left)
 }
 
-/// Where a constant of some conditions is.
+/// The place of a constant in some conditions.
 #[derive(Clone, Copy)]
 pub(crate) struct Place {
-    /// The place of the condition that has it.
+    /// The place of its condition.
     pub(crate) condition: usize,
-    /// Which one of that condition's constants it is.
+    /// Its number among that condition's constants.
     pub(crate) constant: usize,
 }
 
-/// Where the k-th constant of some conditions is, if they have so many.
+/// The place of the k-th constant of some conditions, if they have that many.
 pub(crate) fn place_of(conditions: &[Cond], k: usize) -> Option<Place>
     ensures { IsPlaceOf conditions.now k result }
 {

@@ -1,4 +1,4 @@
-//! The texts of EXPLAIN and of EXPLAIN ANALYZE, in memory.
+//! Prints EXPLAIN and EXPLAIN ANALYZE into memory.
 
 ghost use Rattle.std.specs.Prelude.{◌≡◌, IfOk};
 ghost use Rattle.streams.specs.MemorySinks.{memory_bytes};
@@ -12,7 +12,7 @@ use std::alloc::{AllocError, Global};
 use streams::MemorySink;
 use table_model::plans::Plan;
 
-/// What EXPLAIN ANALYZE prints of a plan and of its work. It fails only when memory runs out.
+/// Prints what EXPLAIN ANALYZE prints of a plan and its work. It fails only when memory runs out.
 pub(crate) fn analysis_text(
     alloc: Global,
     query: &Bound,
@@ -30,8 +30,8 @@ pub(crate) fn analysis_text(
 }
 
 impl Statement {
-    /// The text of its plan: what `run` writes of its query behind EXPLAIN. It fails only when memory runs out (this project's
-    /// choice).
+    /// Prints the statement's plan: what `run` writes for its query after EXPLAIN. It fails only when memory runs out
+    /// (this project's choice).
     pub fn plan_text(&self, alloc: Global) -> Result<MemorySink, AllocError>
         ensures { IfOk result (λ text. memory_bytes text ≡ explain_text self.now.bound self.now.plan) }
     {

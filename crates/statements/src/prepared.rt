@@ -26,30 +26,30 @@ use std::alloc::{AllocError, Global};
 use streams::MemorySink;
 use table_model::plans::Plan;
 
-/// A query that was read, bound to the tables of a database and planned, and how far its rows were found. It borrows nothing: each
-/// step is lent the database, which has to be the same.
+/// A query that was read, bound to the tables of a database and planned, with its progress in finding rows. It borrows
+/// nothing: each step borrows the database, which has to be the same.
 #[derive(Drop)]
 pub struct Statement {
     /// The query.
     pub bound: Bound,
-    /// Its plan.
+    /// The query's plan.
     pub plan: Plan,
-    /// How far the rows or pairs of rows were found, and the work so far.
+    /// The progress in finding rows or pairs of rows, and the work so far.
     pub rows: PausedRows,
-    /// What is given next.
+    /// What is returned next.
     pub phase: Phase,
     /// The text of EXPLAIN, once it is written.
     pub text: MemorySink,
-    /// How many bytes of it were given.
+    /// The number of bytes of the text that were returned.
     pub given: usize,
-    /// The row that is there.
+    /// The current row.
     pub row: CurrentRow,
 }
 
 impl Statement {
-    /// Reads the text of a query, binds it to the tables of a database and chooses its plan. The first fault of these is returned:
-    /// of reading the text, as `read_query` has it; the first table that the query names and that isn't loaded; of binding, as
-    /// `bind` has it. `OutOfMemory` may come in place of any result (SQL, the query).
+    /// Reads the text of a query, binds it to the tables of a database and chooses its plan. The error is the first
+    /// fault: of reading the text, as in `read_query`; the first table that the query names and that isn't loaded; of
+    /// binding, as in `bind`. `OutOfMemory` may come in place of any result (SQL, the query).
     pub fn prepare<I: EnvelopeIndex + Drop>(
         alloc: Global,
         kept: &KeptDatabase<I>,
@@ -86,7 +86,7 @@ impl Statement {
         Ok(statement)
     }
 
-    /// The statement of a query that is bound to a database, with its chosen plan. It fails only when memory runs out.
+    /// Makes the statement of a query that is bound to a database, with its chosen plan. It fails only when memory runs out.
     pub fn planned<I: EnvelopeIndex + Drop>(
         alloc: Global,
         database: &Database<'_, I>,
@@ -112,7 +112,7 @@ impl Statement {
         })
     }
 
-    /// Begins anew, before the first row: no work is done yet. It takes no memory.
+    /// Starts again before the first row. The work is 0 then. It allocates nothing.
     pub fn reset<I: EnvelopeIndex + Drop>(&mut self, alloc: Global, database: &Database<'_, I>)
         requires { IsOver database.now self.old }
         ensures over { IsOver database.now self.new }
@@ -123,7 +123,7 @@ impl Statement {
         self.begin(alloc, database);
     }
 
-    /// Begins before the first row, whatever the rows were until then. It takes no memory.
+    /// Starts before the first row, whatever the rows were until then. It allocates nothing.
     pub(crate) fn begin<I: EnvelopeIndex + Drop>(
         &mut self,
         alloc: Global,
@@ -143,16 +143,16 @@ impl Statement {
         self.row = CurrentRow::Absent;
     }
 
-    /// The work so far: how many DE-9IM predicates without a NULL argument were decided since the statement began. A pair that the
-    /// probe or an earlier condition rules out costs none. After a row of tables it is that of the candidates up to this row, or of
-    /// all where rows are sorted first (06-103r4, 6.1.15).
+    /// The work so far: the number of DE-9IM predicates without a NULL argument that were decided since the statement
+    /// began. A pair that the probe or an earlier condition rules out adds nothing. After a row of tables it is the
+    /// work of the candidates up to this row, or of all candidates if rows are sorted first (06-103r4, 6.1.15).
     pub fn work(&self) -> &Work
         ensures { result.now ≡ work_so_far self.now }
     {
         &self.rows.progress.work
     }
 
-    /// Finds the next row, where one is to come. The error is that memory ran out, and then none is to come any more, until the
+    /// Finds the next row, if one is to come. The error is that memory ran out, and then no more rows come until the
     /// statement is reset (SQL, the query).
     pub fn step<I: EnvelopeIndex + Drop>(
         &mut self,
@@ -194,7 +194,7 @@ impl Statement {
         }
     }
 
-    /// The next row or pair of rows, within so many looks.
+    /// Finds the next row or pair of rows by at most `most` looks.
     fn step_row_within<I: EnvelopeIndex + Drop>(
         &mut self,
         alloc: Global,
@@ -219,7 +219,7 @@ impl Statement {
         }
     }
 
-    /// The next row or pair of rows.
+    /// Finds the next row or pair of rows.
     fn step_row<I: EnvelopeIndex + Drop>(
         &mut self,
         alloc: Global,
@@ -238,7 +238,7 @@ impl Statement {
         Ok(StatementStep::Row)
     }
 
-    /// The number of rows, but under LIMIT 0.
+    /// Counts the rows. Under LIMIT 0 their number isn't returned.
     fn step_count<I: EnvelopeIndex + Drop>(
         &mut self,
         alloc: Global,
@@ -260,7 +260,7 @@ impl Statement {
         Ok(StatementStep::Row)
     }
 
-    /// Counts rows by at most so many looks, and gives their number once all are counted, but under LIMIT 0.
+    /// Counts rows by at most `most` looks, and returns their number once all are counted. Under LIMIT 0 it isn't returned.
     fn step_count_within<I: EnvelopeIndex + Drop>(
         &mut self,
         alloc: Global,
@@ -290,7 +290,7 @@ impl Statement {
         }
     }
 
-    /// The first line of EXPLAIN.
+    /// Returns the first line of EXPLAIN.
     fn step_plan<I: EnvelopeIndex + Drop>(
         &mut self,
         alloc: Global,
@@ -308,7 +308,7 @@ impl Statement {
         Ok(self.step_line(database))
     }
 
-    /// The first line of EXPLAIN ANALYZE, once all rows were found.
+    /// Finds all rows, and returns the first line of EXPLAIN ANALYZE.
     fn step_analysis<I: EnvelopeIndex + Drop>(
         &mut self,
         alloc: Global,
@@ -327,7 +327,7 @@ impl Statement {
         Ok(self.step_line(database))
     }
 
-    /// Finds rows by at most so many looks, and gives the first line of EXPLAIN ANALYZE once all are found.
+    /// Finds rows by at most `most` looks, and returns the first line of EXPLAIN ANALYZE once all are found.
     fn step_analysis_within<I: EnvelopeIndex + Drop>(
         &mut self,
         alloc: Global,
@@ -355,7 +355,7 @@ impl Statement {
         }
     }
 
-    /// The next line of EXPLAIN.
+    /// Returns the next line of EXPLAIN.
     fn step_line<I: EnvelopeIndex + Drop>(&mut self, database: &Database<'_, I>) -> StatementStep
         requires over { IsOver database.now self.old }
         requires phase { self.old.phase ≡ Phase.Lines }
@@ -373,7 +373,7 @@ impl Statement {
         StatementStep::Row
     }
 
-    /// No row.
+    /// Ends the rows.
     fn end<I: EnvelopeIndex + Drop>(&mut self, database: &Database<'_, I>) -> StatementStep
         requires over { IsOver database.now self.old }
         requires phase { self.old.phase ≡ Phase.Nothing }

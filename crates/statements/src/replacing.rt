@@ -1,4 +1,4 @@
-//! Conditions with a value in place of one of their constants.
+//! Replaces constants in conditions by values.
 
 ghost use Rattle.std.specs.Prelude.{◌≡◌, ◌≤◌, IfOk, length};
 ghost use Rattle.std.specs.List.{insert};
@@ -17,7 +17,7 @@ use validity::Valid;
 /// The value of a constant, or one that replaces it: a number, a text, a valid geometry or NULL.
 pub type Constant = Value<Boxed<Valid>>;
 
-/// A geometry as an argument in place of another one. Any other value is none, and the argument stays.
+/// A geometry as an argument in place of another one. For any other value, the argument stays.
 fn literal_of(value: Constant, old: Boxed<Valid>) -> Argument
     ensures { result ≡ spec.literal_of value old }
 {
@@ -27,7 +27,7 @@ fn literal_of(value: Constant, old: Boxed<Valid>) -> Argument
     }
 }
 
-/// An argument with a value in place of its constant.
+/// An argument with its constant replaced by a value.
 fn argument_of(argument: Argument, value: Constant) -> Argument
     ensures { result ≡ spec.argument_of value argument }
 {
@@ -37,7 +37,7 @@ fn argument_of(argument: Argument, value: Constant) -> Argument
     }
 }
 
-/// An argument. If it is its constant that is sought, the value replaces it.
+/// An argument. The value replaces its constant if that is the one with this number.
 fn argument_with(argument: Argument, k: usize, value: Constant) -> Argument
     ensures { result ≡ spec.argument_with k value argument }
 {
@@ -48,7 +48,7 @@ fn argument_with(argument: Argument, k: usize, value: Constant) -> Argument
     }
 }
 
-/// A number, a text or NULL as a side of a comparison. A geometry is none, and the side stays.
+/// A number, a text or NULL as a side of a comparison. For a geometry, the side stays.
 fn side_of(
     alloc: Global,
     value: Constant,
@@ -64,7 +64,7 @@ fn side_of(
     }
 }
 
-/// A side of a comparison with a value in place of its constant.
+/// A side of a comparison with its constant replaced by a value.
 fn operand_of(
     alloc: Global,
     operand: Operand<Argument>,
@@ -82,7 +82,7 @@ fn operand_of(
     }
 }
 
-/// A side of a comparison. If it is its constant that is sought, the value replaces it.
+/// A side of a comparison. The value replaces its constant if that is the one with this number.
 fn operand_with(
     alloc: Global,
     operand: Operand<Argument>,
@@ -131,14 +131,14 @@ fn relation_with(predicate: Predicate, a: Argument, b: Argument, k: usize, value
     }
 }
 
-/// NOT of a condition.
+/// Makes NOT of a condition.
 fn negated(alloc: Global, part: Cond) -> Result<Cond, AllocError>
     ensures { IfOk result (λ it. it ≡ conds.Not part) }
 {
     Ok(Cond::Not(Boxed::new(alloc, part)?))
 }
 
-/// The conditions as a vector.
+/// Moves conditions into a vector.
 #[tactic(auto, using(crate::proofs::SearchFacts::moving))]
 fn taken_out(alloc: Global, conditions: Items<Cond>) -> Result<Vec<Cond>, AllocError>
     ensures { IfOk result (λ it. it.items ≡ conditions) }
@@ -152,7 +152,7 @@ fn taken_out(alloc: Global, conditions: Items<Cond>) -> Result<Vec<Cond>, AllocE
     Ok(moved)
 }
 
-/// Conditions with another one put in at a place.
+/// Conditions with another one inserted at a place.
 fn inserted(
     alloc: Global,
     conditions: Items<Cond>,

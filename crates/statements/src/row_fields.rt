@@ -23,7 +23,7 @@ use spatial_sql::{Bound, dimension, field_at, printed};
 use std::alloc::{AllocError, Global};
 use table_model::conditions::{ColumnPlace, Item};
 
-/// The digits of a number.
+/// Prints the digits of a number.
 fn number_text(alloc: Global, number: i64) -> Result<Vec<u8>, AllocError>
     ensures { IfOk result (λ text. text.items ≡ signed_decimal number) }
 {
@@ -31,7 +31,7 @@ fn number_text(alloc: Global, number: i64) -> Result<Vec<u8>, AllocError>
     Vec::from_slice(alloc, buffer.format(number).as_bytes())
 }
 
-/// The canonical text of a geometry.
+/// Prints the canonical text of a geometry.
 fn geometry_text(alloc: Global, geometry: &Geometry) -> Result<Vec<u8>, AllocError>
     ensures { IfOk result (λ text. text.items ≡ canonical_text geometry.now) }
 {
@@ -39,7 +39,7 @@ fn geometry_text(alloc: Global, geometry: &Geometry) -> Result<Vec<u8>, AllocErr
     Vec::from_slice(alloc, text.bytes())
 }
 
-/// The text of a field.
+/// Prints the text of a field.
 fn column_text(alloc: Global, field: Field<'_>) -> Result<Vec<u8>, AllocError>
     ensures { IfOk result (λ text. text.items ≡ field_text geometry_writing (shown field.entry)) }
 {
@@ -84,7 +84,7 @@ fn emptiness_field(alloc: Global, field: Field<'_>) -> Result<Vec<u8>, AllocErro
     }
 }
 
-/// The field at a place of a pair of rows. A place that they don't have is NULL.
+/// The field at a place of a pair of rows; NULL if they don't have the place.
 fn pair_field<'d, I: EnvelopeIndex + Drop>(
     database: &'d Database<'_, I>,
     query: &Bound,
@@ -130,7 +130,7 @@ fn item_text<I: EnvelopeIndex + Drop>(
     }
 }
 
-/// The field of a column of the record of a pair of rows. Past the last column there is none.
+/// The field in a column of the record of a pair of rows; None after the last column.
 pub(crate) fn field_in_pair<I: EnvelopeIndex + Drop>(
     alloc: Global,
     database: &Database<'_, I>,

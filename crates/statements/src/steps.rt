@@ -1,11 +1,11 @@
-//! What a step of a statement comes to.
+//! The results of a step of a statement.
 
-/// What a step of a statement comes to.
+/// The result of a step of a statement.
 #[derive(Clone, Copy, Debug, PartialEq, Eq)]
 pub enum StatementStep {
-    /// The next row is there.
+    /// The next row is the current one.
     Row,
-    /// No row yet: so many candidates were looked at as were allowed, and the same rows are to come. Only `step_within` is busy.
+    /// No row yet: the allowed number of looks was made, and the same rows are still to come. Only `step_within` returns this.
     Busy,
     /// No row is left.
     End,

@@ -1,4 +1,4 @@
-//! Which table that a query names isn't loaded.
+//! Finds a table that a query names and that isn't loaded.
 
 ghost use Rattle.std.specs.Prelude.{◌≡◌, option_copied};
 ghost use Rattle.statements.specs.Preparing.{named_table, unloaded_table};

@@ -94,8 +94,8 @@ pub(crate) fn part_of(text: &[u8], begin: usize, end: usize) -> &[u8]
 }
 
 impl Statement {
-    /// The header record of its rows: the names of the columns as `run` writes them, or that of the number or of the plan's lines.
-    /// It fails only when memory runs out (SQL, the select list).
+    /// The header record of the rows: the names of the columns as `run` writes them, or the name for the number of rows
+    /// or for the plan's lines. It fails only when memory runs out (SQL, the select list).
     pub fn header<I: EnvelopeIndex + Drop>(
         &self,
         alloc: Global,
@@ -114,7 +114,7 @@ impl Statement {
         }
     }
 
-    /// The text of the header, as `run` writes it; EXPLAIN has none. It fails only when memory runs out.
+    /// The text of the header, as `run` writes it; empty for EXPLAIN. It fails only when memory runs out.
     pub fn header_text<I: EnvelopeIndex + Drop>(
         &self,
         alloc: Global,
@@ -132,7 +132,7 @@ impl Statement {
         }
     }
 
-    /// The text of the row that is there, as `run` writes it, with its line end; None where no row is there. It fails only when
+    /// The text of the current row, as `run` writes it, with its line end; None if there is no row. It fails only when
     /// memory runs out.
     pub fn row_text<I: EnvelopeIndex + Drop>(
         &self,

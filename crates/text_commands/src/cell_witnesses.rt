@@ -1,4 +1,4 @@
-//! What shows each cell of the matrix of two geometries in well-known text.
+//! Finds a witness for each cell of the matrix of two geometries in well-known text.
 
 ghost use Rattle.std.specs.Prelude.{◌≡◌, Ok, IfOk, IfErr};
 ghost use Rattle.geometry_model.specs.Dimensions.{IsMatrix};
@@ -15,10 +15,10 @@ use validity::Valid;
 use witnesses::find_witnesses;
 use witnesses::witness::Witnesses;
 
-/// A witness for each cell of the DE-9IM matrix of the valid geometries that two texts spell, of any types. `Refused` is the
-/// failure if a text spells no geometry, or one that isn't valid; the first text is read and checked before the second, so it
-/// is the failure of `relate_texts`. `OutOfMemory` may come in place of any result (06-103r4, 6.1.15.2; the order and the
-/// witnesses are this project's).
+/// Finds a witness for each cell of the DE-9IM matrix of the valid geometries that two texts spell, of any types. The
+/// failure is `Refused` if a text doesn't spell a geometry, or spells one that isn't valid. The first text is read and
+/// checked before the second, so the failure is that of `relate_texts`. `OutOfMemory` may come in place of any result
+/// (06-103r4, 6.1.15.2; the order and the witnesses are this project's).
 pub fn witnesses_of_texts(
     alloc: Global,
     first: &[u8],
@@ -35,7 +35,7 @@ pub fn witnesses_of_texts(
     witnesses_of(alloc, &first, &second)
 }
 
-/// A witness for each cell of the matrix of two geometries.
+/// Finds a witness for each cell of the matrix of two geometries.
 fn witnesses_of(alloc: Global, first: &Valid, second: &Valid) -> Result<Witnesses, Failure<'static>>
     ensures matrix { IfOk result (λ w. IsMatrix first.now second.now (shown_matrix (witness_at w))) }
     ensures shows { IfOk result (λ w. ShowsAll first.now second.now (witness_at w)) }

@@ -1,4 +1,4 @@
-//! What the command `why` does: it shows where two geometries meet, or why one isn't valid.
+//! The command `why`: it shows where two geometries meet, or why one isn't valid.
 
 ghost use Rattle.std.specs.Prelude.{◌≡◌, false};
 ghost use Rattle.text_commands.specs.Explanations.{MayExplainText, MayExplainTexts};
@@ -22,10 +22,10 @@ use streams::Sink;
 use witnesses::witness::Witnesses;
 use witnesses::{Verdict, put_verdict, put_witnesses};
 
-/// Writes what shows each cell of the matrix of the geometries that two words give: nine lines in the order of the matrix. A
-/// word is well-known text, or `@` and the path of a file that has it; both texts are there before one is read as a geometry.
-/// It returns the status: 0, or that of the failure, whose line it writes to `err` (06-103r4, 6.1.15.2; which witness
-/// shows a cell, and the words: this project's choice). If `why` says so, what explains that a text is refused is written to `more`.
+/// Writes a witness for each cell of the matrix of the geometries that two words give: nine lines in the order of the matrix.
+/// A word is well-known text, or `@` and the path of a file that has it; both texts are read before either is parsed. It
+/// returns the status: 0, or that of the failure, whose line it writes to `err` (06-103r4, 6.1.15.2; which witness shows a
+/// cell, and the words: this project's choice). If `why` is true, the explanation of a refused text is written to `more`.
 #[inline(never)]
 pub fn serve_witnesses<R: Read + Drop, F: FnMut(File<'_>) -> Option<R>, S: Sink, E: Sink, M: Sink>(
     alloc: Global,
@@ -59,7 +59,7 @@ pub fn serve_witnesses<R: Read + Drop, F: FnMut(File<'_>) -> Option<R>, S: Sink,
     )
 }
 
-/// Writes what shows each cell of the matrix of two geometries; or what explains that one is refused, if `why` says so.
+/// Writes a witness for each cell of the matrix of two geometries, or explains why one is refused, if `why` is true.
 fn show_cells<S: Sink, E: Sink, M: Sink>(
     alloc: Global,
     why: bool,
@@ -96,10 +96,10 @@ fn put_cells<S: Sink, E: Sink>(witnesses: &Witnesses, out: &mut S, err: &mut E) 
     }
 }
 
-/// Writes whether the geometry that a word gives is valid: `valid`, or its first fault with a place of it, and a line feed. The
-/// word is well-known text, or `@` and the path of a file that has it. It returns the status: 0, or that of the failure, whose
-/// line it writes to `err` (06-103r4, 6.1.7, 6.1.11.1 and 6.1.14; the order of faults, which place and the words: this
-/// project's choice). If `why` says so, what explains that the text spells no geometry is written to `more`.
+/// Writes whether the geometry that a word gives is valid: `valid`, or its first fault and where it is, and a line feed. The
+/// word is well-known text, or `@` and the path of a file that has it. It returns the status: 0, or that of the failure,
+/// whose line it writes to `err` (06-103r4, 6.1.7, 6.1.11.1 and 6.1.14; the order of faults, which place and the words: this
+/// project's choice). If `why` is true, the explanation of a text that doesn't spell a geometry is written to `more`.
 #[inline(never)]
 pub fn serve_verdict<R: Read + Drop, F: FnMut(File<'_>) -> Option<R>, S: Sink, E: Sink, M: Sink>(
     alloc: Global,
@@ -124,7 +124,7 @@ pub fn serve_verdict<R: Read + Drop, F: FnMut(File<'_>) -> Option<R>, S: Sink, E
     show_verdict(alloc, why, text.as_slice(), out, err, more)
 }
 
-/// Writes whether the geometry of a text is valid, and where it isn't; or what explains that the text spells none, if `why` says so.
+/// Writes whether the geometry of a text is valid, and where it isn't, or explains a text that spells none, if `why` is true.
 fn show_verdict<S: Sink, E: Sink, M: Sink>(
     alloc: Global,
     why: bool,

@@ -11,8 +11,8 @@ use FaultCode::{
 };
 use std::alloc::{AllocError, Global};
 
-/// The code of a fault, as the program prints it: W of a geometry's text, V of its validity, S of the schema, L of loading a
-/// table, Q of the query.
+/// The code of a fault, as the program prints it: W for a geometry's text, V for its validity, S for the schema, L for
+/// loading a table, Q for the query.
 #[derive(Clone, Copy, Debug, PartialEq, Eq)]
 pub enum FaultCode {
     W1,
@@ -58,7 +58,7 @@ pub enum FaultCode {
     Q12,
 }
 
-/// All codes, in the order of the letters and numbers.
+/// All codes, in the order in which `FaultCode` declares them.
 const CODES: [FaultCode; 41] = [
     W1, W2, W3, W4, V1, V2, V3, V4, V5, V6, V7, V8, S1, S2, S3, S4, S5, S6, L1, L2, L3, L4, L5, L6,
     L7, L8, L9, L10, L11, Q1, Q2, Q3, Q4, Q5, Q6, Q7, Q8, Q9, Q10, Q11, Q12,
@@ -115,7 +115,7 @@ impl FaultCode {
     }
 }
 
-/// The last code that words have; none if they have none. It fails only if memory runs out.
+/// The last code in the words; None if they contain none. It fails only if memory runs out.
 pub fn code_of(alloc: Global, words: &[String]) -> Result<Option<FaultCode>, AllocError>
     ensures code { IfOk result (λ found. IfSome found (IsLastOf (map string_bytes words.now))) }
     ensures none { IfOk result (λ found. IfNone found (HaveNoCode (map string_bytes words.now))) }
@@ -129,7 +129,7 @@ pub fn code_of(alloc: Global, words: &[String]) -> Result<Option<FaultCode>, All
     Ok(None)
 }
 
-/// The last code that is a part of a text, with blanks between parts; none if none is. It fails only if memory runs out.
+/// The last code among the parts of a text, which blanks separate; None if there is none. It fails only if memory runs out.
 fn code_in(alloc: Global, text: &str) -> Result<Option<FaultCode>, AllocError>
     ensures code { IfOk result (λ found. IfSome found (IsLastIn text.now)) }
     ensures none { IfOk result (λ found. IfNone found (HasNoCode text.now)) }
@@ -144,14 +144,14 @@ fn code_in(alloc: Global, text: &str) -> Result<Option<FaultCode>, AllocError>
     Ok(None)
 }
 
-/// The parts of a text, with blanks between them.
+/// The parts of a text, which blanks separate.
 fn parts_in<'a>(alloc: Global, text: &'a str) -> Result<Vec<&'a str>, AllocError>
     ensures { IfOk result (λ parts. map (λ part. part.now) parts.items ≡ parts_of text.now) }
 {
     text.split(' ').collect(alloc)
 }
 
-/// The code that a word spells, in any ASCII case; none if it spells no code.
+/// The code that a word spells, in any ASCII case; None if it spells no code.
 fn fault_code(word: &str) -> Option<FaultCode>
     ensures code { IfSome result (IsCode word.now) }
     ensures none { IfNone result ((code : FaultCode) → ¬ (IsCode word.now code)) }

@@ -1,4 +1,4 @@
-//! What explains that a command refuses a text that a word gives, where more is asked for: its place, and what to do.
+//! Explains, if it is wanted, why a command refuses a text that a word gives: where the fault is, and what to do.
 
 ghost use Rattle.std.specs.Prelude.{◌≡◌, Err, IfOk, IfSome, OnErr, OnOk, false, true};
 ghost use Rattle.text_commands.specs.Explanations.{Explains, IsFirst, MayExplainText, MayExplainTexts, MaySayOf, SaysOf, SaysOfFirst, SaysOfRefusal, not_utf8, refusal_in};
@@ -14,10 +14,10 @@ use std::alloc::{AllocError, Global};
 use streams::{Sink, put_all};
 use witnesses::put_verdict;
 
-/// What is said of a query's file that isn't UTF-8, behind its path.
+/// The text that comes after the path of a query's file that isn't UTF-8.
 const NOT_UTF8: &str = " isn't UTF-8: save it as UTF-8";
 
-/// Writes that the query's file at a path isn't UTF-8, if `why` says so. At Err memory ran out, and nothing is written.
+/// Writes that the query's file at a path isn't UTF-8, if `why` is true. The error is that memory ran out; nothing is written then.
 pub(crate) fn explain_encoding<M: Sink>(
     alloc: Global,
     why: bool,
@@ -39,8 +39,8 @@ pub(crate) fn explain_encoding<M: Sink>(
     Ok(())
 }
 
-/// Writes what explains that one of the two texts of a command is refused, if `why` says so and a failure is that: the place and what to do.
-/// At Err memory ran out, and nothing is written.
+/// Explains why one of the two texts of a command is refused, if `why` is true and the failure is that: where the fault
+/// is, and what to do. The error is that memory ran out, and then nothing is written.
 pub(crate) fn explain_texts<M: Sink>(
     alloc: Global,
     why: bool,
@@ -65,8 +65,8 @@ pub(crate) fn explain_texts<M: Sink>(
     }
 }
 
-/// Writes what explains that the text of a command, or the first of two, is refused, if `why` says so and a failure is that. At Err memory
-/// ran out, and nothing is written.
+/// Explains why the text of a command, or the first of two, is refused, if `why` is true and the failure is that. The
+/// error is that memory ran out, and then nothing is written.
 pub(crate) fn explain_text<M: Sink>(
     alloc: Global,
     why: bool,
@@ -89,7 +89,7 @@ pub(crate) fn explain_text<M: Sink>(
     }
 }
 
-/// The first fault of a text, or None where it has none. At Err memory ran out.
+/// The first fault of a text, or None if it has none. The error is that memory ran out.
 pub(crate) fn fault_of(alloc: Global, text: &[u8]) -> Result<Option<GeometryFault>, AllocError>
     ensures { IfOk result (IsFirst text.now) }
 {
@@ -102,7 +102,7 @@ pub(crate) fn fault_of(alloc: Global, text: &[u8]) -> Result<Option<GeometryFaul
     }
 }
 
-/// The geometry that is refused, and its fault, if a failure is that.
+/// The geometry that is refused, and its fault, if the failure is that.
 fn refusal(failure: &Failure<'_>) -> Option<(GeometryWord, GeometryFault)>
     ensures is { result ≡ refusal_in failure.now }
     ensures of { IfSome result (λ refused. failure.now ≡ f.Refused refused.0 refused.1) }
@@ -113,7 +113,7 @@ fn refusal(failure: &Failure<'_>) -> Option<(GeometryWord, GeometryFault)>
     }
 }
 
-/// Writes what explains a fault of a text.
+/// Writes the explanation of a fault of a text.
 fn explain_fault<M: Sink>(
     alloc: Global,
     text: &[u8],
@@ -129,7 +129,7 @@ fn explain_fault<M: Sink>(
     }
 }
 
-/// Writes what explains a fault of a text that spells no geometry.
+/// Writes the explanation of a fault of a text that doesn't spell a geometry.
 fn explain_refused<M: Sink>(
     alloc: Global,
     text: &[u8],
@@ -144,7 +144,7 @@ fn explain_refused<M: Sink>(
     Ok(())
 }
 
-/// Writes what explains a fault of the geometry of a text, which isn't valid. At Err memory ran out, or the text spells no geometry.
+/// Writes the explanation of a fault of a text's geometry, which isn't valid. At Err memory ran out, or the text spells none.
 fn explain_invalid<M: Sink>(
     alloc: Global,
     text: &[u8],

@@ -3,23 +3,23 @@
 ghost use Rattle.std.specs.Prelude.{◌≡◌};
 ghost use Rattle.text_commands.specs.Files.{path_of};
 
-/// A file that a command opens: what it is for the command, and its path.
+/// A file that a command opens: its purpose for the command, and its path.
 #[derive(Clone, Copy, Debug, PartialEq, Eq)]
 pub enum File<'a> {
     /// The schema, of CREATE TABLE statements.
     Schema(&'a str),
     /// The CSV of a table.
     Table(&'a str),
-    /// The text of a query, as a word names it in place of one.
+    /// The text of a query. A word names the file instead of giving the text.
     Query(&'a str),
-    /// The well-known text of a geometry, as a word names it in place of one.
+    /// The well-known text of a geometry. A word names the file instead of giving the text.
     Geometry(&'a str),
     /// The CSV of pairs of geometries.
     Pairs(&'a str),
 }
 
 impl<'a> File<'a> {
-    /// Where it is.
+    /// The path of the file.
     pub fn path(self) -> &'a str
         ensures { result.now ≡ path_of self.entry }
     {

@@ -1,4 +1,4 @@
-//! The text of a geometry and of a query, as a word gives it.
+//! Reads the texts of geometries and queries that words give.
 
 ghost use Rattle.std.specs.Prelude.{◌≡◌, ◌≤◌, ◌<◌, false, length, codes, Err, Ok, IfErr, IfOk, IfSome, OnOk};
 ghost use Rattle.std.specs.String.{string_bytes};
@@ -15,26 +15,26 @@ use streams::Sink;
 use table_model::faults::QueryFault;
 use table_model::tokens::TEXT_LIMIT;
 
-/// How many bytes the file of a geometry may have: 16 MiB.
+/// The greatest number of bytes in the file of a geometry: 16 MiB.
 pub const GEOMETRY_BYTES: u64 = 16 << 20;
 
-/// How many bytes the file of a query may have.
+/// The greatest number of bytes in the file of a query.
 const QUERY_BYTES: u64 = TEXT_LIMIT as u64;
 
-/// Why the text of a file isn't there.
+/// Why the text of a file can't be read.
 #[derive(Clone, Copy, Debug)]
 enum FileFault {
     /// Reading failed.
     Unreadable,
-    /// It has more bytes than it may have.
+    /// The file has more bytes than it may have.
     TooLong,
     /// Memory ran out.
     OutOfMemory,
 }
 
 /// The text of a geometry that a word gives: that of the file at a path, if the word is `@` and the path, else the word
-/// itself. The failure is `Unreadable` with this name, if the file can't be opened or read, or has more than 16 MiB; or memory
-/// ran out. The opener returns the reader of a file, or None if it can't be opened.
+/// itself. The failure is `Unreadable` with this name if the file can't be opened or read, or has more than 16 MiB; or
+/// it is that memory ran out. The opener returns the reader of a file, or None if it can't be opened.
 pub fn geometry_text<R: Read + Drop, F: FnMut(File<'_>) -> Option<R>>(
     alloc: Global,
     word: &str,
@@ -61,8 +61,8 @@ pub(crate) struct Texts {
     pub(crate) second: Vec<u8>,
 }
 
-/// The texts of the geometries that two words give, or the failure of the first word that gives none. The second word's file
-/// is opened once the first one's text is there.
+/// The texts of the geometries that two words give, or the failure of the first word without one. The second word's
+/// file is opened once the first one's text is read.
 pub(crate) fn geometry_texts<R: Read + Drop, F: FnMut(File<'_>) -> Option<R>>(
     alloc: Global,
     first: &str,
@@ -80,8 +80,8 @@ pub(crate) fn geometry_texts<R: Read + Drop, F: FnMut(File<'_>) -> Option<R>>(
     Ok(Texts { first, second })
 }
 
-/// The text of a query that a word gives, in the same way. The file may have as many bytes as a query, else the failure is
-/// that of too long a query; and it is `Unreadable` also if the file isn't UTF-8, which is written to `more` if `why` says so.
+/// The text of a query that a word gives: the word, or a file at `@` and its path. A file longer than a query may be is too
+/// long a query. The failure is `Unreadable` also if the file isn't UTF-8; that is written to `more` if `why` is true.
 pub fn query_text<R: Read + Drop, F: FnMut(File<'_>) -> Option<R>, M: Sink>(
     alloc: Global,
     why: bool,
@@ -119,7 +119,7 @@ fn own_text(alloc: Global, word: &str) -> Result<Vec<u8>, Failure<'static>>
     }
 }
 
-/// The text of a geometry's file, or why it isn't there. None is a file that can't be opened.
+/// Reads the text of a geometry's file, or says why it can't. The file is None if it can't be opened.
 fn geometry_in<R: Read + Drop>(
     alloc: Global,
     file: Option<R>,
@@ -138,7 +138,7 @@ fn geometry_in<R: Read + Drop>(
     }
 }
 
-/// The text of the query's file at a path, or why it isn't there. None is a file that can't be opened.
+/// Reads the text of the query's file at a path, or says why it can't. The file is None if it can't be opened.
 fn query_in<R: Read + Drop, M: Sink>(
     alloc: Global,
     why: bool,
@@ -170,7 +170,7 @@ fn query_in<R: Read + Drop, M: Sink>(
     }
 }
 
-/// All bytes of a file that has at most so many.
+/// Reads all bytes of a file that has at most `limit` bytes.
 fn whole_text<R: Read + Drop>(alloc: Global, file: R, limit: u64) -> Result<Vec<u8>, FileFault>
     requires { limit ≤ GEOMETRY_BYTES }
     ensures text { IfOk result (λ text. IsTextOf (R.remaining file) text.items) }

@@ -1,6 +1,6 @@
-//! The commands that need no schema, over readers and sinks of any kind: `relate`, the matrix of two geometries in well-known
-//! text; `why`, what shows its cells, or where one isn't valid; `pairs`, a line for each record of two; and `fault`, the pages of
-//! docs/FAULTS.md. The text that a word gives, its own or that of a file, is read here too.
+//! The commands that need no schema, over readers and sinks of any kind: `relate` prints the matrix of two geometries in well-known
+//! text, `why` a witness for each of its cells or where a geometry isn't valid, `pairs` a line for each record of two geometries,
+//! and `fault` the pages of docs/FAULTS.md. The text that a word gives, its own or that of a file, is read here too.
 #![tactic(auto)]
 
 mod cell_witnesses;

@@ -1,4 +1,4 @@
-//! The page of each fault.
+//! Finds the page of a fault.
 
 ghost use Rattle.std.specs.Prelude.{IfNone, IfOk, IfSome, map};
 ghost use Rattle.std.specs.String.{string_bytes};
@@ -9,8 +9,8 @@ use crate::fault_codes::{FaultCode, code_of};
 use crate::{query_pages, schema_pages, table_pages, text_pages, validity_pages};
 use std::alloc::{AllocError, Global};
 
-/// The page of a fault: what its lines mean, an example of each, and what to do. The words have its code, in any ASCII case; of
-/// several codes the last one counts. None if they have no code. It fails only if memory runs out.
+/// The page of a fault: what its lines mean, an example of each, and what to do. The words contain its code, in any
+/// ASCII case; the last of several codes counts. None if they contain no code. It fails only if memory runs out.
 pub fn page_of(alloc: Global, words: &[String]) -> Result<Option<&'static str>, AllocError>
     ensures page { IfOk result (λ shown. IfSome shown
         (λ page. (found : FaultCode) × IsLastOf (map string_bytes words.now) found × IsPageOf found page.now)) }
@@ -71,7 +71,7 @@ fn page(code: FaultCode) -> &'static str
     }
 }
 
-/// A page that begins with this code.
+/// Returns a page that begins with this code.
 fn page_with(code: FaultCode, page: &'static str) -> &'static str
     requires { IsPageOf code page.now }
     ensures { IsPageOf code result.now }

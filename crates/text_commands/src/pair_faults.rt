@@ -1,4 +1,4 @@
-//! What is written after the fault of `pairs` at a record that hasn't two fields, where more is asked for: how many it has, and what to do.
+//! Explains, if it is wanted, a record of `pairs` that doesn't have two fields: how many it has, and what to do.
 
 ghost use Rattle.std.specs.Prelude.{◌≡◌, ◌⊎◌, IfOk};
 ghost use Rattle.explanations.specs.Marks.{said};
@@ -11,8 +11,8 @@ use itoa::Buffer;
 use std::alloc::{AllocError, Global};
 use streams::{Sink, put_all};
 
-/// Writes the line of a record of this number that has so many fields in place of two, while notes are open: its number, how many it has, and
-/// what to do. Nothing is written if memory runs out (the form: this project's choice).
+/// Writes the line of a record that has another number of fields than two, if notes are open: the record's number, the
+/// number of its fields, and what to do. Nothing is written if memory runs out (the form: this project's choice).
 pub(crate) fn explain_unequal<M: Sink>(
     alloc: Global,
     notes: Notes,
@@ -33,7 +33,7 @@ pub(crate) fn explain_unequal<M: Sink>(
     }
 }
 
-/// The line of a record of this number with so many fields in place of two.
+/// Makes the line of the record with this number, which has this many fields instead of two.
 fn unequal_line(alloc: Global, number: usize, fields: usize) -> Result<Vec<u8>, AllocError>
     ensures { IfOk result (λ line. line.items ≡ said (unequal_text number fields)) }
 {

@@ -37,7 +37,7 @@ pub(crate) fn put_pair<S: Sink>(
     }
 }
 
-/// Writes the line of a pair that is refused, unless memory ran out.
+/// Writes the line of a refused pair. If memory ran out, it writes nothing and returns that failure.
 fn put_refusal<S: Sink>(failure: &Failure<'_>, sink: &mut S) -> Result<bool, Failure<'static>>
     ensures { PutsRefusal failure.now result (S.taken sink.old) (S.taken sink.new)
         (S.failures sink.old) (S.failures sink.new) }

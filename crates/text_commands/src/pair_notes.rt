@@ -1,4 +1,4 @@
-//! What is written beside the lines of `pairs`, where more is asked for: of each pair that is refused its number, and what to do.
+//! Explains, if it is wanted, the pairs that `pairs` refuses: writes for each its number, and what to do.
 
 ghost use Rattle.std.specs.Prelude.{◌≡◌, ◌≤◌, IfOk, IfSome, false};
 ghost use Rattle.csv.specs.Records.{fields_of};
@@ -16,20 +16,20 @@ use itoa::Buffer;
 use std::alloc::{AllocError, Global};
 use streams::{Sink, SinkFault, put_all};
 
-/// The most pairs that are noted.
+/// The greatest number of pairs that are noted.
 const MOST_NOTES: usize = 100;
 
-/// Whether pairs are noted.
+/// Whether refused pairs are noted.
 #[derive(Clone, Copy, Debug)]
 pub(crate) enum Notes {
-    /// They are, and so many were.
+    /// They are noted, and this many were so far.
     Open(usize),
-    /// They aren't: nobody asks for that, or a line couldn't be written.
+    /// They aren't noted: it isn't wanted, or a line couldn't be written.
     Closed,
 }
 
 impl Notes {
-    /// No pair was noted yet, if that is asked for.
+    /// Makes notes without any pair so far. They are open if `asks` is true.
     pub(crate) fn new(asks: bool) -> Notes
         ensures first { IsFirst result }
         ensures unasked { asks ≡ false → result ≡ Notes.Closed }
@@ -38,8 +38,8 @@ impl Notes {
     }
 }
 
-/// Writes the line that notes the pair of a record, if one of its geometries is refused and fewer than 100 pairs are noted: the number of the
-/// record, which geometry it is, and what to do. It is left out if memory runs out (the form: this project's choice).
+/// Writes the note of a record's pair, if one of its geometries is refused and fewer than 100 pairs are noted: the number of
+/// the record, which geometry it is, and what to do. It is left out if memory runs out (the form: this project's choice).
 pub(crate) fn note_pair<M: Sink>(
     alloc: Global,
     notes: Notes,
@@ -59,7 +59,7 @@ pub(crate) fn note_pair<M: Sink>(
     }
 }
 
-/// Does that where so many pairs are noted.
+/// Writes the note of a record's pair, if the pair is refused and fewer than 100 are noted. `count` pairs are noted already.
 fn note_next<M: Sink>(
     alloc: Global,
     count: usize,
@@ -83,7 +83,7 @@ fn note_next<M: Sink>(
     }
 }
 
-/// How many pairs are noted, after one that may be.
+/// The number of noted pairs, after one that may have been noted.
 fn counted(count: usize, is_noted: bool) -> usize
     requires { count ≤ 99 }
     ensures { result ≡ spec.counted count is_noted }
@@ -91,7 +91,7 @@ fn counted(count: usize, is_noted: bool) -> usize
     if is_noted { count + 1 } else { count }
 }
 
-/// Writes the line that notes the pair of a record, if one of its geometries is refused, and returns whether it did.
+/// Writes the note of a record's pair, if one of its geometries is refused, and returns whether it did.
 fn put_note<E: Sink>(
     alloc: Global,
     number: usize,
@@ -108,7 +108,7 @@ fn put_note<E: Sink>(
     Ok(true)
 }
 
-/// The line that notes the pair of a record, if one of its geometries is refused: the second only where the first isn't. At Err memory ran out.
+/// The note of a record's pair, if one geometry is refused: the second only if the first isn't. The error is that memory ran out.
 fn note_of(alloc: Global, number: usize, pair: &ByteRecord) -> Result<Option<Vec<u8>>, AllocError>
     ensures { IfOk result (λ found. IfSome found (λ line. IsNote number (fields_of pair.now) line.items)) }
 {
@@ -127,7 +127,7 @@ fn note_of(alloc: Global, number: usize, pair: &ByteRecord) -> Result<Option<Vec
     }
 }
 
-/// The line that notes a text that a word names, if it is refused.
+/// The note of a text that a word names, if it is refused.
 fn note_of_text(
     alloc: Global,
     number: usize,
@@ -146,7 +146,7 @@ fn note_of_text(
     }
 }
 
-/// The line that notes a text that a word names, by its first fault.
+/// The note of a text that a word names, by its first fault.
 fn note_of_fault(
     alloc: Global,
     number: usize,
@@ -161,7 +161,7 @@ fn note_of_fault(
     note_line(alloc, number, word, sentence.as_slice())
 }
 
-/// The line of the number of a record, a word and a sentence.
+/// Makes the line of the number of a record, a word and a sentence.
 fn note_line(
     alloc: Global,
     number: usize,

@@ -11,7 +11,7 @@ use failures::Failure;
 use std::io::Read;
 use table_model::faults::LoadFault;
 
-/// What a failure calls the records, in place of a table's name.
+/// The name that a failure uses for the records, instead of a table's name.
 const NAME: &str = "pairs";
 
 /// Reads the next record, and returns whether there is one.
@@ -42,14 +42,14 @@ fn read_failure(error: &Error) -> Failure<'static>
     }
 }
 
-/// The failure if reading failed on the way.
+/// The failure that reading failed before the end.
 pub(crate) fn broken_off() -> Failure<'static>
     ensures { IsReadFailure result }
 {
     Failure::Load(NAME, LoadFault::ReadFailed)
 }
 
-/// The failure of the record of this number, from 1, that hasn't two fields.
+/// The failure of the record with this number, from 1, which doesn't have two fields.
 pub(crate) fn unequal(number: usize) -> Failure<'static>
     ensures { IsUnequal number result }
 {

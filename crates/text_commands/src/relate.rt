@@ -21,9 +21,9 @@ use std::alloc::Global;
 use validity::{CheckFault, Valid, check};
 use wkt::{WktFault, read};
 
-/// The DE-9IM matrix of the valid geometries that two texts spell, of any types. `Refused` is the failure if a text spells no
-/// geometry, or one that isn't valid; the first text is read and checked before the second. `OutOfMemory` may come in place of
-/// any result (06-103r4, 6.1.15.2; the order: this project's choice).
+/// The DE-9IM matrix of the valid geometries that two texts spell, of any types. The failure is `Refused` if a text
+/// doesn't spell a geometry, or spells one that isn't valid; the first text is read and checked before the second.
+/// `OutOfMemory` may come in place of any result (06-103r4, 6.1.15.2; the order: this project's choice).
 pub fn relate_texts(alloc: Global, first: &[u8], second: &[u8]) -> Result<Matrix, Failure<'static>>
     ensures ok { ByEveryMatrix (λ matrix. IfOk result (λ m. relation matrix first.now second.now ≡ Ok m)) }
     ensures point_sets { IfOk result (RelatesTexts first.now second.now) }
@@ -35,8 +35,8 @@ pub fn relate_texts(alloc: Global, first: &[u8], second: &[u8]) -> Result<Matrix
     matrix_of(alloc, &first, &second)
 }
 
-/// The valid geometry that a text spells, read and checked as the first or the second of two texts. `Refused` is the failure if
-/// the text spells no geometry, or one that isn't valid. `OutOfMemory` may come in place of any result (06-103r4, 7.2 and 6.1).
+/// The valid geometry that a text spells, read and checked as the first or the second of two texts. The failure is `Refused`
+/// if it spells none, or one that isn't valid. `OutOfMemory` may come in place of any result (06-103r4, 7.2 and 6.1).
 pub fn geometry_of(
     alloc: Global,
     word: GeometryWord,

@@ -1,4 +1,4 @@
-//! A run over the pairs of geometries of a CSV text.
+//! Relates the pairs of geometries of a CSV text.
 
 ghost use Rattle.std.specs.Prelude.{◌≡◌, ◌||◌, List, Option, [], ℕ};
 ghost use Rattle.text_commands.specs.PairNotes.{IsFirst, NotesPairs};
@@ -18,7 +18,7 @@ use std::alloc::Global;
 use std::io::Read;
 use streams::{MemorySink, Sink};
 
-/// How a run over pairs ended.
+/// The end of a run over pairs.
 #[derive(Clone, Copy, Debug, PartialEq, Eq)]
 pub enum Pairs {
     /// Every pair has a matrix.
@@ -27,11 +27,11 @@ pub enum Pairs {
     SomeRefused,
 }
 
-/// Relates the two geometries of each record of a CSV text, which has no header, and writes a line for each, in order: the nine
-/// characters of their DE-9IM matrix, or why one of them is refused, as `relate` says it. Each line is written before the next
-/// record is read, and nothing of it is kept. The first record that hasn't two fields ends the run with
-/// `UnequalRecord` and its number, from 1, under the name `pairs`; a fault of reading with `ReadFailed`; a failed
-/// write with `WriteFailed`; and running out of memory with `OutOfMemory`. What was written before stays written
+/// Relates the two geometries of each record of a CSV text, which has no header, and writes a line for each, in order:
+/// the nine characters of their DE-9IM matrix, or why one of them is refused, as `relate` says it. Each line is written
+/// before the next record is read, and isn't kept. The run ends with `UnequalRecord` at the first record that doesn't
+/// have two fields, with its number, from 1, under the name `pairs`; with `ReadFailed` if reading fails; with
+/// `WriteFailed` if a write fails; and with `OutOfMemory` if memory runs out. What was written before stays written
 /// (06-103r4, 6.1.15.2; the form of a line: this project's choice).
 pub fn relate_pairs<R: Read + Drop, S: Sink>(
     alloc: Global,
@@ -46,8 +46,8 @@ pub fn relate_pairs<R: Read + Drop, S: Sink>(
     relate_noted(alloc, Notes::Closed, reader, sink, &mut unwritten)
 }
 
-/// Like `relate_pairs`. While notes are open, it writes to `more` a line for each pair that is refused, behind the pair's own line; and at
-/// last one for the record that isn't a pair, if there is one.
+/// Like `relate_pairs`, but while notes are open, it writes to `more` a line for each refused pair, after the pair's
+/// own line, and at the end one for the record that isn't a pair, if there is one.
 pub(crate) fn relate_noted<R: Read + Drop, S: Sink, M: Sink>(
     alloc: Global,
     notes: Notes,
@@ -67,7 +67,7 @@ pub(crate) fn relate_noted<R: Read + Drop, S: Sink, M: Sink>(
     relate_all(alloc, notes, &mut records, sink, more)
 }
 
-/// Relates the pairs that a reader still gives, all of them from the start of its text, and notes them.
+/// Relates the pairs that a reader, not yet read from, still returns, and notes the refused ones.
 fn relate_all<R: Read + Drop, S: Sink, M: Sink>(
     alloc: Global,
     mut notes: Notes,
@@ -104,14 +104,14 @@ fn relate_all<R: Read + Drop, S: Sink, M: Sink>(
     Err(broken_off())
 }
 
-/// Whether one of two facts holds.
+/// Whether at least one of two facts is true.
 fn either(first: bool, second: bool) -> bool
     ensures { result ≡ (first || second) }
 {
     first || second
 }
 
-/// How a run ended that went over all pairs.
+/// The end of a run that related all pairs.
 fn ended(some_refused: bool) -> Pairs
     ensures { result ≡ pairs_end some_refused }
 {

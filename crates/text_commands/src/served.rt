@@ -1,4 +1,4 @@
-//! What each of these commands does.
+//! Runs the commands `relate`, `pairs` and `fault`.
 
 ghost use Rattle.std.specs.Prelude.{◌≡◌, Ok, IfErr, IfOk, false, map};
 ghost use Rattle.std.specs.String.{string_bytes};
@@ -21,9 +21,9 @@ use std::alloc::Global;
 use std::io::Read;
 use streams::{Sink, put_all, put_parts};
 
-/// Writes the nine characters of the matrix of the geometries that two words give, and a line feed. A word is well-known text,
-/// or `@` and the path of a file that has it; both texts are there before one is read as a geometry. It returns the status: 0,
-/// or that of the failure, whose line it writes to `err`. If `why` says so, what explains that a text is refused is written to `more`.
+/// Writes the nine characters of the matrix of the geometries that two words give, and a line feed. A word is well-known text, or
+/// `@` and the path of a file that has it; both texts are read before either is parsed. It returns the status: 0, or that of the
+/// failure, whose line it writes to `err`. If `why` is true, the explanation of a refused text is written to `more`.
 #[inline(never)]
 pub fn serve_relate<R: Read + Drop, F: FnMut(File<'_>) -> Option<R>, S: Sink, E: Sink, M: Sink>(
     alloc: Global,
@@ -57,7 +57,7 @@ pub fn serve_relate<R: Read + Drop, F: FnMut(File<'_>) -> Option<R>, S: Sink, E:
     )
 }
 
-/// Writes the nine characters of the matrix of two geometries, and a line feed; or what explains that one is refused, if `why` says so.
+/// Writes the nine characters of the matrix of two geometries, and a line feed, or explains why one is refused, if `why` is true.
 fn relate_given<S: Sink, E: Sink, M: Sink>(
     alloc: Global,
     why: bool,
@@ -87,9 +87,9 @@ fn relate_given<S: Sink, E: Sink, M: Sink>(
     }
 }
 
-/// Writes a line for each record of the file at a path: the matrix of its two geometries, or why one is refused. It returns
-/// the status: 0, 5 if at least one pair is refused, or that of the failure, whose line it writes to `err`. If `why` says so, `more` gets
-/// a line for each pair that is refused, of more than 100 only for the first, and one for the record that isn't a pair.
+/// Writes a line for each record of the file at a path: the matrix of its two geometries, or why one is refused. It
+/// returns the status: 0, 5 if at least one pair is refused, or that of the failure, whose line it writes to `err`. If
+/// `why` is true, `more` gets a line for each of the first 100 refused pairs, and one for the record that isn't a pair.
 #[inline(never)]
 pub fn serve_pairs<R: Read + Drop, F: FnMut(File<'_>) -> Option<R>, S: Sink, E: Sink, M: Sink>(
     alloc: Global,
@@ -113,7 +113,7 @@ pub fn serve_pairs<R: Read + Drop, F: FnMut(File<'_>) -> Option<R>, S: Sink, E: 
     ended(end, err)
 }
 
-/// Relates the pairs of a file, and notes them. None is a file that can't be opened.
+/// Relates the pairs of a file, and notes the refused ones. The file is None if it can't be opened.
 fn relate_file<R: Read + Drop, S: Sink, M: Sink>(
     alloc: Global,
     notes: Notes,
@@ -135,7 +135,7 @@ fn relate_file<R: Read + Drop, S: Sink, M: Sink>(
     }
 }
 
-/// How a run over pairs ended for the command: that a pair is refused is a failure, as it has a status.
+/// The result of the command for the end of a run over pairs: a refused pair is a failure, since it has a status of its own.
 fn end_of(pairs: Pairs) -> Result<(), Failure<'static>>
     ensures { result ≡ spec.end_of (Ok pairs) }
 {
@@ -145,8 +145,8 @@ fn end_of(pairs: Pairs) -> Result<(), Failure<'static>>
     }
 }
 
-/// Writes the page of the fault whose code words have, or a list of all codes where there is no word. It returns the status: 0, or
-/// that of the failure, whose line it writes to `err`.
+/// Writes the page of the fault whose code is in the words, or a list of all codes if there are no words. It returns
+/// the status: 0, or that of the failure, whose line it writes to `err`.
 #[inline(never)]
 pub fn serve_fault<S: Sink, E: Sink>(
     alloc: Global,
@@ -168,8 +168,8 @@ pub fn serve_fault<S: Sink, E: Sink>(
     }
 }
 
-/// The page of the fault whose code words have, or the list of all codes where there is no word. The failure is that they have no
-/// code, or that memory ran out.
+/// The page of the fault whose code is in the words, or the list of all codes if there are no words. The failure is
+/// that they contain no code, or that memory ran out.
 fn fault_text(alloc: Global, words: &[String]) -> Result<&'static str, Failure<'static>>
     ensures text { IfOk result (λ text. Explains (map string_bytes words.now) text.now) }
     ensures failure { IfErr result (IsUnexplained (map string_bytes words.now)) }

@@ -17,7 +17,7 @@ use orient::Segment;
 use rtree::{CurveTree, Envelope, EnvelopeIndex};
 use std::alloc::{AllocError, Global};
 
-/// An edge whose envelope meets those of more edges is not compared with each of them.
+/// An edge whose envelope meets those of more edges than this isn't compared with each of them.
 const MOST_NEAR: usize = 64;
 
 /// The envelope of an edge.
@@ -106,7 +106,7 @@ fn may_meet_later(
     Ok(false)
 }
 
-/// Whether no two rings share a point, by an index of all edges. It returns false also where that isn't found out. It fails only
+/// Whether no two rings share a point, by an index of all edges. It returns false also if that isn't found out. It fails only
 /// when memory runs out.
 fn are_apart(alloc: Global, outline: &Outline) -> Result<bool, AllocError>
     ensures { IfOk result (λ apart. apart ≡ true → AreApart (spec.lines outline.now)) }
@@ -125,8 +125,8 @@ fn are_apart(alloc: Global, outline: &Outline) -> Result<bool, AllocError>
     Ok(true)
 }
 
-/// Whether no two rings share a point. It returns false also where that isn't found out, as where fewer pairs of envelopes meet
-/// than there are edges: then an index of the edges isn't worth its time. The envelopes are those of rings or polygons.
+/// Whether no two rings share a point. It returns false also if that isn't found out, for example if fewer pairs of envelopes
+/// meet than there are edges: then an index of the edges isn't worth its time. The envelopes are those of rings or polygons.
 pub(crate) fn are_apart_in_a_crowd(
     alloc: Global,
     outline: &Outline,

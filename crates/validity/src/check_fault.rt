@@ -8,11 +8,11 @@ use std::alloc::AllocError;
 use thiserror::Error;
 
 /// Why `check` doesn't return a geometry as valid: its first fault (06-103r4, 6.1.7, 6.1.11.1 and 6.1.14; the order is this
-/// project's), or running out of memory. Lines and elements are numbered from 0. So are rings, through all elements; the first
+/// project's), or running out of memory. Lines, elements and rings are numbered from 0, rings through all elements; the first
 /// ring of an element is its outer one.
 #[derive(Clone, Copy, Debug, PartialEq, Eq, Error)]
 pub enum CheckFault {
-    /// V1: the line with this number has a single position, or the ring has fewer than 4, its closing one counted.
+    /// V1: the line with this number has a single position, or the ring has fewer than 4, its closing one included.
     #[error("part {0} has too few points")]
     TooFewPoints(usize),
     /// V2: the ring's first position isn't its last.
@@ -58,7 +58,7 @@ impl CheckFault {
         }
     }
 
-    /// The fault of the geometry; none where memory ran out.
+    /// The fault of the geometry; None if memory ran out.
     pub fn validity_fault(self) -> Option<ValidityFault>
         ensures { result ≡ fault_in self }
     {

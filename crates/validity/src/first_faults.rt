@@ -131,7 +131,7 @@ fn hole_of_one_outside(
     Ok(None)
 }
 
-/// The first of the later holes of its polygon that is inside a hole or has it inside; all such are among those near it.
+/// The first of the later holes of its polygon that is inside a hole or has it inside; all such holes are among those near it.
 fn hole_nested_near(
     outline: &Outline,
     hole: usize,
@@ -151,7 +151,7 @@ fn hole_nested_near(
     None
 }
 
-/// The first two holes of a polygon of which one is inside the other.
+/// The first two holes of a polygon one of which is inside the other.
 fn holes_of_one_nested(
     alloc: Global,
     outline: &Outline,
@@ -178,7 +178,7 @@ fn holes_of_one_nested(
     Ok(None)
 }
 
-/// The first two holes of a polygon of which one is inside the other. If a quick test finds that there are none, the holes
+/// The first two holes of a polygon one of which is inside the other. If a quick test finds that there are none, the holes
 /// aren't compared one by one.
 fn hole_nested(
     alloc: Global,
@@ -200,18 +200,18 @@ fn hole_nested(
     }
 }
 
-/// What is tested of the rings of a polygon.
+/// What is tested for the rings of a polygon.
 #[derive(Clone, Copy, Debug)]
 enum RingTest {
     /// Whether two of them meet.
     Meeting,
     /// Whether a hole isn't inside the outer one.
     Outside,
-    /// Whether of two holes one is inside the other.
+    /// Whether one of two holes is inside the other.
     Nested,
 }
 
-/// The first fault that a test finds of the rings of a polygon.
+/// The first fault that a test finds among the rings of a polygon.
 fn fault_of_one(
     alloc: Global,
     outline: &Outline,
@@ -232,7 +232,7 @@ fn fault_of_one(
     }
 }
 
-/// The first fault that a test finds of the rings of one polygon, polygon by polygon.
+/// The first fault that a test finds among the rings of one polygon, polygon by polygon.
 fn fault_by(
     alloc: Global,
     outline: &Outline,
@@ -334,7 +334,7 @@ fn polygons_meet(
     elements_meet(alloc, outline, elements)
 }
 
-/// The first polygon inside which a polygon is; all such are among those near it.
+/// The first polygon that has this one inside it; all such polygons are among those near it.
 fn element_inside_near(outline: &Outline, element: usize, near: &[usize]) -> Option<ValidityFault>
     requires closed { HasClosedRings outline.now }
     requires element { element < length (spec.elements outline.now) }
@@ -351,7 +351,7 @@ fn element_inside_near(outline: &Outline, element: usize, near: &[usize]) -> Opt
     None
 }
 
-/// The first polygon that is inside another, and the first of those.
+/// The first polygon that is inside another, and the first one in which it is.
 fn element_inside(
     alloc: Global,
     outline: &Outline,
@@ -372,8 +372,8 @@ fn element_inside(
     Ok(None)
 }
 
-/// The first polygon that is inside another, and the first of those. If a quick test finds that there is none, the polygons
-/// aren't compared one by one.
+/// The first polygon that is inside another, and the first one in which it is. If a quick test finds that there is none,
+/// the polygons aren't compared one by one.
 fn polygon_inside(
     alloc: Global,
     outline: &Outline,
@@ -459,8 +459,8 @@ fn fault_of_elements(alloc: Global, outline: &Outline) -> Result<Option<Validity
     fault_among_elements(alloc, outline, &elements)
 }
 
-/// The first fault of a geometry in the order of tests: V1 to V8, and within one the least numbers first.
-/// It fails only when memory runs out.
+/// The first fault of a geometry in the order of tests: V1 to V8, and the least numbers first for each of
+/// them. It fails only when memory runs out.
 pub fn first_fault(alloc: Global, outline: &Outline) -> Result<Option<ValidityFault>, AllocError>
     ensures { IfOk result (λ fault. fault ≡ validity_fault outline.now) }
 {

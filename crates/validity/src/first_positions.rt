@@ -1,5 +1,5 @@
-//! A quick test that edges surround none of some positions. If the edges of closed rings surround a position, one of them meets
-//! the ray upwards from it, and one the ray downwards. So only positions whose rays meet an edge are compared with the edges.
+//! A quick test that none of some positions is surrounded by edges. If the edges of closed rings surround a position, one of them
+//! meets the ray upwards from it, and one the ray downwards. So only positions whose rays meet an edge are compared with the edges.
 
 ghost use Rattle.std.specs.Prelude.{◌≡◌, ◌≢◌, ◌≤ℤ◌, ◌-ℤ◌, ℕ, pos, false, map, slice_get, Some, IfOk};
 ghost use Rattle.geometry_model.specs.Points.{Position};
@@ -73,7 +73,7 @@ fn far_end(way: Way, at: GridPoint) -> GridPoint
     }
 }
 
-/// The envelope of the ray from a position; none if there is no position.
+/// The envelope of the ray from a position; None if there is no position.
 fn ray(way: Way, first: Option<GridPoint>) -> Option<Envelope>
     ensures { result ≡ ray way first }
 {
@@ -125,7 +125,7 @@ fn envelope_of(edge: &Segment) -> Option<Envelope>
     Envelope::of_positions(&[start, end])
 }
 
-/// Whether a position may be inside a ring or polygon of these edges. If it returns false, it isn't. The number says how many
+/// Whether a position may be inside a ring or polygon of these edges. If it returns false, it isn't. `left` says how many
 /// more edges may be compared with a position.
 fn may_surround(edges: &[Segment], first: Option<GridPoint>, left: &mut usize) -> bool
     ensures { result ≡ false → (p : Position) → first ≡ Some p → is_odd_above edges.now p ≡ false }
@@ -187,7 +187,7 @@ impl FirstPositions {
         })
     }
 
-    /// Whether the position with a number, if that isn't one's own, may be inside a ring or polygon of these edges.
+    /// Whether the position with this number, unless that is `own`, may be inside a ring or polygon of these edges.
     fn may_be_inside(&self, edges: &[Segment], own: usize, number: usize, left: &mut usize) -> bool
         ensures { result ≡ false → (p : Position) → number ≢ own → slice_get self.now.1 number ≡ Some (Some p)
             → is_odd_above edges.now p ≡ false }
@@ -201,7 +201,7 @@ impl FirstPositions {
         }
     }
 
-    /// Whether one of the positions with these numbers, but for one's own, may be inside a ring or polygon of these edges.
+    /// Whether one of the positions with these numbers, except `own`, may be inside a ring or polygon of these edges.
     fn may_one_be_inside(
         &self,
         edges: &[Segment],
@@ -219,7 +219,7 @@ impl FirstPositions {
         false
     }
 
-    /// Whether one of the positions that an edge faces, but for one's own, may be inside a ring or polygon of these edges. It
+    /// Whether one of the positions that an edge faces, except `own`, may be inside a ring or polygon of these edges. It
     /// fails only when memory runs out.
     fn may_one_faced_be_inside(
         &self,
@@ -235,9 +235,9 @@ impl FirstPositions {
         Ok(self.may_one_be_inside(edges, own, found.as_slice(), left))
     }
 
-    /// Whether one of the positions, but for one's own, may be inside a ring or polygon of these edges, whose rings are closed
-    /// (06-103r4, 6.1.11.1 and 6.1.14). If it returns false, none is. The number says how many more edges may be compared with
-    /// a position. It fails only when memory runs out.
+    /// Whether one of the positions, except `own`, may be inside a ring or polygon of these edges, whose rings are closed
+    /// (06-103r4, 6.1.11.1 and 6.1.14). If it returns false, none is. `left` says how many more edges may be compared with a
+    /// position. It fails only when memory runs out.
     pub(crate) fn may_one_be_surrounded(
         &self,
         edges: &[Segment],

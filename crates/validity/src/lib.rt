@@ -1,5 +1,5 @@
-//! Valid geometries (06-103r4, 6.1). `check` tests a geometry once, by its edges line by line and polygon by polygon; from then on
-//! its type `Valid` says that it has no fault.
+//! Valid geometries (06-103r4, 6.1). `check` tests a geometry once, by its edges line by line and polygon by polygon; its result
+//! has the type `Valid`, which says that it has no fault.
 #![tactic(auto)]
 
 mod apart;

@@ -1,4 +1,4 @@
-//! Which rings or polygons are near one: those whose envelopes meet its own.
+//! Which rings or polygons are near a given one: those whose envelopes meet its own.
 
 ghost use Rattle.std.specs.Prelude.{◌≡◌, ◌<◌, length, map, IfOk};
 ghost use Rattle.geometry_model.specs.Geometries as spec;
@@ -71,7 +71,7 @@ impl Neighbours {
         })
     }
 
-    /// The numbers of those whose envelopes meet that of the one with this number, ascending, its own among them.
+    /// The numbers of those whose envelopes meet that of the one with this number, ascending; its own is among them.
     pub(crate) fn near(&self, alloc: Global, number: usize) -> Result<Vec<usize>, AllocError>
         requires { number < length self.now }
         ensures { IfOk result (λ near. near.items ≡ near_one self.now number) }
@@ -87,7 +87,7 @@ impl Neighbours {
     }
 }
 
-/// Whether more than `most` pairs of envelopes meet, by an index of them. Each meets itself, and two meet twice.
+/// Whether more than `most` pairs of envelopes meet, by an index of them. Each meets itself, and two that meet count twice.
 fn are_crowded(
     alloc: Global,
     envelopes: &[Option<Envelope>],

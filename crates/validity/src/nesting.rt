@@ -1,4 +1,4 @@
-//! A quick test that of the holes of a polygon, or of polygons, none is inside another.
+//! A quick test that no hole of a polygon is inside another one, and no polygon inside another one.
 
 ghost use Rattle.std.specs.Prelude.{◌≡◌, ◌+◌, false, None, IfOk};
 ghost use Rattle.geometry_model.specs.FirstFaults.{of_pairs};
@@ -12,7 +12,7 @@ use crate::outlines::Outline;
 use geometry_model::ValidityFault;
 use std::alloc::{AllocError, Global};
 
-/// At most so many rings or polygons are compared with one another without a quick test of all.
+/// Up to this number of rings or polygons are compared with one another without a quick test of all.
 const MANY: usize = 64;
 
 /// Whether a hole of a polygon may be inside another one, by the rays that lead one way. If it returns false, none is. It
@@ -63,8 +63,8 @@ fn may_holes_nest(
     }
 }
 
-/// Whether a hole of a polygon may be inside another one. It returns true also where that isn't found out, as where there are
-/// few rings or few are near one another.
+/// Whether a hole of a polygon may be inside another one. It returns true also if that isn't found out, for example if there
+/// are few rings or few are near one another.
 pub(crate) fn may_holes_nest_in_a_crowd(
     alloc: Global,
     outline: &Outline,
@@ -116,8 +116,8 @@ fn may_elements_nest(alloc: Global, outline: &Outline) -> Result<bool, AllocErro
     }
 }
 
-/// Whether a polygon may be inside another one. It returns true also where that isn't found out, as where there are few
-/// polygons or few are near one another.
+/// Whether a polygon may be inside another one. It returns true also if that isn't found out, for example if there are
+/// few polygons or few are near one another.
 pub(crate) fn may_elements_nest_in_a_crowd(
     alloc: Global,
     outline: &Outline,

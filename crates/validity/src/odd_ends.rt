@@ -1,4 +1,4 @@
-//! The positions at which an odd number of ends of lines are: the boundary of lines (06-103r4, 6.1.8.1: the mod 2 rule).
+//! The positions at which an odd number of line ends meet: the boundary of lines (06-103r4, 6.1.8.1: the mod 2 rule).
 
 ghost use Rattle.std.specs.Prelude.{◌≡◌, ◌++◌, [], flat_map, IfOk, OnOk};
 ghost use Rattle.std.specs.List.{list_any};
@@ -74,8 +74,8 @@ fn toggle(found: &mut Vec<GridPoint>, position: GridPoint) -> Result<(), AllocEr
     Ok(())
 }
 
-/// The positions that are listed an odd number of times, each once, where the given ones ascend: each removes an equal one
-/// that was added before it, or else is added.
+/// The positions that are listed an odd number of times, each once. The given ones have to ascend: each removes an equal
+/// one that was added before it, or else is added.
 fn odd_ones(alloc: Global, given: &[GridPoint]) -> Result<Vec<GridPoint>, AllocError>
     requires { IsSorted position_order given.now }
     ensures ascend { IfOk result (λ found. IsStrictlySortedBy position_order found.items) }

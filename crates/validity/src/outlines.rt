@@ -160,7 +160,7 @@ impl Outline {
         part(self.runs.segments(), self.element_ends.as_slice(), element)
     }
 
-    /// The number of the first ring of one of its polygons, and one more than that of its last ring.
+    /// The number of the first ring of one of its polygons, and the number after that of its last ring.
     pub(crate) fn ring_numbers(&self, element: usize) -> (usize, usize)
         requires { element < length (spec.elements self.now) }
         ensures { AreRingsOf self.now element result.0 result.1 }

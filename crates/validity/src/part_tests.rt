@@ -53,7 +53,7 @@ impl Outline {
         is_not_closed(self.line(ring).positions())
     }
 
-    /// Whether a ring touches, crosses or covers itself. The boxes are those of all edges, so they serve an only ring.
+    /// Whether a ring touches, crosses or covers itself. The boxes are those of all edges, so they serve if it is the only ring.
     pub(crate) fn meets_itself(
         &self,
         alloc: Global,
@@ -100,7 +100,7 @@ impl Outline {
         }
     }
 
-    /// Whether the first position of a ring is inside another, of whose edges these are the boxes.
+    /// Whether the first position of a ring is inside another ring. The boxes are those of the other ring's edges.
     fn is_inside_boxed(&self, outer: usize, boxes: &EdgeBoxes, ring: usize) -> bool
         requires outer { outer < length (spec.lines self.now) }
         requires ring { ring < length (spec.lines self.now) }
@@ -113,7 +113,7 @@ impl Outline {
         }
     }
 
-    /// Whether the first position of a ring isn't inside another, of whose edges these are the boxes.
+    /// Whether the first position of a ring isn't inside another ring. The boxes are those of the other ring's edges.
     pub(crate) fn is_outside_ring(&self, outer: usize, boxes: &EdgeBoxes, ring: usize) -> bool
         requires outer { outer < length (spec.lines self.now) }
         requires ring { ring < length (spec.lines self.now) }

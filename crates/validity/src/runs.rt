@@ -1,4 +1,4 @@
-//! The edges of lines and rings, all in one list, and where those of each end.
+//! The edges of lines and rings, all in one list, and where the edges of each line end.
 
 ghost use Rattle.std.specs.Prelude.{◌≡◌, ◌<◌, ◌++◌, [], ◌∷◌, length, map, slice_get, Some, IfOk, OnOk, All};
 ghost use Rattle.std.specs.List.{flat_map};
@@ -44,7 +44,7 @@ impl Runs {
         }
     }
 
-    /// These edges and those of one line more.
+    /// These edges and those of one more line.
     pub(crate) fn with(self, line: &LineString) -> Result<Runs, AllocError>
         ensures { IfOk result (λ runs. runs ≡ self ++ edges_of_line line.now ∷ []) }
     {
@@ -57,7 +57,7 @@ impl Runs {
         Ok(Runs { segments, ends })
     }
 
-    /// These edges and those of some lines more.
+    /// These edges and those of some more lines.
     pub(crate) fn with_all(self, lines: &[LineString]) -> Result<Runs, AllocError>
         ensures { IfOk result (λ runs. runs ≡ self ++ map edges_of_line lines.now) }
     {
@@ -91,7 +91,7 @@ impl Runs {
     }
 }
 
-/// Lends a part of the edges, where each part ends at its place.
+/// Lends a part of the edges; `ends` says where each part ends.
 pub(crate) fn part<'a>(segments: &'a [Segment], ends: &[usize], index: usize) -> &'a [Segment]
     requires ends { AreEnds 0 ends.now (length segments.now) }
     requires within { index < length ends.now }
@@ -101,7 +101,7 @@ pub(crate) fn part<'a>(segments: &'a [Segment], ends: &[usize], index: usize) ->
     &segments[start..end]
 }
 
-/// Where the part of this number begins and ends.
+/// Where the part with this number begins and ends.
 pub(crate) fn bounds(ends: &[usize], index: usize) -> (usize, usize)
     requires { index < length ends.now }
     ensures start { result.0 ≡ start_of 0 ends.now index }

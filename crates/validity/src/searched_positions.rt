@@ -12,8 +12,8 @@ use geometry_model::Kind;
 use std::alloc::{AllocError, Global};
 use wkt::Geometry;
 
-/// The positions of a geometry that are searched for a point: of points the listed ones, of lines the odd ends, ascending, each
-/// once; areas have none. It fails only when memory runs out.
+/// The positions of a geometry that are searched for a point, ascending, each once: the listed ones of points, the odd ends of
+/// lines; areas have none. It fails only when memory runs out.
 pub(crate) fn searched_positions(
     alloc: Global,
     geometry: &Geometry,

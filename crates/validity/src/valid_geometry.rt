@@ -27,15 +27,15 @@ use std::alloc::{AllocError, Global};
 use std::marker::Model;
 use wkt::Geometry;
 
-/// A geometry without fault (06-103r4, 6.1.7 and 6.1.11). Contracts see it as that geometry. Beside it are kept its edges with
+/// A geometry without fault (06-103r4, 6.1.7 and 6.1.11). Contracts see it as that geometry. With it are kept its edges and
 /// their boxes, and what is searched: the positions of a MULTIPOINT, or the odd ends of lines, ascending.
 #[derive(Drop)]
 pub struct Valid {
     content: Content,
 }
 
-/// What is kept of a geometry. A POINT has no edges, so only an empty list of boxes is kept beside it. For the other types all
-/// is behind one pointer, so that a list of points is small.
+/// What is kept of a geometry. A POINT has no edges, so only an empty list of boxes is kept with it. For the other types
+/// everything is behind one pointer, so that a list of points is small.
 #[derive(Drop)]
 pub(crate) enum Content {
     Point(Geometry, EdgeBoxes),
@@ -48,7 +48,7 @@ pub(crate) struct Searched {
     outline: Outline,
     /// The boxes over its edges.
     boxes: EdgeBoxes,
-    /// Of points the listed positions, of lines the odd ends: ascending, each once.
+    /// The listed positions of points, or the odd ends of lines: ascending, each once.
     positions: Vec<GridPoint>,
 }
 
@@ -75,7 +75,7 @@ impl Valid {
         }
     }
 
-    /// Its kind: points, lines or areas, also where it is empty (06-103r4, 6.1.15.3).
+    /// Its kind: points, lines or areas, also if it is empty (06-103r4, 6.1.15.3).
     pub fn kind(&self) -> Kind
         ensures { result ≡ spec.kind self.now }
     {
@@ -109,7 +109,7 @@ impl Valid {
         }
     }
 
-    /// Lends the positions that are searched for a point: of points the listed ones, of lines the odd ends.
+    /// Lends the positions that are searched for a point: the listed ones of points, or the odd ends of lines.
     fn searched(&self) -> &[GridPoint]
         ensures { AreSearched result.now self.now }
     {
@@ -127,8 +127,8 @@ impl Valid {
         self.kind() == Kind::Point && is_at_one(self.searched(), p)
     }
 
-    /// Lends the positions at which an odd number of ends of its lines are, ascending, each once: the boundary of lines
-    /// (06-103r4, 6.1.8.1: the mod 2 rule). Points and areas have none.
+    /// Lends the positions at which an odd number of ends of its lines meet, ascending, each once: the boundary of
+    /// lines (06-103r4, 6.1.8.1: the mod 2 rule). Points and areas have none.
     pub fn odd_ends(&self) -> &[GridPoint]
         ensures { AreOddEnds result.now (ended_lines self.now) }
     {
@@ -138,7 +138,7 @@ impl Valid {
         }
     }
 
-    /// Whether an odd number of ends of its lines are at the point (06-103r4, 6.1.8.1: the mod 2 rule). It takes no memory.
+    /// Whether an odd number of ends of its lines meet at the point (06-103r4, 6.1.8.1: the mod 2 rule). It takes no memory.
     pub fn is_odd_end(&self, p: &RatPoint) -> bool
         ensures { result ≡ is_odd_end (ended_lines self.now) p.now }
     {
@@ -146,10 +146,10 @@ impl Valid {
     }
 }
 
-/// Returns the geometry as valid if it has no fault, else its first fault. The faults are tested in their order, V1 to V8,
-/// and each for the least numbers first (06-103r4, 6.1.7, 6.1.11.1 and 6.1.14; the order: this project's choice). Points have no
-/// fault. `OutOfMemory` may come in place of any result. The interior of a valid area is what is inside an element's outer
-/// ring and in none of its holes, and the rings separate it from the exterior (06-103r4, 6.1.11.1).
+/// Returns the geometry as valid if it has no fault, else its first fault. The faults are tested in their order, V1 to V8, and
+/// each of them for the least numbers first (06-103r4, 6.1.7, 6.1.11.1 and 6.1.14; the order: this project's choice). Points
+/// have no fault. `OutOfMemory` may come in place of any result. The interior of a valid area is what is inside an element's
+/// outer ring and in none of its holes, and the rings separate it from the exterior (06-103r4, 6.1.11.1).
 #[tactic(auto, using(crate::proofs::Faults::no_fault_valid))]
 pub fn check(alloc: Global, geometry: Geometry) -> Result<Valid, CheckFault>
     ensures same { IfOk result (λ valid. valid ≡ geometry) }
@@ -201,7 +201,7 @@ fn of_larger(alloc: Global, geometry: Geometry) -> Result<Valid, CheckFault>
     }
 }
 
-/// A geometry without fault as a valid one, all that is kept of it being behind one pointer. The boxes are those of its edges.
+/// A geometry without fault as a valid one, with all that is kept of it behind one pointer. The boxes are those of its edges.
 fn kept(alloc: Global, outline: Outline, boxes: EdgeBoxes) -> Result<Valid, AllocError>
     requires faultless { validity_fault outline ≡ None }
     requires boxes { BoxesOf boxes (spec.edges outline) }

@@ -13,7 +13,7 @@ use crate::heights::{Height, NOTHING, Side, past_edges, past_positions};
 use fraction::RatPoint;
 use validity::Valid;
 
-/// The nearest height once the edges and listed positions of a geometry are seen too.
+/// The nearest height once the edges and listed positions of a geometry are considered too.
 fn past_geometry(nearest: Height, side: Side, p: &RatPoint, valid: &Valid) -> Height
     requires height { IsHeight nearest }
     requires not_upright { MissesUprights valid.now p.now }
@@ -25,7 +25,7 @@ fn past_geometry(nearest: Height, side: Side, p: &RatPoint, valid: &Valid) -> He
     past_positions(passed, side, p, valid.geometry().listed())
 }
 
-/// The point half-way to the height, or one step away where there is nothing.
+/// The point half-way to the height, or one step away if there is nothing.
 fn half_way(side: Side, p: &RatPoint, height: Height) -> FacePoint
     requires { IsHeight height }
     ensures half { IsHalfWay side p.now height result }
@@ -56,7 +56,7 @@ fn moved(side: Side, p: &RatPoint, scale: i128, rise: i128) -> FacePoint
 }
 
 /// A face point straight above a point, or straight below it: half-way to the next point of an edge or listed position of
-/// either geometry, or one step away where there is none (06-103r4, 6.1.11.1; face points: this project's choice). No
+/// either geometry, or one step away if there is none (06-103r4, 6.1.11.1; face points: this project's choice). No
 /// vertical edge may go through the point, and no listed position may be there. It takes no memory.
 pub fn face_point(first: &Valid, second: &Valid, side: Side, p: &RatPoint) -> FacePoint
     requires first { MissesUprights first.now p.now }

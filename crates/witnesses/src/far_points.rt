@@ -72,7 +72,7 @@ fn past_geometry(from: i32, valid: &Valid) -> i32
 }
 
 /// A face point of both exteriors: on the x axis, one step to the right of all positions of both geometries, or at the origin
-/// where they all lie left of it (06-103r4, 6.1.15.2; which point: this project's choice).
+/// if they all lie left of it (06-103r4, 6.1.15.2; which point: this project's choice).
 pub(crate) fn far_point(first: &Valid, second: &Valid) -> FacePoint
     ensures shows { IsFacePoint first.now Exterior second.now Exterior result }
     ensures far { IsFarRight first.now second.now result }

@@ -42,7 +42,7 @@ fn find_sides(sides: &[Option<SideLabels>], first: Location, second: Location) -
         .position(|both| is_side_pair(both, first, second))
 }
 
-/// The side of a piece that has this pair of parts: the upper one where both have it.
+/// The side of a piece that has this pair of parts: the upper one if both have it.
 fn side_of(sides: &Option<SideLabels>, first: Location, second: Location) -> Side
     requires { spec.is_side_pair first second sides.now ≡ true }
     ensures on { HasPairOn first second sides.now result }
@@ -54,7 +54,7 @@ fn side_of(sides: &Option<SideLabels>, first: Location, second: Location) -> Sid
     }
 }
 
-/// The face point beside a piece that isn't vertical, on this side.
+/// The face point next to a piece that isn't vertical, on this side.
 fn beside(first: &Valid, second: &Valid, piece: &(RatPoint, RatPoint), side: Side) -> FacePoint
     requires piece { IsPieceOf first.now second.now (piece_of piece.now) }
     requires triples { HasNodeTriples (piece_of piece.now) }
@@ -66,7 +66,7 @@ fn beside(first: &Valid, second: &Valid, piece: &(RatPoint, RatPoint), side: Sid
     face_point(first, second, side, &sample)
 }
 
-/// A face point of a part of the first geometry and a part of the second, beside the first piece that has one.
+/// A face point of a part of the first geometry and a part of the second, next to the first piece that has one.
 fn find_face(
     first: &Valid,
     second: &Valid,
@@ -132,10 +132,10 @@ fn find_exteriors(first: &Valid, second: &Valid, noded: &Noded, found: &Labels) 
 }
 
 /// A witness for each cell of the matrix of two geometries: the dimensions that they show are its DE-9IM matrix, and each
-/// shows what its two parts have in common (06-103r4, 6.1.15.2; which of many is shown: this project's choice). Shown is
-/// the first in ascending order, by x, then by y, a piece by its lesser end, then by its greater: a face point beside the
-/// first piece, above it before below it; else the first piece; else the first node. Of the two exteriors, where no piece
-/// has one beside it, it is a point on the x axis to the right of all positions. It fails only when memory runs out.
+/// shows what its two parts have in common (06-103r4, 6.1.15.2; which of many is shown: this project's choice). The first
+/// in ascending order is shown, by x, then by y, a piece by its lesser end, then by its greater: a face point next to the
+/// first piece, above it before below it; else the first piece; else the first node. For the two exteriors, if no piece
+/// has one next to it, it is a point on the x axis to the right of all positions. It fails only when memory runs out.
 pub fn find_witnesses(alloc: Global, first: &Valid, second: &Valid) -> Result<Witnesses, AllocError>
     ensures matrix { IfOk result (λ w. IsMatrix first.now second.now (shown_matrix (witness_at w))) }
     ensures shows { IfOk result (λ w. ShowsAll first.now second.now (witness_at w)) }

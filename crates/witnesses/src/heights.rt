@@ -28,7 +28,7 @@ pub(crate) struct Height {
     pub(crate) run: i128,
 }
 
-/// The height of nothing.
+/// The height if there is nothing.
 pub(crate) const NOTHING: Height = Height { rise: 1, run: 0 };
 
 /// Whether rise/run is less than a height.
@@ -88,7 +88,7 @@ fn offset(p: &RatPoint, at: GridPoint) -> i128
     beyond(p.numerator_x(), p.denominator(), at.x())
 }
 
-/// The nearest height once a position is seen too.
+/// The nearest height once a position is considered too.
 fn past_position(nearest: Height, side: Side, p: &RatPoint, at: GridPoint) -> Height
     requires height { spec.IsHeight nearest }
     ensures height { spec.IsHeight result }
@@ -123,7 +123,7 @@ fn is_under(p: &RatPoint, left: GridPoint, right: GridPoint) -> bool
     offset(p, left) >= 0 && offset(p, right) <= 0
 }
 
-/// The nearest height once the edge from `left` to `right` is seen too, which goes to the right.
+/// The nearest height once the edge from `left` to `right`, which goes to the right, is considered too.
 fn past_not_upright(
     nearest: Height,
     side: Side,
@@ -145,7 +145,7 @@ fn past_not_upright(
     }
 }
 
-/// The nearest height once an edge is seen too. If the edge is vertical it may not go through the point.
+/// The nearest height once an edge is considered too. If the edge is vertical it may not go through the point.
 fn past_edge(nearest: Height, side: Side, p: &RatPoint, edge: &Segment) -> Height
     requires height { spec.IsHeight nearest }
     requires not_upright { IsNotUprightAt p.now edge.now }
@@ -162,7 +162,7 @@ fn past_edge(nearest: Height, side: Side, p: &RatPoint, edge: &Segment) -> Heigh
     }
 }
 
-/// The nearest height once these edges are seen too, none of which is vertical and goes through the point.
+/// The nearest height once these edges are considered too, none of which is vertical and goes through the point.
 pub(crate) fn past_edges(nearest: Height, side: Side, p: &RatPoint, edges: &[Segment]) -> Height
     requires height { spec.IsHeight nearest }
     requires not_upright { All (IsNotUprightAt p.now) edges.now }
@@ -177,7 +177,7 @@ pub(crate) fn past_edges(nearest: Height, side: Side, p: &RatPoint, edges: &[Seg
     least
 }
 
-/// The nearest height once these positions are seen too.
+/// The nearest height once these positions are considered too.
 pub(crate) fn past_positions(
     nearest: Height,
     side: Side,

@@ -1,7 +1,7 @@
-//! What shows why. Witnesses of each cell of the matrix of two geometries: of dimension 0 a point, of 1 an open stretch, of 2 a
-//! face point, off all edges, around which all points lie alike (06-103r4, 6.1.15.2; witnesses: this project's choice). The place
-//! of a fault of validity (06-103r4, 6.1.6 to 6.1.14; which place is shown: this project's choice). Whether the geometry of a
-//! text is valid. And the lines that say these.
+//! What shows why a result holds. A witness for each cell of the matrix of two geometries: a point for dimension 0, an open
+//! stretch for 1, and for 2 a face point, off all edges, around which all points lie alike (06-103r4, 6.1.15.2; witnesses: this
+//! project's choice). The place of a fault of validity (06-103r4, 6.1.6 to 6.1.14; which place is shown: this project's choice).
+//! Whether the geometry of a text is valid. And the lines that print these.
 #![tactic(auto)]
 
 mod elements;

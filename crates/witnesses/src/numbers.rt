@@ -8,13 +8,13 @@ use wkt::Geometry;
 /// The numbers of the rings of a polygon.
 #[derive(Clone, Copy, Debug)]
 pub(crate) struct RingNumbers {
-    /// That of its outer ring.
+    /// The number of its outer ring.
     pub(crate) first: usize,
     /// How many rings it has.
     pub(crate) count: usize,
 }
 
-/// The numbers of the rings of the polygon that has the ring of this number.
+/// The numbers of the rings of the polygon that has the ring with this number.
 pub(crate) fn numbers_around(geometry: &Geometry, number: usize) -> Option<RingNumbers>
     ensures found { IfSome result (λ at. AreNumbersAround geometry.now number at.first at.count) }
     ensures none { IfNone result (IsNumberOfNone geometry.now number) }

@@ -13,7 +13,7 @@ use fraction::GridPoint;
 use geometry_model::{GeometryType, Kind, ValidityFault};
 use wkt::{Geometry, LineString};
 
-/// Whether a part of this geometry has too few positions where it has this number of them.
+/// Whether this number of positions is too few for a part of this geometry.
 fn is_too_short(geometry: &Geometry, count: usize) -> bool
     ensures { (part : List Position) → length part ≡ count → result ≡ is_short geometry.now part }
 {
@@ -25,7 +25,7 @@ fn is_too_short(geometry: &Geometry, count: usize) -> bool
     }
 }
 
-/// The ring of this number, if the geometry is an area that has it. It has a position.
+/// The ring with this number, if the geometry is an area that has it. It has a position.
 pub(crate) fn ring(geometry: &Geometry, number: usize) -> Option<&LineString>
     ensures some { IfSome result (λ ring. slice_get (spec.rings geometry.now) number ≡ Some ring.now) }
     ensures positions { IfSome result (λ ring. 0 < length ring.now) }

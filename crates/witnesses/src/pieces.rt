@@ -167,7 +167,7 @@ fn put_quotient<S: Sink>(sink: &mut S, numerator: i128, denominator: i128) -> Re
     put_over(sink, first, other_buffer.format(denominator))
 }
 
-/// Writes two texts with a stroke between.
+/// Writes two texts with a slash between.
 fn put_over<'t, S: Sink>(sink: &mut S, first: &'t str, second: &'t str) -> Result<(), SinkFault>
     ensures ok { OnOk result
         (Appends (S.taken sink.old) (S.taken sink.new) (first.now ++ codes "/" ++ second.now)) }

@@ -39,10 +39,10 @@ pub enum Place {
     Inside(GridPoint),
 }
 
-/// Where a geometry has a fault; `None` exactly where it hasn't got it. The geometry may have other faults too, and faults that
-/// come earlier in the order of tests. Of several places the first is shown: edges by their order in the first ring and then in
-/// the second, rings by their order in the first polygon and then in the second, and of two holes the position of the second
-/// inside the first before the other way round (06-103r4, 6.1.7, 6.1.11 and 6.1.14). It takes no memory.
+/// Where a geometry has a fault; `None` exactly if it doesn't have it. The geometry may have other faults too, and faults that
+/// come earlier in the order of tests. If there are several places, the first is shown: edges by their order in the first ring
+/// and then in the second, rings by their order in the first polygon and then in the second, and for two holes the position of
+/// the second inside the first before the other way round (06-103r4, 6.1.7, 6.1.11 and 6.1.14). It takes no memory.
 pub fn place_of(geometry: &Geometry, fault: ValidityFault) -> Option<Place>
     ensures place { IfSome result (IsPlaceOf geometry.now fault) }
     ensures first { IfSome result (IsFirstPlaceOf geometry.now fault) }

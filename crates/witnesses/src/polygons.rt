@@ -14,7 +14,7 @@ use fraction::GridPoint;
 use geometry_model::ValidityFault;
 use wkt::{Geometry, LineString};
 
-/// Whether a number isn't that of a later ring of the polygon that has the ring of a number.
+/// Whether `later` isn't the number of a ring after the one with `number` in the polygon with these rings.
 fn is_no_later_ring(around: RingNumbers, number: usize, later: usize) -> bool
     requires { around.first ≤ number }
     ensures yes { result ≡ true → number < later → later - around.first < around.count → ⊥ }

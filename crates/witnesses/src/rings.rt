@@ -32,8 +32,8 @@ pub fn edge(line: &LineString, index: usize) -> Segment
     }
 }
 
-/// Whether edges i < j of n clash, where it is known what they share: a point other than the first one's end, a point other than
-/// its start, any point.
+/// Whether edges i < j of n clash, by whether they share a point other than the first one's end, a point other than its start,
+/// and any point at all.
 fn is_clash(n: usize, i: usize, j: usize, not_end: bool, not_start: bool, any: bool) -> bool
     requires earlier { i < j }
     requires later { j < n }
@@ -82,8 +82,8 @@ fn clash_with(ring: &LineString, i: usize) -> Option<SharedPlace>
 }
 
 /// The first two edges of a ring that clash, by the number of the first, then by that of the second, and exactly what they
-/// share; `None` exactly where the ring is simple (06-103r4, 6.1.7: a LinearRing is simple). Neighbours share their common
-/// position always, which is no clash. It takes no memory.
+/// share; `None` exactly if the ring is simple (06-103r4, 6.1.7: a LinearRing is simple). Neighbours always share their
+/// common position, which is no clash. It takes no memory.
 pub fn clash_place(ring: &LineString) -> Option<SharedPlace>
     ensures place { IfSome result (IsClashOf ring.now) }
     ensures first { IfSome result (IsFirstClash ring.now) }
@@ -119,7 +119,7 @@ fn meeting_with(r: &LineString, s: &LineString, i: usize) -> Option<SharedPlace>
     None
 }
 
-/// The first edge of a ring and the first edge of another that share a point, and exactly what they share; `None` exactly where
+/// The first edge of a ring and the first edge of another that share a point, and exactly what they share; `None` exactly if
 /// the rings share no point (06-103r4, 6.1.11.1). It takes no memory.
 pub fn meeting_place(r: &LineString, s: &LineString) -> Option<SharedPlace>
     ensures place { IfSome result (IsMeetingOf r.now s.now) }

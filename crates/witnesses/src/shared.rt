@@ -22,7 +22,7 @@ pub struct SharedPlace {
     pub meet: Meet,
 }
 
-/// What two edges share. Of most that share nothing the bounds are apart.
+/// What two edges share. Most edges that share nothing have bounds that are apart.
 #[tactic(auto, using(crate::proofs::SharedFacts::far_apart))]
 pub(crate) fn met(first: &Segment, second: &Segment) -> Meet
     ensures exact { IsMeeting first.now second.now result }

@@ -42,8 +42,8 @@ pub fn verdict_of(alloc: Global, text: &[u8]) -> Result<Verdict, WktFault>
     }
 }
 
-/// The first fault of the geometry that a text spells, with a place of it. The text is read again, as the check takes the
-/// geometry.
+/// The first fault of the geometry that a text spells, with a place of it. The text is read again, because the check
+/// consumes the geometry.
 fn faulty(alloc: Global, text: &[u8], fault: ValidityFault) -> Result<Verdict, WktFault>
     requires { IsFirstFaultIn text.now fault }
     ensures verdict { IfOk result (IsVerdictOf text.now) }

@@ -15,7 +15,7 @@ pub enum Witness {
     Nothing,
     /// A point of both: the cell is 0.
     Point(RatPoint),
-    /// The open stretch between two points, the lesser one first, is in both: the cell is 1. The two points needn't be.
+    /// The open stretch between two points, the lesser one first, is in both: the cell is 1. The two points themselves needn't be.
     Stretch(RatPoint, RatPoint),
     /// A point of both, and so are the points all around it: the cell is 2.
     Around(FacePoint),

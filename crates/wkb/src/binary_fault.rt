@@ -7,10 +7,10 @@ use thiserror::Error;
 /// and positions are counted from 0 as they are written.
 #[derive(Clone, Copy, Debug, PartialEq, Eq, Error)]
 pub enum Refusal {
-    /// W1: no such binary can have at this byte what is there, or it ends here too soon, or goes on.
+    /// W1: no such binary can go on with this byte, or it ends here too soon.
     #[error("no well-known binary at {0}")]
     Syntax(usize),
-    /// W2: this position isn't on a grid that leaves each position where it is.
+    /// W2: this position isn't on the grid, and the grid moves no position.
     #[error("position {0} off the grid")]
     OffGrid(usize),
     /// W3: a coordinate of this position is past the limit.

@@ -93,7 +93,7 @@ impl<'a> Cursor<'a> {
         self.left.is_empty()
     }
 
-    /// The place behind the last byte.
+    /// The place after the last byte.
     fn end(&self) -> usize
         ensures { result ≡ self.now.at + length self.now.left }
     {
@@ -157,7 +157,7 @@ impl<'a> Cursor<'a> {
         }
     }
 
-    /// Counts a position that is moved by so many ticks.
+    /// Counts a position that is moved by this number of ticks.
     pub fn count(&mut self, by: u128)
         requires { HasRoom self.old }
         ensures read { spec.count by self.old ≡ Ok (true, self.new) }
@@ -170,7 +170,7 @@ impl<'a> Cursor<'a> {
         self.tally.greatest = self.tally.greatest.max(by);
     }
 
-    /// For how many of so many positions to take memory: no more than the bytes that are left have, and than may still be kept.
+    /// For how many of `count` positions to reserve memory: no more than the bytes left can hold and than may still be kept.
     pub fn likely(&self, count: u32) -> usize {
         (count as usize)
             .min(self.left.len() / 16)
@@ -190,7 +190,7 @@ impl<'a> Cursor<'a> {
         Ok(())
     }
 
-    /// Counts a ring or a line of several; `TooLong` past the limit.
+    /// Counts a ring or a line of a MULTILINESTRING; `TooLong` past the limit.
     pub fn take_part(&mut self) -> Result<(), Refusal>
         ensures read { ReadsAs (λ _. true) (spec.take_part self.old) result self.new }
         ensures added { OnOk result (Adds self.old 0 1 self.new) }

@@ -1,4 +1,4 @@
-//! Doubles by their bits, and how many ticks they are: a tick is so small a part of a unit that all sizes are whole.
+//! Doubles by their bits, and how many ticks they are: a tick is such a small part of a unit that all sizes are whole.
 
 ghost use Rattle.std.specs.Prelude.{◌≡◌, ◌<◌, ◌≤◌, ◌*◌, ◌/◌, ◌%◌, ◌^◌, ◌==◌, ◌-◌, not, IfSome, MatchOption};
 ghost use Rattle.wkb.specs.Doubles as spec;
@@ -60,16 +60,16 @@ fn significand(bits: u64) -> u64
     }
 }
 
-/// A number of whole parts, and whether there is a rest.
+/// A number of whole parts, and whether there is a remainder.
 #[derive(Clone, Copy)]
 pub struct Parts {
-    /// How many whole ones.
+    /// How many whole parts there are.
     pub whole: u128,
-    /// Whether there is a rest.
+    /// Whether there is a remainder.
     pub has_rest: bool,
 }
 
-/// A number that is halved so many times.
+/// A number that is halved this many times.
 fn halved(number: u128, times: u32) -> Parts
     requires { number < 2 ^ 124 }
     ensures whole { result.whole ≡ number / 2 ^ times }
@@ -82,7 +82,7 @@ fn halved(number: u128, times: u32) -> Parts
     Parts { whole, has_rest }
 }
 
-/// A number of at least 2 to the power of 72 that is doubled so many times; `None` if that is 2 to the power of 96 or more.
+/// A number of at least 2 to the power of 72 that is doubled this many times; `None` if that is 2 to the power of 96 or more.
 fn doubled(number: u128, times: u32) -> Option<u128>
     requires great { 2 ^ 72 ≤ number }
     requires within { number < 2 ^ 124 }
@@ -104,7 +104,7 @@ fn doublings(bits: u64) -> u32
     exponent(bits).saturating_sub(1) as u32
 }
 
-/// The significand of a double, times so many parts and the ticks of a part.
+/// The significand of a double, times this number of parts and the ticks of a part.
 fn product(bits: u64, parts: u64) -> u128
     requires some { 0 < parts }
     requires few { parts ≤ unit_limit }
@@ -115,7 +115,7 @@ fn product(bits: u64, parts: u64) -> u128
     u128::from(significand(bits)) * u128::from(parts) * u128::from(TICKS)
 }
 
-/// How many ticks the size of a double is, where a unit has so many parts; `None` if there are 2 to the power of 96 or more.
+/// The size of a double in ticks, if a unit has this many parts; `None` if it is 2 to the power of 96 or more.
 fn size_in_ticks(bits: u64, parts: u64) -> Option<Parts>
     requires some { 0 < parts }
     requires few { parts ≤ unit_limit }
@@ -133,7 +133,7 @@ fn size_in_ticks(bits: u64, parts: u64) -> Option<Parts>
     }
 }
 
-/// Whole ticks and perhaps a rest with a sign, rounded down.
+/// Whole ticks, perhaps with a remainder, which are given a sign and rounded down.
 fn with_sign(minus: bool, size: Parts) -> i128
     requires { size.whole < 2 ^ 124 }
     ensures { result ≡ rounded_down minus size.whole size.has_rest }
@@ -148,16 +148,16 @@ fn with_sign(minus: bool, size: Parts) -> i128
     }
 }
 
-/// Ticks with a sign, rounded down, and whether there is a rest.
+/// Ticks with a sign, rounded down, and whether there is a remainder.
 #[derive(Clone, Copy)]
 pub struct Ticks {
-    /// How many.
+    /// How many ticks there are.
     pub down: i128,
-    /// Whether there is a rest.
+    /// Whether there is a remainder.
     pub has_rest: bool,
 }
 
-/// How many ticks a double is, where a unit has so many parts; `None` if there are 2 to the power of 96 or more, either way.
+/// A double in ticks, if a unit has this many parts; `None` if its size is 2 to the power of 96 or more.
 pub fn ticks_of(bits: u64, parts: u64) -> Option<Ticks>
     requires some { 0 < parts }
     requires few { parts ≤ unit_limit }

@@ -38,8 +38,8 @@ fn is_of(element: Element, shape: GeometryType) -> bool
     }
 }
 
-/// Reads the head of an element, and returns whether the least byte of a number comes first: `Syntax` at its byte if it has
-/// another type.
+/// Reads the head of an element, and returns whether the least byte of a number comes first; `Syntax` at the head's first
+/// byte if it has another type.
 #[tactic(auto, unfolding(crate::specs::BinaryReading::element))]
 fn element_head(cursor: &mut Cursor<'_>, element: Element) -> Result<bool, Refusal>
     ensures read { ReadsAs (λ b. b) (spec.element element cursor.old) result cursor.new }
@@ -54,7 +54,7 @@ fn element_head(cursor: &mut Cursor<'_>, element: Element) -> Result<bool, Refus
     }
 }
 
-/// Reads a point of a MULTIPOINT: `EmptyPart` at its byte if it is empty.
+/// Reads a point of a MULTIPOINT; `EmptyPart` at its first byte if it is empty.
 #[tactic(auto, unfolding(crate::specs::BinaryReading::point))]
 fn point(cursor: &mut Cursor<'_>, grid: &Grid) -> Result<GridPoint, Refusal>
     ensures read { ReadsAs (λ p. p) (spec.point grid.now cursor.old) result cursor.new }
@@ -70,7 +70,7 @@ fn point(cursor: &mut Cursor<'_>, grid: &Grid) -> Result<GridPoint, Refusal>
     kept_position(cursor, grid, at, pair)
 }
 
-/// Reads so many points of a MULTIPOINT.
+/// Reads `count` points of a MULTIPOINT.
 pub fn points(
     alloc: Global,
     cursor: &mut Cursor<'_>,
@@ -105,7 +105,7 @@ fn line_element(
     part(alloc, cursor, grid, is_little)
 }
 
-/// Reads so many lines of a MULTILINESTRING.
+/// Reads `count` lines of a MULTILINESTRING.
 pub fn lines(
     alloc: Global,
     cursor: &mut Cursor<'_>,
@@ -125,7 +125,7 @@ pub fn lines(
     Ok(lines)
 }
 
-/// Reads the rings of a polygon that isn't empty: `EmptyPart` at their number if that is 0.
+/// Reads the rings of a polygon that isn't empty; `EmptyPart` at their number if that is 0.
 #[tactic(auto, unfolding(crate::specs::BinaryReading::some_rings))]
 fn some_rings(
     alloc: Global,
@@ -159,7 +159,7 @@ fn polygon(
     some_rings(alloc, cursor, grid, is_little)
 }
 
-/// Reads so many polygons of a MULTIPOLYGON.
+/// Reads `count` polygons of a MULTIPOLYGON.
 pub fn polygons(
     alloc: Global,
     cursor: &mut Cursor<'_>,

@@ -1,4 +1,4 @@
-//! Grids: which whole coordinate a double has, exactly.
+//! Grids, by which each double has a whole coordinate, exactly.
 
 ghost use Rattle.std.specs.Prelude.{◌≡◌, ◌<◌, ◌≤◌, ◌^◌, ◌*◌, ◌+◌, ◌-◌, ◌↔◌, IsSome, IfSome, MatchOption, ℤ, pos, ◌+ℤ◌, ◌-ℤ◌, ◌*ℤ◌, ◌<ℤ◌, unsigned_abs, ◌&&◌, not, false};
 ghost use Rattle.std.specs.Int.{int_div_euclid};
@@ -17,7 +17,7 @@ use std::marker::Model;
 /// The most parts of a step, and of a unit: 10 to the power of 15.
 pub const UNIT_LIMIT: u64 = 1_000_000_000_000_000;
 
-/// One axis of a grid. A step of 0.01 from 564000.5 on has a step of 1, an origin of 56400050 and 100 parts.
+/// One axis of a grid. For steps of 0.01 from 564000.5 on, the step is 1, the origin is 56400050, and a unit has 100 parts.
 #[derive(Clone, Copy, Debug)]
 pub struct Axis {
     step: u64,
@@ -40,7 +40,7 @@ impl Model for Axis {
 /// A double on an axis.
 #[derive(Clone, Copy, Debug)]
 pub struct Rounded {
-    /// The nearest coordinate; of two that are as near the greater one.
+    /// The nearest coordinate; the greater one of two that are equally near.
     pub coordinate: i32,
     /// Whether the double is exactly there.
     pub is_on: bool,
@@ -49,8 +49,8 @@ pub struct Rounded {
 }
 
 impl Axis {
-    /// An axis of this step and origin, both counted in parts, of which a unit has so many; `None` exactly where the step or the
-    /// parts of a unit are 0 or past 10 to the power of 15.
+    /// The axis with this step and origin, both in parts of which a unit has `parts`; `None` exactly if the step or `parts` is 0
+    /// or above 10 to the power of 15.
     pub fn new(step: u64, origin: i64, parts: u64) -> Option<Axis>
         ensures taken { IsSome result ↔ IsAxis (record { step = step; origin = origin; parts = parts }) }
         ensures value { IfSome result (λ a. a ≡ record { step = step; origin = origin; parts = parts }) }
@@ -118,8 +118,8 @@ impl Axis {
         difference(self.past_origin(down), multiple(coordinate, self.step()))
     }
 
-    /// The nearest coordinate to a double that is a number, and how far the double is from there; `None` exactly where that is past
-    /// the limit of coordinates. Of two that are as near it is the greater one.
+    /// The nearest coordinate to a double that is a number, and how far the double is from there; `None` exactly if that is past
+    /// the limit of coordinates. It is the greater one of two that are equally near.
     pub fn round(&self, bits: u64) -> Option<Rounded>
         ensures { MatchOption result (coordinate_limit < unsigned_abs (spec.nearest self.now (value bits)))
             (λ found. IsRounded self.now (value bits) found) }
@@ -189,14 +189,14 @@ fn coordinate(number: i128) -> Option<i32>
     }
 }
 
-/// Whether a way that is rounded down to so many ticks, and has a rest or none, is no way at all.
+/// Whether a distance is 0, by its ticks rounded down and whether there is a remainder.
 fn is_no_way(past: i128, has_rest: bool) -> bool
     ensures { result ≡ (int_eq past (pos 0) && not has_rest) }
 {
     past == 0 && !has_rest
 }
 
-/// The whole ticks of a way that is rounded down to so many, and has a rest or none.
+/// The size of a distance in whole ticks, by its ticks rounded down and whether there is a remainder.
 fn whole_size(past: i128, has_rest: bool) -> u128
     ensures { result ≡ whole_size past has_rest }
 {
@@ -216,7 +216,7 @@ pub struct Grid {
     pub x: Axis,
     /// The axis of y.
     pub y: Axis,
-    /// Whether a position that isn't on the grid is moved to the nearest one that is. Else it is refused.
+    /// Whether a position that isn't on the grid is moved to the nearest one that is. If not, it is refused.
     pub moves: bool,
 }
 

@@ -16,7 +16,7 @@ pub struct Head {
     pub is_little: bool,
     /// The type.
     pub shape: GeometryType,
-    /// The number of a reference system; 0 where none is written.
+    /// The number of a reference system; 0 if none is written.
     pub system: u32,
 }
 
@@ -87,7 +87,7 @@ fn typed_head(cursor: &mut Cursor<'_>, at: usize, is_little: bool) -> Result<Hea
     }
 }
 
-/// Reads a head: `Syntax` at its byte if that is no order of bytes, `UnknownType` at its byte if its type isn't one of the library's.
+/// Reads a head; at its first byte `Syntax` if that is no order of bytes, `UnknownType` if its type isn't one of the library's.
 #[tactic(auto, unfolding(crate::specs::BinaryReading::head))]
 pub fn read_head(cursor: &mut Cursor<'_>) -> Result<Head, Refusal>
     ensures read { ReadsAs (λ h. h) (spec.head cursor.old) result cursor.new }

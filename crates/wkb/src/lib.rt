@@ -1,5 +1,5 @@
 //! Well-known binary (06-103r4, 8.2): `read` reads a geometry from bytes, with its positions moved to a grid, or returns the first
-//! reason why they are none.
+//! reason why they aren't one.
 #![tactic(auto)]
 
 mod binary_fault;

@@ -46,7 +46,7 @@ fn settle(
     Ok(())
 }
 
-/// Reads so many positions of a line or ring. One that repeats the one before it is left out.
+/// Reads `count` positions of a line or ring. A position that repeats the one before it is left out.
 pub fn positions(
     alloc: Global,
     cursor: &mut Cursor<'_>,
@@ -87,7 +87,7 @@ pub fn line(
     positions(alloc, cursor, grid, is_little, count)
 }
 
-/// Reads a ring, or a line of several: `EmptyPart` at its number of positions if that is 0.
+/// Reads a ring, or a line of a MULTILINESTRING; `EmptyPart` at its number of positions if that is 0.
 #[tactic(auto, unfolding(crate::specs::BinaryReading::part))]
 pub fn part(
     alloc: Global,
@@ -108,7 +108,7 @@ pub fn part(
     positions(alloc, cursor, grid, is_little, count)
 }
 
-/// Reads so many rings.
+/// Reads `count` rings.
 pub fn parts(
     alloc: Global,
     cursor: &mut Cursor<'_>,

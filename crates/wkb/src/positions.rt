@@ -45,7 +45,7 @@ struct GridPlace {
     position: GridPoint,
     /// Whether both doubles are exactly there.
     is_on: bool,
-    /// By how many ticks the further one is moved.
+    /// By how many ticks that coordinate is moved that is moved further.
     further: u128,
 }
 
@@ -73,7 +73,7 @@ fn nearest(grid: &Grid, pair: Pair) -> Option<GridPlace>
     }
 }
 
-/// The position at two doubles: `OutOfRange` past the limit, then `OffGrid` where the grid moves no position and this one isn't on it.
+/// The position at two doubles; `OutOfRange` past the limit, then `OffGrid` if the grid moves no position and this one isn't on it.
 #[tactic(auto, unfolding(crate::specs::BinaryReading::placed))]
 fn placed(cursor: &mut Cursor<'_>, grid: &Grid, pair: Pair) -> Result<GridPoint, Refusal>
     requires { HasRoom cursor.old }
@@ -94,7 +94,7 @@ fn placed(cursor: &mut Cursor<'_>, grid: &Grid, pair: Pair) -> Result<GridPoint,
     }
 }
 
-/// The position at two doubles, the first of which begins at this byte: `Syntax` there where one of them is infinite or no number.
+/// The position at two doubles, the first of which begins at this byte; `Syntax` there if one of them is infinite or no number.
 #[tactic(auto, unfolding(crate::specs::BinaryReading::located))]
 pub fn located(
     cursor: &mut Cursor<'_>,

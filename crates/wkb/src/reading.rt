@@ -26,20 +26,20 @@ use wkt::{Geometry, Larger, Shape};
 pub struct Binary {
     /// The geometry, on the grid.
     pub geometry: Geometry,
-    /// The number of its reference system, as PostGIS and GEOS may write it; 0 where none is written.
+    /// The number of its reference system, as PostGIS and GEOS may write it; 0 if none is written.
     pub system: u32,
     /// What rounding did to its positions.
     pub rounding: Rounding,
 }
 
-/// A content behind its pointer. It fails only if memory runs out.
+/// A content in a value of its own, behind a pointer. It fails only if memory runs out.
 fn larger(alloc: Global, content: Larger) -> Result<Shape, AllocError>
     ensures { IfOk result (λ shape. geometry_in shape ≡ larger_in content) }
 {
     Ok(Shape::Larger(Box::new(alloc, content)?))
 }
 
-/// Reads the position of a POINT, or none where both of its doubles are NaN.
+/// Reads the position of a POINT, or none if both of its doubles are NaN.
 #[tactic(auto, unfolding(crate::specs::BinaryReading::lone), using(crate::proofs::Additions::point_read, crate::proofs::Additions::no_point_read))]
 fn lone(cursor: &mut Cursor<'_>, grid: &Grid, is_little: bool) -> Result<Option<GridPoint>, Refusal>
     ensures read { ReadsAs (λ p. p) (spec.lone grid.now is_little cursor.old) result cursor.new }
@@ -54,7 +54,7 @@ fn lone(cursor: &mut Cursor<'_>, grid: &Grid, is_little: bool) -> Result<Option<
     Ok(Some(position))
 }
 
-/// Reads a POINT behind its head.
+/// Reads what comes after the head of a POINT.
 fn point_body(cursor: &mut Cursor<'_>, grid: &Grid, is_little: bool) -> Result<Shape, Refusal>
     ensures read { ReadsAs geometry_in (spec.point_body grid.now is_little cursor.old) result cursor.new }
     ensures is_read { IfOk result (λ shape. IsRead cursor.old (geometry_in shape) cursor.new) }
@@ -63,7 +63,7 @@ fn point_body(cursor: &mut Cursor<'_>, grid: &Grid, is_little: bool) -> Result<S
     Ok(Shape::Point(position))
 }
 
-/// Reads a MULTIPOINT behind its head.
+/// Reads what comes after the head of a MULTIPOINT.
 #[tactic(auto, unfolding(crate::specs::BinaryReading::counted_elements), using(crate::proofs::Additions::multi_point_read))]
 fn multi_point_body(
     alloc: Global,
@@ -80,7 +80,7 @@ fn multi_point_body(
     Ok(shape)
 }
 
-/// Reads a LINESTRING behind its head.
+/// Reads what comes after the head of a LINESTRING.
 #[tactic(auto, using(crate::proofs::Additions::line_read))]
 fn line_string_body(
     alloc: Global,
@@ -96,7 +96,7 @@ fn line_string_body(
     Ok(shape)
 }
 
-/// Reads a MULTILINESTRING behind its head.
+/// Reads what comes after the head of a MULTILINESTRING.
 #[tactic(auto, unfolding(crate::specs::BinaryReading::counted_elements), using(crate::proofs::Additions::multi_line_read))]
 fn multi_line_string_body(
     alloc: Global,
@@ -113,7 +113,7 @@ fn multi_line_string_body(
     Ok(shape)
 }
 
-/// Reads a POLYGON behind its head.
+/// Reads what comes after the head of a POLYGON.
 #[tactic(auto, unfolding(crate::specs::BinaryReading::rings), using(crate::proofs::Additions::polygon_read))]
 fn polygon_body(
     alloc: Global,
@@ -130,7 +130,7 @@ fn polygon_body(
     Ok(shape)
 }
 
-/// Reads a MULTIPOLYGON behind its head.
+/// Reads what comes after the head of a MULTIPOLYGON.
 #[tactic(auto, unfolding(crate::specs::BinaryReading::counted_elements), using(crate::proofs::Additions::multi_polygon_read))]
 fn multi_polygon_body(
     alloc: Global,
@@ -147,7 +147,7 @@ fn multi_polygon_body(
     Ok(shape)
 }
 
-/// Reads what comes behind a head of this type.
+/// Reads what comes after a head of this type.
 #[tactic(auto, unfolding(crate::specs::BinaryReading::body))]
 fn body(
     alloc: Global,
@@ -187,17 +187,17 @@ fn whole(alloc: Global, cursor: &mut Cursor<'_>, grid: &Grid) -> Result<(Shape, 
 }
 
 /// Reads well-known binary (06-103r4, 8.2): a geometry of one of the six types without Z and M, in either order of bytes, with or
-/// without the number of a reference system after its type. Each position becomes the nearest one of the grid, and of two that are as
-/// near the one of the greater coordinate. A position that repeats the one before it on its line or ring is left out. A POINT whose
-/// coordinates are NaN is empty.
+/// without the number of a reference system after its type. Each position becomes the nearest one of the grid, or, if two are
+/// equally near, the one with the greater coordinate. A position that repeats the one before it on its line or ring is left out. A
+/// POINT whose coordinates are NaN is empty.
 ///
-/// Places are bytes from 0. The refusal is the first from left to right: `Syntax` at the first byte of what no such binary can have
-/// there, at the first of a position's bytes if one of its coordinates is infinite or NaN, at the length if the bytes end too soon, and
-/// where they should end; `UnknownType` at the first byte of a head of another type; `EmptyPart` at the first byte of a point of a
-/// MULTIPOINT without coordinates, and of the number of positions or rings of another part without positions; `OutOfRange` with the
-/// number of a position, from 0, that is past the limit, then `OffGrid` if the grid moves no position and it isn't on the grid;
-/// `TooLong` at the 10,001st position that is kept, the 1,001st ring or line and the 1,001st polygon. `OutOfMemory` may come in place
-/// of any result.
+/// Places are bytes from 0. The refusal is the first from left to right: `Syntax` at the first byte with which no such binary can
+/// go on, at the first of a position's bytes if one of its coordinates is infinite or NaN, at the length if the bytes end too soon,
+/// and where they should end; `UnknownType` at the first byte of a head of another type; `EmptyPart` at the first byte of a point
+/// of a MULTIPOINT without coordinates, and of the number of positions or rings of another part without positions; `OutOfRange`
+/// with the number of a position, from 0, that is past the limit, then `OffGrid` if the grid moves no position and it isn't on the
+/// grid; `TooLong` at the 10,001st position that is kept, the 1,001st ring or line and the 1,001st polygon. `OutOfMemory` may come
+/// in place of any result.
 pub fn read(alloc: Global, bytes: &[u8], grid: &Grid) -> Result<Binary, BinaryFault>
     ensures ok { IfOk result (λ found. read_binary grid.now bytes.now ≡ Ok found) }
     ensures refused { IfErr result (λ e. IfSome (refusal_in e) (λ refusal. read_binary grid.now bytes.now ≡ Err refusal)) }

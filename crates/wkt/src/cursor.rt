@@ -99,7 +99,7 @@ impl<'a> Cursor<'a> {
         self.left
     }
 
-    /// Goes on where this is left.
+    /// Goes on with this rest of the text.
     pub fn leave(&mut self, rest: &'a [u8])
         requires { length rest.now ≤ length self.now.left }
         ensures { self.new ≡

@@ -1,4 +1,4 @@
-//! The type of geometries, which keeps that counts are within the limits, that neighbours differ, and that no part is empty.
+//! The type of geometries, which ensures that counts are within the limits, that neighbours differ, and that no part is empty.
 
 ghost use Rattle.std.specs.Prelude.{◌≡◌, ◌<◌, IfOk, IfErr, Some, length, slice_get};
 ghost use Rattle.geometry_model.specs.Geometries as spec;
@@ -87,7 +87,7 @@ impl Geometry {
         }
     }
 
-    /// Its kind: points, lines or areas, also where it is empty (06-103r4, 6.1.15.3).
+    /// Its kind: points, lines or areas, also if it is empty (06-103r4, 6.1.15.3).
     pub fn kind(&self) -> Kind
         ensures { result ≡ spec.kind self.now }
     {

@@ -1,5 +1,5 @@
-//! The law that every geometry that a text spells is a value of the type `Geometry`: the facts that the type keeps leave
-//! none out.
+//! The law that every geometry that a text spells is a value of the type `Geometry`: what the type ensures excludes none
+//! of them.
 
 ghost use Rattle.wkt.specs.KeptGeometries.{SpelledIsKept};
 

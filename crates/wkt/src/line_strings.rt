@@ -1,4 +1,4 @@
-//! The type of lines and rings, which keeps that there are at most 10,000 positions and that neighbours differ.
+//! The type of lines and rings, which ensures that there are at most 10,000 positions and that neighbours differ.
 
 ghost use Rattle.std.specs.Prelude.{◌≡◌, ◌≤◌, vec_len};
 ghost use Rattle.geometry_model.specs.WellKnownText.{position_limit, without_repeats};

@@ -29,7 +29,7 @@ pub struct Room {
 }
 
 impl Room {
-    /// The room of a whole geometry.
+    /// The room for a whole geometry.
     pub fn whole() -> Room
         ensures { result ≡ steps.whole_room }
     {

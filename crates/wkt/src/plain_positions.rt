@@ -1,4 +1,4 @@
-//! Positions as most writers spell them: two numbers of digits alone, each behind a minus or not, with one space between. They
+//! Positions as most writers spell them: two numbers of digits alone, each with or without a minus, with one space between. They
 //! are read in one pass over their bytes. What is spelled otherwise isn't read here: `position_reader` reads it part by part.
 
 ghost use Rattle.std.specs.Prelude.{◌≡◌, ◌≤◌, IfSome, MatchOption, ◌==◌, ◌∷◌, false};
@@ -53,7 +53,7 @@ fn digits(text: &[u8]) -> Option<(u32, &[u8])>
     Some((value, left))
 }
 
-/// The coordinate of this size, negative behind a minus.
+/// The coordinate of this size, negative if it has a minus.
 fn signed(minus: bool, size: u32) -> i32
     requires { size ≤ coordinate_limit }
     ensures { result ≡ signed_size minus size }
@@ -62,7 +62,7 @@ fn signed(minus: bool, size: u32) -> i32
     if minus { -size } else { size }
 }
 
-/// The coordinate that digits alone at the beginning of a text write, behind a minus or not, and what comes after it.
+/// The coordinate at the beginning of a text, if it is digits with or without a minus before them, and what comes after it.
 fn number(text: &[u8]) -> Option<(i32, &[u8])>
     ensures { IfSome result (λ found. BeginsWithNumber text.now found.0 found.1.now) }
 {

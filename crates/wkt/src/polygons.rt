@@ -40,7 +40,7 @@ impl Polygons {
         }
     }
 
-    /// These polygons and one more, of these rings. It fails only if memory runs out.
+    /// These polygons and one more, which has these rings. It fails only if memory runs out.
     pub fn with(self, more: Vec<LineString>) -> Result<Polygons, AllocError>
         ensures { IfOk result (λ polygons. polygons ≡ self ++ more.items ∷ []) }
     {
@@ -77,7 +77,7 @@ impl Polygons {
     }
 }
 
-/// Lends the part of this number.
+/// Lends the part with this number.
 fn part<'a>(rings: &'a [LineString], ends: &[usize], index: usize) -> &'a [LineString]
     requires ends { AreEnds 0 ends.now (length rings.now) }
     requires within { index < length ends.now }
@@ -87,7 +87,7 @@ fn part<'a>(rings: &'a [LineString], ends: &[usize], index: usize) -> &'a [LineS
     &rings[start..end]
 }
 
-/// Where the part of this number begins and ends.
+/// Where the part with this number begins and ends.
 fn bounds(ends: &[usize], index: usize) -> (usize, usize)
     requires { index < length ends.now }
     ensures start { result.0 ≡ start_of 0 ends.now index }

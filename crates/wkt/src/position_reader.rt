@@ -24,8 +24,8 @@ fn space<'a>(cursor: &mut Cursor<'a>) -> Result<&'a [u8], TextFault>
     Ok(white)
 }
 
-/// Reads a position, where `room` says how many may still come. If none may, the fault is `TooLong` once the first number
-/// is read, before the faults of that number's value.
+/// Reads a position; `room` says how many may still come. If none may, the fault is `TooLong` once the first number is
+/// read, before the faults of that number's value.
 fn position(cursor: &mut Cursor<'_>, room: usize) -> Result<GridPoint, TextFault>
     ensures read { ReadsAs (λ p. p) (spec.position room cursor.old) result cursor.new }
     ensures has_room { IfOk result (λ _. 0 < room) }

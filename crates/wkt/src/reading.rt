@@ -167,15 +167,15 @@ fn whole(alloc: Global, cursor: &mut Cursor<'_>) -> Result<Shape, WktFault>
 }
 
 /// Reads the text of a geometry (06-103r4, 7.2). Its numbers are whole and at most 10,000,000 either way; they may have a
-/// sign, leading zeros, and a point with zeros after it. Words are taken in any ASCII case. A geometry without positions is
+/// sign, leading zeros, and a point with zeros after it. Words may be in any ASCII case. A geometry without positions is
 /// written EMPTY. In a MULTIPOINT each position may have parentheses or not. A position of a line or ring that repeats the
 /// one before it is left out.
 ///
-/// Places are bytes from 0. The fault is the first from left to right: `Syntax` at the first byte of what no text can
-/// have there, or at the text's length if it ends too soon; at the first byte of a number `OffGrid` if a digit after its
-/// point isn't 0, else `OutOfRange` if it is past the limit; `TooLong` at the first number of the 10,001st position,
-/// before the faults of that number, and after the parenthesis of the 1,001st ring or element. `OutOfMemory` may come in
-/// place of any result.
+/// Places are bytes from 0. The fault is the first from left to right: `Syntax` at the first byte of what no text can have
+/// there, or at the text's length if it ends too soon; at the first byte of a number `OffGrid` if a digit after its point
+/// isn't 0, else `OutOfRange` if it is past the limit; `TooLong` at the first number of the 10,001st position, before the
+/// faults of that number, and after the parenthesis of the 1,001st ring or element. `OutOfMemory` may come in place of any
+/// result.
 pub fn read(alloc: Global, text: &[u8]) -> Result<Geometry, WktFault>
     ensures ok { IfOk result (λ g. read_text text.now ≡ Ok g) }
     ensures fault { IfErr result (λ e. IfSome (text_fault e) (λ fault. read_text text.now ≡ Err fault)) }

@@ -11,7 +11,7 @@ use thiserror::Error;
 /// right (06-103r4, 7.2; the cases: this project's choice).
 #[derive(Clone, Copy, Debug, PartialEq, Eq, Error)]
 pub enum WktFault {
-    /// W1: no text of a geometry can have at this byte what is there, or the text ends here too soon.
+    /// W1: no text of a geometry can go on with this byte, or the text ends here too soon.
     #[error("syntax at {0}")]
     Syntax(usize),
     /// W2: the number that begins at this byte isn't whole.
@@ -29,7 +29,7 @@ pub enum WktFault {
 }
 
 impl WktFault {
-    /// The fault of the text; none where memory ran out.
+    /// The fault of the text; None if memory ran out.
     pub fn text_fault(self) -> Option<TextFault>
         ensures { result ≡ text_fault self }
     {
