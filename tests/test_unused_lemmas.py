@@ -57,6 +57,10 @@ class Lemmas(unittest.TestCase):
         named = bare | {"crates/low/edits/one.edit": "file: proofs/Sums.antt\nold: named_by_a_page a\nnew: forgotten\n"}
         self.assertEqual(self.found(named), [])
 
+    def test_a_tactic_uses_the_lemma_that_its_path_ends_with(self) -> None:
+        tactic = "/// The sum.\n#[tactic(auto, using(crate::proofs::Sums::forgotten))]\npub fn sum() {}\n"
+        self.assertEqual(self.found(FILES | {"crates/low/src/sums.rt": tactic}), [])
+
     def test_this_repository_has_none(self) -> None:
         self.assertEqual(unused_lemmas.check(), [])
 
