@@ -109,12 +109,12 @@ class Page(unittest.TestCase):
             self.assertIn("relate", proved_page.reached(it, functions))
         self.assertRegex(read(f"{ROOT}/crates/de9im/src/matrix.rt"), r"pub struct Matrix \{\n    cells: MatrixCells,\n\}")
 
-    def test_two_calls_make_a_geometry(self):
+    def test_three_calls_make_a_geometry(self):
         callers = {}
         for path in glob.glob(f"{ROOT}/crates/*/src/*.rt"):
             if re.search(r"\bGeometry::kept\(", proved_page.read(path)):
                 callers[os.path.relpath(path, f"{ROOT}/crates")] = len(re.findall(r"\bGeometry::kept\(", proved_page.read(path)))
-        self.assertEqual(callers, {"wkt/src/reading.rt": 1, "library_calls/src/checking.rt": 1})
+        self.assertEqual(callers, {"wkt/src/reading.rt": 1, "wkb/src/reading.rt": 1, "library_calls/src/checking.rt": 1})
 
     def test_calls_are_below_their_crates_and_have_their_stars(self):
         functions, _ = proved_page.all_functions()
