@@ -307,7 +307,7 @@ cell of a matrix, and that a place shows a fault.
 LIBRARY_HEAD = """# Definitions for the library
 
 For whoever doubts what the calls of [`sfq.h`](../bindings/c/sfq.h) return: what the contracts of
-`sfq_c` mean, where the proof ends. [LIBRARY](LIBRARY.md#what-is-proved) lists these contracts.
+`sfq_c` mean, where the proof ends. [C](C.md#what-is-proved) lists these contracts.
 """ + REST
 TILES_HEAD = """# Definitions for tiles
 

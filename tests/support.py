@@ -1,6 +1,7 @@
 """What the system tests share."""
 import functools
 import os
+import re
 import runpy
 import shutil
 import stat
@@ -27,6 +28,9 @@ HELP_CALLS = [
     ["run"], ["run", "--why"], ["run", "a"], ["run", "a", "--why", "b"], ["run", ""], ["check"], ["check", "--why", "a"], ["relate"], ["relate", "--why", "-"],
     ["why"], ["why", "--why"], ["pairs"], ["pairs", "--why"],
 ]
+
+# The pages of the library, each with the language of the example that it begins with.
+LANGUAGES = {"C": "c", "PYTHON": "python", "JAVASCRIPT": "js", "SQLITE": "sql", "POSTGRESQL": "sql"}
 
 # A stand-in for `rt`. It notes each call, and does what the file `behaviour` in its folder says, a piece of Python.
 STAND_IN = """#!{python}
@@ -87,6 +91,13 @@ def asked():
         shown = printed.everything(room)
         given = answers.ask([*(it.words for it in shown), *HELP_CALLS])
     return shown, given[: len(shown)], dict(zip(map(tuple, HELP_CALLS), given[len(shown) :]))
+
+
+def examples(page, language, heading=""):
+    """Returns the examples in a language that a page of docs shows, each with its output; those below one heading of the page, if it is named."""
+    parts = re.split(r"^(?=## )", read(f"{ROOT}/docs/{page}.md"), flags=re.M)
+    text = "".join(it for it in parts if not heading or it.startswith(f"{heading}\n"))
+    return re.findall(rf"```{language}\n(.*?)```.*?```text\n(.*?)```", text, re.S)
 
 
 def write(path, text, mode=None):

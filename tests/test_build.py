@@ -15,7 +15,7 @@ import time
 import unittest
 import zipfile
 
-from support import ROOT, WithCheckout, needs, read, write
+from support import LANGUAGES, ROOT, WithCheckout, needs, read, write
 
 import debian
 import library
@@ -607,6 +607,7 @@ class Packages(WithBuild):
         sources = [read(it) for pattern in shown for it in sorted(glob.glob(f"{ROOT}/{pattern}", recursive=True))]
         names = {it for text in sources for it in re.findall(r"(?:examples|docs)/[\w./-]*\w", text)}
         self.assertLessEqual({"docs/FAULTS.md", "docs/LIBRARY.md", "docs/SCALE.md"}, names)
+        names |= {f"docs/{it}.md" for it in LANGUAGES}
         for it in sorted(names):
             self.assertTrue(os.path.exists(f"{folder}/usr/share/doc/sfq/{it}"), it)
             self.assertTrue(any(each == it or each.startswith(f"{it}/") for each in listed), it)

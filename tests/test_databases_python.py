@@ -13,7 +13,7 @@ import threading
 import time
 import unittest
 
-from support import ROOT, python_with, read, write
+from support import ROOT, examples, python_with, read, write
 
 import engine_rows
 import library
@@ -634,8 +634,7 @@ class Land(WithTables):
         self.assertEqual(found, [True] * 40)
 
     def test_the_examples_of_the_document(self):
-        text = re.search(r"^## Tables in Python$(.*?)^## ", read(f"{ROOT}/docs/LIBRARY.md"), re.M | re.S)[1]
-        shown = re.findall(r"```python\n(.*?)```.*?```text\n(.*?)```", text, re.S)
+        shown = examples("PYTHON", "python", "## Tables in Python")
         self.assertEqual(len(shown), 2)
         known = {**os.environ, "PYTHONPATH": f"{ROOT}/bindings/python", "PYTHONDONTWRITEBYTECODE": "1"}
         for source, output in shown:

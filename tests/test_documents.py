@@ -1,4 +1,5 @@
 """The calls of sfq that documents and the manual page show print what they show."""
+import re
 import tempfile
 import unittest
 
@@ -29,6 +30,23 @@ class ShownCalls(unittest.TestCase):
             paths = [it.place.partition(":")[0] for it in printed.everything(room)]
         for path, least in (("README.md", 2), ("examples/parcels/README.md", 15), ("examples/blue_lake/README.md", 13), ("docs/FAULTS.md", 45), ("packaging/man/sfq.1", 5)):
             self.assertGreaterEqual(paths.count(path), least, path)
+
+
+class PagesOfTheLibrary(unittest.TestCase):
+    """The pages that docs/LIBRARY.md links, one for each language. The tests of each language run the examples of its page."""
+
+    def test_each_begins_with_an_example_and_its_output(self):
+        for page, language in support.LANGUAGES.items():
+            text = support.read(f"{support.ROOT}/docs/{page}.md")
+            first, output = support.examples(page, language)[0]
+            shown = f"```{language}\n{first}```\n"
+            self.assertLessEqual(text.partition("```")[0].count("\n"), 7, page)
+            self.assertTrue(text[text.index("```") :].startswith(shown), page)
+            self.assertRegex(text.partition(shown)[2], rf"\A\n.*prints:\n\n```text\n{re.escape(output)}```\n", page)
+
+    def test_the_first_table_of_the_library_page_links_each(self):
+        table = support.read(f"{support.ROOT}/docs/LIBRARY.md").partition("\n|")[2].partition("\n\n")[0]
+        self.assertEqual(re.findall(r"^\| \w+ \| \[(\w+)\]\(\1\.md\) \|", table, re.M), [*support.LANGUAGES])
 
 
 class HowCallsAreFound(unittest.TestCase):

@@ -4,7 +4,7 @@ import re
 import subprocess
 import unittest
 
-from support import ROOT, python_with, read
+from support import ROOT, examples, python_with
 
 import engine_rows
 import library
@@ -52,8 +52,7 @@ class GeoPandas(engine_rows.WithLibrary):
         self.assertEqual(ran.returncode, 0, ran.stdout + ran.stderr)
 
     def test_the_example_of_the_document(self):
-        text = re.search(r"^## GeoPandas$(.*?)^## ", read(f"{ROOT}/docs/LIBRARY.md"), re.M | re.S)[1]
-        shown = re.findall(r"```python\n(.*?)```.*?```text\n(.*?)```", text, re.S)
+        shown = examples("PYTHON", "python", "## GeoPandas")
         self.assertGreaterEqual(len(shown), 1)
         for source, output in shown:
             ran = self.run_python("-c", source)

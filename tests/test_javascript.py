@@ -13,7 +13,7 @@ import tempfile
 import unittest
 from unittest import mock
 
-from support import ROOT, needs, needs_build, read, write_all
+from support import ROOT, examples, needs, needs_build, read, write_all
 
 import answers
 import browsers
@@ -481,10 +481,9 @@ class Installed(unittest.TestCase):
 
     @needs("nodejs", "node")
     @needs_page
-    def test_examples_of_the_library_page(self):
+    def test_examples_of_the_document(self):
         """Installed into an empty folder, each example prints what is shown after it."""
-        text = re.search(r"^## JavaScript$(.*?)^## ", read(f"{ROOT}/docs/LIBRARY.md"), re.M | re.S)[1]
-        shown = re.findall(r"```js\n(.*?)```.*?```text\n(.*?)```", text, re.S)
+        shown = examples("JAVASCRIPT", "js")
         self.assertGreaterEqual(len(shown), 2)
         with tempfile.TemporaryDirectory(prefix="sfq-empty-") as room:
             if shutil.which("npm"):

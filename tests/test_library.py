@@ -9,7 +9,7 @@ import tempfile
 import unittest
 from concurrent.futures import ThreadPoolExecutor
 
-from support import ROOT, needs, needs_build, read
+from support import ROOT, examples, needs, needs_build, read
 
 import c_programs
 import closure
@@ -459,13 +459,13 @@ class Library(PlayedCalls, WithLibrary):
         self.assertEqual(subprocess.run([program]).returncode, 0)
 
     def test_examples_of_the_document(self):
-        """Each program of docs/LIBRARY.md prints what is shown after it, from an installed library."""
+        """Each program of docs/C.md prints what is shown after it, from an installed library."""
         prefix = f"{self.room.name}/prefix"
         for source, target, _ in library.FILES:
             os.makedirs(os.path.dirname(f"{prefix}/{target}"), exist_ok=True)
             shutil.copyfile(f"{ROOT}/{source}", f"{prefix}/{target}")
         library.install_made(prefix, "0")
-        shown = re.findall(r"```c\n(.*?)```.*?```text\n(.*?)```", read(f"{ROOT}/docs/LIBRARY.md"), re.S)
+        shown = examples("C", "c")
         self.assertGreaterEqual(len(shown), 2)
         for at, (source, output) in enumerate(shown):
             with open(f"{self.room.name}/example{at}.c", "w", encoding="utf-8") as file:

@@ -12,7 +12,7 @@ import threading
 import time
 import unittest
 
-from support import ROOT, read
+from support import ROOT, examples, read
 
 import bindings
 import c_programs
@@ -321,8 +321,7 @@ class Postgresql(engine_rows.WithLibrary):
             self.server.run("DROP TABLE field;")
 
     def test_the_example_of_the_document(self):
-        text = re.search(r"^## PostgreSQL$(.*?)^## ", read(f"{ROOT}/docs/LIBRARY.md"), re.M | re.S)[1]
-        shown = re.findall(r"```sql\n(.*?)```.*?```text\n(.*?)```", text, re.S)
+        shown = examples("POSTGRESQL", "sql")
         self.assertGreaterEqual(len(shown), 1)
         for source, output in shown:
             self.server.run("DROP EXTENSION IF EXISTS sfq CASCADE;")

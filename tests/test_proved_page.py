@@ -122,7 +122,7 @@ class Page(unittest.TestCase):
         page = proved_page.read(f"{ROOT}/docs/PROVED.md")
         for path in proved_page.PAGES:
             self.assertEqual(proved_page.wrong_rows(proved_page.read(path), functions, crates), [])
-            self.assertIn("with a star", proved_page.read(path))
+            self.assertEqual("with a star" in proved_page.read(path), "`\\*" in proved_page.read(path), path)
         self.assertGreater(page.count("`\\*"), 25)
         for old, new, wrong in [
             ("| `run`\\*", "| `run`", "run has a requires and no star"),

@@ -14,7 +14,7 @@ import threading
 import unittest
 import zipfile
 
-from support import ROOT, needs, python_with, read, write
+from support import ROOT, examples, needs, python_with, read, write
 
 import engine_rows
 import language
@@ -388,8 +388,7 @@ class Package(engine_rows.WithLibrary):
             self.assertLessEqual({os.path.basename(it) for it in wheels.shared()}, inside)
 
     def test_the_example_of_the_document(self):
-        text = re.search(r"^## Python$(.*?)^## ", read(f"{ROOT}/docs/LIBRARY.md"), re.M | re.S)[1]
-        shown = re.findall(r"```python\n(.*?)```.*?```text\n(.*?)```", text, re.S)
+        shown = examples("PYTHON", "python", "# The library in Python")
         self.assertGreaterEqual(len(shown), 1)
         for source, output in shown:
             ran = subprocess.run([sys.executable, "-c", source], env=environment(PYTHONPATH=f"{ROOT}/bindings/python"), capture_output=True, text=True)

@@ -574,10 +574,10 @@ class ByTheLibrary(databases.WithTables):
 
 
 class Document(WithProgram):
-    """The session that docs/LIBRARY.md shows."""
+    """The session that docs/PYTHON.md shows."""
 
     def test_the_session(self):
-        found = re.search(r"```text\n(\$ sfq-shell .*?)```", read(f"{ROOT}/docs/LIBRARY.md"), re.S)[1]
+        found = re.search(r"```text\n(\$ sfq-shell .*?)```", read(f"{ROOT}/docs/PYTHON.md"), re.S)[1]
         self.assertTrue(found.startswith("$ sfq-shell examples/parcels/schema.sql examples/parcels\n"))
         lines = found.splitlines()[2:]
         terminal = Terminal(self.program.words(), self.program.environment(), 100)

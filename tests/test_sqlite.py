@@ -5,7 +5,7 @@ import re
 import subprocess
 import unittest
 
-from support import ROOT, needs, read
+from support import examples, needs
 
 import engine_rows
 import sqlite_sessions
@@ -134,8 +134,7 @@ class Sqlite(sqlite_sessions.WithExtension):
         self.assertEqual(self.asked(f"{text} SELECT count(*) FROM t WHERE ST_IsValid(a) = 0;"), ("1\n", "", 0))
 
     def test_the_example_of_the_document(self):
-        text = re.search(r"^## SQLite$(.*?)^## ", read(f"{ROOT}/docs/LIBRARY.md"), re.M | re.S)[1]
-        shown = re.findall(r"```sql\n(.*?)```.*?```text\n(.*?)```", text, re.S)
+        shown = examples("SQLITE", "sql")
         self.assertGreaterEqual(len(shown), 1)
         self.check_shown(shown)
 

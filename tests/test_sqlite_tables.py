@@ -275,8 +275,7 @@ class Plans(WithFolders):
         return ", ".join(f"{table} {way}" for table, way in STEP.findall(out))
 
     def test_the_forms_of_the_document(self):
-        text = re.search(r"^## SQLite$(.*?)^## ", read(f"{ROOT}/docs/LIBRARY.md"), re.M | re.S)[1]
-        forms = re.findall(r"^\| `(FROM .*?)` \| (.*?) \|$", text, re.M)
+        forms = re.findall(r"^\| `(FROM .*?)` \| (.*?) \|$", read(f"{ROOT}/docs/SQLITE.md"), re.M)
         self.assertGreaterEqual(len(forms), 12)
         for form, plan in forms:
             self.assertEqual(self.plan(f"SELECT * {form}", ("parcel", "well", "building")), plan.replace("`", ""), form)

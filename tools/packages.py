@@ -36,7 +36,7 @@ def described(name: str) -> list[bindings.File]:
 
 def documents() -> list[bindings.File]:
     """Returns the documents for users, their pictures, and the examples, which lie under the prefix as in the repository."""
-    found = ["CHANGELOG.md", *(f"docs/{it}.md" for it in ("AUDIT", "DATA", "FAULTS", "LIBRARY", "SCALE"))]
+    found = ["CHANGELOG.md", *(f"docs/{it}.md" for it in ("AUDIT", "C", "DATA", "FAULTS", "JAVASCRIPT", "LIBRARY", "POSTGRESQL", "PYTHON", "SCALE", "SQLITE"))]
     found += [f"docs/pictures/{it}" for it in ("cells.svg", "qgis.png", "scale.svg", "why-not-simple.svg")]
     for at, folders, names in os.walk(f"{repository.ROOT}/examples"):
         folders[:] = sorted(it for it in folders if not it.startswith(("_", ".")))

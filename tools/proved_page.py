@@ -1,6 +1,6 @@
 #!/usr/bin/env python3
-"""Prints what docs/PROVED.md, docs/SCALE.md, docs/LIBRARY.md and tests/ample_memory.txt say wrong of the sources, and ends with
-status 1 if something is.
+"""Prints what docs/PROVED.md, docs/SCALE.md, docs/C.md, docs/JAVASCRIPT.md and tests/ample_memory.txt say wrong of the sources, and
+ends with status 1 if something is.
 
 usage: python3 tools/proved_page.py
 
@@ -20,7 +20,7 @@ from typing import Iterable
 import repository
 from repository import read
 
-PAGES = [f"{repository.ROOT}/docs/{it}.md" for it in ("PROVED", "SCALE", "LIBRARY")]
+PAGES = [f"{repository.ROOT}/docs/{it}.md" for it in ("PROVED", "SCALE", "C", "JAVASCRIPT")]
 # Programs, whose functions nobody else calls; the pages name clauses of the last ones.
 PROGRAMS, NAMED_PROGRAMS = ["sfq", "scripts", "gauge"], ["sfq_tiles"]
 LIST = f"{repository.ROOT}/tests/ample_memory.txt"

@@ -66,7 +66,7 @@ RIMS = (
     Rim("GDAL", ("gdal-bin", "python3-gdal"), ("test_import", "test_import_layers", "test_import_parts", "test_import_sources"),
         "test_import.Documents.test_the_example_prints_what_is_shown", (Shown("GDAL", ("gdal-bin",)),)),
     Rim("QGIS", ("qgis", "qgis-providers", "python3-qgis", "r-cran-sf"), ("test_qgis",), "test_qgis.OfTheZip.test_the_counties_of_a_state", (Shown("QGIS", ("qgis",)),)),
-    Rim("Node", ("nodejs", "node-typescript"), ("test_node", "test_javascript"), "test_javascript.Installed.test_examples_of_the_library_page",
+    Rim("Node", ("nodejs", "node-typescript"), ("test_node", "test_javascript"), "test_javascript.Installed.test_examples_of_the_document",
         (Shown("Node", ("nodejs",), 1),)),
     Rim("browsers", ("chromium", "chromium-driver", "firefox-esr", "python3-selenium"), ("test_web",), "",
         (Shown("Chromium", ("chromium",), 1), Shown("Firefox", ("firefox", "firefox-esr"), 1))),
