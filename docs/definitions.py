@@ -291,9 +291,9 @@ says it of every x, `{T : Type 0} → ..` of every type, `¬ A` that A isn't so;
 the whole numbers from 0 on and ℤ those with a sign; `<ℤ` and the like are of ℤ, and `pos n` is n in
 ℤ. `codes "T*"` are a text's bytes. `fold-Cond` goes through a condition from the inside out.
 
-`docs/definitions.py` makes this page from the comments in the specifications: change it there. It
-also makes the pages for [`why`](DEFINITIONS-WHY.md), the [library](DEFINITIONS-LIBRARY.md) and
-[tiles](DEFINITIONS-TILES.md).
+`docs/definitions.py` makes this page and those for [`why`](DEFINITIONS-WHY.md), the
+[library](DEFINITIONS-LIBRARY.md) and [tiles](DEFINITIONS-TILES.md) from the comments in the
+specifications: change them there.
 """
 REST = """
 [DEFINITIONS](DEFINITIONS.md) explains the rows and the symbols, and has what these definitions name:
@@ -318,6 +318,11 @@ PAGES = {
     "DEFINITIONS": (HEAD, PAGE), "DEFINITIONS-WHY": (WHY_HEAD, WHY), "DEFINITIONS-LIBRARY": (LIBRARY_HEAD, LIBRARY),
     "DEFINITIONS-TILES": (TILES_HEAD, TILES),
 }
+# The words of CONTRIBUTING's glossary: a page links its first use of each, outside code, headings and other links.
+GLOSSARY = re.compile(r"^\| (\w+) \| .* \|$", re.M)
+LINKED_TO = "../CONTRIBUTING.md#words"
+# What isn't prose, and what uses such a word in another sense.
+HIDDEN = re.compile(r"^```.*?^```|^#.*?$|`[^`\n]*`|\[[^\]]*\]\([^)]*\)|\bin place of\b|\bclause of OGC\b|\breference systems?\b", re.M | re.S)
 
 
 def entries(path):
@@ -382,17 +387,33 @@ def section(title, words, files, problems, listed):
             left_out = " ".join(name for name in names if name not in left_out[1:].split())
         for name, said, clause, whole in found:
             if name[0].isalpha() and name not in left_out.split():
-                rows += f"| `{name}` | {cell(said)} | {cell(shortened(clause))} |\n"
+                rows += f"| `{name}` | {cell(said)} | {cell(shortened(clause))} |\n".replace("|  |", "| |")
                 shown += f"{whole}\n\n" if name in SHOWN else ""
                 listed.setdefault(name, []).append(f"{crate}/specs/{module}.antt")
     text += f"\n| name | what it is | standard |\n|---|---|---|\n{rows}"
     return text + (f"\n```text\n{shown.rstrip()}\n```\n" if shown else "")
 
 
+def glossary():
+    """The words of the glossary."""
+    return GLOSSARY.findall((HERE.parent / "CONTRIBUTING.md").read_text(encoding="utf-8").partition("\n## Words\n")[2])[1:]
+
+
+def linked(text, words):
+    """A page, in which the first use of each of these words is a link to the glossary."""
+    for word in words:
+        seen = HIDDEN.sub(lambda it: " " * len(it.group()), text)
+        first = re.search(rf"\b{word}(?:s|es)?\b", seen, re.I)
+        if first:
+            text = f"{text[:first.start()]}[{text[first.start():first.end()]}]({LINKED_TO}){text[first.end():]}"
+    return text
+
+
 def main():
     problems, listed, same = [], {}, True
+    words = glossary()
     for name, (head, sections) in PAGES.items():
-        text = head + "".join(section(*part, problems, listed) for part in sections)
+        text = linked(head + "".join(section(*part, problems, listed) for part in sections), words)
         page = HERE / f"{name}.md"
         if "--check" in sys.argv[1:]:
             same = same and page.is_file() and page.read_text(encoding="utf-8") == text
