@@ -55,14 +55,14 @@ class PeerFolder(unittest.TestCase):
                 self.assertEqual(said, f"peer_folder.py: {self.room} is there already, and isn't an empty folder")
 
     def test_add_asks_first_which_packages_the_suite_has(self):
-        """The versions that a folder of last month knows may be gone."""
-        for status, wanted in ((0, [("update",), ("install", "gcc", "jq")]), (100, [("update",)])):
-            asked = []
+        """The versions that a folder of last month knows may be gone. Where there is no newer list, the known one is used."""
+        for statuses in ((0, 0), (100, 0), (100, 100)):
+            asked, left = [], list(statuses)
             with mock.patch.object(sys, "argv", ["peer_folder.py", "add", self.room, "gcc", "jq"]):
                 with mock.patch.object(peer_folder, "lacking_to_run", lambda _: None):
-                    with mock.patch.object(peer_folder, "apt_get", lambda _, *words: asked.append(words) or status):
-                        self.assertEqual(peer_folder.main(), status)
-            self.assertEqual(asked, wanted)
+                    with mock.patch.object(peer_folder, "apt_get", lambda _, *words: asked.append(words) or left.pop(0)):
+                        self.assertEqual(peer_folder.main(), statuses[1])
+            self.assertEqual(asked, [("update",), ("install", "gcc", "jq")])
 
     def test_packages_come_before_options_or_behind_them(self):
         made = []
@@ -70,10 +70,18 @@ class PeerFolder(unittest.TestCase):
             with mock.patch.object(sys, "argv", ["peer_folder.py", *words]), mock.patch.object(os, "geteuid", lambda: 0):
                 with mock.patch.object(peer_folder, "make", lambda *them: made.append(them) or 0):
                     self.assertEqual(peer_folder.main(), 0)
-        self.assertEqual(made, 2 * [("X", "trixie", peer_folder.MIRROR, ["gcc", "jq"])])
+        self.assertEqual(made, 2 * [("X", "trixie", peer_folder.MIRROR, [*peer_folder.PACKAGES, "gcc", "jq"])])
         for words in (["make", "X", "--suit"], ["add", "X", "gcc", "--new"]):
             with mock.patch.object(sys, "argv", ["peer_folder.py", *words]):
                 self.assertEqual(self.refused(peer_folder.main), "2")
+
+    def test_a_bare_folder_gets_the_named_packages_alone(self):
+        made = []
+        for words in (["python3", "--bare"], ["--bare"]):
+            with mock.patch.object(sys, "argv", ["peer_folder.py", "make", "X", "--suite", "bookworm", *words]), mock.patch.object(os, "geteuid", lambda: 0):
+                with mock.patch.object(peer_folder, "make", lambda *them: made.append(them) or 0):
+                    self.assertEqual(peer_folder.main(), 0)
+        self.assertEqual(made, [("X", "bookworm", peer_folder.MIRROR, ["python3"]), ("X", "bookworm", peer_folder.MIRROR, [])])
 
     def test_signatures_are_checked(self):
         asked = []
@@ -85,13 +93,14 @@ class PeerFolder(unittest.TestCase):
         with mock.patch.object(peer_folder, "lacking_to_make", lambda: None), mock.patch.object(peer_folder.subprocess, "run", run):
             self.assertIn("debootstrap ended with status 1", self.refused(lambda: peer_folder.make(self.room, "trixie", "http://mirror", [])))
         words, = asked
+        self.assertEqual(words[:3], ["unshare", "--mount", "debootstrap"])
         self.assertEqual(words[-3:], ["trixie", self.room, "http://mirror"])
         self.assertIn("--force-check-gpg", words)
         self.assertIn(f"--keyring={peer_folder.KEYRING}", words)
         self.assertFalse([it for it in words if "no-check" in it])
 
     def test_words(self):
-        for words in (["make"], ["add", self.room], ["make", self.room, "--suite", "bookworm"], ["walk", self.room], []):
+        for words in (["make"], ["add", self.room], ["make", self.room, "--suite", "buster"], ["walk", self.room], []):
             ran = self.ran(TOOL, *words)
             self.assertEqual((ran.stdout, ran.returncode), ("", 2), words)
 

@@ -66,6 +66,25 @@ geopandas.GeoDataFrame({"name": list(parcels)}, geometry=[box(*it) for it in par
 """
 
 
+# The pairs that the last of the commands without the kit prints of it, each way.
+PAIRS = [("Glebe", "Mill"), ("Glebe", "Quay"), ("Mill", "Glebe"), ("Quay", "Glebe")]
+
+
+def commands_without_the_kit():
+    """Returns the commands of the block for somebody who has a wheel and a shapefile."""
+    return [it for it in printed.fences(README) if it.kind == "sh"][2].text.strip().splitlines()
+
+
+def pairs_in(shown):
+    """Returns the pairs of names in a table that GeoPandas prints of a join."""
+    return sorted(re.findall(r"^\d+ +(\w+) .* (\w+) *$", shown, re.M))
+
+
+def says_proved(total):
+    """Returns the pattern of what `python -m sfq --version` prints of the proved program with this sum."""
+    return rf"\Asfq {repository.version()}\nthe proved program.*; SHA-256 {total}\n\Z"
+
+
 def lacks():
     """Returns the Debian package that the commands without the kit need and that isn't here, or None."""
     for modules, package in (("venv, ensurepip", "python3-venv"), ("geopandas", "python3-geopandas")):
@@ -86,7 +105,6 @@ class WithoutTheKit(unittest.TestCase):
             self.skipTest("needs ./build --library")
         if lacks():
             self.skipTest(f"needs the package {lacks()}")
-        block = [it for it in printed.fences(README) if it.kind == "sh"][2]
         with tempfile.TemporaryDirectory(prefix="sfq-wheel-") as room:
             known = {"PATH": "/usr/bin:/bin", "HOME": room, "LANG": "C.UTF-8", "PIP_NO_INDEX": "1"}
 
@@ -97,13 +115,11 @@ class WithoutTheKit(unittest.TestCase):
 
             packages.make_wheel(room, *packages.released())
             run(DEBIAN, "-c", MAKES_PARCELS)
-            commands = block.text.strip().splitlines()
+            commands = commands_without_the_kit()
             self.assertEqual(len(commands), 3)
             shown = [run("sh", "-c", it) for it in commands][2]
-            found = re.findall(r"^\d+ +(\w+) .* (\w+) *$", shown, re.M)
-            self.assertEqual(sorted(found), [("Glebe", "Mill"), ("Glebe", "Quay"), ("Mill", "Glebe"), ("Quay", "Glebe")], shown)
-            said = run("venv/bin/python", "-m", "sfq", "--version")
-            self.assertRegex(said, rf"\Asfq {repository.version()}\nthe proved program.*; SHA-256 {repository.sum_of_file(repository.PROGRAM)}\n\Z")
+            self.assertEqual(pairs_in(shown), PAIRS, shown)
+            self.assertRegex(run("venv/bin/python", "-m", "sfq", "--version"), says_proved(repository.sum_of_file(repository.PROGRAM)))
 
 
 class Commands(unittest.TestCase):

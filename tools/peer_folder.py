@@ -1,12 +1,13 @@
 #!/usr/bin/env python3
 """Makes a folder with newer versions of the engines that sfq is compared with, those of Debian's trixie or sid, and runs commands in it.
 
-usage: peer_folder.py make DIR [--suite trixie|sid] [--mirror URL] [PACKAGE ..]
+usage: peer_folder.py make DIR [--suite bookworm|trixie|sid] [--bare] [--mirror URL] [PACKAGE ..]
        peer_folder.py add DIR PACKAGE ..
        peer_folder.py run DIR COMMAND ..
 
 `make` takes some minutes and 2 GB. The folder gets GEOS, shapely, SpatiaLite, sqlite3, JTS with Java, gcc, Python and valgrind, and the
-packages that are named. Debian's archive keyring has to confirm the suite, and apt confirms each package. `add` installs more packages.
+packages that are named; with `--bare` it gets these alone beside the base system. Debian's archive keyring has to confirm the suite, and
+apt confirms each package. `add` installs more packages.
 `run` runs a command in the folder, with this repository under its own path, and returns the command's status. What is mounted for that
 is gone when the command ends, so the folder can be removed at any time.
 
@@ -20,7 +21,9 @@ import sys
 from typing import NoReturn, Optional, Sequence
 
 ROOT = os.path.dirname(os.path.dirname(os.path.realpath(__file__)))
+# The suites with newer versions, and all of which a folder can be made.
 SUITES = ("trixie", "sid")
+DEBIANS = ("bookworm", *SUITES)
 MIRROR = "http://deb.debian.org/debian"
 KEYRING = "/usr/share/keyrings/debian-archive-keyring.gpg"
 PACKAGES = (
@@ -50,9 +53,9 @@ def fail(text: str) -> NoReturn:
 
 def lacking_to_make() -> Optional[str]:
     """Returns what `make` needs and isn't there, with the package that brings it; None where nothing is missing."""
-    for tool in ("debootstrap", "gpgv"):
+    for tool, package in (("debootstrap", "debootstrap"), ("gpgv", "gpgv"), ("unshare", "util-linux")):
         if not shutil.which(tool, path=f"{os.environ.get('PATH', '')}:/usr/sbin:/sbin"):
-            return f"{tool} is missing: apt-get install {tool}"
+            return f"{tool} is missing: apt-get install {package}"
     return None if os.path.isfile(KEYRING) else f"{KEYRING} is missing: apt-get install debian-archive-keyring"
 
 
@@ -84,19 +87,20 @@ def apt_get(folder: str, *words: str) -> int:
 
 
 def make(folder: str, suite: str, mirror: str, packages: Sequence[str]) -> int:
-    """Makes a folder with a suite's packages, and returns the status."""
+    """Makes a folder with the base system of a suite and packages, and returns the status."""
     if missing := lacking_to_make():
         fail(missing)
     if os.path.exists(folder) and (not os.path.isdir(folder) or os.listdir(folder)):
         fail(f"{folder} is there already, and isn't an empty folder")
-    words = ["debootstrap", "--variant=minbase", "--force-check-gpg", f"--keyring={KEYRING}", suite, folder, mirror]
+    # What debootstrap mounts in the folder is seen by itself alone, so nothing stays mounted where it is interrupted.
+    words = ["unshare", "--mount", "debootstrap", "--variant=minbase", "--force-check-gpg", f"--keyring={KEYRING}", suite, folder, mirror]
     ran = subprocess.run(words, env={**os.environ, "PATH": f"{os.environ.get('PATH', '')}:/usr/sbin:/sbin"})
     if ran.returncode:
         fail(f"debootstrap ended with status {ran.returncode}; {folder} can be removed")
     with open(f"{folder}/{POLICY}", "w", encoding="ascii") as file:
         file.write("#!/bin/sh\nexit 101\n")
     os.chmod(f"{folder}/{POLICY}", 0o755)
-    return apt_get(folder, "install", *PACKAGES, *packages)
+    return apt_get(folder, "install", *packages) if packages else 0
 
 
 def main() -> int:
@@ -106,7 +110,8 @@ def main() -> int:
     making, adding, running = (commands.add_parser(it) for it in ("make", "add", "run"))
     for it in (making, adding, running):
         it.add_argument("folder", metavar="DIR")
-    making.add_argument("--suite", choices=SUITES, default="sid", help="the suite of Debian (sid)")
+    making.add_argument("--suite", choices=DEBIANS, default="sid", help="the suite of Debian (sid)")
+    making.add_argument("--bare", action="store_true", help="the base system and the named packages alone")
     making.add_argument("--mirror", default=MIRROR, help=f"where packages come from ({MIRROR})")
     making.add_argument("words", metavar="PACKAGE", nargs="*")
     adding.add_argument("words", metavar="PACKAGE", nargs="+")
@@ -118,12 +123,14 @@ def main() -> int:
     if options.command == "make":
         if os.geteuid() != 0:
             fail("needs root, which mounts and changes the root folder")
-        return make(options.folder, options.suite, options.mirror, [*options.words, *left])
+        return make(options.folder, options.suite, options.mirror, [*(() if options.bare else PACKAGES), *options.words, *left])
     if missing := lacking_to_run(options.folder):
         fail(missing)
     if options.command == "add":
-        # Which packages the suite has may have changed since the folder was made.
-        return apt_get(options.folder, "update") or apt_get(options.folder, "install", *options.words)
+        # Which packages the suite has may have changed since the folder was made. apt keeps the lists that it has where it takes no newer
+        # ones, as of a mirror whose lists have expired; what these name is installed.
+        apt_get(options.folder, "update")
+        return apt_get(options.folder, "install", *options.words)
     if not options.words:
         parser.error("name a command")
     return subprocess.run(words_in(options.folder, options.words), env=environment(options.folder)).returncode

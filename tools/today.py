@@ -6,13 +6,17 @@ The suites are trixie and sid, and a NAME is one of C, Python, GeoPandas, SQLite
 all are tried. SFQ_TODAY names the folder that has a folder of each suite; by default it is /var/cache/sfq. A folder that isn't there is
 made, in minutes and of some gigabytes, and what is missing in it is installed: so this needs root, a network, and the packages
 debootstrap, gpgv and debian-archive-keyring. In it the tests compile by the compiler and headers of the suite over the libraries that
-./build --library made here, and run its programs. `--write` writes the rows of what was tried into the table of versions in
-docs/LIBRARY.md, with the versions of what passed and of this machine, if nothing failed.
+./build --library made here, and run its programs. `--write` writes the rows of what passed in a suite into the table of versions in
+docs/LIBRARY.md, with the versions there and on this machine, if nothing failed.
+
+The NAME packages installs what `./build --dist` makes, over the proved program: in folders of bookworm, trixie and sid that have Python
+alone, and the wheel also where GeoPandas is (tests/test_installed.py).
 """
 import fnmatch
 import json
 import os
 import re
+import shutil
 import subprocess
 import sys
 import tempfile
@@ -73,6 +77,15 @@ RIMS = (
 )
 
 
+# The name of what is tried besides, the suites in which it is, the file of its tests, and what two folders of each suite need for it: the
+# bare one, and the one where GeoPandas is.
+PACKAGES = "packages"
+DEBIANS = peer_folder.DEBIANS
+INSTALLED = "test_installed"
+PYTHON = ("python3", "python3-venv")
+JOINS = (*PYTHON, "python3-geopandas")
+
+
 class Found(NamedTuple):
     """What came of a suite: the versions there, and the rims of which tests passed and none failed."""
 
@@ -91,6 +104,11 @@ def place() -> str:
 
 def folder_of(suite: str) -> str:
     return f"{place()}/{suite}"
+
+
+def bare_folder_of(suite: str) -> str:
+    """Returns the folder that has a suite's base system and Python alone."""
+    return f"{place()}/bare-{suite}"
 
 
 # ---- versions ----
@@ -120,45 +138,57 @@ def shortened(given: str, count: int) -> str:
 # ---- a folder ----
 
 
-def missing_packages(suite: str, rim: Rim) -> list[str]:
-    """Returns the packages of a rim that a suite's folder lacks."""
-    wanted = [NAMED.get((suite, it), it) for it in rim.packages]
-    words = ["dpkg-query", f"--admindir={folder_of(suite)}/var/lib/dpkg", "-W", "-f", "${db:Status-Status} ${Package}\n", *wanted]
+def missing_packages(suite: str, folder: str, packages: Sequence[str]) -> list[str]:
+    """Returns those of the packages that a suite's folder lacks, by their names there."""
+    wanted = [NAMED.get((suite, it), it) for it in packages]
+    words = ["dpkg-query", f"--admindir={folder}/var/lib/dpkg", "-W", "-f", "${db:Status-Status} ${Package}\n", *wanted]
     ran = subprocess.run(words, capture_output=True, text=True)
     there = {line.partition(" ")[2] for line in ran.stdout.splitlines() if line.startswith("installed ")}
     return [it for it in wanted if it not in there]
 
 
-def install(suite: str, rim: Rim) -> None:
-    """Installs what a rim needs in a suite's folder. Where that fails, the rim's tests say what is missing."""
-    missing = missing_packages(suite, rim)
+def run_folder(what: str, *words: str) -> Optional[str]:
+    """Runs tools/peer_folder.py, and prints meanwhile what it does. Returns why that failed, if it did: its last line, and debootstrap's."""
+    with Beat(what):
+        status, out, err = run_command([sys.executable, "-B", f"{repository.ROOT}/tools/peer_folder.py", *words])
+    if status == 0:
+        return None
+    lines = (out + err).splitlines()
+    return " ".join([*(it for it in lines[:-1] if it.startswith("E: ")), *lines[-1:]]) or f"peer_folder.py ended with status {status}"
+
+
+def install(suite: str, folder: str, packages: Sequence[str]) -> None:
+    """Installs packages that a suite's folder lacks. Where that fails, the tests say what is missing."""
+    missing = missing_packages(suite, folder, packages)
     if missing:
         print(f"sfq: {suite}: installing {', '.join(missing)}", flush=True)
-        words = [sys.executable, "-B", f"{repository.ROOT}/tools/peer_folder.py", "add", folder_of(suite), *missing]
-        with Beat(f"apt-get in {folder_of(suite)}"):
-            status, out, err = run_command(words)
-        if status:
-            last = " ".join((out + err).splitlines()[-1:])
-            print(f"sfq: {suite}: not installed: {', '.join(missing)}: {last}", flush=True)
+        why = run_folder(f"apt-get in {folder}", "add", folder, *missing)
+        if why:
+            print(f"sfq: {suite}: not installed: {', '.join(missing)}: {why}", flush=True)
 
 
-def lacks(suite: str) -> Optional[str]:
-    """Returns why a suite's folder isn't there and can't be made, or can't be used; None where it can."""
-    if os.geteuid() != 0 or os.path.isdir(folder_of(suite)):
-        return peer_folder.lacking_to_run(folder_of(suite))
+def lacks(folder: str) -> Optional[str]:
+    """Returns why a folder isn't there and can't be made, or can't be used; None where it can."""
+    if os.geteuid() != 0 or os.path.isdir(folder):
+        return peer_folder.lacking_to_run(folder)
     return peer_folder.lacking_to_make()
 
 
-def make(suite: str) -> Optional[str]:
-    """Makes a suite's folder where it isn't there. Returns why that failed, if it did."""
-    if os.path.isdir(folder_of(suite)):
+def make(suite: str, folder: str, packages: Sequence[str] = ()) -> Optional[str]:
+    """Makes a suite's folder where it isn't there: with these packages alone, or without any with those of peers. Returns why that failed.
+
+    It gets its name when it is whole, so that one whose making was interrupted is made anew.
+    """
+    if os.path.isdir(folder):
         return None
     os.makedirs(place(), exist_ok=True)
-    print(f"sfq: {suite}: making {folder_of(suite)}, which takes some minutes", flush=True)
-    words = [sys.executable, "-B", f"{repository.ROOT}/tools/peer_folder.py", "make", folder_of(suite), "--suite", suite]
-    with Beat(f"debootstrap {suite}"):
-        status, out, err = run_command(words)
-    return " ".join((out + err).splitlines()[-1:]) if status else None
+    print(f"sfq: {suite}: making {folder}, which takes some minutes", flush=True)
+    beside = f"{folder}.new"
+    shutil.rmtree(beside, ignore_errors=True)
+    why = run_folder(f"debootstrap {suite}", "make", beside, "--suite", suite, *(["--bare", *packages] if packages else []))
+    if why is None:
+        os.rename(beside, folder)
+    return why
 
 
 # ---- the tests ----
@@ -171,9 +201,23 @@ def tried(suite: str, rim: Rim, file: str, tests: Sequence[str] = ()) -> Report:
         results = f"{room}/results"
         words = ["python3", "-B", f"{repository.ROOT}/tools/system_tests.py", file, "short", results[len(folder):], *tests]
         words = [sys.executable, "-B", f"{repository.ROOT}/tools/peer_folder.py", "run", folder, *words]
-        status, out, err = run_command(words)
-        rows = [json.loads(it) for it in read(results).splitlines()]
-    alone = f"./test --today {suite} {rim.name}"
+        return reported(suite, rim.name, file, words, results)
+
+
+def tried_here(suite: str) -> Report:
+    """Runs the tests of a suite's packages, which go into its folders themselves, and returns what came of them."""
+    with tempfile.TemporaryDirectory(prefix="sfq-today-") as room:
+        results = f"{room}/results"
+        tests = [f"{INSTALLED}.{it}.test_{suite}" for it in ("Wheel", "DebianPackages", "Joins")]
+        words = [sys.executable, "-B", f"{repository.ROOT}/tools/system_tests.py", INSTALLED, "all", results, *tests]
+        return reported(suite, PACKAGES, INSTALLED, words, results)
+
+
+def reported(suite: str, name: str, file: str, words: Sequence[str], results: str) -> Report:
+    """Runs a command that runs a file of tests, and returns what it wrote of them."""
+    status, out, err = run_command(words)
+    rows = [json.loads(it) for it in read(results).splitlines()]
+    alone = f"./test --today {suite} {name}"
     failures = [Failure(f"{suite} {it['name']}", it["text"], alone) for it in rows if it["what"] == "failed"]
     if status:
         failures.append(Failure(f"{suite} {file}", f"{out}{err}\nThe tests of this file ended with status {status}.", alone))
@@ -183,13 +227,14 @@ def tried(suite: str, rim: Rim, file: str, tests: Sequence[str] = ()) -> Report:
 
 def try_suite(counts: Counts, suite: str, rims: Sequence[Rim] = RIMS) -> Found:
     """Runs the tests of rims in a suite's folder."""
-    why = lacks(suite) or make(suite)
+    folder = folder_of(suite)
+    why = lacks(folder) or make(suite, folder)
     if why:
         counts.take(suite, Report(skipped=[Skipped(f"{suite} {it.name}", f"{suite}: {why}") for it in rims]), 0)
         return Found({}, [])
     for rim in rims:
-        install(suite, rim)
-    known = versions(folder_of(suite))
+        install(suite, folder, rim.packages)
+    known = versions(folder)
     print(f"sfq: {suite}: {', '.join(f'{name} {number}' for name, number in known.items())}", flush=True)
     good = []
     for rim in rims:
@@ -201,6 +246,21 @@ def try_suite(counts: Counts, suite: str, rims: Sequence[Rim] = RIMS) -> Found:
         if counts.passed > before[0] and len(counts.failures) == before[1]:
             good.append(rim.name)
     return Found(known, good)
+
+
+def try_packages(counts: Counts, suite: str) -> None:
+    """Installs what `./build --dist` makes in two folders of a suite."""
+    is_of_peers = suite in peer_folder.SUITES
+    for folder, packages, only in ((bare_folder_of(suite), PYTHON, PYTHON), (folder_of(suite), JOINS, () if is_of_peers else JOINS)):
+        why = lacks(folder) or make(suite, folder, only)
+        if why:
+            counts.take(suite, Report(skipped=[Skipped(f"{suite} {PACKAGES}", f"{suite}: {why}")]), 0)
+            return
+        install(suite, folder, packages)
+    begun, known = time.monotonic(), versions(folder_of(suite))
+    print(f"sfq: {suite}: {', '.join(f'{it} {known[it]}' for it in ('Python', 'GeoPandas', 'shapely') if it in known)}", flush=True)
+    with Beat(f"{suite}: {INSTALLED}"):
+        counts.take(f"{suite}: {INSTALLED}", tried_here(suite), time.monotonic() - begun)
 
 
 # ---- the table ----
@@ -218,9 +278,9 @@ def row(rim: Rim, tries: Sequence[dict[str, str]]) -> str:
 
 
 def with_rows(text: str, found: Sequence[Found], here: dict[str, str], rims: Sequence[Rim] = RIMS) -> str:
-    """Returns the document with new rows of rims: of the versions here, and of those in each suite where the tests passed."""
+    """Returns the document with new rows of the rims whose tests passed in a suite: of the versions here and there."""
     head, table, tail = cut(text)
-    for rim in rims:
+    for rim in (it for it in rims if any(it.name in suite.good for suite in found)):
         new = row(rim, [here, *(it.versions for it in found if rim.name in it.good)])
         table = [new if it.startswith(f"| {rim.name} |") else it for it in table]
     return head + "".join(table) + tail
@@ -239,15 +299,27 @@ def cut(text: str) -> tuple[str, list[str], str]:
 
 def main(words: Sequence[str]) -> int:
     """Does what the words behind `--today` say. Returns the status: 2 for words that it doesn't know."""
-    suites = [it for it in peer_folder.SUITES if it in words]
     rims = [it for it in RIMS if it.name in words]
-    if set(words) - {"--write", *suites, *(it.name for it in rims)}:
+    suites = [it for it in DEBIANS if it in words] or DEBIANS
+    if set(words) - {"--write", *DEBIANS, PACKAGES, *(it.name for it in rims)}:
         return 2
     if not library.are_made():
         print("sfq: no libraries to try: run ./build --library", file=sys.stderr)
         return 1
     counts = Counts()
-    found = [try_suite(counts, it, rims or RIMS) for it in suites or peer_folder.SUITES]
-    if "--write" in words and not counts.failures:
-        repository.write_whole(DOCUMENT, with_rows(repository.read(DOCUMENT), found, versions(), rims or RIMS))
+    tries = rims or ([] if PACKAGES in words else RIMS)
+    found = [try_suite(counts, it, tries) for it in peer_folder.SUITES if tries and it in suites]
+    for it in suites if PACKAGES in words or not rims else ():
+        try_packages(counts, it)
+    if "--write" in words:
+        write_table(found, tries, counts)
     return counts.close()
+
+
+def write_table(found: Sequence[Found], rims: Sequence[Rim], counts: Counts) -> None:
+    """Writes the rows of rims into the table of the document, if nothing failed, and prints which."""
+    good = [] if counts.failures else [it.name for it in rims if any(it.name in suite.good for suite in found)]
+    if good:
+        repository.write_whole(DOCUMENT, with_rows(repository.read(DOCUMENT), found, versions(), rims))
+    name = os.path.relpath(DOCUMENT, repository.ROOT)
+    print(f"sfq: {name} has new rows of {', '.join(good)}" if good else f"sfq: {name} is as it was: {'a test failed' if counts.failures else 'nothing passed'}")
