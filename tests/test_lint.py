@@ -193,7 +193,7 @@ class Refused(unittest.TestCase):
 
     def test_more_than_is_recorded(self):
         tools = {**{f"tools/{it}.py": tool(it) for it in TOOLS}, **STAYS}
-        more = {**tools, "tools/long_lines.txt": "# Long.\none 1\n", "tools/common_facts.txt": "# Facts.\n"}
+        more = {**tools, "tools/long_lines.txt": "# Of long and same.\none 1\n", "tools/common_facts.txt": "# Facts.\n"}
         long = "long : One\nlong = " + "x" * 124 + "\n"
         status, lines = self.found("crates/one/proofs/Ones.antt", long, more)
         self.assertEqual((status, lines[0].split()[:2]), (0, ["crates", "1"]), lines)

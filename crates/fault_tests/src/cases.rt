@@ -1,4 +1,4 @@
-//! Queries, the tables that they are asked over, and their answers, which were worked out by hand.
+//! Queries, the tables over which they run, and their answers, which were worked out by hand.
 
 use std::alloc::{AllocError, Global};
 
@@ -15,7 +15,7 @@ const PLACES_SCHEMA: &str = "CREATE TABLE t (id INTEGER PRIMARY KEY, pop INT, ge
 
 const PLACES: &[u8] = b"id,pop,geom\n3,9,POINT(9 9)\n1,2,POINT(1 1)\n2,7,\n";
 
-/// Queries over a table one of whose geometries is NULL.
+/// Queries over a table in which one geometry is NULL.
 pub(crate) const WITH_NULL: &[Case<'static>] = &[
     Case {
         schema: PLACES_SCHEMA,
@@ -39,7 +39,7 @@ pub(crate) const WITH_NULL: &[Case<'static>] = &[
     },
 ];
 
-/// The geometries that equal an empty one: all empty ones, of each type.
+/// The geometries that equal an empty one: all empty ones, of every type.
 pub(crate) const EQUAL_EMPTIES: Case<'static> = Case {
     schema: "CREATE TABLE e (id INTEGER PRIMARY KEY, geom GEOMETRY);",
     tables: &[b"id,geom\n1,POINT EMPTY\n2,LINESTRING EMPTY\n3,POINT(0 0)\n4,\n5,POLYGON EMPTY\n"],
@@ -47,7 +47,7 @@ pub(crate) const EQUAL_EMPTIES: Case<'static> = Case {
     answer: "id\n1\n2\n5\n",
 };
 
-/// A query without geometries, whose answer has a text.
+/// A query without geometries. Its answer has a text.
 pub(crate) const NAMES: Case<'static> = Case {
     schema: "CREATE TABLE t (id INTEGER PRIMARY KEY, pop INTEGER, name TEXT);",
     tables: &[b"id,pop,name\n1,8,a\n2,9,b\n3,,c\n4,7,\n"],
@@ -58,13 +58,13 @@ pub(crate) const NAMES: Case<'static> = Case {
 const JOIN_SCHEMA: &str = "CREATE TABLE big (id INTEGER PRIMARY KEY, geom POINT);
 CREATE TABLE sq (id INTEGER PRIMARY KEY, geom POLYGON);";
 
-/// Two squares with an edge in common.
+/// Two squares with a common edge.
 pub(crate) const SQUARES: &[u8] = b"id,geom
 1,\"POLYGON((0 0,4 0,4 4,0 4,0 0))\"
 2,\"POLYGON((4 0,8 0,8 4,4 4,4 0))\"
 ";
 
-/// So many points at height 1, the one with the key k at k.
+/// This many points at height 1. The one with the key k has the x k.
 pub(crate) fn points(alloc: Global, count: u8) -> Result<String, AllocError> {
     let mut text = String::from_str(alloc, "id,geom\n")?;
     for k in 1..=count {
@@ -73,7 +73,7 @@ pub(crate) fn points(alloc: Global, count: u8) -> Result<String, AllocError> {
     Ok(text)
 }
 
-/// The join of points with squares, of which the tables are handed in.
+/// The join of points with squares. The caller passes the tables.
 pub(crate) fn joined<'t>(tables: &'t [&'t [u8]]) -> Case<'t> {
     Case {
         schema: JOIN_SCHEMA,
@@ -83,7 +83,7 @@ pub(crate) fn joined<'t>(tables: &'t [&'t [u8]]) -> Case<'t> {
     }
 }
 
-/// What EXPLAIN ANALYZE prints of the same join.
+/// What EXPLAIN ANALYZE prints for that join.
 pub(crate) fn analyzed<'t>(tables: &'t [&'t [u8]]) -> Case<'t> {
     Case {
         schema: JOIN_SCHEMA,
@@ -94,7 +94,7 @@ pub(crate) fn analyzed<'t>(tables: &'t [&'t [u8]]) -> Case<'t> {
     }
 }
 
-/// How many of its pairs there are.
+/// The number of pairs of that join.
 pub(crate) fn pairs_counted<'t>(tables: &'t [&'t [u8]]) -> Case<'t> {
     Case {
         schema: JOIN_SCHEMA,

@@ -1,5 +1,5 @@
-//! Runs of which each growth of memory is refused in turn: out of memory or the whole answer, and again the whole answer
-//! afterwards.
+//! Runs in which each allocation fails in turn. Each run either runs out of memory or writes the whole answer. Another
+//! run afterwards writes the whole answer.
 
 use crate::cases::{
     Case, EQUAL_EMPTIES, SQUARES, WITH_NULL, analyzed, joined, pairs_counted, points,
@@ -14,8 +14,8 @@ use std::alloc::Global;
 use std::test::Fail;
 use wkt::MemorySink;
 
-/// Whether a run may end so: it wrote the whole answer, or a beginning of it before memory was refused to itself or to its
-/// sink. This is no ending where no growth was refused.
+/// Whether a run may end like this: it wrote the whole answer, or a beginning of it if an allocation of its own or of
+/// its sink failed. Running out of memory isn't allowed if no allocation failed.
 fn is_allowed(
     ended: &Result<Work, Fault>,
     sink: &MemorySink,
@@ -30,7 +30,7 @@ fn is_allowed(
     }
 }
 
-/// Whether a run ends as it may where the growth of this number is refused (0: none), and whether it came to that growth.
+/// Whether a run ends as it may if the allocation with this number fails (0: none), and whether the run reached that allocation.
 fn run_refused(
     alloc: Global,
     schema: &Schema,
@@ -50,7 +50,7 @@ fn run_refused(
     Ok((allowed, refused))
 }
 
-/// Refuses each growth of a run in turn, until a run meets none. After each the same is run again, with all its memory.
+/// Makes each allocation of a run fail in turn, until none fails. After each, the run is repeated with all memory.
 fn sweep(alloc: Global, case: &Case<'_>) -> Result<(), Fail> {
     let schema = read_schema(alloc, case.schema.as_bytes())?;
     for number in 1..MOST {

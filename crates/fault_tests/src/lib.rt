@@ -1,5 +1,5 @@
-//! Tests in which growths of memory, reads and writes are refused, each in turn, and growths are counted. Growths are refused
-//! and counted where the tests run under the library of tests/faults; elsewhere these tests see none.
+//! Tests in which allocations, reads and writes fail, each in turn, and allocations are counted. Allocations fail and
+//! are counted if the tests run with the library of tests/faults; without it these tests see none.
 #![tactic(auto)]
 
 #[cfg(test)]

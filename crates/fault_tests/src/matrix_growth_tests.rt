@@ -1,5 +1,5 @@
-//! No matrix is computed for a candidate that a probe or an earlier filter ruled out. Small matrices take no memory, so these are
-//! of lines with many positions, whose growths of memory are counted.
+//! No matrix is computed for a candidate that a probe or an earlier filter ruled out. Small matrices allocate nothing,
+//! so these tests use lines with many positions, and count allocations.
 
 use crate::growths::are_counted;
 use crate::stream_tests::{Spent, find_all};
@@ -8,11 +8,11 @@ use std::test::Fail;
 
 const SCHEMA: &str = "CREATE TABLE shore (id INTEGER PRIMARY KEY, geom LINESTRING);";
 
-/// How wide a line is.
+/// The width of a line.
 const LAST: i32 = 60;
 
-/// A line that goes up and down by turns, from x on, 4 high. It goes up where one whose y is odd goes down, and the other way
-/// round, so the two cross many times. Or, where it isn't long, the straight line with the same envelope.
+/// A line from x on that goes up and down by turns, 4 high. A line with an odd y goes up where one with an even y goes
+/// down, so the two cross many times. If it isn't long, it is the straight line with the same envelope.
 fn line(alloc: Global, x: i32, y: i32, is_long: bool) -> Result<String, AllocError> {
     let last = x.saturating_add(LAST);
     let top = y.saturating_add(4);
@@ -30,7 +30,7 @@ fn line(alloc: Global, x: i32, y: i32, is_long: bool) -> Result<String, AllocErr
     Ok(text)
 }
 
-/// A table of so many lines that cross the asked one, and of others behind them, far from it.
+/// A table of `near` lines that cross the line of the query, and of `far` others after them, far from it.
 fn shores(alloc: Global, near: u8, far: u8, is_long: bool) -> Result<String, AllocError> {
     let mut text = String::from_str(alloc, "id,geom\n")?;
     for id in 0..near.saturating_add(far) {
@@ -42,7 +42,7 @@ fn shores(alloc: Global, near: u8, far: u8, is_long: bool) -> Result<String, All
     Ok(text)
 }
 
-/// What a query takes over so many lines that cross the asked one, and others. In its condition, `line` is the asked one.
+/// What a query needs over `near` lines that cross the query's line, and `far` others. In the condition, `line` is that line.
 fn asked(alloc: Global, near: u8, far: u8, condition: &str) -> Result<Spent, Fail> {
     let (before, behind) = condition.split_once("line").ok_or("no line")?;
     let line = line(alloc, 0, 0, true)?;
@@ -53,7 +53,7 @@ fn asked(alloc: Global, near: u8, far: u8, condition: &str) -> Result<Spent, Fai
     find_all(alloc, SCHEMA, &table, &query)
 }
 
-/// Each matrix of such lines takes memory.
+/// Each matrix of such lines allocates.
 #[test]
 fn growths_rise_with_the_work(rt: HostRuntime) -> Result<(), Fail> {
     let mut before = 0;
@@ -66,7 +66,7 @@ fn growths_rise_with_the_work(rt: HostRuntime) -> Result<(), Fail> {
     Ok(())
 }
 
-/// Rows that a filter ruled out before take nothing, wherever it is in the text.
+/// Rows that an earlier filter ruled out need nothing, wherever that filter is in the text.
 #[test]
 fn ruled_out_by_a_filter(rt: HostRuntime) -> Result<(), Fail> {
     for condition in &[
@@ -85,7 +85,7 @@ fn ruled_out_by_a_filter(rt: HostRuntime) -> Result<(), Fail> {
     Ok(())
 }
 
-/// Rows whose envelope the probe didn't find take nothing, nor those that it found and a filter ruled out.
+/// Rows whose envelope the probe didn't find need nothing, nor do those that it found and a filter ruled out.
 #[test]
 fn ruled_out_by_a_probe(rt: HostRuntime) -> Result<(), Fail> {
     let few = asked(rt.alloc(), 4, 1, "ST_Crosses(geom, line)")?;
@@ -98,7 +98,7 @@ fn ruled_out_by_a_probe(rt: HostRuntime) -> Result<(), Fail> {
     Ok(())
 }
 
-/// What the join of a table of lines with itself takes, which are all long or all straight.
+/// What the join of a table of lines with itself needs. The lines are all long or all straight.
 fn joined(alloc: Global, condition: &str, is_long: bool) -> Result<Spent, Fail> {
     let table = shores(alloc, 6, 6, is_long)?;
     let query = format!(in alloc;
@@ -107,8 +107,8 @@ fn joined(alloc: Global, condition: &str, is_long: bool) -> Result<Spent, Fail> 
     find_all(alloc, SCHEMA, &table, &query)
 }
 
-/// Pairs that the probe found and a filter ruled out take what the probe takes: as much of long lines as of straight ones, whose
-/// matrices take nothing.
+/// Pairs that the probe found and a filter ruled out need what the probe needs: as much for long lines as for straight
+/// ones, whose matrices need nothing.
 #[test]
 fn pairs_that_a_filter_rules_out(rt: HostRuntime) -> Result<(), Fail> {
     for condition in &["a.id < 0", "b.id < 0"] {

@@ -1,5 +1,5 @@
-//! Runs of which each read of each table fails in turn: L11 of that table with nothing written, or the whole answer where the
-//! read is never made.
+//! Runs in which each read of each table fails in turn. The result is L11 of that table with nothing written, or the
+//! whole answer if the read is never made.
 
 use crate::cases::{Case, EQUAL_EMPTIES, NAMES, SQUARES, WITH_NULL, joined, points};
 use engine::{Fault, run};
@@ -11,7 +11,7 @@ use std::test::Fail;
 use wkt::MemorySink;
 use wkt::devices::StopReader;
 
-/// The readers of tables, of which one fails at its read of this number.
+/// The readers of tables. One of them fails at its read with this number.
 fn readers_of<'t>(
     alloc: Global,
     tables: &[&'t [u8]],
@@ -30,7 +30,7 @@ fn readers_of<'t>(
     Ok(readers)
 }
 
-/// Whether a run fails where this read of this table does, as it may only be. An answer is an error unless it is whole.
+/// Whether a run fails if this read of this table does. An answer that isn't complete is an error.
 fn fails(
     alloc: Global,
     schema: &Schema,
@@ -54,7 +54,7 @@ fn fails(
     }
 }
 
-/// How many reads of a table a run makes: each of them fails in turn.
+/// The number of reads of a table in a run. Each of them fails in turn.
 fn reads(alloc: Global, schema: &Schema, case: &Case<'_>, table: usize) -> Result<u64, Fail> {
     for read in 1..1000u64 {
         if !fails(alloc, schema, case, table, read)? {
@@ -64,7 +64,7 @@ fn reads(alloc: Global, schema: &Schema, case: &Case<'_>, table: usize) -> Resul
     Err(Fail::from("reads without an end"))
 }
 
-/// Whether each read of each table may fail. There are at least two, that of the text and that of its end.
+/// Whether each read of each table may fail. There are at least two: that of the text and that of its end.
 fn may_fail(alloc: Global, case: &Case<'_>) -> Result<bool, Fail> {
     let schema = read_schema(alloc, case.schema.as_bytes())?;
     for table in 0..case.tables.len() {

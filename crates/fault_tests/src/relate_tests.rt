@@ -1,4 +1,4 @@
-//! Two texts to their matrix, where each growth of memory is refused in turn.
+//! The matrix of two texts, while each allocation fails in turn.
 
 use crate::growths::{MOST, refuse, were_at_least};
 use de9im::{Matrix, Work, relate};
@@ -37,10 +37,10 @@ fn matrix_of(alloc: Global, first: &[u8], second: &[u8]) -> Result<Matrix, Refus
     matrix.map_err(|_| Refusal::OutOfMemory)
 }
 
-/// The texts of two geometries, and of their matrix.
+/// The texts of two geometries, and their matrix.
 type Related = (&'static [u8], &'static [u8], [u8; 9]);
 
-/// Refuses the growth of this number (0: none). Whether there is the matrix, or memory was refused; and whether the growth came.
+/// Relates two texts while one allocation fails (0: none does). Whether the result is allowed, and whether it got that far.
 fn relate_refused(alloc: Global, (first, second, wanted): Related, number: usize) -> (bool, bool) {
     refuse(alloc, number);
     let matrix = matrix_of(alloc, first, second);
@@ -53,7 +53,7 @@ fn relate_refused(alloc: Global, (first, second, wanted): Related, number: usize
     (allowed, refused)
 }
 
-/// Refuses each growth in turn, until none is met. After each the same is done again, with all its memory.
+/// Makes each allocation fail in turn, until none fails. After each, the matrix is computed again with all memory.
 fn sweep(alloc: Global, related: Related) -> Result<(), Fail> {
     for number in 1..MOST {
         let (allowed, refused) = relate_refused(alloc, related, number);
@@ -68,7 +68,7 @@ fn sweep(alloc: Global, related: Related) -> Result<(), Fail> {
     Err(Fail::from("growths without an end"))
 }
 
-/// Two lines that cross, and areas with holes, elements and an edge in common.
+/// Two lines that cross, and areas with holes, elements and a common edge.
 #[test]
 fn texts_to_a_matrix(rt: HostRuntime) -> Result<(), Fail> {
     let lines: Related = (

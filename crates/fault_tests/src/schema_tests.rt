@@ -1,4 +1,4 @@
-//! Schemas that are read while each growth of memory is refused in turn: out of memory, or what is read with all memory.
+//! Schemas that are read while each allocation fails in turn: memory runs out, or the result is that with all memory.
 
 use crate::growths::{MOST, refuse, were_at_least};
 use feature_table::Schema;
@@ -14,7 +14,7 @@ const WITHOUT_KEY: &str = "CREATE TABLE place (id INTEGER, geom POINT);";
 const SAME_NAMES: &str =
     "CREATE TABLE place (id INTEGER PRIMARY KEY); CREATE TABLE Place (id INTEGER PRIMARY KEY);";
 
-/// How many columns each table of a schema has.
+/// The number of columns of each table of a schema.
 fn widths(alloc: Global, schema: &Schema) -> Result<Vec<usize>, Fail> {
     let mut widths = Vec::new(alloc);
     for table in schema.tables() {
@@ -23,7 +23,7 @@ fn widths(alloc: Global, schema: &Schema) -> Result<Vec<usize>, Fail> {
     Ok(widths)
 }
 
-/// Whether a text is read as tables of these widths, or is refused for this fault, or memory ran out where it was refused.
+/// Whether a text is read as tables of these widths or refused for this fault, or memory ran out because an allocation failed.
 fn is_allowed(
     alloc: Global,
     read: Result<Schema, SchemaFault>,
@@ -38,8 +38,8 @@ fn is_allowed(
     }
 }
 
-/// Reads a text while the growth of this number is refused (0: none). Whether what came of it is allowed, and whether it came to
-/// that growth.
+/// Reads a text while the allocation with this number fails (0: none). Returns whether the result is allowed, and
+/// whether that allocation was reached.
 fn read_refused(
     alloc: Global,
     text: &str,
@@ -53,7 +53,7 @@ fn read_refused(
     Ok((is_allowed(alloc, read, wanted, refused)?, refused))
 }
 
-/// Refuses each growth in turn, until none is met. After each the text is read again, with all memory.
+/// Makes each allocation fail in turn, until none fails. After each, the text is read again with all memory.
 fn sweep(alloc: Global, text: &str, wanted: Result<&[usize], SchemaFault>) -> Result<(), Fail> {
     for number in 1..MOST {
         let (allowed, refused) = read_refused(alloc, text, wanted, number)?;

@@ -1,4 +1,4 @@
-//! How many growths of memory it takes to find all rows of a query.
+//! The number of allocations that finding all rows of a query needs.
 
 ghost use Rattle.table_model.specs.BoundQueries.{IsBound, geometry_fits};
 
@@ -13,7 +13,7 @@ use spatial_sql::{Bound, Query, bind, read_query, read_schema};
 use std::alloc::{AllocError, Global};
 use std::test::Fail;
 
-/// What it took to find all rows: growths of memory and matrices; and how many rows there are.
+/// What finding all rows needed, in allocations and matrices, and the number of rows.
 #[derive(Clone, Copy, Debug, PartialEq, Eq)]
 pub(crate) struct Spent {
     pub(crate) growths: usize,
@@ -21,7 +21,7 @@ pub(crate) struct Spent {
     pub(crate) rows: usize,
 }
 
-/// Takes rows to their end, and returns how many there were.
+/// Finds all rows, and returns their number.
 fn count_rows(rows: &mut Rows<'_, ListIndex>) -> Result<usize, AllocError> {
     let mut count: usize = 0;
     for _ in 0..1000u16 {
@@ -36,7 +36,7 @@ fn count_rows(rows: &mut Rows<'_, ListIndex>) -> Result<usize, AllocError> {
     Ok(count)
 }
 
-/// What it takes to find all rows of a stream.
+/// What finding all rows of a stream needs.
 fn find_all_of(alloc: Global, mut stream: Rows<'_, ListIndex>) -> Result<Spent, AllocError> {
     refuse(alloc, 0);
     let rows = count_rows(&mut stream)?;
@@ -49,7 +49,7 @@ fn find_all_of(alloc: Global, mut stream: Rows<'_, ListIndex>) -> Result<Spent, 
     })
 }
 
-/// What it takes to find all rows of a bound query, by the plan that is chosen.
+/// What finding all rows of a bound query needs, by the chosen plan.
 fn find_all_bound(
     alloc: Global,
     database: &Database<'_, ListIndex>,
@@ -61,7 +61,7 @@ fn find_all_bound(
     find_all_of(alloc, Rows::new(alloc, database, bound, &plan, Work::new()))
 }
 
-/// Finds all rows of a query that was read, by the plan that is chosen.
+/// Finds all rows of a query that was read, by the chosen plan.
 fn find_all_by(
     alloc: Global,
     database: &Database<'_, ListIndex>,
@@ -71,7 +71,7 @@ fn find_all_by(
     Ok(find_all_bound(alloc, database, &bound)?)
 }
 
-/// Finds all rows of the text of a query, by the plan that is chosen.
+/// Finds all rows of the text of a query, by the chosen plan.
 fn find_all_over(
     alloc: Global,
     database: &Database<'_, ListIndex>,
@@ -81,7 +81,7 @@ fn find_all_over(
     find_all_by(alloc, database, &query)
 }
 
-/// The one table of a schema, loaded of this text.
+/// Loads the only table of a schema from this text.
 fn database_of<'s>(
     alloc: Global,
     schema: &'s Schema,
@@ -94,7 +94,7 @@ fn database_of<'s>(
     Ok(Database::load(alloc, schema, readers)?)
 }
 
-/// What it takes to find all rows of a query over one table of this text.
+/// What finding all rows of a query over one table with this text needs.
 pub(crate) fn find_all(
     alloc: Global,
     schema: &str,
@@ -114,7 +114,7 @@ const NOTHING_LEFT: &str = "SELECT id FROM big \
 const PROBED: &str = "SELECT id FROM big \
     WHERE ST_Intersects(geom, ST_GeomFromText('POLYGON((0 0,4 0,4 4,0 4,0 0))'))";
 
-/// No row is left for a matrix, and none takes memory.
+/// No row is left for a matrix, and no row allocates.
 #[test]
 fn rows_that_a_filter_rules_out(rt: HostRuntime) -> Result<(), Fail> {
     let big = points(rt.alloc(), 100)?;
@@ -123,7 +123,7 @@ fn rows_that_a_filter_rules_out(rt: HostRuntime) -> Result<(), Fail> {
     Ok(())
 }
 
-/// A probe of four candidates takes as much over 100 rows as over the first five.
+/// A probe with four candidates needs as much over 100 rows as over the first five.
 #[test]
 fn rows_that_a_probe_rules_out(rt: HostRuntime) -> Result<(), Fail> {
     let big = points(rt.alloc(), 100)?;

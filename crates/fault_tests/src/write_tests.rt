@@ -1,4 +1,4 @@
-//! Runs of which each put fails in turn: the sink's fault, and a beginning of the answer.
+//! Runs in which each write fails in turn. The result is the sink's fault, and a beginning of the answer.
 
 use crate::cases::{
     Case, EQUAL_EMPTIES, NAMES, SQUARES, WITH_NULL, analyzed, joined, pairs_counted, points,
@@ -11,7 +11,7 @@ use std::test::Fail;
 use wkt::devices::{StopSink, ZeroWriter};
 use wkt::{Sink, StdSink};
 
-/// Runs a query into a sink. Returns whether the sink failed; no other fault may come.
+/// Runs a query into a sink. Returns whether the sink failed. Any other fault is an error.
 fn fails_into<S: Sink>(alloc: Global, case: &Case<'_>, sink: &mut S) -> Result<bool, Fail> {
     let schema = read_schema(alloc, case.schema.as_bytes())?;
     let readers = Vec::from_slice(alloc, case.tables)?;
@@ -25,7 +25,7 @@ fn fails_into<S: Sink>(alloc: Global, case: &Case<'_>, sink: &mut S) -> Result<b
     }
 }
 
-/// What a sink took that fails at the put of this number and takes so many bytes a call; None where it never failed.
+/// Runs a query into a sink that fails at one write and accepts `piece` bytes a call. Returns whether it failed, and the sink.
 fn taken(
     alloc: Global,
     case: &Case<'_>,
@@ -44,7 +44,7 @@ fn taken(
     Ok((failed, sink))
 }
 
-/// How many puts a run makes into a sink that takes so many bytes a call: each of them fails in turn.
+/// The number of writes of a run into a sink that accepts this many bytes a call. Each of them fails in turn.
 fn puts(alloc: Global, case: &Case<'_>, piece: usize) -> Result<usize, Fail> {
     for put in 1..1000u16 {
         let (failed, _) = taken(alloc, case, u64::from(put), piece)?;
@@ -55,7 +55,7 @@ fn puts(alloc: Global, case: &Case<'_>, piece: usize) -> Result<usize, Fail> {
     Err(Fail::from("puts without an end"))
 }
 
-/// Whether each put may fail, of whole pieces and of one byte a call. Of these there are as many as the answer has bytes.
+/// Whether each write may fail, of whole pieces and of one byte a call. With one byte a call, there is one for each byte.
 fn may_fail(alloc: Global, case: &Case<'_>) -> Result<bool, Fail> {
     let whole = puts(alloc, case, usize::MAX)?;
     let bytes = puts(alloc, case, 1)?;
@@ -82,7 +82,7 @@ fn each_put_of_a_join(rt: HostRuntime) -> Result<(), Fail> {
     Ok(())
 }
 
-/// A record a put, or a byte a put: what was taken before one failed.
+/// What was accepted before a write failed, with one record a write or one byte a write.
 #[test]
 fn exact_beginnings(rt: HostRuntime) -> Result<(), Fail> {
     for (put, piece, wanted) in &[
@@ -96,7 +96,7 @@ fn exact_beginnings(rt: HostRuntime) -> Result<(), Fail> {
     Ok(())
 }
 
-/// The header is the whole answer of a query without rows, and its put fails too.
+/// For a query without rows, the header is the whole answer, and its write fails too.
 #[test]
 fn a_header_alone(rt: HostRuntime) -> Result<(), Fail> {
     let case = Case {
@@ -109,7 +109,7 @@ fn a_header_alone(rt: HostRuntime) -> Result<(), Fail> {
     Ok(())
 }
 
-/// A sink of one byte a call that never fails gets the same text.
+/// A sink that accepts one byte a call and never fails gets the same text.
 #[test]
 fn a_byte_a_call(rt: HostRuntime) -> Result<(), Fail> {
     let (failed, sink) = taken(rt.alloc(), &NAMES, 0, 1)?;
@@ -117,7 +117,7 @@ fn a_byte_a_call(rt: HostRuntime) -> Result<(), Fail> {
     Ok(())
 }
 
-/// A writer that takes no byte of a piece has failed.
+/// A writer that accepts no byte of a piece has failed.
 #[test]
 fn a_writer_that_takes_nothing(rt: HostRuntime) -> Result<(), Fail> {
     for case in WITH_NULL {

@@ -19,7 +19,7 @@ fn each_pair_has_a_line(rt: HostRuntime) -> Result<(), Fail> {
     Ok(())
 }
 
-/// A refused geometry has its line, and the run goes on. A record of another length ends it.
+/// A refused pair has its line, and the run continues. A record without two fields ends the run.
 #[test]
 fn refusals_are_lines(rt: HostRuntime) -> Result<(), Fail> {
     let text = b"POINT(1 1),\"LINESTRING(3 3,3 3)\"\nPOINT(1,POINT(1 1)\nPOINT(1 1)\n".as_slice();
@@ -35,7 +35,7 @@ fn refusals_are_lines(rt: HostRuntime) -> Result<(), Fail> {
     Ok(())
 }
 
-/// Words as texts of their own.
+/// Copies words.
 fn words_of(alloc: Global, words: &[&str]) -> Result<Vec<String>, AllocError> {
     let mut texts = Vec::new(alloc);
     for word in words {
@@ -44,7 +44,7 @@ fn words_of(alloc: Global, words: &[&str]) -> Result<Vec<String>, AllocError> {
     Ok(texts)
 }
 
-/// Whether words have a page that begins like this.
+/// Whether words have a page with this beginning.
 fn has_page(alloc: Global, words: &[&str], begin: &str) -> Result<bool, AllocError> {
     let words = words_of(alloc, words)?;
     let page = page_of(alloc, words.as_slice())?;

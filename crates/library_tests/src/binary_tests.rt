@@ -1,5 +1,5 @@
-//! Well-known binary, and doubles on a grid. The first two values are in the manuals of Shapely and PostGIS; the others are worked by
-//! hand.
+//! Well-known binary, and doubles on a grid. The first two values are in the manuals of Shapely and PostGIS; the others
+//! are worked out by hand.
 
 use std::alloc::Global;
 use std::test::Fail;
@@ -7,7 +7,7 @@ use streams::{MemorySink, put_all};
 use wkb::{Axis, BinaryFault, Grid, Refusal, Rounding, read};
 use wkt::print;
 
-/// The text of the geometry that bytes are on the grid of whole numbers and the number of its reference system, or why they are none.
+/// The text of the geometry that bytes become on the grid of whole numbers and the number of its reference system, or their fault.
 fn said(alloc: Global, bytes: &[u8]) -> Result<MemorySink, Fail> {
     let mut sink = MemorySink::new(alloc);
     match read(alloc, bytes, &Grid::of_whole_numbers()) {
@@ -24,7 +24,7 @@ fn said(alloc: Global, bytes: &[u8]) -> Result<MemorySink, Fail> {
     Ok(sink)
 }
 
-/// Bytes, and what is said of them.
+/// Bytes, and what `said` returns for them.
 const KNOWN: [(&[u8], &str); 31] = [
     (
         b"\x01\x01\x00\x00\x00\x00\x00\x00\x00\x00\x00\x00\x00\x00\x00\x00\x00\x00\x00\x00\x00",
@@ -149,7 +149,7 @@ fn known_values(rt: HostRuntime) -> Result<(), Fail> {
     Ok(())
 }
 
-/// A line whose positions are at these xs, each at y 0.
+/// A line whose positions have these xs and y 0.
 fn line(alloc: Global, count: u32, xs: &[u64]) -> Result<Vec<u8>, Fail> {
     let mut bytes = Vec::new(alloc);
     bytes.extend_from_slice(&[1, 2, 0, 0, 0])?;
@@ -161,7 +161,7 @@ fn line(alloc: Global, count: u32, xs: &[u64]) -> Result<Vec<u8>, Fail> {
     Ok(bytes)
 }
 
-/// So many positions at 0, 1, 0 and so on, of which each repeats the one before it `twice` or not.
+/// A line of `count` positions at 0, 1, 0 and so on. Each position comes twice if `twice` is true.
 fn zigzag(alloc: Global, count: u32, twice: bool) -> Result<Vec<u8>, Fail> {
     let mut xs = Vec::new(alloc);
     for index in 0..count {
@@ -175,7 +175,7 @@ fn zigzag(alloc: Global, count: u32, twice: bool) -> Result<Vec<u8>, Fail> {
     line(alloc, count, xs.as_slice())
 }
 
-/// What rounding did to a line that is moved by no grid, or its refusal.
+/// What rounding did to a line on the grid of whole numbers, or its refusal.
 fn rounded(alloc: Global, bytes: &[u8]) -> Result<Rounding, BinaryFault> {
     Ok(read(alloc, bytes, &Grid::of_whole_numbers())?.rounding)
 }
@@ -193,7 +193,7 @@ fn positions_up_to_the_limit(rt: HostRuntime) -> Result<(), Fail> {
     Ok(())
 }
 
-/// A MULTILINESTRING of so many lines of one position.
+/// A MULTILINESTRING of `count` lines of one position.
 fn lines(alloc: Global, count: u32) -> Result<Vec<u8>, Fail> {
     let mut bytes = Vec::new(alloc);
     bytes.extend_from_slice(&[1, 5, 0, 0, 0])?;
@@ -216,10 +216,10 @@ fn lines_up_to_the_limit(rt: HostRuntime) -> Result<(), Fail> {
     Ok(())
 }
 
-/// The bits of a double, and on an axis the coordinate, whether the double is exactly there, and its ticks from there.
+/// The bits of a double, and on an axis the coordinate, whether the double is exactly there, and its distance from there in ticks.
 type Row = (u64, Option<(i32, bool, u128)>);
 
-/// On whole numbers: halves go to the greater number, and what is less than a tick away doesn't count.
+/// On whole numbers: halves are rounded to the greater number, and what is less than a tick away doesn't count.
 const ON_WHOLE_NUMBERS: [Row; 12] = [
     (0x3FE0_0000_0000_0000, Some((1, false, 524_288))),
     (0xBFE0_0000_0000_0000, Some((0, false, 524_288))),
@@ -235,7 +235,7 @@ const ON_WHOLE_NUMBERS: [Row; 12] = [
     (0x7FEF_FFFF_FFFF_FFFF, None),
 ];
 
-/// From 564000.5 on in steps of 0.01, at 564000.5, .51, .505 and .495: none of the last three is a double.
+/// From 564000.5 on in steps of 0.01, at 564000.5, .51, .505 and .495. None of the last three is a double.
 const ON_HUNDREDTHS: [Row; 4] = [
     (0x4121_3641_0000_0000, Some((0, true, 0))),
     (0x4121_3641_051E_B852, Some((1, false, 0))),
@@ -304,7 +304,7 @@ fn a_grid_moves_positions(rt: HostRuntime) -> Result<(), Fail> {
     let found = read(rt.alloc(), bytes.as_slice(), &grid)?;
     let mut sink = MemorySink::new(rt.alloc());
     print(&found.geometry, &mut sink)?;
-    assert!(rt; sink.bytes() == b"LINESTRING(0 0,1 0,2 0)");
+    assert!(rt; sink.bytes() == b"LINESTRING(0 0,1 0,2 0)".as_slice());
     let wanted = Rounding {
         positions: 5,
         moved: 4,

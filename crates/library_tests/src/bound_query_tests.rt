@@ -1,4 +1,4 @@
-//! What names and conditions of a query are bound to, with places counted by hand.
+//! Bound queries: what names and conditions are bound to, with places counted by hand.
 
 use geometry_model::Predicate;
 use spatial_sql::{Bound, Cond, bind_to_tables, read_query, read_schema};
@@ -15,7 +15,7 @@ fn bound(alloc: Global, text: &str) -> Result<Bound, Fail> {
     Ok(bind_to_tables(alloc, &query, schema.tables())?)
 }
 
-/// Whether this is the name of the first reference.
+/// Whether the first reference has this name.
 fn names_first(references: &[Reference], name: &str) -> bool {
     match references {
         [first, ..] => first.name.as_slice() == name.as_bytes(),
@@ -23,7 +23,7 @@ fn names_first(references: &[Reference], name: &str) -> bool {
     }
 }
 
-/// Whether a column and the text of another one are selected, each given by its reference and its place.
+/// Whether the items are a column and the text of another one. Each is given by its reference and its place.
 fn selects(items: &[Item<ColumnPlace>], column: (usize, usize), text: (usize, usize)) -> bool {
     match items {
         [Item::Column(first), Item::AsText(second)] => {
@@ -33,7 +33,7 @@ fn selects(items: &[Item<ColumnPlace>], column: (usize, usize), text: (usize, us
     }
 }
 
-/// Whether this is NOT of ST_Within of a column and a geometry that isn't empty.
+/// Whether a condition is NOT of ST_Within of a column and a geometry that isn't empty.
 fn is_not_within(condition: &Cond) -> bool {
     let Cond::Not(within) = condition else {
         return false;
@@ -48,7 +48,7 @@ fn is_not_within(condition: &Cond) -> bool {
     }
 }
 
-/// Whether this compares something with a text.
+/// Whether a condition compares something with a text.
 fn compares_with(condition: &Cond, text: &[u8]) -> bool {
     match condition {
         Cond::Compare(_, _, Operand::Text(bytes)) => bytes.as_slice() == text,
@@ -56,7 +56,7 @@ fn compares_with(condition: &Cond, text: &[u8]) -> bool {
     }
 }
 
-/// Whether these are a NOT of ST_Within, ST_Relate, a comparison with this text, and one more.
+/// Whether conditions are a NOT of ST_Within, ST_Relate, a comparison with this text, and one more.
 fn are_conjuncts(conditions: &[Cond], text: &[u8]) -> bool {
     match conditions {
         [within, Cond::Relates(Predicate::Relate(_), _, _), named, _] => {
@@ -66,7 +66,7 @@ fn are_conjuncts(conditions: &[Cond], text: &[u8]) -> bool {
     }
 }
 
-/// Aliases as they are spelled, places of columns, conjuncts one after another, and a quote in a string.
+/// Binds aliases as they are spelled, places of columns, conjuncts in order, and a quote in a string.
 #[test]
 fn binds_every_part(rt: HostRuntime) -> Result<(), Fail> {
     let query = bound(

@@ -1,4 +1,4 @@
-//! The boxes over many edges.
+//! Boxes over many edges.
 
 use crate::shapes::{Place, position, segment};
 use edge_boxes::EdgeBoxes;
@@ -7,7 +7,7 @@ use rtree::Envelope;
 use std::alloc::Global;
 use std::test::Fail;
 
-/// A level line of edges of length 1, from (0 0) to (80 0).
+/// A horizontal line of edges of length 1, from (0 0) to (80 0).
 fn level_line(alloc: Global) -> Result<Vec<Segment>, Fail> {
     let mut edges = Vec::new(alloc);
     for x in 0..80 {
@@ -52,7 +52,7 @@ fn slanted_line(alloc: Global) -> Result<Vec<Segment>, Fail> {
     Ok(edges)
 }
 
-/// Whether one of the edges lies on the line of the segment between two places and shares more than an end with it.
+/// Whether one of the edges is on the line of the segment between two places and shares more than an end with it.
 fn overlaps_on_line(alloc: Global, edges: &[Segment], a: Place, b: Place) -> Result<bool, Fail> {
     let boxes = EdgeBoxes::build(alloc, edges)?;
     Ok(boxes.overlaps_on_line(edges, &segment(a, b)?))

@@ -28,7 +28,7 @@ const DIAGONAL: &str = "LINESTRING(-2 2,2 -2)";
 const SQUARE: &str = "POLYGON((0 0,4 0,4 4,0 4,0 0))";
 
 const FLOOR: &str = "LINESTRING(0 0,4 0)";
-/// Its right end is straight above the middle of the floor.
+/// A spike whose right end is just above the middle of the floor.
 const SPIKE: &str = "LINESTRING(1 5,2 3)";
 
 const UPRIGHT: &str = "LINESTRING(2 3,2 5)";
@@ -194,7 +194,7 @@ fn witness(
     Ok(numbers_of(&found.at(l, k)))
 }
 
-/// Whether the witness of a row's texts is the row's.
+/// Whether the witness of a row's texts is the one in the row.
 fn is_found(alloc: Global, row: &Row) -> Result<bool, Fail> {
     let (first, second, l, k, wanted) = row;
     let (first, second) = (valid(alloc, first)?, valid(alloc, second)?);

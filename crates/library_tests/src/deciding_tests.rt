@@ -1,5 +1,5 @@
-//! Intersects and Disjoint of pairs of which it is known by hand whether they share a point, each predicate of a point and a square,
-//! and Crosses and Overlaps of each two kinds.
+//! Intersects and Disjoint for pairs that are known to share a point or not, every predicate for a point and a square,
+//! and Crosses and Overlaps for each pair of kinds.
 
 use crate::shapes::valid;
 use de9im::{Predicate, Work, decide};
@@ -32,7 +32,7 @@ const PAIRS: [(&str, &str, bool); 11] = [
     ("POINT(10 5)", "LINESTRING(0 5,9 5)", false),
 ];
 
-/// Whether Intersects holds of two geometries exactly if they share a point, and Disjoint if they don't, each counted once.
+/// Whether Intersects holds exactly if two geometries share a point, and Disjoint if they don't. Each has to be counted once.
 fn are_decided(alloc: Global, pair: &(&str, &str, bool)) -> Result<bool, Fail> {
     let (first, second, shared) = *pair;
     let (first, second) = (valid(alloc, first)?, valid(alloc, second)?);
@@ -61,7 +61,7 @@ const PREDICATES: [Predicate; 8] = [
     Predicate::Overlaps,
 ];
 
-/// A point, and two predicates that alone hold of it and the square, and of the square and it.
+/// A point, the only two predicates that hold of the point and the square, and the only two of the square and the point.
 const POINTS: [(&str, [Predicate; 2], [Predicate; 2]); 4] = [
     (
         "POINT(4 4)",
@@ -85,7 +85,7 @@ const POINTS: [(&str, [Predicate; 2], [Predicate; 2]); 4] = [
     ),
 ];
 
-/// Whether of all predicates just these hold of two geometries, and each is counted once.
+/// Whether exactly these predicates hold of two geometries, and each is counted once.
 fn hold_alone(
     alloc: Global,
     first: &Valid,
@@ -113,7 +113,7 @@ fn points_and_a_square(rt: HostRuntime) -> Result<(), Fail> {
     Ok(())
 }
 
-/// Crosses or Overlaps of two geometries whose interiors and exteriors meet, and whether it holds by their kinds.
+/// Crosses or Overlaps, two geometries whose interiors and exteriors meet, and whether it holds, which depends on their kinds.
 const KINDS: [(Predicate, &str, &str, bool); 12] = [
     (Predicate::Overlaps, SQUARE, "LINESTRING(-1 4,10 5)", false),
     (Predicate::Overlaps, "LINESTRING(-1 4,10 5)", SQUARE, false),
@@ -164,7 +164,7 @@ const KINDS: [(Predicate, &str, &str, bool); 12] = [
     ),
 ];
 
-/// Whether a predicate is decided so, and counted once.
+/// Whether a predicate is decided as the row says, and counted once.
 fn is_so(alloc: Global, row: &(Predicate, &str, &str, bool)) -> Result<bool, Fail> {
     let (predicate, first, second, wanted) = *row;
     let (first, second) = (valid(alloc, first)?, valid(alloc, second)?);

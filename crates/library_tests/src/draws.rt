@@ -1,20 +1,20 @@
-//! Numbers that are drawn, the same in each run.
+//! Pseudorandom numbers, the same in each run.
 
 ghost use Rattle.std.specs.Prelude.{◌<◌};
 
-/// Numbers drawn one after another, by a linear congruential generator.
+/// Pseudorandom numbers from a linear congruential generator.
 #[derive(Drop)]
 pub(crate) struct Draws {
     state: u64,
 }
 
 impl Draws {
-    /// The numbers drawn from this one on.
+    /// The numbers that come after this seed.
     pub(crate) fn from_seed(seed: u64) -> Draws {
         Draws { state: seed }
     }
 
-    /// A number below the bound.
+    /// The next number below the bound.
     pub(crate) fn below(&mut self, bound: u64) -> u64
         requires { 0 < bound }
         ensures { result < bound }

@@ -1,4 +1,4 @@
-//! Worked rings and pairs of edges.
+//! Worked examples of rings and pairs of edges.
 
 use crate::shapes::{Place, position, segment};
 use edge_boxes::{clash, is_inside, is_not_closed, share_point};

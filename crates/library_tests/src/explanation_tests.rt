@@ -1,4 +1,4 @@
-//! Explanations of faults: the place that they show, and their sentence.
+//! Explanations of faults: the place that they name, and their sentence.
 
 use explanations::{
     Names, explained, file_explained, geometry_said, marked, nearest, path_shown, query_explained,
@@ -70,7 +70,7 @@ fn a_schema_is_explained(rt: HostRuntime) -> Result<(), Fail> {
     Ok(())
 }
 
-/// Of memory that ran out nothing is said, as when it runs out while an explanation is made.
+/// Running out of memory isn't explained, also if it happens while an explanation is made.
 #[test]
 fn memory_that_ran_out_is_not_explained(rt: HostRuntime) {
     let names = Names {
@@ -96,7 +96,7 @@ fn a_geometry_is_explained(rt: HostRuntime) -> Result<(), Fail> {
     Ok(())
 }
 
-/// The text of the file of a geometry, whose ring crosses itself.
+/// The text of a geometry's file. Its ring crosses itself.
 fn ring_of(file: File<'_>) -> Option<&'static [u8]> {
     match file {
         File::Geometry("ring.wkt") => Some(b"POLYGON((0 0,4 4,4 0,0 4,0 0))"),
@@ -104,11 +104,11 @@ fn ring_of(file: File<'_>) -> Option<&'static [u8]> {
     }
 }
 
-/// What explains a coordinate that isn't whole.
+/// The explanation of a coordinate that isn't a whole number.
 const HALF: &[u8] =
     b"  1 | POINT(1.5 2)\n    |       ^\nsfq: 1.5 isn't whole: scale the coordinates to a grid of whole numbers, of centimetres say; sfq-import does\n";
 
-/// What `relate` and `why` write of a refusal besides its line, where they are asked why, or aren't.
+/// What `relate` and `why` write about a refusal after its line, if they are asked to explain it or aren't.
 fn said_of(alloc: Global, why: bool, first: &str, second: Option<&str>) -> MemorySink {
     let (mut out, mut err) = (MemorySink::new(alloc), MemorySink::new(alloc));
     let mut more = MemorySink::new(alloc);
@@ -136,14 +136,14 @@ fn the_second_of_two_texts_is_explained(rt: HostRuntime) {
     assert!(rt; unasked.bytes().is_empty());
 }
 
-/// Of two texts with faults the first is explained, as the fault's line names that.
+/// If both texts have faults, the first is explained, since the fault's line names it.
 #[test]
 fn the_first_of_two_faults_is_explained(rt: HostRuntime) {
     let said = said_of(rt.alloc(), true, "POINT(1.5 2)", Some("@ring.wkt"));
     assert!(rt; said.bytes() == HALF);
 }
 
-/// `why` of one geometry that isn't valid shows that: it is no fault.
+/// `why` of one geometry that isn't valid says so: that is an answer and no fault.
 #[test]
 fn one_text_is_explained(rt: HostRuntime) {
     assert!(rt;
@@ -186,7 +186,7 @@ fn a_sentence_comes_without_its_place(rt: HostRuntime) -> Result<(), Fail> {
     Ok(())
 }
 
-/// What explains the pairs of a text, if that is asked for, and the status.
+/// The explanation of the pairs of a text, if it is wanted, and the status.
 fn explained_pairs(alloc: Global, text: &[u8], why: bool) -> (MemorySink, u8) {
     let mut out = MemorySink::new(alloc);
     let mut err = MemorySink::new(alloc);
@@ -196,7 +196,7 @@ fn explained_pairs(alloc: Global, text: &[u8], why: bool) -> (MemorySink, u8) {
     (more, status)
 }
 
-/// A text of 102 pairs, of which all but the first are refused.
+/// A text of 102 pairs. All but the first are refused.
 fn refused_pairs(alloc: Global) -> Result<Vec<u8>, AllocError> {
     let mut text = Vec::from_slice(alloc, b"POINT(1 2),POINT(1 2)\n")?;
     for _ in 0..101 {
@@ -221,7 +221,7 @@ fn pairs_that_are_refused_are_noted(rt: HostRuntime) -> Result<(), Fail> {
     Ok(())
 }
 
-/// The first record that hasn't two fields is named with their number; of pairs alone nothing is said.
+/// The first record without two fields is explained with the number of its fields. Without that, nothing is explained.
 #[test]
 fn a_record_that_is_no_pair_is_explained(rt: HostRuntime) {
     let alloc = rt.alloc();
@@ -239,7 +239,7 @@ const SCHEMA: &str =
     "CREATE TABLE parcel (id INTEGER PRIMARY KEY, zone INTEGER, name TEXT, geom POLYGON, corner POINT);
 CREATE TABLE building (id INTEGER PRIMARY KEY, parcel INTEGER, geom POLYGON);";
 
-/// Columns that their tables lack, or that aren't geometries, and functions with too few arguments.
+/// Columns that aren't in their tables or aren't geometries, and functions with too few arguments.
 const REFUSED: [(&[u8], QueryFault, &[u8]); 6] = [
     (
         b"SELECT id FROM parcel WHERE ST_Within(geom)",
@@ -283,7 +283,7 @@ fn a_query_over_a_schema_is_explained(rt: HostRuntime) -> Result<(), Fail> {
     Ok(())
 }
 
-/// Queries that mean something else than most readers think, and one that doesn't.
+/// Queries that mean something else than most readers expect, and one that doesn't.
 const NOTED: [(&[u8], &[u8]); 12] = [
     (
         b"SELECT name FROM parcel LEFT JOIN building b ON b.parcel = LEFT.id",

@@ -16,7 +16,7 @@ fn numbers(alloc: Global, points: &[RatPoint]) -> Result<Vec<Numbers>, Fail> {
     Ok(numbers)
 }
 
-/// Fills the gaps for an edge among others. It returns whether they may share a stretch.
+/// Fills the gaps for an edge among others. Returns whether they may share a stretch.
 fn fill(alloc: Global, gaps: &mut Gaps, edge: &Segment, others: &[Segment]) -> Result<bool, Fail> {
     let boxes = EdgeBoxes::build(alloc, others)?;
     let may_share = Gaps::may_share_stretch(edge, others, &boxes);
@@ -118,7 +118,7 @@ const GAPS: [Row; 8] = [
     ),
 ];
 
-/// Whether the numbers of some points are these.
+/// Whether points have these numbers.
 fn have(alloc: Global, points: &[RatPoint], wanted: &[Numbers]) -> Result<bool, Fail> {
     Ok(numbers(alloc, points)?.as_slice() == wanted)
 }

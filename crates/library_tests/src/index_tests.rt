@@ -1,4 +1,4 @@
-//! Envelopes and what an index finds: values worked out by hand, and drawn envelopes, of which all indexes find the same.
+//! Envelopes and the results of searches: values worked out by hand, and random envelopes, for which all indexes find the same.
 
 use crate::draws::Draws;
 use crate::shapes::{Place, position};
@@ -12,7 +12,7 @@ fn framed(a: Place, b: Place) -> Result<Option<Envelope>, Fail> {
     Ok(Envelope::of_positions(&[position(a)?, position(b)?]))
 }
 
-/// The envelope of some positions, and which envelopes meet: an edge in common, one step apart, a cross with no corner within.
+/// The envelope of positions, and envelopes that meet: with a common edge, one step apart, and crossing without a corner inside.
 #[test]
 fn envelopes_of_positions(rt: HostRuntime) -> Result<(), Fail> {
     let corners = [position((3, -2))?, position((-1, 5))?, position((2, 7))?];
@@ -31,7 +31,7 @@ fn envelopes_of_positions(rt: HostRuntime) -> Result<(), Fail> {
     Ok(())
 }
 
-/// The positions that an index of these envelopes finds.
+/// The places that an index of these envelopes finds.
 fn found<I: EnvelopeIndex + Drop>(
     alloc: Global,
     envelopes: &[Option<Envelope>],
@@ -44,7 +44,7 @@ fn found<I: EnvelopeIndex + Drop>(
     Ok(places)
 }
 
-/// Whether an index of these envelopes finds these positions.
+/// Whether an index of these envelopes finds these places.
 fn has_found<I: EnvelopeIndex + Drop>(
     alloc: Global,
     envelopes: &[Option<Envelope>],
@@ -54,7 +54,7 @@ fn has_found<I: EnvelopeIndex + Drop>(
     Ok(found::<I>(alloc, envelopes, asked)?.as_slice() == wanted)
 }
 
-/// A search finds the envelopes that meet, an edge in common among them, and an absent one meets the absent ones alone.
+/// A search finds the envelopes that meet, also by a common edge. An absent envelope meets only absent ones.
 fn finds<I: EnvelopeIndex + Drop>(rt: &(impl Abort + AllocGlobal)) -> Result<(), Fail> {
     let square = framed((0, 0), (4, 4))?;
     let apart = framed((9, 9), (9, 9))?;
@@ -66,7 +66,7 @@ fn finds<I: EnvelopeIndex + Drop>(rt: &(impl Abort + AllocGlobal)) -> Result<(),
     Ok(())
 }
 
-/// So often the same envelope.
+/// A list with the same envelope `count` times.
 fn repeated(
     alloc: Global,
     envelope: &Option<Envelope>,
@@ -79,7 +79,7 @@ fn repeated(
     Ok(envelopes)
 }
 
-/// A search finds the only envelope, all absent ones, and each of many equal ones, by a corner in common too.
+/// A search finds the only envelope, all absent ones, and each of many equal ones, also by a common corner.
 fn finds_alike<I: EnvelopeIndex + Drop>(rt: &(impl Abort + AllocGlobal)) -> Result<(), Fail> {
     let square = framed((0, 0), (4, 4))?;
     let corner = framed((4, 4), (5, 5))?;
@@ -94,7 +94,7 @@ fn finds_alike<I: EnvelopeIndex + Drop>(rt: &(impl Abort + AllocGlobal)) -> Resu
     Ok(())
 }
 
-/// Of 100 positions on a line, in nodes of three heights, a search finds those that it meets, and the absent one after them.
+/// Among 100 positions on a line, in nodes of three heights, a search finds those that it meets, and the absent one after them.
 fn finds_on_a_line<I: EnvelopeIndex + Drop>(rt: &(impl Abort + AllocGlobal)) -> Result<(), Fail> {
     let envelopes = on_a_line(rt.alloc())?;
     for (asked, wanted) in &[
@@ -111,8 +111,8 @@ fn finds_on_a_line<I: EnvelopeIndex + Drop>(rt: &(impl Abort + AllocGlobal)) -> 
     Ok(())
 }
 
-/// Of 30 rows, each third of them absent and the others at five positions in turn, a search finds the rows of a position below
-/// several nodes, and all absent ones. An empty list has neither.
+/// Among 30 rows, every third of them absent and the others at five positions in turn, a search finds the rows of a
+/// position below several nodes, and all absent ones. In an empty list it finds nothing.
 fn finds_in_turn<I: EnvelopeIndex + Drop>(rt: &(impl Abort + AllocGlobal)) -> Result<(), Fail> {
     let rows = in_turn(rt.alloc())?;
     for (asked, wanted) in &[
@@ -162,7 +162,7 @@ fn the_tree_in_the_order_of_rows_finds(rt: HostRuntime) -> Result<(), Fail> {
     finds_in_turn::<RowTree>(&rt)
 }
 
-/// The envelopes of 30 rows: each third one is absent, and the others are five positions in turn.
+/// The envelopes of 30 rows: every third one is absent, and the others are at five positions in turn.
 fn in_turn(alloc: Global) -> Result<Vec<Option<Envelope>>, Fail> {
     let mut envelopes = Vec::new(alloc);
     for k in 0..30u8 {
@@ -182,7 +182,7 @@ fn on_a_line(alloc: Global) -> Result<Vec<Option<Envelope>>, Fail> {
     Ok(envelopes)
 }
 
-/// Of 100 positions in 13 leaves, two nodes over them and a root, a small square opens one of each, and another meets none.
+/// Over 100 positions in 13 leaves, two nodes and a root, a search by a small square opens one of each, another opens none.
 #[test]
 fn opened_nodes(rt: HostRuntime) -> Result<(), Fail> {
     let envelopes = on_a_line(rt.alloc())?;
@@ -202,7 +202,7 @@ fn opened_nodes(rt: HostRuntime) -> Result<(), Fail> {
     Ok(())
 }
 
-/// The bounds of what is drawn: of coordinates, and of what an envelope has across and up.
+/// The limits of random envelopes: of their coordinates, and of their width and height.
 struct Extent {
     right: u64,
     top: u64,
@@ -210,7 +210,7 @@ struct Extent {
     height: u64,
 }
 
-/// Squares all over, small ones in a band from south to north, and long lines from west to east.
+/// Squares all over the grid, small ones in a band from south to north, and long lines from west to east.
 const EXTENTS: &[Extent] = &[
     Extent {
         right: 500,
@@ -232,13 +232,13 @@ const EXTENTS: &[Extent] = &[
     },
 ];
 
-/// A drawn number below a bound, which is past 10000 nowhere.
+/// A random number below a bound, which counts as 10,000 if it is greater.
 fn drawn_number(draws: &mut Draws, bound: u64) -> Result<i32, Fail> {
     let number = draws.below(bound.clamp(1, 10_000));
     Ok(i32::try_from(number)?)
 }
 
-/// A drawn envelope; one in eight is absent.
+/// A random envelope. One in eight is absent.
 fn drawn_envelope(draws: &mut Draws, extent: &Extent) -> Result<Option<Envelope>, Fail> {
     if draws.below(8) == 0 {
         return Ok(None);
@@ -253,7 +253,7 @@ fn drawn_envelope(draws: &mut Draws, extent: &Extent) -> Result<Option<Envelope>
     )
 }
 
-/// Drawn envelopes.
+/// Random envelopes.
 fn drawn_envelopes(
     alloc: Global,
     draws: &mut Draws,
@@ -282,7 +282,7 @@ fn find_the_same(
     )
 }
 
-/// Of 300 drawn envelopes all indexes find the same, asked for 100 others.
+/// Over 300 random envelopes, all indexes find the same for 100 others.
 #[test]
 fn indexes_find_the_same(rt: HostRuntime) -> Result<(), Fail> {
     let mut draws = Draws::from_seed(1);

@@ -1,10 +1,10 @@
-//! The trees of queries as they are read, with places counted by hand.
+//! The trees as which queries are read, with places counted by hand.
 
 use sql_text::{Argument, Query, read_query};
 use std::test::Fail;
 use table_model::queries::{Explain, WrittenCond, WrittenPredicate};
 
-/// Where a predicate starts.
+/// The byte at which a predicate starts.
 fn predicate_at(cond: &WrittenCond<'_, Argument<'_>>) -> Option<usize> {
     match cond {
         WrittenCond::Relates(at, _, _, _) => Some(*at),
@@ -12,7 +12,7 @@ fn predicate_at(cond: &WrittenCond<'_, Argument<'_>>) -> Option<usize> {
     }
 }
 
-/// Where ST_Relate and its pattern start, as the second part of a conjunction.
+/// The bytes at which ST_Relate and its pattern start, as the second part of a conjunction.
 fn relate_at(cond: &WrittenCond<'_, Argument<'_>>) -> Option<(usize, usize)> {
     let WrittenCond::And(parts) = cond else {
         return None;
@@ -25,14 +25,14 @@ fn relate_at(cond: &WrittenCond<'_, Argument<'_>>) -> Option<(usize, usize)> {
     }
 }
 
-/// Where the predicate of ON, and ST_Relate and its pattern in WHERE start.
+/// The bytes at which the predicate of ON, and ST_Relate and its pattern in WHERE, start.
 fn places_in(query: &Query<'_>) -> Option<(usize, usize, usize)> {
     let on = predicate_at(query.on.as_ref()?)?;
     let (relate, pattern) = relate_at(query.condition.as_ref()?)?;
     Some((on, relate, pattern))
 }
 
-/// The tree of a query that has each part, with the bytes at which predicates start.
+/// A query with every part is read as its tree, with the bytes at which predicates start.
 #[test]
 fn has_every_part(rt: HostRuntime) -> Result<(), Fail> {
     let query = read_query(
@@ -45,7 +45,7 @@ fn has_every_part(rt: HostRuntime) -> Result<(), Fail> {
     Ok(())
 }
 
-/// Where the comparison starts that is the first part of a conjunction.
+/// The byte at which a comparison starts, if it is the first part of a conjunction.
 fn compared_at(cond: &WrittenCond<'_, Argument<'_>>) -> Option<usize> {
     let WrittenCond::And(parts) = cond else {
         return None;
@@ -56,12 +56,12 @@ fn compared_at(cond: &WrittenCond<'_, Argument<'_>>) -> Option<usize> {
     }
 }
 
-/// Where the comparison starts that is the first part of the condition of WHERE.
+/// The byte at which a comparison starts, if it is the first part of the condition of WHERE.
 fn compared_in(query: &Query<'_>) -> Option<usize> {
     compared_at(query.condition.as_ref()?)
 }
 
-/// The tree of a condition, with the byte at which its comparison starts.
+/// A condition is read as its tree, with the byte at which its comparison starts.
 #[test]
 fn becomes_a_tree(rt: HostRuntime) -> Result<(), Fail> {
     let text = "SELECT id, name FROM t WHERE pop > 5 AND NOT name = 'b'";

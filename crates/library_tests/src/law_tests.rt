@@ -1,4 +1,4 @@
-//! The laws of loaded tables, at plain types.
+//! The laws of loaded tables, used with plain types.
 
 use table_laws::loading_laws::{required_are_filled, rows_are_permuted, rows_ascend, rows_fit};
 

@@ -1,5 +1,5 @@
-//! Tests of the libraries below the runs of queries, which need code: counts of work, laws, explanations, pages of faults,
-//! witnesses and tiles, and values of which no command prints anything. What a command prints is tested by the rows of `scripts`.
+//! Tests of the libraries below the runs of queries that need code: counts of work, laws, explanations, pages of
+//! faults, witnesses and tiles, and values that no command prints. The rows of `scripts` test what a command prints.
 #![tactic(auto)]
 
 #[cfg(test)]

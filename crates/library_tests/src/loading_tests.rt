@@ -10,7 +10,7 @@ use std::test::Fail;
 
 const SCHEMA: &[u8] = b"CREATE TABLE t (id INTEGER PRIMARY KEY, geom POLYGON);";
 
-/// What is loaded of the first table of a schema.
+/// Loads the first table of a schema.
 fn loaded(alloc: Global, schema: &Schema, text: &[u8]) -> Result<Table<ListIndex>, Fail> {
     if schema.tables().is_empty() {
         return Err(Fail::from("no table"));
@@ -18,7 +18,7 @@ fn loaded(alloc: Global, schema: &Schema, text: &[u8]) -> Result<Table<ListIndex
     Ok(Table::load(alloc, schema.table(0), text)?)
 }
 
-/// The index of a column of geometries lists the envelope of each row, and that of another one none.
+/// The index of a geometry column lists the envelope of each row. That of another column lists none.
 #[test]
 fn columns_are_indexed(rt: HostRuntime) -> Result<(), Fail> {
     let schema = read_schema(rt.alloc(), SCHEMA)?;

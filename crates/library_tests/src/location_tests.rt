@@ -1,4 +1,4 @@
-//! Where points lie in geometries, and the labels of two.
+//! The locations of points in geometries, and the labels of two geometries.
 
 use crate::rows::{number, parts_of, position};
 use crate::shapes::valid;
@@ -7,8 +7,8 @@ use side_labels::{Label, Labels, Location, SideLabels, labels, locate};
 use std::alloc::{AllocError, Global};
 use std::test::Fail;
 
-/// A geometry, a point by both numerators and the denominator, and where it lies: between the positions of the grid, at ends of
-/// lines, right below a corner of a ring, in a hole and on its ring.
+/// A geometry, a point as two numerators and the denominator, and its location: between the positions of the grid, at
+/// ends of lines, just below a corner of a ring, in a hole and on its ring.
 const LOCATED: &str = "POINT(3 1) | 3 1 over 2 | exterior
 POINT(3 1) | 6 2 over 2 | interior
 LINESTRING(0 0,2 1,4 0) | 2 1 over 2 | interior
@@ -18,7 +18,7 @@ POLYGON((0 2,2 0,4 2,2 4,0 2)) | 2 1 over 1 | interior
 POLYGON((0 0,10 0,10 10,0 10,0 0),(4 4,6 4,6 6,4 6,4 4)) | 5 5 over 1 | exterior
 POLYGON((0 0,10 0,10 10,0 10,0 0),(4 4,6 4,6 6,4 6,4 4)) | 4 5 over 1 | boundary";
 
-/// The point of two numerators over a denominator.
+/// The point with two numerators over a denominator.
 fn point(text: &str) -> Result<RatPoint, Fail> {
     let (numerators, denominator) = text.split_once(" over ").ok_or("no denominator")?;
     let (at, w) = (position(numerators)?, number(denominator)?);
@@ -28,7 +28,7 @@ fn point(text: &str) -> Result<RatPoint, Fail> {
     Ok(RatPoint::reduced(i128::from(at.x()), i128::from(at.y()), i64::from(w)))
 }
 
-/// Where a point lies in the geometry of a text.
+/// The location of a point in the geometry of a text.
 fn located(alloc: Global, text: &str, point: &RatPoint) -> Result<&'static str, Fail> {
     Ok(match locate(&valid(alloc, text)?, point) {
         Location::Interior => "interior",
@@ -46,7 +46,7 @@ fn points_in_geometries(rt: HostRuntime) -> Result<(), Fail> {
     Ok(())
 }
 
-/// The labels of two texts.
+/// The labels of the geometries of two texts.
 fn labelled(alloc: Global, first: &str, second: &str) -> Result<Labels, Fail> {
     Ok(labels(alloc, &valid(alloc, first)?, &valid(alloc, second)?)?)
 }
@@ -94,7 +94,7 @@ fn label_text(alloc: Global, labels: &[Label]) -> Result<String, AllocError> {
     Ok(text)
 }
 
-/// The text of the labels just below and just above edges, with a stroke for one that is vertical.
+/// The text of the labels just below and just above edges. A vertical edge has `|`.
 fn side_text(alloc: Global, sides: &[Option<SideLabels>]) -> Result<String, AllocError> {
     let mut text = String::new(alloc);
     for both in sides {

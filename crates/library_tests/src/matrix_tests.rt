@@ -1,4 +1,4 @@
-//! Cells of a matrix, and the work that it takes.
+//! Cells of a matrix, and the work of computing it.
 
 use crate::shapes::valid;
 use de9im::{Dimension, Location, Work, relate};

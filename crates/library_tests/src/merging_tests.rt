@@ -1,10 +1,10 @@
-//! Edges that are merged along their lines, and edges that they hold or don't.
+//! Edges that are merged along their lines, and edges that are or aren't contained in them.
 
 use crate::shapes::{Line, segment, segments};
 use noding::MergedEdges;
 use std::test::Fail;
 
-/// Edges, an edge, and whether they hold it.
+/// Edges, an edge, and whether they contain it.
 type Row = (&'static [Line], Line, bool);
 
 const HELD: [Row; 8] = [

@@ -26,8 +26,8 @@ const MEETINGS: &str = "0 0 to 3 1 | 0 1 to 2 0 | 6 2 5,
 2 0 to 4 1 | 2 0 to 4 2 | 2 0 1,";
 
 /// Segments, listed positions or none, and the nodes, the ends of the pieces and the number of pairs tried: two segments that
-/// cross; one that ends on another; two with a stretch in common, and positions on it and off it; three through one point, which
-/// no end is, and one of them twice; one that begins at the x at which the other ends; the finest crossing; a square.
+/// cross; one that ends on another; two with a common stretch, and positions on it and off it; three through a point that
+/// isn't an end, one of them twice; one that begins at the x at which another ends; the finest crossing; a square.
 const NODED: &str =
     "0 0 to 3 1; 0 1 to 2 0 | none | 0 0 1,0 1 1,6 2 5,2 0 1,3 1 1,/0 0 1,6 2 5,0 1 1,6 2 5,6 2 5,2 0 1,6 2 5,3 1 1,/1
 4 0 to 0 0; 2 3 to 2 0 | 0 0 | 0 0 1,2 0 1,2 3 1,4 0 1,/0 0 1,2 0 1,2 0 1,2 3 1,2 0 1,4 0 1,/1
@@ -58,18 +58,18 @@ fn common(alloc: Global, one: &Segment, other: &Segment) -> Result<String, Fail>
     Ok(said)
 }
 
-/// The segment from its end to its start.
+/// The segment with its ends swapped.
 fn turned(segment: &Segment) -> Result<Segment, Fail> {
     Ok(Segment::new(segment.end(), segment.start()).ok_or("equal ends")?)
 }
 
-/// Whether two segments have that in common, in either order.
+/// Whether two segments have this in common, in either order.
 fn meet_as(alloc: Global, one: &Segment, other: &Segment, wanted: &str) -> Result<bool, Fail> {
     let (said, said_back) = (common(alloc, one, other)?, common(alloc, other, one)?);
     Ok(said.as_str() == wanted && said_back.as_str() == wanted)
 }
 
-/// Whether two segments have that in common, each of them also from its end to its start.
+/// Whether two segments have this in common, also with the ends of each swapped.
 fn meet_either_way(alloc: Global, a: &Segment, b: &Segment, wanted: &str) -> Result<bool, Fail> {
     let (a_turned, b_turned) = (turned(a)?, turned(b)?);
     Ok(
@@ -90,7 +90,7 @@ fn meetings_either_way(rt: HostRuntime) -> Result<(), Fail> {
     Ok(())
 }
 
-/// The nodes of some segments and positions, the ends of the pieces, and how many pairs were tried.
+/// The nodes of segments and positions, the ends of the pieces, and the number of pairs that were tried.
 fn noded(alloc: Global, segments: &[Segment], listed: &[GridPoint]) -> Result<String, Fail> {
     let noded = node(alloc, segments, listed)?;
     let mut said = String::new(alloc);
@@ -106,7 +106,7 @@ fn noded(alloc: Global, segments: &[Segment], listed: &[GridPoint]) -> Result<St
     Ok(said)
 }
 
-/// The segments of a list.
+/// The segments in a list.
 fn segments_of(alloc: Global, lines: &str) -> Result<Vec<Segment>, Fail> {
     let mut segments = Vec::new(alloc);
     for line in lines.split("; ") {
@@ -115,7 +115,7 @@ fn segments_of(alloc: Global, lines: &str) -> Result<Vec<Segment>, Fail> {
     Ok(segments)
 }
 
-/// The positions of a list, which may be `none`.
+/// The positions in a list, which may be `none`.
 fn positions_of(alloc: Global, places: &str) -> Result<Vec<GridPoint>, Fail> {
     let mut positions = Vec::new(alloc);
     if places == "none" {
@@ -139,7 +139,7 @@ fn nodes_and_pieces_of_segments(rt: HostRuntime) -> Result<(), Fail> {
     Ok(())
 }
 
-/// A thousand segments that lie apart, from left to right.
+/// A thousand segments that are apart, from left to right.
 fn segments_apart(alloc: Global) -> Result<Vec<Segment>, Fail> {
     let mut segments = Vec::new(alloc);
     for place in 0..1000i32 {

@@ -1,4 +1,4 @@
-//! What is shown for command lines that aren't orders, and their status when memory ran out.
+//! What is printed for command lines that give no command, and their status if memory ran out.
 
 use command_line::{Misuse, order};
 use std::alloc::AllocError;
@@ -9,7 +9,7 @@ fn running_out_of_memory_has_its_status(rt: HostRuntime) {
     assert!(rt; Misuse::from(AllocError).status() == 7);
 }
 
-/// The text that is shown for a command line that isn't an order.
+/// The text that is printed for a command line that gives no command.
 fn shown(rt: &HostRuntime, words: &[&str]) -> Result<String, Fail> {
     let misuse = order(rt.alloc(), words).err().ok_or("no order")?;
     misuse.print(rt).ok().ok_or("not printed")?;
@@ -21,8 +21,8 @@ fn has_all(text: &str, parts: &[&str]) -> bool {
     parts.iter().all(|part| text.contains(*part))
 }
 
-/// Command lines that are no orders, and what is shown for each: the missing word, or each word of a command; the help of
-/// `run` shows a spatial query.
+/// Command lines that give no command, and what is printed for each: the missing word, or each word of a command. The
+/// help of `run` shows a spatial query.
 const SHOWN: [(&[&str], &[&str]); 4] = [
     (&["sfq", "run", "a", "b"], &["<QUERY>"]),
     (

@@ -1,5 +1,5 @@
-//! Matrices of drawn pairs of geometries: found by their edges they are those that their labels show, and what is decided without
-//! them is what they say.
+//! Matrices of random pairs of geometries: those that are found by their edges are those of their labels, and what is
+//! decided without a matrix is what the matrix says.
 
 use crate::draws::Draws;
 use de9im::{Matrix, Predicate, Work, decide, holds, matrix_of_labels, relate};
@@ -9,17 +9,17 @@ use std::test::Fail;
 use validity::{Valid, check};
 use wkt::read;
 
-/// The side of the square of the grid in which positions are drawn.
+/// The side of the square of the grid that contains random positions.
 const SIDE: u64 = 5;
 
-/// Adds a position.
+/// Adds a random position.
 fn push_position(draws: &mut Draws, text: &mut String, alloc: Global) -> Result<(), AllocError> {
     text.push_str(draws.below(SIDE).to_string(alloc)?.as_str())?;
     text.push_str(" ")?;
     text.push_str(draws.below(SIDE).to_string(alloc)?.as_str())
 }
 
-/// Adds further positions to a list of one, until it has this many.
+/// Adds random positions to a list of one, until it has this many.
 fn push_others(
     draws: &mut Draws,
     text: &mut String,
@@ -33,7 +33,7 @@ fn push_others(
     Ok(())
 }
 
-/// Adds a beginning, a list of this many positions and its end.
+/// Adds a beginning, a list of this many positions, and its end.
 fn push_line(
     draws: &mut Draws,
     text: &mut String,
@@ -47,7 +47,7 @@ fn push_line(
     text.push_str(")")
 }
 
-/// Adds a beginning, a ring of this many positions, the closing one not counted, and the end of it and of its polygon.
+/// Adds a beginning, a ring of this many positions, not counting the closing one, and the end of the ring and of its polygon.
 fn push_ring(
     draws: &mut Draws,
     text: &mut String,
@@ -65,7 +65,7 @@ fn push_ring(
     text.push_str("))")
 }
 
-/// Adds two lines of drawn lengths.
+/// Adds two lines of random lengths.
 fn push_lines(draws: &mut Draws, text: &mut String, alloc: Global) -> Result<(), AllocError> {
     let count = 2 + draws.below(3);
     push_line(draws, text, "MULTILINESTRING((", count, alloc)?;
@@ -81,7 +81,7 @@ fn push_polygons(draws: &mut Draws, text: &mut String, alloc: Global) -> Result<
     text.push_str(")")
 }
 
-/// Adds a drawn geometry of a drawn type, which may be refused.
+/// Adds a random geometry of a random type. It may be refused.
 fn push_drawn(draws: &mut Draws, text: &mut String, alloc: Global) -> Result<(), AllocError> {
     match draws.below(8) {
         0 => push_line(draws, text, "POINT(", 1, alloc),
@@ -109,10 +109,10 @@ fn push_drawn(draws: &mut Draws, text: &mut String, alloc: Global) -> Result<(),
     }
 }
 
-/// How often a geometry is drawn until one is valid.
+/// The number of tries until a random geometry is valid.
 const DRAWS: u64 = 50;
 
-/// A drawn geometry that is valid.
+/// A random geometry that is valid.
 fn drawn(draws: &mut Draws, alloc: Global) -> Result<Valid, Fail> {
     for _ in 0..DRAWS {
         let mut text = String::new(alloc);
@@ -126,12 +126,12 @@ fn drawn(draws: &mut Draws, alloc: Global) -> Result<Valid, Fail> {
     Err(Fail::new("no valid geometry was drawn"))
 }
 
-/// The nine characters of the matrix that the labels of two geometries show.
+/// The nine characters of the matrix that the labels of two geometries give.
 fn by_labels(alloc: Global, first: &Valid, second: &Valid) -> Result<[u8; 9], Fail> {
     Ok(matrix_of_labels(&labels(alloc, first, second)?).text())
 }
 
-/// Whether what is decided of two geometries is what their matrix says.
+/// Whether what is decided about two geometries is what their matrix says.
 fn decided_alike(
     alloc: Global,
     first: &Valid,
@@ -147,7 +147,7 @@ fn decided_alike(
     Ok(true)
 }
 
-/// Whether the matrix of two geometries that are drawn from a seed is that which their labels show, and two predicates are as it
+/// Whether the matrix of two random geometries from a seed is that of their labels, and two predicates are what it
 /// says.
 fn agree(alloc: Global, seed: u64) -> Result<bool, Fail> {
     let mut draws = Draws::from_seed(seed);

@@ -1,4 +1,4 @@
-//! Parts that other calls are made of, each called by itself.
+//! Functions that other functions call, each called directly.
 
 use crate::rows::segment;
 use crate::shapes::valid;
@@ -29,7 +29,7 @@ fn texts_and_references(rt: HostRuntime) -> Result<(), Fail> {
     Ok(())
 }
 
-/// How many positions a shape lists that is made of no positions.
+/// The number of positions in a shape that is made of none.
 fn listed(alloc: Global) -> Result<Option<usize>, Fail> {
     match Shape::larger(alloc, Larger::MultiPoint(Vec::new(alloc)))? {
         Shape::Point(_) => Ok(None),
@@ -48,7 +48,7 @@ fn shapes_and_polygons(rt: HostRuntime) -> Result<(), Fail> {
     Ok(())
 }
 
-/// Whether an edge of these and one of the others share a point.
+/// Whether an edge of one list and an edge of another share a point.
 fn edges_share(alloc: Global, edges: &[Segment], others: &[Segment]) -> Result<bool, AllocError> {
     let boxes = EdgeBoxes::build(alloc, edges)?;
     let mut near = Vec::new(alloc);

@@ -1,4 +1,4 @@
-//! Positions, points and fractions worked by hand.
+//! Worked examples of positions, points and fractions.
 
 use crate::shapes::numbers;
 use fraction::{GridPoint, RatPoint};
@@ -35,7 +35,7 @@ fn least_forms(rt: HostRuntime) {
     }
 }
 
-/// A point at a position of the grid gives that position, at the limit too. One between has none.
+/// A point at a position of the grid returns that position, also at the limit. A point between positions returns none.
 #[test]
 fn positions_of_points(rt: HostRuntime) {
     assert!(rt; RatPoint::reduced(12, 4, 10).position().is_none());
@@ -49,7 +49,7 @@ fn orders(a: &RatPoint, b: &RatPoint) -> (Ordering, Ordering, Ordering) {
     (a.cmp_x(b), a.cmp_y(b), a.cmp(b))
 }
 
-/// Points are ordered by the numbers that they stand for.
+/// Points are ordered by the numbers that they represent.
 #[test]
 fn points_are_their_numbers(rt: HostRuntime) {
     let half = RatPoint::reduced(1, 0, 2);
@@ -63,7 +63,7 @@ fn points_are_their_numbers(rt: HostRuntime) {
     assert!(rt; one_high.x() == half.x() && one_high.y() > half.y());
 }
 
-/// A mediant lies between: its point is that of the sums of both triples.
+/// A mediant is between two points: it has the sums of their numbers.
 #[test]
 fn a_mediant_lies_between(rt: HostRuntime) {
     let crossing = RatPoint::reduced(6, 2, 5);

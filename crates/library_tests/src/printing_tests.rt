@@ -1,4 +1,4 @@
-//! What geometries show, and what is printed of them.
+//! What geometries return about themselves, and how they are printed.
 
 use geometry_model::{GeometryType, Kind, TextFault};
 use std::alloc::{AllocError, Global};
@@ -9,8 +9,8 @@ use wkt::{WktFault, print, read};
 
 type Shown = (GeometryType, Kind, bool, usize, usize, usize);
 
-/// The type and the kind of the geometry of a text, whether it is empty, and how many positions are listed in it, how many
-/// polygons it has, and how many rings all of them.
+/// The type and the kind of the geometry of a text, whether it is empty, the number of positions in its list, the
+/// number of its polygons, and the number of all their rings.
 fn shown(alloc: Global, text: &str) -> Result<Shown, Fail> {
     let geometry = read(alloc, text.as_bytes())?;
     let mut rings = 0_usize;
@@ -77,7 +77,7 @@ const ONE_POSITION: [(&str, &str); 3] = [
     ),
 ];
 
-/// Lines of one position are printed, which no table and no query takes.
+/// Lines of one position are printed, though no table and no query accepts them.
 #[test]
 fn lines_of_one_position(rt: HostRuntime) -> Result<(), Fail> {
     for (text, canonical) in &ONE_POSITION {
@@ -104,7 +104,7 @@ fn a_failed_put_leaves_a_beginning(rt: HostRuntime) -> Result<(), Fail> {
     Ok(())
 }
 
-/// Faults of reading, and those of the text that they show.
+/// Faults of reading, and the faults of a text that they are.
 const FAULTS: [(WktFault, Option<TextFault>); 5] = [
     (WktFault::Syntax(9), Some(TextFault::Syntax(9))),
     (WktFault::OffGrid(6), Some(TextFault::OffGrid(6))),

@@ -13,12 +13,12 @@ fn record(alloc: Global, first: &[u8], second: &[u8]) -> Result<ByteRecord, Allo
     Ok(fields)
 }
 
-/// A field of a line whose memory isn't kept.
+/// A field so long that the memory of its line isn't kept.
 fn long_field(alloc: Global) -> Result<Vec<u8>, AllocError> {
     vec![in alloc; b'x'; 70_000]
 }
 
-/// Fields are quoted where they have to be, also after a line whose memory is freed.
+/// Fields that need quotes are quoted, also after a line whose memory was freed.
 #[test]
 fn records_are_put(rt: HostRuntime) -> Result<(), Fail> {
     let long = long_field(rt.alloc())?;
@@ -32,7 +32,7 @@ fn records_are_put(rt: HostRuntime) -> Result<(), Fail> {
     Ok(())
 }
 
-/// What ends a line is quoted, a quote is written twice, and a record that shows nothing gets two quotes.
+/// A byte that ends a line is quoted, a quote is doubled, and a record without bytes becomes two quotes.
 #[test]
 fn bytes_that_mean_something_are_quoted(rt: HostRuntime) -> Result<(), Fail> {
     let first = record(rt.alloc(), b"a\nb", b"c\rd")?;

@@ -1,4 +1,4 @@
-//! Tables of tests, one row in each line, and the values that their parts write.
+//! Tables of tests, with one row in each line, and the values that the parts of a row spell.
 
 use crate::shapes;
 use fraction::GridPoint;
@@ -15,18 +15,18 @@ pub(crate) fn parts_of(row: &str) -> Result<(&str, &str, &str), Fail> {
     Err(Fail::new("a row has three parts"))
 }
 
-/// A number.
+/// Reads a number.
 pub(crate) fn number(text: &str) -> Result<i32, Fail> {
     Ok(text.parse::<i32>()?)
 }
 
-/// The position of two numbers.
+/// Reads a position from its two numbers.
 pub(crate) fn position(text: &str) -> Result<GridPoint, Fail> {
     let (x, y) = text.split_once(" ").ok_or("a position has two numbers")?;
     shapes::position((number(x)?, number(y)?))
 }
 
-/// The segment from one position to another.
+/// Reads a segment from two positions.
 pub(crate) fn segment(text: &str) -> Result<Segment, Fail> {
     let (start, end) = text.split_once(" to ").ok_or("a segment has two ends")?;
     let segment = Segment::new(position(start)?, position(end)?);

@@ -1,4 +1,4 @@
-//! Points beside, on and off segments, with values worked out by hand.
+//! Points near, on and off segments, with values worked out by hand.
 
 use crate::shapes::{Place, position, segment};
 use fraction::RatPoint;
@@ -10,7 +10,7 @@ fn at(x: i32, y: i32) -> Result<RatPoint, Fail> {
     Ok(RatPoint::of_grid(position((x, y))?))
 }
 
-/// A point beside a segment, on it, past its end, and one between the grid at which two segments cross.
+/// A point next to a segment, on it, after its end, and one between grid positions, where two segments cross.
 #[test]
 fn points_at_segments(rt: HostRuntime) -> Result<(), Fail> {
     let crossing = RatPoint::reduced(6, 2, 5);
@@ -32,7 +32,7 @@ fn points_at_segments(rt: HostRuntime) -> Result<(), Fail> {
     Ok(())
 }
 
-/// A position at the limit, and at or above a segment's left end, which counts.
+/// A position at the limit, and positions at or above a segment's left end, which count.
 #[test]
 fn positions_at_segments(rt: HostRuntime) -> Result<(), Fail> {
     let longest = segment((-10_000_000, -10_000_000), (10_000_000, 9_999_999))?;
@@ -47,7 +47,7 @@ fn positions_at_segments(rt: HostRuntime) -> Result<(), Fail> {
     Ok(())
 }
 
-/// How many edges of the ring through these places lie strictly above p.
+/// The number of edges of the ring through these places that are strictly above p.
 fn edges_above(ring: &[Place], p: &RatPoint) -> Result<usize, Fail> {
     let mut count: usize = 0;
     for ends in ring.windows(2) {
@@ -60,7 +60,7 @@ fn edges_above(ring: &[Place], p: &RatPoint) -> Result<usize, Fail> {
     Ok(count)
 }
 
-/// A corner of the diamond is right above the point: its two edges count once.
+/// A corner of the diamond is just above the point: its two edges count once.
 #[test]
 fn a_corner_counts_once(rt: HostRuntime) -> Result<(), Fail> {
     let diamond = [(0, 2), (2, 0), (4, 2), (2, 4), (0, 2)];

@@ -1,4 +1,4 @@
-//! Positions, segments and geometries of which tests are made.
+//! Positions, segments and geometries for tests.
 
 use fraction::{GridPoint, RatPoint};
 use orient::Segment;
@@ -10,7 +10,7 @@ use wkt::read;
 /// Both coordinates of a position.
 pub(crate) type Place = (i32, i32);
 
-/// The position of two coordinates.
+/// The position with two coordinates.
 pub(crate) fn position((x, y): Place) -> Result<GridPoint, Fail> {
     Ok(GridPoint::new(x, y).ok_or("past the limit")?)
 }
@@ -23,7 +23,7 @@ pub(crate) fn segment(a: Place, b: Place) -> Result<Segment, Fail> {
 /// Both ends of a segment.
 pub(crate) type Line = (Place, Place);
 
-/// The segments between the ends of these.
+/// The segments between the ends of these lines.
 pub(crate) fn segments(alloc: Global, lines: &[Line]) -> Result<Vec<Segment>, Fail> {
     let mut segments = Vec::new(alloc);
     for (a, b) in lines {

@@ -1,11 +1,11 @@
-//! What sinks take, and which of their calls fail.
+//! What sinks accept, and which of their calls fail.
 
 use std::io::{self, BufWriter, Error, ErrorKind, Read, Write};
 use std::test::Fail;
 use streams::devices::{StopReader, StopSink, ZeroWriter};
 use streams::{MemorySink, Sink, SinkFault, StdSink, put_all, put_parts};
 
-/// A writer that counts its calls, of which each is interrupted.
+/// A writer that counts its calls. Each of them is interrupted.
 #[derive(Drop)]
 struct Interrupted {
     calls: u64,

@@ -1,4 +1,4 @@
-//! Explanations of faults of tables: the place that they show, and their sentence.
+//! Explanations of faults of tables: the place that they name, and their sentence.
 
 use explanations::{Found, open_quote_explained, table_explained};
 use geometry_model::{GeometryFault, TextFault, ValidityFault};
@@ -12,7 +12,7 @@ const SCHEMA: &str = "CREATE TABLE t (id INTEGER PRIMARY KEY, pop INTEGER, name 
 
 const SHAPES: &str = "CREATE TABLE t (id INTEGER PRIMARY KEY, geom POLYGON);";
 
-/// The explanation of a fault of the table of a schema, whose column has this name.
+/// The explanation of a fault of a schema's table, whose column has this name.
 fn explanation(
     alloc: Global,
     schema: &str,
@@ -36,7 +36,7 @@ fn explanation(
 /// The text of a table's file, its fault, the name of the fault's column, and the explanation.
 type Row = (&'static [u8], LoadFault, &'static str, &'static [u8]);
 
-/// The explanation of each row's fault, over the table of a schema, is the row's.
+/// Checks the explanation of each row's fault over the table of a schema.
 fn are_explained(rt: &(impl Abort + AllocGlobal), schema: &str, rows: &[Row]) -> Result<(), Fail> {
     for (text, fault, column, shown) in rows {
         let lines = explanation(rt.alloc(), schema, text, *fault, column, b"")?;
@@ -45,7 +45,7 @@ fn are_explained(rt: &(impl Abort + AllocGlobal), schema: &str, rows: &[Row]) ->
     Ok(())
 }
 
-/// A column that the header lacks, and one that it has twice.
+/// A column that isn't in the header, and one that is there twice.
 const HEADERS: [Row; 11] = [
     (
         b"",
@@ -120,7 +120,7 @@ fn a_header_is_explained(rt: HostRuntime) -> Result<(), Fail> {
     are_explained(&rt, SCHEMA, &HEADERS)
 }
 
-/// Records of another length, fields that are null or no text, and keys given twice.
+/// Records with another number of fields, fields that are null or not UTF-8, and repeated keys.
 const RECORDS: [Row; 10] = [
     (
         b"\xef\xbb\xbfid,pop,name\n1,8,a,b\n",
@@ -189,7 +189,7 @@ fn a_record_is_explained(rt: HostRuntime) -> Result<(), Fail> {
     are_explained(&rt, SCHEMA, &RECORDS)
 }
 
-/// Fields that are no whole numbers.
+/// Fields that aren't whole numbers.
 const NUMBERS: [Row; 14] = [
     (
         b"id,pop,name\n1,\"8\n2\",b\n",
@@ -282,7 +282,7 @@ fn a_field_of_a_number_is_explained(rt: HostRuntime) -> Result<(), Fail> {
     are_explained(&rt, SCHEMA, &NUMBERS)
 }
 
-/// Fields that are no valid geometries, or of another type.
+/// Fields that aren't valid geometries, or are of another type.
 const GEOMETRIES: [Row; 13] = [
     (
         b"id,geom\n1,\"POLYGON((0.5 0,4 0,4 4,0 0))\"\n",
@@ -386,7 +386,7 @@ fn the_reason_comes_behind_its_place(rt: HostRuntime) -> Result<(), Fail> {
     Ok(())
 }
 
-/// A quote that isn't closed, of a table that is loaded, and one that is.
+/// A quote that isn't closed, in a table that loads, and one that is closed.
 #[test]
 fn an_open_quote_is_explained(rt: HostRuntime) -> Result<(), Fail> {
     let text = b"id,pop,name\n1,8,\"a\n2,9,b\n";
@@ -399,7 +399,7 @@ fn an_open_quote_is_explained(rt: HostRuntime) -> Result<(), Fail> {
     Ok(())
 }
 
-/// A record too many: its line alone is shown.
+/// A record too many: only its line is printed.
 #[test]
 fn a_record_too_many_is_explained(rt: HostRuntime) -> Result<(), Fail> {
     let mut text = Vec::from_slice(rt.alloc(), b"id,pop,name\n")?;

@@ -14,10 +14,10 @@ const LEAST: i32 = -10_000_000;
 
 const GREATEST: i32 = 10_000_000;
 
-/// The corners of a square: the grid is cut at x = 10, then both parts at y = 10.
+/// The corners of a square. The grid is cut at x = 10, and then both parts at y = 10.
 const SQUARE: [(i32, i32); 4] = [(10, 10), (0, 0), (10, 0), (0, 10)];
 
-/// The boxes of the square's four corners, one each.
+/// The boxes of the square's four corners, one for each.
 const FOUR: [Bounds; 4] = [
     (LEAST, 9, LEAST, 9),
     (LEAST, 9, 10, GREATEST),
@@ -25,7 +25,7 @@ const FOUR: [Bounds; 4] = [
     (10, GREATEST, 10, GREATEST),
 ];
 
-/// An envelope, and the cells of `FOUR` that it meets: a position of a line lies behind it.
+/// An envelope, and the cells of `FOUR` that it meets. A position on a line is after it.
 const ROWS: [(Bounds, &[usize]); 8] = [
     ((9, 9, 9, 9), &[1]),
     ((9, 9, 10, 10), &[2]),
@@ -89,7 +89,7 @@ fn a_box_keeps_as_many_of_the_sample_as_it_may(rt: HostRuntime) -> Result<(), Fa
     Ok(())
 }
 
-/// Five at one position aren't parted; three at the least x and one east of them are, by a line behind the three.
+/// Five corners at one position aren't divided. Three with the least x and one to the east are, by a line after the three.
 #[test]
 fn what_no_line_parts_stays_together(rt: HostRuntime) -> Result<(), Fail> {
     let one = cut(rt.alloc(), &[(3, 3); 5], 1)?;
@@ -101,7 +101,7 @@ fn what_no_line_parts_stays_together(rt: HostRuntime) -> Result<(), Fail> {
     Ok(())
 }
 
-/// 4,096 positions in a row are cut in two ten times.
+/// A cut of 4,096 positions in a row divides them ten times.
 #[test]
 fn a_cut_has_1024_boxes_at_most(rt: HostRuntime) -> Result<(), Fail> {
     let mut sample = Vec::new(rt.alloc());
@@ -122,7 +122,7 @@ fn cut(alloc: Global, positions: &[(i32, i32)], most: usize) -> Result<Cells, Fa
     Ok(Cells::cut(alloc, sample.as_mut_slice(), most)?)
 }
 
-/// The envelope of these bounds.
+/// The envelope with these bounds.
 fn envelope(bounds: Bounds) -> Result<Envelope, Fail> {
     let least = GridPoint::new(bounds.0, bounds.2).ok_or("past the limit")?;
     let greatest = GridPoint::new(bounds.1, bounds.3).ok_or("past the limit")?;
@@ -139,7 +139,7 @@ fn bounds_of(envelope: &Envelope) -> Bounds {
     )
 }
 
-/// The marks of a row in a cell of this number, west and south.
+/// The marks of a row in the cell with this number, west and south.
 fn shown(cells: &Cells, number: usize, row: &Option<Envelope>) -> Result<(bool, bool), Fail> {
     if number > cells.boxes().len() {
         return Err(Fail::from("no such cell"));

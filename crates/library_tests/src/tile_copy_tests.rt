@@ -1,4 +1,4 @@
-//! Texts of cells and of stretches, of a table worked out by hand.
+//! Texts of cells and of stretches, from a table worked out by hand.
 
 use crate::tile_texts::Texts;
 use feature_table::Schema;
@@ -10,11 +10,11 @@ use tiles::{Cells, Part, PlainRecords, write_stretches, write_tiles};
 
 const SCHEMA: &[u8] = b"CREATE TABLE t (id INTEGER PRIMARY KEY, name TEXT, geom LINESTRING);";
 
-/// A line across x = 10, one west of it, one with an empty geometry, and one without any.
+/// A line across x = 10, one west of it, one with an empty geometry, and one without a geometry.
 const ROWS: &[u8] =
     b"name,geom,id\na,\"LINESTRING(9 0,10 0)\",1\nb,\"LINESTRING(0 0,9 5)\",2\nc,LINESTRING EMPTY,3\nd,,4\n";
 
-/// The grid is cut at x = 10; the sample has a corner on either side.
+/// The cells of a grid that is cut at x = 10, since the sample has a corner on each side.
 fn two_cells(alloc: Global) -> Result<Cells, Fail> {
     let mut corners = Vec::new(alloc);
     for x in [0, 10] {
@@ -29,7 +29,7 @@ fn a_line_parts_the_sample(rt: HostRuntime) -> Result<(), Fail> {
     Ok(())
 }
 
-/// The columns of the one table at these places, with two marks.
+/// The columns of the only table at these places, with two marks.
 fn part<'t>(schema: &'t Schema, columns: &'t [usize]) -> Result<Part<'t>, Fail> {
     let table = schema.tables().first().ok_or("no table")?;
     Ok(Part {
@@ -39,7 +39,7 @@ fn part<'t>(schema: &'t Schema, columns: &'t [usize]) -> Result<Part<'t>, Fail> 
     })
 }
 
-/// Writes the keys and the geometries to both cells. It returns how many each gets.
+/// Writes the keys and the geometries to both cells. Returns the number of rows in each.
 fn tiled(alloc: Global, schema: &Schema, texts: &mut Texts) -> Result<Vec<usize>, Fail> {
     let cells = two_cells(alloc)?;
     let part = part(schema, &[0, 2])?;
@@ -63,7 +63,7 @@ fn records_go_to_the_cells_that_they_meet(rt: HostRuntime) -> Result<(), Fail> {
     Ok(())
 }
 
-/// Writes the keys and the names in stretches of three rows. It returns how many each gets.
+/// Writes the keys and the names in stretches of three rows. Returns the number of rows in each.
 fn stretched(alloc: Global, schema: &Schema, texts: &mut Texts) -> Result<Vec<usize>, Fail> {
     let part = part(schema, &[0, 1])?;
     let mut records = PlainRecords::new(alloc, ROWS);

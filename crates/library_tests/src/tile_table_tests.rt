@@ -1,4 +1,4 @@
-//! Tables that are checked before they are split, their faults, and the corners that are sampled.
+//! Tables that are checked before they are split, their faults, and the sampled corners.
 
 use feature_table::Schema;
 use sql_text::read_schema;
@@ -13,10 +13,10 @@ const SCHEMA: &[u8] = b"CREATE TABLE t (id INTEGER PRIMARY KEY, geom POLYGON);";
 /// Three rows: one with a null geometry, a triangle whose least corner is at 2 -1, and an empty polygon.
 const ROWS: &[u8] = b"id,geom\n3,\n1,\"POLYGON((2 3,2 -1,6 3,2 3))\"\n2,POLYGON EMPTY\n";
 
-/// What checking a text and looking for its fault find.
+/// The results of checking a text and of looking for its fault.
 type Found = (Result<Option<usize>, LoadFault>, Result<usize, LoadFault>);
 
-/// What the two passes find in a text of the table.
+/// The results of the two passes over a text of the table.
 fn found_in(alloc: Global, text: &[u8]) -> Result<Found, Fail> {
     let schema = read_schema(alloc, SCHEMA)?;
     if schema.tables().is_empty() {
@@ -28,7 +28,7 @@ fn found_in(alloc: Global, text: &[u8]) -> Result<Found, Fail> {
     Ok((checked, find_fault(alloc, schema.table(0), &mut again)))
 }
 
-/// What is kept of the second column of a text of the first table of a schema.
+/// The sample of the second column of a text of the first table of a schema.
 fn sampled(alloc: Global, schema: &Schema, text: &[u8]) -> Result<Sampler, Fail> {
     if schema.tables().is_empty() {
         return Err(Fail::from("no table"));
@@ -39,7 +39,7 @@ fn sampled(alloc: Global, schema: &Schema, text: &[u8]) -> Result<Sampler, Fail>
     Ok(sampler)
 }
 
-/// How many corners a sampler kept, and the place of the last one.
+/// The number of corners that a sampler kept, and the position of the last one.
 fn last_of(sampler: &Sampler) -> Result<(usize, i32, i32), Fail> {
     let last = sampler.corners().last().ok_or("no corner")?;
     Ok((sampler.corners().len(), last.x(), last.y()))
@@ -102,7 +102,7 @@ fn least_corners_are_sampled(rt: HostRuntime) -> Result<(), Fail> {
     Ok(())
 }
 
-/// So many points in a row, from 0 0 to the east, as CSV.
+/// A CSV text with this many points in a row, from 0 0 to the east.
 fn points(alloc: Global, count: usize) -> Result<String, AllocError> {
     let mut text = String::from_str(alloc, "id,geom\n")?;
     for k in 0..count {
@@ -111,7 +111,7 @@ fn points(alloc: Global, count: usize) -> Result<String, AllocError> {
     Ok(text)
 }
 
-/// Of 16,385 points every second one is kept; thinned to one in eight, there are 2,049.
+/// Every second one of 16,385 points is kept. Thinned to one in eight, 2,049 are left.
 #[test]
 fn a_sample_is_thinned(rt: HostRuntime) -> Result<(), Fail> {
     let schema = read_schema(

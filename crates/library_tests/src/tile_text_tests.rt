@@ -1,4 +1,4 @@
-//! What is at the edges: a row in four cells, fields that need quotes, stretches that are just full, tables without a row, and faults.
+//! Special cases: a row in four cells, fields that need quotes, stretches that are just full, tables without rows, and faults.
 
 use crate::tile_texts::Texts;
 use feature_table::Schema;
@@ -13,14 +13,14 @@ use tiles::{Cells, CopyFault, Part, PlainRecords, write_stretches, write_tiles};
 
 const SCHEMA: &[u8] = b"CREATE TABLE t (id INTEGER PRIMARY KEY, name TEXT, geom LINESTRING);";
 
-/// The corners of a square: the grid is cut at x = 10, then both parts at y = 10.
+/// The corners of a square. The grid is cut at x = 10, and then both parts at y = 10.
 const SQUARE: [(i32, i32); 4] = [(10, 10), (0, 0), (10, 0), (0, 10)];
 
 /// A line through all four boxes, one in the last, and one that runs north along x = 10.
 const ROWS: &[u8] =
     b"id,geom,name\n7,\"LINESTRING(9 9,10 10)\",\"a,b\"\n8,\"LINESTRING(10 10,12 11)\",\"say \"\"so\"\"\"\n9,\"LINESTRING(10 9,10 10)\",\n";
 
-/// How many rows of the three each cell gets, and their texts.
+/// The number of the three rows in each cell. The cells' texts are written to `texts`.
 fn tiled(alloc: Global, schema: &Schema, texts: &mut Texts) -> Result<Vec<usize>, Fail> {
     let cells = four_cells(alloc)?;
     let mut records = PlainRecords::new(alloc, ROWS);
@@ -45,7 +45,7 @@ fn a_row_goes_to_each_cell_with_its_marks(rt: HostRuntime) -> Result<(), Fail> {
     Ok(())
 }
 
-/// The texts of a text of the one table in stretches of so many rows, where each has as many as these counts say.
+/// The texts of a text of the only table in stretches of `size` rows. Fails unless they have these counts.
 fn stretches(alloc: Global, size: usize, text: &[u8], counts: &[usize]) -> Result<Texts, Fail> {
     let schema = read_schema(alloc, SCHEMA)?;
     let mut texts = Texts::empty(alloc, counts.len())?;
@@ -56,7 +56,7 @@ fn stretches(alloc: Global, size: usize, text: &[u8], counts: &[usize]) -> Resul
     Ok(texts)
 }
 
-/// How many rows a stretch has at most, and how many records each stretch of the three rows has.
+/// The greatest number of rows of a stretch, and the number of records in each stretch of the three rows.
 const COUNTS: [(usize, &[usize]); 5] = [
     (0, &[1, 1, 1]),
     (1, &[1, 1, 1]),
@@ -92,7 +92,7 @@ fn a_table_without_a_row_is_one_stretch(rt: HostRuntime) -> Result<(), Fail> {
     Ok(())
 }
 
-/// Whether writing the tiles of what a reader gives ends with a fault of reading, and whether the records then say that reading failed.
+/// Whether writing the tiles of a reader's text ends with a fault of reading, and whether the records then say that reading failed.
 fn told<R: Read + Drop>(alloc: Global, reader: R) -> Result<(bool, bool), Fail> {
     let schema = read_schema(alloc, SCHEMA)?;
     let cells = four_cells(alloc)?;
@@ -115,7 +115,7 @@ fn failed_reads_are_told_from_tables_that_changed(rt: HostRuntime) -> Result<(),
     Ok(())
 }
 
-/// What writing a text of the one table in stretches of two rows ends with, where one text can be written, and how many writes failed.
+/// The fault of writing a text of the only table in stretches of two rows, if one text can be written, and the number of failures.
 fn ended(alloc: Global, text: &[u8]) -> Result<(Option<CopyFault>, u64), Fail> {
     let schema = read_schema(alloc, SCHEMA)?;
     let mut texts = Texts::empty(alloc, 1)?;
@@ -139,7 +139,7 @@ fn faults_end_the_pass(rt: HostRuntime) -> Result<(), Fail> {
     Ok(())
 }
 
-/// What writing a text of the one table in stretches of so many rows returns.
+/// Writes a text of the only table in stretches of `size` rows.
 fn stretched(
     alloc: Global,
     schema: &Schema,
@@ -151,7 +151,7 @@ fn stretched(
     Ok(write_stretches(alloc, &part(schema)?, size, &mut records, texts))
 }
 
-/// The key and the name of the one table, with two marks.
+/// The key and the name of the only table, with two marks.
 fn part(schema: &Schema) -> Result<Part<'_>, Fail> {
     let table = schema.tables().first().ok_or("no table")?;
     Ok(Part {
@@ -170,7 +170,7 @@ fn four_cells(alloc: Global) -> Result<Cells, Fail> {
     Ok(Cells::cut(alloc, sample.as_mut_slice(), 1)?)
 }
 
-/// The counts of a pass that was done to its end.
+/// The counts of a pass that was finished.
 fn counted(found: &Result<Vec<usize>, CopyFault>) -> Result<&[usize], Fail> {
     match found {
         Ok(counts) => Ok(counts.as_slice()),

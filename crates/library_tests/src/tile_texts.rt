@@ -6,7 +6,7 @@ use std::alloc::{AllocError, Global};
 use streams::SinkFault;
 use tiles::CellTexts;
 
-/// The texts of cells, one behind the other; those past the last can't be written.
+/// The texts of cells. A cell after the last of them can't be written.
 #[derive(Drop)]
 pub(crate) struct Texts {
     texts: Vec<Vec<u8>>,
@@ -32,7 +32,7 @@ impl CellTexts for Texts {
 }
 
 impl Texts {
-    /// So many empty texts.
+    /// Makes this many empty texts.
     pub(crate) fn empty(alloc: Global, count: usize) -> Result<Texts, AllocError> {
         let mut texts = Vec::new(alloc);
         for _ in 0..count {
@@ -41,7 +41,7 @@ impl Texts {
         Ok(Texts { texts, failures: 0 })
     }
 
-    /// Whether these are the texts.
+    /// Whether the texts are these.
     pub(crate) fn are(&self, wanted: &[&[u8]]) -> bool {
         for (text, wanted) in self.texts.iter().zip(wanted) {
             if text.as_slice() != *wanted {

@@ -1,4 +1,4 @@
-//! Geometries of points and lines, and the faults that a refusal names.
+//! Geometries of points and lines, and the faults that refusals name.
 
 use crate::shapes::valid;
 use geometry_model::{GeometryFault, Kind, TextFault, ValidityFault};

@@ -1,4 +1,4 @@
-//! The truth of a condition at a row, and the work of it.
+//! The truth of a condition at a row, and its work.
 
 ghost use Rattle.table_model.specs.BoundQueries.{IsBound, geometry_fits};
 
@@ -10,7 +10,7 @@ use spatial_sql::{Bound, Query, Truth, bind, read_query, read_schema, value};
 use std::alloc::Global;
 use std::test::Fail;
 
-/// The truth of the first condition of a bound query at the row at a place of the first table, and the work of it.
+/// The truth of a bound query's first condition at the row at a place of the first table, and its work.
 fn truth_of(
     alloc: Global,
     database: &Database<'_, RTree>,
@@ -76,7 +76,7 @@ const TRUTHS: [(&str, usize, Truth, u64); 3] = [
     ("SELECT id FROM big WHERE NOT id = 5", 4, Truth::False, 0),
 ];
 
-/// A condition at rows, one of them the last that meets the square.
+/// The truth of a condition at rows, one of them the last that meets the square.
 #[test]
 fn truths_at_rows(rt: HostRuntime) -> Result<(), Fail> {
     let points = points_up_to(rt.alloc(), 10)?;

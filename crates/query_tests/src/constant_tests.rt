@@ -1,4 +1,4 @@
-//! Constants of a bound query, with values in place of them.
+//! Constants of a bound query, and values that replace them.
 
 use spatial_sql::{Bound, bind_to_tables, read_query, read_schema};
 use sqlite_items::Boxed;
@@ -15,7 +15,7 @@ use validity::read_valid;
 const SCHEMA: &[u8] =
     b"CREATE TABLE t (id INTEGER PRIMARY KEY, pop INTEGER, name TEXT, geom GEOMETRY);";
 
-/// A number in an OR, a text behind a NOT, a geometry, and what is no constant: a pattern, the 0 behind a predicate, a limit.
+/// A number in an OR, a text under NOT, a geometry, and what isn't a constant: a pattern, the 0 after a predicate, a limit.
 const QUERY: &str = "SELECT id FROM t WHERE (id = pop OR pop > 5) AND NOT name = 'a' \
     AND ST_Within(geom, ST_GeomFromText('POINT(1 2)')) AND ST_Relate(geom, geom, 'T********') = 0 LIMIT 3";
 
@@ -25,7 +25,7 @@ fn bound(alloc: Global, text: &str) -> Result<Bound, Fail> {
     Ok(bind_to_tables(alloc, &query, schema.tables())?)
 }
 
-/// Whether a value was put.
+/// Whether a value replaces a constant.
 fn is_put(alloc: Global, query: &mut Bound, k: usize, value: Constant) -> Result<bool, Fail> {
     Ok(matches!(put_constant(alloc, query, k, value)?, Put::Done))
 }
@@ -35,7 +35,7 @@ fn text(alloc: Global, text: &str) -> Result<Constant, Fail> {
     Ok(Value::Text(OwnedText::copy_of(alloc, text)?))
 }
 
-/// The number that a query's OR compares with.
+/// The number with which a query's OR compares.
 fn number(query: &Bound) -> Option<i64> {
     let [Cond::Or(parts), ..] = query.conjuncts.as_slice() else {
         return None;
@@ -59,7 +59,7 @@ fn is_empty(query: &Bound) -> Option<bool> {
     }
 }
 
-/// Whether these are the types of a query's constants, and there are no more.
+/// Whether a query has constants with exactly these types.
 fn has_types(query: &Bound, types: &[OperandType]) -> bool {
     for (k, wanted) in types.iter().enumerate() {
         if type_of_constant(query, k) != Some(*wanted) {
@@ -93,7 +93,7 @@ fn empty_point(alloc: Global) -> Result<Constant, Fail> {
     }
 }
 
-/// Writes 7 in place of the number, NULL in place of the text, and an empty point in place of the geometry.
+/// Replaces the number by 7, the text by NULL, and the geometry by an empty point.
 fn put_others(rt: &(impl Abort + AllocGlobal), query: &mut Bound) -> Result<(), Fail> {
     assert!(rt; is_put(rt.alloc(), query, 0, Value::Integer(7))?);
     assert!(rt; number(query) == Some(7));
@@ -114,7 +114,7 @@ fn values_take_the_place_of_constants(rt: HostRuntime) -> Result<(), Fail> {
     Ok(())
 }
 
-/// Whether a text is refused as the value of a constant, and given back.
+/// Whether a text is refused as the value of a constant, and returned.
 fn is_given_back(alloc: Global, query: &mut Bound, k: usize, given: &str) -> Result<bool, Fail> {
     match put_constant(alloc, query, k, text(alloc, given)?)? {
         Put::Refused(Value::Text(back)) => Ok(back.as_str() == given),

@@ -1,4 +1,4 @@
-//! Commands whose files or whose output fail: what they print, and their status.
+//! Commands whose files or output fail: what they print, and their status.
 
 use command_line::Order;
 use engine::{Failure, GeometryWord, fault_line, serve, status};
@@ -18,7 +18,7 @@ const QUERY: &str = "SELECT id, name FROM t WHERE pop > 5 AND NOT name = 'b'";
 const TWO_TABLES: &str =
     "CREATE TABLE t (id INTEGER PRIMARY KEY); CREATE TABLE u (id INTEGER PRIMARY KEY)";
 
-/// The order to run a query over the schema `s` and the directory `d`.
+/// The command to run a query over the schema `s` and the directory `d`.
 fn run_order(alloc: Global, query: &str) -> Result<Order, AllocError> {
     Ok(Order::Run {
         schema: String::from_str(alloc, "s")?,
@@ -44,7 +44,7 @@ fn the_matrix_may_not_be_written(rt: HostRuntime) -> Result<(), Fail> {
     Ok(())
 }
 
-/// Which reads and which put fail, counted from 1 (0: none does).
+/// The reads and the write that fail, counted from 1 (0: none does).
 #[derive(Clone, Copy)]
 struct Failing {
     opened: bool,
@@ -69,7 +69,7 @@ fn failing_file<'a>(
     None
 }
 
-/// The status of a run over a schema and its table where these reads and this put fail.
+/// The status of a run over a schema and its table in which these reads and this write fail.
 fn run_failing(
     rt: &HostRuntime,
     failing: &Failing,
@@ -82,7 +82,7 @@ fn run_failing(
     Ok(serve(rt.alloc(), &order, opener, out, err))
 }
 
-/// Whether a run where these reads and this put fail writes this text, shows this line and ends with the status of a failure.
+/// Whether a run in which these reads and this write fail writes this text, prints this line and ends with a failure's status.
 fn is_failing(rt: &HostRuntime, failing: &Failing, text: &str, line: &str) -> Result<bool, Fail> {
     let mut out = StopSink::new(rt.alloc(), failing.put, 3);
     let mut err = MemorySink::new(rt.alloc());
@@ -91,7 +91,7 @@ fn is_failing(rt: &HostRuntime, failing: &Failing, text: &str, line: &str) -> Re
     Ok(is_said && status == 6)
 }
 
-/// Whether the schema is opened, the read of it, the read of the table and the put that fail, what is written, and the line.
+/// Whether the schema is opened, the reads of it and of the table and the write that fail, what is written, and the line.
 const FAILURES: [(bool, u64, u64, u64, &str, &str); 4] = [
     (false, 0, 0, 0, "", "sfq: schema unreadable\n"),
     (true, 1, 0, 0, "", "sfq: schema unreadable\n"),
@@ -113,7 +113,7 @@ fn reading_and_writing_may_fail(rt: HostRuntime) -> Result<(), Fail> {
     Ok(())
 }
 
-/// The reader of the file at a path, which fails at its first read where it is that of the table u.
+/// The reader of the file at a path. It fails at its first read if the path is that of the table u.
 fn unread_second<'a>(path: &str, table: &'a [u8]) -> Option<StopReader<'a>> {
     if path == "s" {
         return Some(StopReader::new(TWO_TABLES.as_bytes(), 0));
@@ -124,7 +124,7 @@ fn unread_second<'a>(path: &str, table: &'a [u8]) -> Option<StopReader<'a>> {
     Some(StopReader::new(table, 0))
 }
 
-/// Where the second table's file can't be read: the line and the status over this text of the first.
+/// Whether a run, in which the second table's file can't be read, has this line and status over this text of the first table.
 fn refused_unread(rt: &HostRuntime, table: &str, line: &[u8], wanted: u8) -> Result<bool, Fail> {
     let order = run_order(rt.alloc(), "SELECT id FROM t")?;
     let mut out = MemorySink::new(rt.alloc());
@@ -134,7 +134,7 @@ fn refused_unread(rt: &HostRuntime, table: &str, line: &[u8], wanted: u8) -> Res
     Ok(out.bytes().is_empty() && err.bytes() == line && status == wanted)
 }
 
-/// A failed reading names its table, unless a table before it doesn't load.
+/// A failure of reading names its table, unless an earlier table doesn't load.
 #[test]
 fn a_failed_reading_names_its_table(rt: HostRuntime) -> Result<(), Fail> {
     assert!(rt; refused_unread(&rt, "id\n1\n", b"sfq: u L11\n", 6)?);

@@ -1,4 +1,4 @@
-//! What the files that a command opens are, in their order.
+//! The purposes of the files that a command opens, in their order.
 
 use command_line::Order;
 use engine::{File, Unobserved, serve_observed};
@@ -9,7 +9,7 @@ use streams::MemorySink;
 
 const SCHEMA: &[u8] = b"CREATE TABLE t (id INTEGER PRIMARY KEY);";
 
-/// The digit of a file by what it is, and what it holds.
+/// The digit for the purpose of a file, and the text of the file.
 fn digit_and_text(file: File<'_>) -> (u64, &'static [u8]) {
     match file {
         File::Schema(_) => (1, SCHEMA),
@@ -20,7 +20,7 @@ fn digit_and_text(file: File<'_>) -> (u64, &'static [u8]) {
     }
 }
 
-/// The digits of the files that a command opens, of a command that is done.
+/// The digits of the files that a command opens, if it succeeds.
 fn opened(alloc: Global, order: &Order) -> Result<u64, Fail> {
     let digits = Cell::new(0_u64);
     let mut out = MemorySink::new(alloc);
@@ -49,7 +49,7 @@ fn text(alloc: Global, text: &str) -> Result<String, AllocError> {
     String::from_str(alloc, text)
 }
 
-/// The order to run a query.
+/// The command to run a query.
 fn run_order(alloc: Global, query: &str, why: bool) -> Result<Order, AllocError> {
     Ok(Order::Run {
         schema: text(alloc, "s")?,
@@ -59,7 +59,7 @@ fn run_order(alloc: Global, query: &str, why: bool) -> Result<Order, AllocError>
     })
 }
 
-/// The order to check tables and to say why.
+/// The command to check tables, with explanations.
 fn check_order(alloc: Global) -> Result<Order, AllocError> {
     Ok(Order::Check {
         schema: text(alloc, "s")?,
@@ -68,7 +68,7 @@ fn check_order(alloc: Global) -> Result<Order, AllocError> {
     })
 }
 
-/// The order to relate the geometries of two files.
+/// The command to relate the geometries of two files.
 fn relate_order(alloc: Global) -> Result<Order, AllocError> {
     Ok(Order::Relate {
         first: text(alloc, "@a")?,
@@ -77,7 +77,7 @@ fn relate_order(alloc: Global) -> Result<Order, AllocError> {
     })
 }
 
-/// The order to relate pairs.
+/// The command to relate pairs.
 fn pairs_order(alloc: Global) -> Result<Order, AllocError> {
     Ok(Order::Pairs {
         file: text(alloc, "-")?,
@@ -85,12 +85,12 @@ fn pairs_order(alloc: Global) -> Result<Order, AllocError> {
     })
 }
 
-/// What a run opens of a query.
+/// The digits of the files that a run of a query opens.
 fn opened_by_run(alloc: Global, query: &str, why: bool) -> Result<u64, Fail> {
     opened(alloc, &run_order(alloc, query, why)?)
 }
 
-/// Notes on the query open nothing more.
+/// A run opens its query, the schema and each table. Notes on the query open nothing more.
 #[test]
 fn a_run_opens_its_query_the_schema_and_each_table(rt: HostRuntime) -> Result<(), Fail> {
     assert!(rt; opened_by_run(rt.alloc(), "@q", false)? == 312);
@@ -99,7 +99,7 @@ fn a_run_opens_its_query_the_schema_and_each_table(rt: HostRuntime) -> Result<()
     Ok(())
 }
 
-/// With `why` each table is opened again.
+/// A check opens the schema and each table, and with `why` each table again.
 #[test]
 fn a_check_opens_the_schema_and_each_table(rt: HostRuntime) -> Result<(), Fail> {
     let order = check_order(rt.alloc())?;
@@ -121,7 +121,7 @@ fn pairs_are_one_file(rt: HostRuntime) -> Result<(), Fail> {
     Ok(())
 }
 
-/// The digits of the files that a run of a query opens whose file isn't UTF-8, and whether what explains that is this.
+/// The digits of the files that a run opens if its query's file isn't UTF-8, and whether that is explained like this.
 fn unread(alloc: Global, why: bool, said: &str) -> Result<(u64, bool), Fail> {
     let digits = Cell::new(0_u64);
     let mut out = MemorySink::new(alloc);

@@ -1,4 +1,4 @@
-//! Beginnings of texts: each of a geometry is refused where it ends, each of a query is run or refused by a fault of the query.
+//! Beginnings of texts: each of a geometry is refused at its end, and each of a query is run or refused by a fault of the query.
 
 use command_line::Order;
 use engine::serve;
@@ -15,7 +15,7 @@ const TABLE: &[u8] = b"id,pop,name\n1,8,a\n2,9,b\n3,,c\n4,7,\n";
 
 const QUERY: &str = "SELECT id, name FROM t WHERE pop > 5 AND NOT name = 'b'";
 
-/// Before the seventh byte there is no word of a type, and from there on the text ends too soon.
+/// Before the seventh byte there is no word for a type, and from there on the text ends too soon.
 #[test]
 fn each_beginning_of_a_geometry(rt: HostRuntime) {
     for length in 0..SQUARE.len() {
@@ -25,7 +25,7 @@ fn each_beginning_of_a_geometry(rt: HostRuntime) {
     }
 }
 
-/// Whether a query is run, or refused by a fault of the query, and writes nothing then.
+/// Whether a query is run, or refused by a fault of the query with nothing written.
 fn is_run_or_refused(alloc: Global, query: &str) -> Result<bool, Fail> {
     let order = Order::Run {
         schema: String::from_str(alloc, "s")?,

@@ -1,4 +1,4 @@
-//! Kept databases: tables that are loaded one after another, faults, and queries of the tables that are loaded.
+//! Kept databases: tables that are loaded one after another, faults, and queries over the loaded tables.
 
 use crate::tables::points_up_to;
 use de9im::Work;
@@ -24,13 +24,13 @@ const WITHIN: &str = "SELECT id FROM BIG \
 
 const JOINED: &str = "SELECT b.id, s.id FROM big b JOIN sq s ON ST_Within(b.geom, s.geom)";
 
-/// A database of two tables, of which none is loaded.
+/// Opens a database of two tables. None of them is loaded.
 fn opened(alloc: Global) -> Result<KeptDatabase<RTree>, Fail> {
     let schema = read_schema(alloc, TWO_SCHEMA)?;
     Ok(KeptDatabase::open(alloc, schema)?)
 }
 
-/// What came of loading the table of a name.
+/// The result of loading the table with a name.
 fn load(
     alloc: Global,
     kept: &mut KeptDatabase<RTree>,
@@ -44,7 +44,7 @@ fn load(
     Ok(kept.load(alloc, place, text))
 }
 
-/// Which reference of a query names a table that isn't loaded, and the rows of the query over what is loaded.
+/// The reference of a query that names a table which isn't loaded, and the rows of the query over the loaded tables.
 fn asked(
     alloc: Global,
     kept: &KeptDatabase<RTree>,
@@ -57,7 +57,7 @@ fn asked(
     Ok((unloaded_reference(kept, query), rows))
 }
 
-/// Which reference of a query's text names a table that isn't loaded, and the places of its rows, one number after the other.
+/// The reference of a query's text that names a table which isn't loaded, and the places of the rows, one number after the other.
 fn found(
     alloc: Global,
     kept: &KeptDatabase<RTree>,
@@ -75,7 +75,7 @@ fn found(
     Ok((unloaded, places))
 }
 
-/// Whether that reference of a query names a table that isn't loaded, and its rows are at these places.
+/// Whether this reference of a query names a table that isn't loaded, and the query's rows are at these places.
 fn has_found(
     alloc: Global,
     kept: &KeptDatabase<RTree>,
@@ -87,7 +87,7 @@ fn has_found(
     Ok(other == unloaded && found.as_slice() == places)
 }
 
-/// Loads so many points.
+/// Loads this many points.
 fn load_points(alloc: Global, kept: &mut KeptDatabase<RTree>, count: u8) -> Result<(), Fail> {
     let points = points_up_to(alloc, count)?;
     Ok(load(alloc, kept, b"big", points.as_bytes())??)
@@ -102,7 +102,7 @@ fn opened_has_no_rows(rt: HostRuntime) -> Result<(), Fail> {
     Ok(())
 }
 
-/// A query of one table needs that table alone; another table may be loaded after it.
+/// A query over one table needs only that table. Another table may be loaded after it.
 #[test]
 fn tables_are_loaded_one_after_another(rt: HostRuntime) -> Result<(), Fail> {
     let mut kept = opened(rt.alloc())?;
@@ -116,7 +116,7 @@ fn tables_are_loaded_one_after_another(rt: HostRuntime) -> Result<(), Fail> {
     Ok(())
 }
 
-/// What texts with a fault are refused with, one in place of each table that is loaded.
+/// The faults for which texts are refused, one instead of each loaded table.
 fn load_faults(
     alloc: Global,
     kept: &mut KeptDatabase<RTree>,
@@ -126,7 +126,7 @@ fn load_faults(
     Ok((broken.err(), unfit.err()))
 }
 
-/// A fault leaves the table that was there, and another text takes its place.
+/// A fault leaves the loaded table as it was, and another text replaces it.
 #[test]
 fn faults_leave_the_table(rt: HostRuntime) -> Result<(), Fail> {
     let mut kept = opened(rt.alloc())?;

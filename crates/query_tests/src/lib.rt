@@ -1,5 +1,5 @@
-//! Tests of what runs queries, which need code: loaded tables, rows of plans and conditions at rows, statements and their
-//! constants, and whole commands with observers, failing devices and refused searches.
+//! Tests of the crates that run queries, which need code: loaded tables, rows of plans and conditions at rows,
+//! statements and their constants, and whole commands with observers, failing devices and failing searches.
 #![tactic(auto)]
 
 #[cfg(test)]

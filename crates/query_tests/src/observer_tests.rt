@@ -1,4 +1,4 @@
-//! Observers: what is reported to them, and that it changes nothing.
+//! Observers: what is reported to them. Observing changes nothing.
 
 use command_line::Order;
 use engine::{File, serve, serve_observed};
@@ -9,7 +9,7 @@ use std::test::Fail;
 use streams::devices::StopReader;
 use streams::{Followed, MemorySink, ReadObserver, RowCount, RowObserver};
 
-/// How many bytes came.
+/// The number of bytes that were read.
 #[derive(Drop)]
 struct ByteCount<'c>(&'c Cell<usize>);
 
@@ -35,7 +35,7 @@ fn a_followed_reader_gives_what_the_reader_beneath_gives(rt: HostRuntime) -> Res
     Ok(())
 }
 
-/// Counts what is reported, and how often candidates are.
+/// Counts what is reported, and the number of reports of candidates.
 #[derive(Drop)]
 struct ReportCount {
     count: RowCount,
@@ -71,7 +71,7 @@ const MANY: &[u8] = b"id\n1\n2\n3\n4\n5\n6\n7\n8\n9\n10\n11\n12\n13\n14\n15\n16\
 
 const FEW: &[u8] = b"id\n1\n2\n3\n4\n5\n6\n7\n8\n9\n10\n11\n12\n13\n14\n15\n16\n";
 
-/// 64 rows, a half of them with each number.
+/// 64 rows. Each of the two numbers is in half of them.
 const HALVES: &[u8] =
     b"id,n\n1,1\n2,0\n3,1\n4,0\n5,1\n6,0\n7,1\n8,0\n9,1\n10,0\n11,1\n12,0\n13,1\n14,0\n\
     15,1\n16,0\n17,1\n18,0\n19,1\n20,0\n21,1\n22,0\n23,1\n24,0\n25,1\n26,0\n27,1\n28,0\n\
@@ -99,13 +99,13 @@ fn run_order(alloc: Global, query: &str) -> Result<Order, AllocError> {
     })
 }
 
-/// Serves an order that nothing observes. It returns the status.
+/// Runs a command that nothing observes. Returns the status.
 fn served(alloc: Global, order: &Order, out: &mut MemorySink, err: &mut MemorySink) -> u8 {
     let opener = |path: &str| file_at(path);
     serve(alloc, order, opener, out, err)
 }
 
-/// Serves an order, and counts what is reported. It returns the status.
+/// Runs a command, and counts what is reported. Returns the status.
 fn served_counted(
     alloc: Global,
     order: &Order,
@@ -118,7 +118,7 @@ fn served_counted(
     serve_observed(alloc, order, opener, out, err, &mut more, report)
 }
 
-/// Counts reports as an order is served. It returns whether that goes well, and writes what is written where nothing is observed.
+/// Counts reports while a command runs. Returns whether it succeeds and writes what it writes without an observer.
 fn is_same(alloc: Global, order: &Order, report: &mut ReportCount) -> bool {
     let mut out = MemorySink::new(alloc);
     let mut same = MemorySink::new(alloc);
@@ -129,7 +129,7 @@ fn is_same(alloc: Global, order: &Order, report: &mut ReportCount) -> bool {
     is_well && !out.bytes().is_empty() && out.bytes() == same.bytes()
 }
 
-/// What is reported of a query, where its output is that of the same query that nothing observes.
+/// What is reported for a query. Its output has to be that of the query without an observer.
 fn reported(alloc: Global, query: &str) -> Result<ReportCount, Fail> {
     let order = run_order(alloc, query)?;
     let mut report = ReportCount {

@@ -1,4 +1,4 @@
-//! Rows of plans over memory: all of each shape of plan, and the work after the first of them and after the last.
+//! Rows of plans over memory: all rows of each form of plan, and the work after the first and after the last.
 
 ghost use Rattle.table_model.specs.BoundQueries.{IsBound, geometry_fits};
 ghost use Rattle.table_model.specs.Plans.{IsLawful};
@@ -46,7 +46,7 @@ const JOINED: &str =
 const EQUAL_DIMENSIONS: &str = "SELECT COUNT(*) FROM big a JOIN big b \
     ON ST_Dimension(a.geom) = ST_Dimension(b.geom)";
 
-/// Adds how the rows of a reference are found to a text.
+/// Adds the way in which the rows of a reference are found to a text.
 fn write_access(text: &mut String, access: &Access) -> Result<(), AllocError> {
     let reference = access.reference;
     match access.method {
@@ -103,8 +103,8 @@ fn streamed(
     one_by_one(alloc, Rows::new(alloc, database, bound, plan, Work::new()))
 }
 
-/// The rows of a plan, one after another, and the work after the last, where the stream is taken apart after each row and
-/// goes on from what was kept.
+/// The rows of a plan, one after another, and the work after the last, if the stream is paused after each row and
+/// resumed from what was kept.
 fn paused_after_each(
     alloc: Global,
     database: &Database<'_, RTree>,
@@ -127,7 +127,7 @@ fn paused_after_each(
     Err(AllocError)
 }
 
-/// The rows of a plan, the work after the last, and how many steps are busy, where each makes so many looks at most.
+/// The rows of a plan, the work after the last, and the number of busy steps, if each step makes at most `most` looks.
 fn bounded(
     alloc: Global,
     database: &Database<'_, RTree>,
@@ -151,7 +151,7 @@ fn bounded(
     Err(AllocError)
 }
 
-/// How many rows a plan has, and the work after the last, where they are counted by steps of so many looks at most.
+/// The number of rows of a plan, and the work after the last, if they are counted by steps of at most `most` looks.
 fn counted(
     alloc: Global,
     database: &Database<'_, RTree>,
@@ -190,7 +190,7 @@ fn executed(
     Ok((rows, work.count()))
 }
 
-/// The work after the first row of a plan, where the rows that come one after another are these.
+/// The work after the first row of a plan. Fails unless the rows that come one after another are these.
 fn work_after_first(
     alloc: Global,
     database: &Database<'_, RTree>,
@@ -208,7 +208,7 @@ fn work_after_first(
     Ok(after_first)
 }
 
-/// Fails unless the rows of a plan that come with a pause after each are these, with this work.
+/// Fails unless the rows of a plan that is paused after each row are these, with this work.
 fn check_pauses(
     alloc: Global,
     database: &Database<'_, RTree>,
@@ -227,8 +227,8 @@ fn check_pauses(
     Ok(())
 }
 
-/// How many steps of so many looks at most are busy, where their rows are these, with this work, and as many are counted by such
-/// steps.
+/// The number of busy steps of at most `most` looks. Fails unless their rows are these, with this work, and such steps
+/// count as many.
 fn busy_steps(
     alloc: Global,
     database: &Database<'_, RTree>,
@@ -251,7 +251,7 @@ fn busy_steps(
     Ok(busy)
 }
 
-/// What steps of at most 1, 2 and 1,000 looks give, as a text.
+/// The numbers of busy steps of at most 1, 2 and 1,000 looks, as a text.
 fn busy_text(
     alloc: Global,
     database: &Database<'_, RTree>,
@@ -271,10 +271,10 @@ fn busy_text(
     Ok(text)
 }
 
-/// The text of a plan: its accesses, its rows, and the work after the first of them and of all. The rows are those that come
-/// one after another, those that come where the stream is paused after each, and those that come by steps of 1, 2 and 1,000
-/// looks at most, with no more work; counted by such steps they are as many. Of one table the text says how many of these steps
-/// are busy.
+/// The text of a plan: its accesses, its rows, and the work after the first row and after all. It fails unless the rows
+/// are the same if they come one after another, if the stream is paused after each, and if they come by steps of at
+/// most 1, 2 and 1,000 looks, with no more work, and unless such steps count as many. For one table the text says how
+/// many steps are busy.
 fn plan_text(
     alloc: Global,
     database: &Database<'_, RTree>,
@@ -298,7 +298,7 @@ fn plan_text(
     Ok(text)
 }
 
-/// The rows by the plan that is chosen for a bound query, as a text.
+/// The rows of the chosen plan of a bound query, as a text.
 fn bound_text(alloc: Global, database: &Database<'_, RTree>, bound: &Bound) -> Result<String, Fail>
     requires bound { IsBound geometry_fits database.now.definitions bound.now }
 {
@@ -322,14 +322,14 @@ fn text_over(alloc: Global, database: &Database<'_, RTree>, query: &str) -> Resu
     query_text(alloc, database, &query)
 }
 
-/// The rows of the text of a query over tables of these texts, as a text.
+/// The rows of the text of a query over tables with these texts, as a text.
 fn found(alloc: Global, schema: &str, texts: &[&[u8]], query: &str) -> Result<String, Fail> {
     let schema = read_schema(alloc, schema.as_bytes())?;
     let database = database_of(alloc, &schema, texts)?;
     text_over(alloc, &database, query)
 }
 
-/// Where rows come as they are found, the first takes the work of the candidates up to it.
+/// If rows come as they are found, the work at the first is that of the candidates up to it.
 #[test]
 fn work_after_a_row_that_is_found(rt: HostRuntime) -> Result<(), Fail> {
     let points = points_up_to(rt.alloc(), 100)?;
@@ -338,13 +338,13 @@ fn work_after_a_row_that_is_found(rt: HostRuntime) -> Result<(), Fail> {
     Ok(())
 }
 
-/// The rows of a join of so many points and two squares, as a text.
+/// The rows of a join of this many points and two squares, as a text.
 fn joined(alloc: Global, count: u8, squares: &[u8]) -> Result<String, Fail> {
     let points = points_up_to(alloc, count)?;
     found(alloc, TWO_SCHEMA, &[points.as_bytes(), squares], JOINED)
 }
 
-/// Where rows are put in order first, the first takes all the work, whichever square has the lesser key.
+/// If rows are sorted first, the work at the first is all the work, whichever square has the lesser key.
 #[test]
 fn work_after_a_row_in_order(rt: HostRuntime) -> Result<(), Fail> {
     let text = joined(rt.alloc(), 100, SQUARES)?;
@@ -358,7 +358,7 @@ fn work_after_a_row_in_order(rt: HostRuntime) -> Result<(), Fail> {
     Ok(())
 }
 
-/// A query of each shape of plan, and the text of its plan.
+/// A query for each form of plan, and the text of its plan.
 const SHAPES: [(&str, &str); 5] = [
     (SCANNED, "0 scan, | 0, 1, 2, 3, | 1 of 10 | 6, 3, 0, busy"),
     (PROBED, "0 probe 0, | 0, 1, 2, 3, | 1 of 4 | 0, 0, 0, busy"),
@@ -373,8 +373,8 @@ const SHAPES: [(&str, &str); 5] = [
     ),
 ];
 
-/// All rows of a plan of each shape, over ten points and two squares: a scan, a probe, two scans, a probe within a scan, and
-/// the same where the second reference is the outer one.
+/// All rows of a plan of each form, over ten points and two squares: a scan, a probe, two scans, a probe within a scan,
+/// and that with the second reference as the outer one.
 #[test]
 fn all_rows_of_each_shape(rt: HostRuntime) -> Result<(), Fail> {
     let points = points_up_to(rt.alloc(), 10)?;
@@ -385,7 +385,7 @@ fn all_rows_of_each_shape(rt: HostRuntime) -> Result<(), Fail> {
     Ok(())
 }
 
-/// How many rows the plan has that is chosen for a bound query, and the work after the last, where they are counted by steps of
+/// The number of rows of the chosen plan of a bound query, and the work after the last, if they are counted by steps of
 /// one look.
 fn counted_by_looks(
     alloc: Global,
@@ -398,7 +398,7 @@ fn counted_by_looks(
     Ok(counted(alloc, database, bound, &plan, 1)?)
 }
 
-/// Pairs of equal rows are counted together: there are 10,000, and `counted` makes 1,000 looks at most.
+/// Pairs of equal rows are counted together: there are 10,000, and `counted` makes at most 1,000 looks.
 #[test]
 fn pairs_of_equal_rows_are_counted_together(rt: HostRuntime) -> Result<(), Fail> {
     let points = points_up_to(rt.alloc(), 100)?;

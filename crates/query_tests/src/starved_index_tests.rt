@@ -1,4 +1,4 @@
-//! Runs over an index that hasn't the memory for each search: only a probe meets it, and what was found before stays written.
+//! Runs over an index that runs out of memory in some searches: only a probe fails, and what was found before stays written.
 
 use engine::{Fault, run};
 use feature_table::Schema;
@@ -20,7 +20,7 @@ const POINTS: &str = "id,geom
 7,POINT(7 1)
 ";
 
-/// An index whose searches from x = 4 on lack memory.
+/// An index whose searches from x = 4 on run out of memory.
 #[derive(Drop)]
 struct Starved {
     list: ListIndex,
@@ -48,7 +48,7 @@ impl EnvelopeIndex for Starved {
     }
 }
 
-/// Runs a query over the points, by their schema; what it writes is left in the sink.
+/// Runs a query over the points, by their schema, and writes into the sink.
 fn run_over(
     alloc: Global,
     schema: &Schema,
@@ -66,7 +66,7 @@ fn run_over(
     }
 }
 
-/// Runs a query over the points; what it writes is left in the sink.
+/// Runs a query over the points, and writes into the sink.
 fn run_starved(
     alloc: Global,
     query: &str,
@@ -88,7 +88,7 @@ fn is_ended(
     Ok(ended == *wanted && sink.bytes() == text.as_bytes())
 }
 
-/// A query, what it ends with, and what it writes.
+/// A query, its result, and what it writes.
 const ENDINGS: [(&str, Result<u64, Fault>, &str); 4] = [
     (
         "SELECT id FROM big WHERE ST_Intersects(geom, ST_GeomFromText('POLYGON((4 0,8 0,8 4,4 4,4 0))'))",
@@ -113,9 +113,9 @@ const ENDINGS: [(&str, Result<u64, Fault>, &str); 4] = [
     ),
 ];
 
-/// A probe fails with its search, which comes after the header was written. Rows are written as they are found, also those before
-/// a search that fails. A number is written once all rows were counted. A scan doesn't search an index. The work returned is the
-/// number of predicates that were decided.
+/// A probe fails if its search does, which is after the header was written. Rows are written as they are found, also
+/// those before a search that fails. A count is written once all rows were counted. A scan doesn't search an index. The
+/// work returned is the number of predicates that were decided.
 #[test]
 fn plans_meet_their_index(rt: HostRuntime) -> Result<(), Fail> {
     for (query, wanted, text) in &ENDINGS {

@@ -1,4 +1,4 @@
-//! Statements over a kept database: what their rows write is what `run` writes, the fields of their columns, and steps that are busy.
+//! Statements over a kept database: their rows are those that `run` writes, with the fields of their columns, and busy steps.
 
 ghost use Rattle.kept_tables.specs.KeptTables.{lent};
 ghost use Rattle.statements.specs.Statements.{IsOver};
@@ -41,7 +41,7 @@ const JOINED: &str = "SELECT b.name, s.id FROM big b JOIN sq s ON ST_Within(b.ge
 const EXPLAINED: &str =
     "EXPLAIN SELECT b.name, s.id FROM big b JOIN sq s ON ST_Within(b.geom, s.geom)";
 
-/// A database of both tables.
+/// Makes a database of both tables.
 fn both(alloc: Global) -> Result<KeptDatabase<RTree>, Fail> {
     let mut kept = KeptDatabase::open(alloc, read_schema(alloc, SCHEMA)?)?;
     for (place, text) in [POINTS, SQUARES].into_iter().enumerate() {
@@ -79,7 +79,7 @@ fn written(alloc: Global, kept: &KeptDatabase<RTree>, query: &str) -> Result<Vec
     }
 }
 
-/// What `run` writes of a query over both tables.
+/// What `run` writes for a query over both tables.
 fn ran(alloc: Global, query: &str) -> Result<Vec<u8>, Fail> {
     let schema = read_schema(alloc, SCHEMA)?;
     let readers = Vec::from_slice(alloc, &[POINTS, SQUARES])?;
@@ -93,7 +93,7 @@ fn ran(alloc: Global, query: &str) -> Result<Vec<u8>, Fail> {
     Ok(Vec::from_slice(alloc, sink.bytes())?)
 }
 
-/// Whether the header and the one row of a query are what `run` writes.
+/// Whether the header and the only row of a query are what `run` writes.
 fn is_written(alloc: Global, kept: &KeptDatabase<RTree>, query: &str) -> Result<bool, Fail> {
     let text = ran(alloc, query)?;
     Ok(written(alloc, kept, query)?.as_slice() == text.as_slice())
@@ -108,20 +108,20 @@ fn a_row_is_that_of_a_run(rt: HostRuntime) -> Result<(), Fail> {
     Ok(())
 }
 
-/// What is asked of a statement.
+/// A question to a statement.
 #[derive(Clone, Copy)]
 enum Ask {
-    /// A step: `end`, or the row that it gives, as `run` writes it.
+    /// A step: `end`, or the row that it finds, as `run` writes it.
     Step,
-    /// A step of at most so many looks: `busy`, `end`, or the row that it gives, as `run` writes it.
+    /// A step of at most this many looks: `busy`, `end`, or the row that it finds, as `run` writes it.
     StepWithin(u64),
-    /// A column and its field in the row that is there, as `name kind|field|number`; `none` where there is none.
+    /// A column and its field in the current row, as `name kind|field|number`; `none` for a part that doesn't exist.
     Column(usize),
-    /// The text of its plan.
+    /// The text of the statement's plan.
     Plan,
 }
 
-/// Adds bytes to a text; `none` where there are none.
+/// Adds bytes to a text; `none` if there are none.
 fn put_bytes(text: &mut String, bytes: Option<&[u8]>) -> Result<(), Fail> {
     let Some(bytes) = bytes else {
         return Ok(text.push_str("none")?);
@@ -140,7 +140,7 @@ fn put_copy(text: &mut String, bytes: &Option<Vec<u8>>) -> Result<(), Fail> {
     }
 }
 
-/// Adds the row that is there, as `run` writes it; `none` where no row is there.
+/// Adds the current row, as `run` writes it; `none` if there is no row.
 fn put_row(
     alloc: Global,
     kept: &KeptDatabase<RTree>,
@@ -156,7 +156,7 @@ fn put_row(
     }
 }
 
-/// Adds what a step came to.
+/// Adds the result of a step.
 fn put_step(
     alloc: Global,
     kept: &KeptDatabase<RTree>,
@@ -173,7 +173,7 @@ fn put_step(
     }
 }
 
-/// What a column's fields are.
+/// The text for the kind of a column.
 fn kind_text(kind: Option<ColumnKind>) -> &'static str {
     match kind {
         Some(ColumnKind::Integer) => "number",
@@ -183,7 +183,7 @@ fn kind_text(kind: Option<ColumnKind>) -> &'static str {
     }
 }
 
-/// Adds the name of a column and what its fields are.
+/// Adds the name of a column and its kind.
 fn put_name(
     alloc: Global,
     kept: &KeptDatabase<RTree>,
@@ -198,7 +198,7 @@ fn put_name(
     Ok(text.push_str(kind)?)
 }
 
-/// Adds the field of a column in the row that is there, as a text and as a number.
+/// Adds the field in a column of the current row, as a text and as a number.
 fn put_field(
     alloc: Global,
     kept: &KeptDatabase<RTree>,
@@ -222,7 +222,7 @@ fn put_plan(alloc: Global, statement: &Statement, text: &mut String) -> Result<(
     put_bytes(text, Some(plan.bytes()))
 }
 
-/// Adds what a statement says when it is asked.
+/// Adds what a statement returns for a question.
 fn put_answer(
     alloc: Global,
     kept: &KeptDatabase<RTree>,
@@ -251,7 +251,7 @@ fn put_answer(
     }
 }
 
-/// What a statement says, asked one thing after another, with a stroke behind each answer.
+/// What a statement returns for one question after another, with `/` after each.
 fn told_by(
     alloc: Global,
     kept: &KeptDatabase<RTree>,
@@ -268,7 +268,7 @@ fn told_by(
     Ok(text)
 }
 
-/// Prepares a statement of a query over a database and returns what it says to each thing that is asked.
+/// Prepares a statement of a query over a database, and returns what it returns for each question.
 fn told_over(
     alloc: Global,
     kept: &KeptDatabase<RTree>,
@@ -281,7 +281,7 @@ fn told_over(
     }
 }
 
-/// Prepares a statement of a query over both tables and returns what it says to each thing that is asked.
+/// Prepares a statement of a query over both tables, and returns what it returns for each question.
 fn told(alloc: Global, query: &str, asked: &[Ask]) -> Result<String, Fail> {
     let kept = both(alloc)?;
     told_over(alloc, &kept, query, asked)
@@ -305,7 +305,7 @@ fn columns_of_functions(rt: HostRuntime) -> Result<(), Fail> {
     Ok(())
 }
 
-/// A column of a join is one of its own table.
+/// A column of a join has the name and kind of a column of its own table.
 #[test]
 fn columns_of_a_join(rt: HostRuntime) -> Result<(), Fail> {
     let text = told(
@@ -320,7 +320,7 @@ fn columns_of_a_join(rt: HostRuntime) -> Result<(), Fail> {
     Ok(())
 }
 
-/// The text of a statement's plan is what `run` writes of its query behind EXPLAIN, before its first row and after it.
+/// The text of a statement's plan is what `run` writes for its query after EXPLAIN, before the first row and after it.
 #[test]
 fn the_plan_is_that_of_a_run(rt: HostRuntime) -> Result<(), Fail> {
     let text = told(rt.alloc(), JOINED, &[Ask::Plan, Ask::Step, Ask::Plan])?;
@@ -328,7 +328,7 @@ fn the_plan_is_that_of_a_run(rt: HostRuntime) -> Result<(), Fail> {
     Ok(())
 }
 
-/// The text of the plan as `run` writes it, the first row, and the text of the plan again, with a stroke behind each.
+/// The text of the plan as `run` writes it, the first row, and the text of the plan again, with `/` after each.
 fn around_a_row(alloc: Global) -> Result<String, Fail> {
     let mut text = String::new(alloc);
     let plan = ran(alloc, EXPLAINED)?;
@@ -339,7 +339,7 @@ fn around_a_row(alloc: Global) -> Result<String, Fail> {
     Ok(text)
 }
 
-/// Within one look a step that looks at a row which doesn't pass is busy, and the same rows are to come, each once.
+/// A step of one look is busy if the row that it looks at doesn't pass. The same rows are still to come, each once.
 #[test]
 fn a_busy_step_loses_no_row(rt: HostRuntime) -> Result<(), Fail> {
     let text = told(
@@ -357,7 +357,7 @@ fn a_busy_step_loses_no_row(rt: HostRuntime) -> Result<(), Fail> {
     Ok(())
 }
 
-/// Within no look at all a step is busy where a candidate is to come, and nothing is lost.
+/// A step without a look is busy if a candidate is to come, and loses nothing.
 #[test]
 fn a_step_without_a_look(rt: HostRuntime) -> Result<(), Fail> {
     let text = told(

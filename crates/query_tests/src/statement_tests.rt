@@ -1,4 +1,4 @@
-//! Statements over a kept database: why none is made.
+//! Statements over a kept database: why one isn't prepared.
 
 use kept_tables::KeptDatabase;
 use rtree::RTree;
@@ -11,13 +11,13 @@ use table_model::faults::QueryFault;
 const SCHEMA: &[u8] = b"CREATE TABLE big (id INTEGER PRIMARY KEY, geom POINT);
 CREATE TABLE sq (id INTEGER PRIMARY KEY, geom POLYGON NOT NULL);";
 
-/// A database of two tables, of which none is loaded.
+/// Opens a database of two tables. None of them is loaded.
 fn opened(alloc: Global) -> Result<KeptDatabase<RTree>, Fail> {
     let schema = read_schema(alloc, SCHEMA)?;
     Ok(KeptDatabase::open(alloc, schema)?)
 }
 
-/// What a query is refused with, if it is.
+/// The fault for which a query is refused, if it is.
 fn refused(alloc: Global, kept: &KeptDatabase<RTree>, query: &str) -> Option<PrepareFault> {
     Statement::prepare(alloc, kept, query).err()
 }

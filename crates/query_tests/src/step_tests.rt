@@ -1,4 +1,4 @@
-//! The steps of a load and of a run, each called by itself.
+//! The steps of loading and of a run, each called directly.
 
 use crate::tables::{POINTS_SCHEMA, database_of, points_up_to};
 use csv::ByteRecord;
@@ -23,7 +23,7 @@ fn field_of(record: &ByteRecord, place: usize) -> &[u8] {
     record.get(place).unwrap_or(&[])
 }
 
-/// Records are read one by one, and put in the order of their keys.
+/// Records are read one by one, and sorted by their keys.
 #[test]
 fn records_and_rows(rt: HostRuntime) -> Result<(), Fail> {
     let text: &[u8] = b"id,geom\n2,POLYGON EMPTY\n";
@@ -59,7 +59,7 @@ fn returned(
     Ok((record, passed))
 }
 
-/// Whether the rows at these places of the first table have these ids, and pass the filters of a plan or don't.
+/// Whether the row at place 3 has its id and passes the filters of a plan, and the row at place 4 has its id and fails.
 fn are_returned(
     alloc: Global,
     database: &Database<'_, RTree>,
@@ -105,7 +105,7 @@ fn planned_over(alloc: Global, query: &str) -> Result<(ByteRecord, u64, bool), F
     planned(alloc, &database, &read_query(alloc, query)?)
 }
 
-/// A query is bound to definitions, its plan is chosen by the number of rows, and records are made of its header and rows.
+/// A query is bound to definitions, its plan is chosen by the number of rows, and its header and rows become records.
 #[test]
 fn plans_and_records(rt: HostRuntime) -> Result<(), Fail> {
     let (header, cost, returned) = planned_over(rt.alloc(), PROBED)?;
@@ -113,7 +113,7 @@ fn plans_and_records(rt: HostRuntime) -> Result<(), Fail> {
     Ok(())
 }
 
-/// Runs a query over ten points, whose schema is given, and observes nothing.
+/// Runs a query over ten points, with the given schema and without an observer.
 fn run_over(alloc: Global, schema: &Schema, sink: &mut MemorySink) -> Result<u64, Fail> {
     let points = points_up_to(alloc, 10)?;
     let readers = Vec::from_slice(alloc, &[points.as_bytes()])?;
@@ -131,7 +131,7 @@ fn run_over(alloc: Global, schema: &Schema, sink: &mut MemorySink) -> Result<u64
     Ok(work.count())
 }
 
-/// A run that is observed.
+/// Runs with an observer.
 #[test]
 fn observed_runs(rt: HostRuntime) -> Result<(), Fail> {
     let schema = read_schema(rt.alloc(), POINTS_SCHEMA.as_bytes())?;

@@ -1,4 +1,4 @@
-//! Fields of loaded rows, and how many records are asked for.
+//! Fields of loaded rows, and the number of records that are read.
 
 use crate::tables::loaded;
 use feature_table::{Field, Records, Table};
@@ -6,7 +6,7 @@ use rtree::ListIndex;
 use spatial_sql::read_schema;
 use std::test::Fail;
 
-/// Whether these are the fields of a row behind its key.
+/// Whether the fields of a row after its key are these.
 fn has_fields(number: &Field<'_>, name: &Field<'_>, wanted: (Option<i64>, Option<&str>)) -> bool {
     let is_number = match number {
         Field::Int(number) => wanted.0 == Some(*number),
@@ -19,7 +19,7 @@ fn has_fields(number: &Field<'_>, name: &Field<'_>, wanted: (Option<i64>, Option
     is_number && is_name
 }
 
-/// The place of each row, and its fields behind the key.
+/// The place of each row, and its fields after the key.
 const LOADED: [(usize, Option<i64>, Option<&str>); 4] = [
     (0, Some(8), Some("a")),
     (1, Some(9), Some("b")),
@@ -27,7 +27,7 @@ const LOADED: [(usize, Option<i64>, Option<&str>); 4] = [
     (3, Some(7), None),
 ];
 
-/// A table of numbers and texts is loaded, its rows by their keys.
+/// A table of numbers and texts is loaded, with its rows sorted by their keys.
 #[test]
 fn numbers_and_texts_are_loaded(rt: HostRuntime) -> Result<(), Fail> {
     let text = b"CREATE TABLE t (id INTEGER PRIMARY KEY, pop INTEGER, name TEXT);";
@@ -43,7 +43,7 @@ fn numbers_and_texts_are_loaded(rt: HostRuntime) -> Result<(), Fail> {
     Ok(())
 }
 
-/// Each record is asked for, the header among them, and one more that isn't there.
+/// Each record is asked for, with the header, and one more that doesn't exist.
 #[test]
 fn records_are_asked_for(rt: HostRuntime) -> Result<(), Fail> {
     let schema = read_schema(

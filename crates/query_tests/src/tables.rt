@@ -1,4 +1,4 @@
-//! Texts of tables, and tables loaded of them.
+//! Texts of tables, and tables loaded from them.
 
 use feature_table::{Database, Schema, Table};
 use rtree::{EnvelopeIndex, RTree};
@@ -8,7 +8,7 @@ use std::test::Fail;
 /// The schema of a table of points.
 pub(crate) const POINTS_SCHEMA: &str = "CREATE TABLE big (id INTEGER PRIMARY KEY, geom POINT);";
 
-/// So many points at height 1, the one with the key k at k, as CSV.
+/// This many points at height 1, as CSV. The one with the key k has the x k.
 pub(crate) fn points_up_to(alloc: Global, count: u8) -> Result<String, AllocError> {
     let mut text = String::from_str(alloc, "id,geom\n")?;
     for k in 1..=count {
@@ -17,7 +17,7 @@ pub(crate) fn points_up_to(alloc: Global, count: u8) -> Result<String, AllocErro
     Ok(text)
 }
 
-/// The tables of a schema, each loaded of its text.
+/// The tables of a schema, each loaded from its text.
 pub(crate) fn database_of<'s>(
     alloc: Global,
     schema: &'s Schema,
@@ -30,7 +30,7 @@ pub(crate) fn database_of<'s>(
     Ok(Database::load(alloc, schema, readers)?)
 }
 
-/// The first table of a schema, loaded of a text.
+/// The first table of a schema, loaded from a text.
 pub(crate) fn loaded<I: EnvelopeIndex + Drop>(
     alloc: Global,
     schema: &Schema,

@@ -1,4 +1,4 @@
-//! How many nodes a search opens in the tree over a column.
+//! The number of nodes that a search opens in the tree over a column.
 
 use crate::tables::{POINTS_SCHEMA, loaded, points_up_to};
 use feature_table::Table;
@@ -14,8 +14,8 @@ fn framed(least: i32, greatest: i32) -> Result<Option<Envelope>, Fail> {
     Ok(Envelope::of_positions(&[corner, other]))
 }
 
-/// In the tree over a hundred points a search at the square from (0 0) to (4 4) opens the root, one node below it and one leaf;
-/// a search far away opens nothing.
+/// In the tree over a hundred points, a search with the square from (0 0) to (4 4) opens the root, one node below it
+/// and one leaf. A search far away opens nothing.
 #[test]
 fn nodes_opened_over_a_hundred_points(rt: HostRuntime) -> Result<(), Fail> {
     let schema = read_schema(rt.alloc(), POINTS_SCHEMA.as_bytes())?;

@@ -1,4 +1,4 @@
-//! Runs over an index of which each search lacks memory: only a probe meets it.
+//! Runs over an index that runs out of memory in each search: only a probe fails.
 
 use crate::tables::{POINTS_SCHEMA, points_up_to};
 use engine::{Fault, run};
@@ -9,7 +9,7 @@ use std::alloc::{AllocError, Global};
 use std::test::Fail;
 use streams::MemorySink;
 
-/// An index of which each search lacks memory.
+/// An index that runs out of memory in each search.
 #[derive(Drop)]
 struct Unsearchable {
     list: ListIndex,
@@ -33,7 +33,7 @@ impl EnvelopeIndex for Unsearchable {
     }
 }
 
-/// Runs a query over points, by their schema; what it writes is left in the sink. Returns the work.
+/// Runs a query over points, by their schema, and writes into the sink. Returns the work.
 fn run_over(
     alloc: Global,
     schema: &Schema,
@@ -63,7 +63,7 @@ fn is_ended(
     Ok(ended == *wanted && sink.bytes() == text.as_bytes())
 }
 
-/// A query, what it ends with, and what it writes.
+/// A query, its result, and what it writes.
 const ENDINGS: [(&str, Result<u64, Fault>, &str); 2] = [
     (
         "SELECT id FROM big WHERE ST_Intersects(geom, ST_GeomFromText('POLYGON((0 0,4 0,4 4,0 4,0 0))'))",
@@ -78,7 +78,7 @@ const ENDINGS: [(&str, Result<u64, Fault>, &str); 2] = [
     ),
 ];
 
-/// Over a hundred points, a query that is probed is refused, and one that is scanned gives its rows and its work.
+/// Over a hundred points, a query with a probe fails, and one with a scan returns its rows and its work.
 #[test]
 fn an_index_without_memory_is_met_by_a_probe_alone(rt: HostRuntime) -> Result<(), Fail> {
     for (query, wanted, text) in &ENDINGS {

@@ -1,17 +1,17 @@
-//! The colour of what explains a fault.
+//! The colour of explanations of faults.
 
 ghost use Rattle.std.specs.Prelude.{◌≤◌, length};
 
 use std::env;
 use std::io::{self, IsTerminal, Write};
 
-/// What turns the colour on: cyan.
+/// The sequence that turns the colour on: cyan.
 const COLOUR: &[u8] = b"\x1b[36m";
 
-/// What turns it off.
+/// The sequence that turns the colour off.
 const PLAIN: &[u8] = b"\x1b[0m";
 
-/// Whether explanations are in colour: standard error is a terminal, and the environment has no `NO_COLOR` that isn't empty.
+/// Whether explanations are in colour: standard error is a terminal, and `NO_COLOR` is unset or empty.
 pub fn is_wanted(rt: &HostRuntime) -> bool {
     rt.stderr().is_terminal() && !is_set(rt, "NO_COLOR")
 }
@@ -24,7 +24,7 @@ fn is_set(rt: &HostRuntime, name: &str) -> bool {
     }
 }
 
-/// A stream whose lines are in colour, each by itself, if that is wanted.
+/// A stream whose lines are each in colour, if that is wanted.
 #[derive(Drop)]
 pub struct Coloured<W: Write> {
     stream: W,
@@ -34,7 +34,7 @@ pub struct Coloured<W: Write> {
 }
 
 impl<W: Write> Coloured<W> {
-    /// A stream at the beginning of a line.
+    /// Makes a stream at the beginning of a line.
     pub fn new(stream: W, is_wanted: bool) -> Coloured<W> {
         Coloured {
             stream,
@@ -69,7 +69,7 @@ impl<W: Write> Write for Coloured<W> {
     }
 }
 
-/// What comes before the first line feed.
+/// The bytes before the first line feed.
 fn line_at(buffer: &[u8]) -> &[u8]
     ensures { length result.now ≤ length buffer.now }
 {

@@ -1,4 +1,4 @@
-//! What the commands read: files and standard input, with a bound on the texts of tables and pairs.
+//! The inputs of the commands: files and standard input, with a limit on the texts of tables and pairs.
 
 use crate::opened_tables::OpenedTable;
 use engine::File;
@@ -7,7 +7,7 @@ use std::io::{self, Read, Stdin};
 use std::rc::Rc;
 use streams::BoundedReader;
 
-/// The path that means standard input, if a word names a file by `@`, and for a file of pairs. A file of this name is `./-`.
+/// The path that means standard input, in a word that names a file by `@`, and for a file of pairs. A file with this name is `./-`.
 const STANDARD_INPUT: &str = "-";
 
 /// A file, or standard input.
@@ -31,7 +31,7 @@ impl Input {
     }
 }
 
-/// Whether a file of a command is standard input.
+/// Whether a file of a command means standard input.
 pub fn is_standard(file: File<'_>) -> bool {
     match file {
         File::Query(path) | File::Geometry(path) | File::Pairs(path) => path == STANDARD_INPUT,
@@ -54,7 +54,7 @@ impl Read for Input {
     }
 }
 
-/// A reader of CSV, which is bounded, or one of another text, of which the commands read only so much.
+/// A reader of CSV, which is bounded, or a reader of another text, of which the commands read only a limited part.
 #[derive(Drop)]
 pub enum CommandReader<R: Read> {
     Records(BoundedReader<R>),

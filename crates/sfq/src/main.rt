@@ -1,5 +1,5 @@
-//! The program `sfq`: it reads a schema, one CSV file for each table and one SELECT, and writes the rows that the
-//! SELECT gives; it relates geometries by their DE-9IM matrix; and it explains faults.
+//! The program `sfq`. It reads a schema, one CSV file for each table and one SELECT, and writes the rows of the SELECT;
+//! it relates geometries by their DE-9IM matrix; and it explains faults.
 #![tactic(auto)]
 
 mod coloured;
@@ -59,7 +59,7 @@ fn main(rt: HostRuntime) -> ExitCode {
     ExitCode::from(status)
 }
 
-/// How an order was served: the status, the files that were opened, and what explains a fault.
+/// The result of a command: the status, the files that were opened, and the explanation of a fault.
 #[derive(Drop)]
 struct Served {
     status: u8,
@@ -67,7 +67,7 @@ struct Served {
     more: MemorySink,
 }
 
-/// Does what an order says.
+/// Runs a command.
 fn serve<'p, S: Sink, E: Sink>(
     rt: &HostRuntime,
     progress: &'p Progress<'p>,
@@ -87,7 +87,7 @@ fn serve<'p, S: Sink, E: Sink>(
     }
 }
 
-/// The lines that explain a fault; none, if memory ran out for a part of one, since others may be behind that part.
+/// The lines that explain a fault. None if memory ran out for a part of a line, since others may come after that part.
 fn lines_of(more: &MemorySink) -> &[u8] {
     if more.failures() == 0 {
         return more.bytes();
@@ -95,7 +95,7 @@ fn lines_of(more: &MemorySink) -> &[u8] {
     &[]
 }
 
-/// Standard error, for what explains a fault.
+/// Standard error, for the explanation of a fault.
 fn explaining<'p>(
     rt: &HostRuntime,
     progress: &'p Progress<'p>,
@@ -103,8 +103,7 @@ fn explaining<'p>(
     StdSink::new(Coloured::new(progress.before(rt.stderr()), is_wanted(rt)))
 }
 
-/// The order of the words; where the environment asks to say more of a fault, the order does too: `SFQ_WHY` is there, and neither empty nor
-/// `0`.
+/// The command, with `--why` if the environment asks for it: `SFQ_WHY` is set, and neither empty nor `0`.
 fn asking(rt: &HostRuntime, order: Order) -> Order {
     match env::var(rt, "SFQ_WHY") {
         Ok(asked) if asked.as_str() != "" && asked.as_str() != "0" => order.with_why(),
@@ -112,7 +111,7 @@ fn asking(rt: &HostRuntime, order: Order) -> Order {
     }
 }
 
-/// Prints `clap`'s text, and returns the status. Help that can't be written counts as an answer that can't.
+/// Prints `clap`'s text, and returns the status. A failure to write help counts as a failure to write an answer.
 fn failed_order<E: Sink>(rt: &HostRuntime, misuse: &Misuse, err: &mut E) -> u8 {
     let is_printed = misuse.print(rt).is_ok();
     let status = misuse.status();
@@ -122,7 +121,7 @@ fn failed_order<E: Sink>(rt: &HostRuntime, misuse: &Misuse, err: &mut E) -> u8 {
     status
 }
 
-/// The order that the words of the command line give.
+/// Reads the command that the words of the command line give.
 fn read_order(alloc: Global, words: &[String]) -> Result<Order, Misuse> {
     order(alloc, texts_of(alloc, words)?.as_slice())
 }

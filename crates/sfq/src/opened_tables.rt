@@ -1,4 +1,4 @@
-//! The tables that were opened, each of which can be read again without a second opening of its file.
+//! The tables that were opened. Each can be read again without opening its file again.
 
 ghost use Rattle.std.specs.Prelude.{◌≤◌, IfOk, length};
 
@@ -7,18 +7,18 @@ use std::cell::Cell;
 use std::fs;
 use std::io::{self, Error, ErrorKind, Read, Seek};
 
-/// Where the bytes of a table come from when it is read again.
+/// The source of a table's bytes when it is read again.
 #[derive(Drop)]
 enum Again {
-    /// Its file, which goes back to its begin, and of which so many bytes were read.
+    /// The file, which is read again from its beginning. This many bytes of it were read.
     File(usize),
-    /// These bytes, since its file can't go back: it is a pipe.
+    /// These bytes, since the file is a pipe, which can't be read again.
     Bytes(Vec<u8>),
-    /// Nowhere: memory ran out for them.
+    /// None: memory ran out for the bytes.
     Lost,
 }
 
-/// The file of a table, and what reads it again.
+/// The file of a table, and the source from which it is read again.
 #[derive(Drop)]
 struct Held {
     file: fs::File,
@@ -26,7 +26,7 @@ struct Held {
 }
 
 impl Held {
-    /// A file of which nothing was read yet.
+    /// Makes a held file from which nothing was read yet.
     fn new(alloc: Global, mut file: fs::File) -> Held {
         let again = match file.rewind() {
             Ok(()) => Again::File(0),
@@ -35,7 +35,7 @@ impl Held {
         Held { file, again }
     }
 
-    /// Reads on in the file. If that can't go back, the bytes are kept; if memory runs out for them, none are kept any more.
+    /// Reads on in the file. If it can't be read again, its bytes are kept; if memory runs out for them, none are kept any more.
     fn read(&mut self, buffer: &mut [u8]) -> io::Result<usize>
         ensures { IfOk result (λ count. count ≤ length buffer.new) }
     {
@@ -44,7 +44,7 @@ impl Held {
         Ok(read)
     }
 
-    /// Notes bytes that were read.
+    /// Records bytes that were read.
     fn note(&mut self, bytes: &[u8]) {
         let is_kept = match &mut self.again {
             Again::File(count) => {
@@ -59,7 +59,7 @@ impl Held {
         }
     }
 
-    /// Reads what was read before once more, from a place on. At Err memory ran out for the bytes, or reading the file failed.
+    /// Reads again, from a place on, what was read before. At Err memory ran out for the bytes, or reading the file failed.
     fn read_again(&mut self, place: usize, buffer: &mut [u8]) -> io::Result<usize>
         ensures { IfOk result (λ count. count ≤ length buffer.new) }
     {
@@ -82,7 +82,7 @@ pub struct OpenedTable {
 }
 
 impl OpenedTable {
-    /// The table whose file is at a path. It holds no file yet.
+    /// Makes the table whose file is at a path. It doesn't hold a file yet.
     pub fn new(alloc: Global, path: &str) -> Result<OpenedTable, AllocError> {
         Ok(OpenedTable {
             path: String::from_str(alloc, path)?,
@@ -90,17 +90,17 @@ impl OpenedTable {
         })
     }
 
-    /// Whether it is that of the file at a path.
+    /// Whether the table's file is the one at a path.
     pub fn is_at(&self, path: &str) -> bool {
         self.path.as_str() == path
     }
 
-    /// Takes its file, of which nothing was read yet.
+    /// Holds the table's file, from which nothing was read yet.
     pub fn hold(&self, alloc: Global, file: fs::File) {
         self.held.set(Some(Held::new(alloc, file)));
     }
 
-    /// Goes back to its begin, so that it can be read again.
+    /// Returns to the beginning of the file, so that it can be read again.
     pub fn go_back(&self) {
         if let Some(mut held) = self.held.replace(None) {
             let _ = held.file.rewind();
@@ -108,7 +108,7 @@ impl OpenedTable {
         }
     }
 
-    /// Reads on in its file; nothing, if it holds none.
+    /// Reads on in the table's file; nothing if it doesn't hold one.
     pub fn read(&self, buffer: &mut [u8]) -> io::Result<usize>
         ensures { IfOk result (λ count. count ≤ length buffer.new) }
     {
@@ -120,7 +120,7 @@ impl OpenedTable {
         read
     }
 
-    /// Reads what was read before once more, from a place on. At Err memory ran out for the bytes, or reading the file failed.
+    /// Reads again, from a place on, what was read before. At Err memory ran out for the bytes, or reading the file failed.
     pub fn read_again(&self, place: usize, buffer: &mut [u8]) -> io::Result<usize>
         ensures { IfOk result (λ count. count ≤ length buffer.new) }
     {
@@ -133,7 +133,7 @@ impl OpenedTable {
     }
 }
 
-/// Copies a text from a place on into a buffer, as much as it takes, and returns how many bytes that are.
+/// Copies a text from a place on into a buffer, as much as fits, and returns the number of bytes copied.
 fn copied(text: &[u8], place: usize, buffer: &mut [u8]) -> usize
     ensures { result ≤ length buffer.new }
 {

@@ -1,5 +1,5 @@
-//! How the files of a command are opened, and what is said of one that can't be. Each file is opened once: where a fault is explained, a
-//! table that was opened is read again.
+//! Opens the files of a command, and explains why one can't be opened. Each file is opened once. For the explanation of
+//! a fault, a table that was opened is read again.
 
 use crate::inputs::{CommandReader, Input, is_standard};
 use crate::opened_tables::OpenedTable;
@@ -12,11 +12,11 @@ use std::io::{Error, ErrorKind};
 use std::rc::Rc;
 use streams::{BoundedReader, MemorySink, Sink, put_all};
 
-/// The files of a command, as they are opened for it; where it asks why, what is said of one that can't be opened.
+/// The files that were opened for a command; if it asks why, also the explanation of one that can't be opened.
 #[derive(Drop)]
 pub struct Openings {
     asks: bool,
-    // The tables that were opened, where it asks why.
+    // The tables that were opened, if it asks why.
     tables: Vec<Rc<OpenedTable>>,
     // The path of the file that was opened last.
     last: Option<String>,
@@ -24,7 +24,7 @@ pub struct Openings {
 }
 
 impl Openings {
-    /// None yet, for a command that asks why or doesn't.
+    /// Makes openings without any file so far, for a command that asks why or doesn't.
     pub fn new(alloc: Global, asks: bool) -> Openings {
         Openings {
             asks,
@@ -34,9 +34,9 @@ impl Openings {
         }
     }
 
-    /// The reader of a file that a command opens, or None if it can't be opened. A query, a geometry and pairs may come from
-    /// standard input. What is CSV has a bound, and is shown while it is read. A table that is asked for again, for a reason or a note, isn't
-    /// opened: what was read of it, which was within the bound, is read once more.
+    /// The reader of a file that a command opens, or None if it can't be opened. A query, a geometry and pairs may come
+    /// from standard input. CSV is read with a limit and its progress is printed. A table that is needed again, for a
+    /// reason or a note, isn't opened again: what was read of it, which was within the limit, is read once more.
     pub fn open<'p>(
         &mut self,
         rt: &HostRuntime,
@@ -61,12 +61,12 @@ impl Openings {
         }
     }
 
-    /// What is said of a file that couldn't be opened.
+    /// The explanation of a file that couldn't be opened.
     pub fn said(&self) -> &[u8] {
         self.said.bytes()
     }
 
-    /// Says of the file that was opened last that it is a folder, if it is one: that is found when it is read, and nothing is opened.
+    /// Explains that the file that was opened last is a folder, if it is one. A folder can be opened, and reading it fails.
     pub fn say_folder(&mut self, rt: &HostRuntime) {
         let Some(path) = &self.last else {
             return;
@@ -78,7 +78,7 @@ impl Openings {
         }
     }
 
-    /// Notes the path of a file that is opened, which standard input has none of. Without memory it isn't noted.
+    /// Records the path of a file that is opened. Standard input has none, and without memory it isn't recorded.
     fn note(&mut self, alloc: Global, file: File<'_>) {
         self.last = None;
         if !is_standard(file) {
@@ -86,7 +86,7 @@ impl Openings {
         }
     }
 
-    /// The table that was opened before.
+    /// The table that was opened before, if this file is one.
     fn opened(&self, file: File<'_>) -> Option<Rc<OpenedTable>> {
         for table in self.tables.iter() {
             if let File::Table(path) = file
@@ -98,7 +98,7 @@ impl Openings {
         None
     }
 
-    /// The input of a file; that of a table can be read again, where a fault is explained. Without memory it can't.
+    /// The input of a file. The input of a table can be read again if faults are explained, unless memory runs out.
     fn held(&mut self, alloc: Global, file: File<'_>, input: Input) -> Input {
         match (file, input) {
             (File::Table(path), Input::File(opened)) if self.asks => match self.add(alloc, path) {
@@ -122,7 +122,7 @@ impl Openings {
     }
 }
 
-/// Writes why the file at a path can't be opened: these words behind its path, or that its folder isn't there.
+/// Writes why the file at a path can't be opened: its path and these words, or that its folder doesn't exist.
 fn say_unopened<E: Sink>(rt: &HostRuntime, path: &str, words: &str, err: &mut E) {
     let (path, words) = missing_folder(rt, path).unwrap_or((path, words));
     if let Ok(line) = unopened(rt.alloc(), path, words) {
@@ -130,7 +130,7 @@ fn say_unopened<E: Sink>(rt: &HostRuntime, path: &str, words: &str, err: &mut E)
     }
 }
 
-/// The line that says of a file why it isn't opened: its path, and these words behind it. A path that is empty can't be shown.
+/// Makes the line that says why a file isn't opened: its path and these words. For an empty path, the line says that instead.
 fn unopened(alloc: Global, path: &str, words: &str) -> Result<Vec<u8>, AllocError> {
     if path.is_empty() {
         return said_line(alloc, b"the path is empty: name a file");
@@ -138,7 +138,7 @@ fn unopened(alloc: Global, path: &str, words: &str) -> Result<Vec<u8>, AllocErro
     file_explained(alloc, path.as_bytes(), words)
 }
 
-/// The folder that should have the file at a path, where it isn't there or isn't a folder, and what is said of it.
+/// The folder of the file at a path, if it doesn't exist or isn't a folder, and the words that say so.
 #[inline(never)]
 fn missing_folder<'a>(rt: &HostRuntime, path: &'a str) -> Option<(&'a str, &'static str)> {
     let (folder, _) = path.rsplit_once('/')?;
@@ -170,10 +170,10 @@ fn reader<'p>(
     }
 }
 
-/// What is said of a folder, which can be opened and not be read.
+/// The words for a folder, which can be opened but not read.
 const FOLDER: &str = " is a folder";
 
-/// What is said of a file that can't be opened.
+/// The words for a file that can't be opened.
 fn reason(error: &Error) -> &'static str {
     match error.kind() {
         ErrorKind::NotFound => " isn't there",

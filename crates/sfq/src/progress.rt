@@ -1,6 +1,6 @@
-//! Shows how far a command is: a line on standard error, if that is a terminal and the command takes longer than half a second.
-//! The line is removed before anything else is written. Once output has been written to a terminal, no line is shown any more.
-//! It has its line end from the first, so a command that a signal ends leaves a whole line.
+//! Shows the progress of a command: a line on standard error, if that is a terminal and the command takes longer than
+//! half a second. The line is removed before anything else is written. Once output was written to a terminal, no more
+//! lines are printed. A line is written with its line end, so a command that a signal ends leaves a whole line.
 
 use crate::inputs::Input;
 use std::cell::Cell;
@@ -9,28 +9,28 @@ use std::path::Path;
 use std::time::{Duration, Instant};
 use streams::{Followed, PatientReader, ReadObserver, RowCount, RowObserver, write_again};
 
-/// How many milliseconds pass before a line is shown.
+/// The number of milliseconds that pass before a line is printed.
 const PATIENCE_MILLISECONDS: u64 = 500;
 
-/// How many milliseconds a line stays before it is written anew.
+/// The number of milliseconds before a line is replaced by the next.
 const PAUSE_MILLISECONDS: u64 = 100;
 
-/// What removes a line: the cursor goes up to its first column, and all from there on is erased.
+/// The sequence that removes a line: the cursor moves up to its first column, and all from there on is erased.
 const CLEAR: &[u8] = b"\r\x1b[A\x1b[K";
 
-/// How many candidates are looked at from one look at the clock to the next; those that are reported together may be more.
+/// The number of candidates between two readings of the clock. Candidates that are reported together may be more.
 const STRIDE: u64 = 64;
 
-/// How many bytes are a megabyte.
+/// The number of bytes in a megabyte.
 const MEGABYTE: u64 = 1_000_000;
 
-/// How far a command is. It prints nothing if standard error isn't a terminal.
+/// The progress of a command. Nothing is printed if standard error isn't a terminal.
 #[derive(Drop)]
 pub struct Progress<'r> {
     rt: &'r HostRuntime,
-    // When the program began; None where nothing is printed.
+    // When the program began; None if nothing is printed.
     start: Option<Instant>,
-    // How many files of CSV were opened.
+    // The number of CSV files that were opened.
     opened: Cell<u64>,
     // How long after the start a line may be written next.
     due: Cell<Duration>,
@@ -43,7 +43,7 @@ pub struct Progress<'r> {
 }
 
 impl<'r> Progress<'r> {
-    /// A command that begins now.
+    /// Makes the progress of a command that begins now.
     pub fn new(rt: &'r HostRuntime) -> Progress<'r> {
         let start = if rt.stderr().is_terminal() {
             Instant::now(rt).ok()
@@ -61,19 +61,19 @@ impl<'r> Progress<'r> {
         }
     }
 
-    /// The reader of a file, whose reading is made again where a signal interrupts it. Nothing is printed of it.
+    /// Makes the reader of a file. It repeats reads that a signal interrupts, and prints nothing.
     pub fn read(&self, input: Input) -> Reported<'_> {
         self.follow(None, input)
     }
 
-    /// The reader of a CSV file, whose progress is printed under its name: that of its table, or of its pairs. If memory runs out for
-    /// the name, nothing is printed of it.
+    /// Makes the reader of a CSV file, whose progress is printed with its name: that of its table, or of its pairs. If
+    /// memory runs out for the name, nothing is printed.
     pub fn load(&self, path: &str, input: Input) -> Reported<'_> {
         self.opened.set(self.opened.get().saturating_add(1));
         self.follow(self.name_of(path), input)
     }
 
-    /// The reader of the file that was opened last, which is reported if it has a name.
+    /// Makes the reader of the file that was opened last. Its progress is printed if it has a name.
     fn follow(&self, name: Option<String>, input: Input) -> Reported<'_> {
         let reading = FileReading {
             name,
@@ -84,7 +84,7 @@ impl<'r> Progress<'r> {
         Followed::new(PatientReader::new(input), reading)
     }
 
-    /// The observer that reports the search for rows.
+    /// Makes the observer that prints the progress of the search for rows.
     pub fn search(&self) -> Search<'_> {
         Search {
             count: RowCount::default(),
@@ -92,8 +92,8 @@ impl<'r> Progress<'r> {
         }
     }
 
-    /// A stream before whose bytes the line is removed; on a terminal no line is printed after the first of them. What a
-    /// signal interrupts is written again, and after another error nothing more is written.
+    /// Makes a stream that removes the line before it writes. If it is a terminal, no line is printed after its first
+    /// bytes. It repeats writes that a signal interrupts, and writes nothing more after another error.
     pub fn before<W: Write + IsTerminal>(&self, stream: W) -> Cleared<'_, W> {
         let is_last = stream.is_terminal();
         Cleared {
@@ -109,14 +109,14 @@ impl<'r> Progress<'r> {
         self.is_broken.get()
     }
 
-    /// The name of the table whose file is at a path, where it is reported.
+    /// The name of the table whose file is at a path, if progress is printed.
     fn name_of(&self, path: &str) -> Option<String> {
         self.start?;
         let stem = Path::new(path).file_stem()?;
         String::from_str(self.rt.alloc(), stem).ok()
     }
 
-    /// Whether it is time for a line. If so, the one that is there is removed, and the next is due after a pause.
+    /// Whether it is time for a line. If so, the current line is removed, and the next is due after a pause.
     fn takes_line(&self) -> bool {
         if self.is_over.get() {
             return false;
@@ -133,7 +133,7 @@ impl<'r> Progress<'r> {
         true
     }
 
-    /// Notes that a line is on the terminal, if it was written whole. Another one isn't removed: the cursor may still be in it.
+    /// Records that a line is on the terminal, if all of it was written. A part isn't removed: the cursor may still be in it.
     fn keep(&self, written: io::Result<()>) {
         self.applies.set(written.is_ok());
     }
@@ -149,17 +149,17 @@ impl<'r> Progress<'r> {
 /// The reader of a file that a command opens.
 pub type Reported<'p> = Followed<PatientReader<Input>, FileReading<'p>>;
 
-/// How far a file is read. Once it is dropped, with its reader, no line is left on the terminal.
+/// The progress of reading a file. Once it is dropped, with its reader, no line is left on the terminal.
 pub struct FileReading<'p> {
     name: Option<String>,
-    // Which file of CSV it is, from 1.
+    // The number of the CSV file, from 1.
     place: u64,
     bytes: u64,
     progress: &'p Progress<'p>,
 }
 
 impl ReadObserver for FileReading<'_> {
-    /// Prints how far a table or a file of pairs is read, where it is time for a line. A line that can't be written is left out.
+    /// Prints the progress of reading a CSV file, if it is time for a line. A line that can't be written is left out.
     fn came(&mut self, bytes: usize) {
         self.bytes = self.bytes.saturating_add(bytes as u64);
         if let Some(name) = &self.name
@@ -187,15 +187,15 @@ impl Drop for FileReading<'_> {
     }
 }
 
-/// How far the search for the rows of a query is. Once it is dropped, no line is left on the terminal.
+/// The progress of the search for the rows of a query. Once it is dropped, no line is left on the terminal.
 pub struct Search<'p> {
     count: RowCount,
     progress: &'p Progress<'p>,
 }
 
 impl Search<'_> {
-    /// Prints how far the search is, if it was this many strides far before and is farther now, and it is time for a line. A line
-    /// that can't be written is left out.
+    /// Prints the progress of the search, if it was at this number of strides before and is farther now, and if it is
+    /// time for a line. A line that can't be written is left out.
     fn print_after(&self, strides: u64) {
         if self.count.candidates / STRIDE > strides && self.progress.takes_line() {
             let RowCount {
@@ -223,7 +223,7 @@ impl RowObserver for Search<'_> {
 
     ghost after_row = { λ search. record search { count = after_row search.count } };
 
-    /// Prints how far the search is, where a stride ends and it is time for a line.
+    /// Prints the progress of the search, if a stride ends and it is time for a line.
     fn looked(&mut self, candidates: usize, left: usize) {
         let strides = self.count.candidates / STRIDE;
         self.count.looked(candidates, left);
@@ -242,8 +242,8 @@ impl Drop for Search<'_> {
     }
 }
 
-/// A stream before whose bytes the line is removed, and whose writes are made again where a signal interrupts them. After
-/// another error nothing more is written, so what is there is a beginning of what was to be.
+/// A stream that removes the line before it writes, and repeats writes that a signal interrupts. After another error it
+/// writes nothing more, so what was written is a beginning of the output.
 #[derive(Drop)]
 pub struct Cleared<'p, W: Write> {
     stream: W,

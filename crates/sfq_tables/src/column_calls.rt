@@ -1,4 +1,4 @@
-//! Calls that say what the rows of an open statement have. Each takes the database by value, and returns it in a slot.
+//! C calls that describe the rows of an open statement. Each takes the database by value, and returns it in a slot.
 
 ghost use Rattle.std.specs.Prelude.{◌≡◌, ◌≢◌, IfOk, IfSome, None, Some};
 ghost use Rattle.library_calls.specs.Refusals.{ok};
@@ -13,7 +13,7 @@ use crate::open_columns::{
 use crate::table_calls::put_back;
 use std::alloc::Global;
 
-/// Writes how many columns the rows of an open statement have; status 4 where none has this number.
+/// Writes the number of columns of an open statement's rows. Status 4 if no open statement has this number.
 #[unsafe(no_mangle)]
 pub extern "C" fn sfq_proved_columns(
     kept: KeptConnection,
@@ -33,8 +33,8 @@ pub extern "C" fn sfq_proved_columns(
     status
 }
 
-/// Hands out the name of a column, as the header has it: its length, and the name where the room is enough; status 4 where there is
-/// no such statement or column (SQL, the select list).
+/// Writes the length of a column's name, as in the header, and the name if the buffer is large enough. Status 4 if
+/// there is no such statement or column (SQL, the select list).
 #[unsafe(no_mangle)]
 pub extern "C" fn sfq_proved_column_name(
     alloc: Global,
@@ -55,8 +55,8 @@ pub extern "C" fn sfq_proved_column_name(
     status
 }
 
-/// Writes the number of a column's type: 0 of integers, 1 of texts, 2 of geometries; of EXPLAIN's lines 1. Status 4 where there is
-/// no such statement or column (SQL, the select list; the numbers: this project's choice).
+/// Writes the number of a column's type: 0 for integers, 1 for texts and the lines of EXPLAIN, 2 for geometries. Status
+/// 4 if there is no such statement or column (SQL, the select list; the numbers: this project's choice).
 #[unsafe(no_mangle)]
 pub extern "C" fn sfq_proved_column_type(
     kept: KeptConnection,
@@ -78,8 +78,8 @@ pub extern "C" fn sfq_proved_column_type(
     status
 }
 
-/// Writes the number in a column of the row that is there; status 6 where it is NULL or the column isn't of integers, 12 where no
-/// row is there, 4 where there is no such statement or column (SQL, the select list).
+/// Writes the number in a column of the current row. Status 6 if it is NULL or the column isn't of integers, 12 if
+/// there is no row, 4 if there is no such statement or column (SQL, the select list).
 #[unsafe(no_mangle)]
 pub extern "C" fn sfq_proved_column_integer(
     kept: KeptConnection,
@@ -100,9 +100,9 @@ pub extern "C" fn sfq_proved_column_integer(
     status
 }
 
-/// Hands out the field of a column of the row that is there, as `run` writes it before quoting: its length, and the field where the
-/// room is enough; status 6 where it is NULL, 12 where no row is there, 4 where there is no such statement or column (SQL, the
-/// select list).
+/// Writes the length of the field in a column of the current row, as `run` writes it before quoting, and the field if
+/// the buffer is large enough. Status 6 if it is NULL, 12 if there is no row, 4 if there is no such statement or column
+/// (SQL, the select list).
 #[unsafe(no_mangle)]
 pub extern "C" fn sfq_proved_column_text(
     alloc: Global,
@@ -123,8 +123,8 @@ pub extern "C" fn sfq_proved_column_text(
     status
 }
 
-/// Hands out the row that is there, as `run` writes it: its length, and the row where the room is enough; status 12 where no row is
-/// there, 4 where no open statement has this number (SQL, the query).
+/// Writes the length of the current row, as `run` writes it, and the row if the buffer is large enough. Status 12 if
+/// there is no row, 4 if no open statement has this number (SQL, the query).
 #[unsafe(no_mangle)]
 pub extern "C" fn sfq_proved_row_text(
     alloc: Global,
@@ -144,8 +144,8 @@ pub extern "C" fn sfq_proved_row_text(
     status
 }
 
-/// Hands out the header, as `run` writes it: its length, and the header where the room is enough; EXPLAIN has an empty one. Status 4
-/// where no open statement has this number (SQL, the select list).
+/// Writes the length of the header, as `run` writes it, and the header if the buffer is large enough. That of EXPLAIN
+/// is empty. Status 4 if no open statement has this number (SQL, the select list).
 #[unsafe(no_mangle)]
 pub extern "C" fn sfq_proved_header_text(
     alloc: Global,
@@ -165,8 +165,8 @@ pub extern "C" fn sfq_proved_header_text(
     status
 }
 
-/// Hands out the plan of an open statement, as EXPLAIN writes it: its length, and the plan where the room is enough; status 4 where no
-/// open statement has this number (SQL, EXPLAIN).
+/// Writes the length of an open statement's plan, as EXPLAIN prints it, and the plan if the buffer is large enough.
+/// Status 4 if no open statement has this number (SQL, EXPLAIN).
 #[unsafe(no_mangle)]
 pub extern "C" fn sfq_proved_plan_text(
     alloc: Global,

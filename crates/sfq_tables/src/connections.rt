@@ -1,4 +1,4 @@
-//! A database that a caller in C keeps, with the statements that are open over it.
+//! A database that a caller in C keeps, with its open statements.
 
 ghost use Rattle.std.specs.Prelude.{◌≡◌, ◌≢◌, Err, IfErr, IfOk, IfSome, None, Some, true};
 ghost use Rattle.std.specs.Option.{option_map};
@@ -20,8 +20,8 @@ use std::alloc::Global;
 use std::marker::Model;
 use table_model::faults::SchemaFault;
 
-/// A database whose tables are loaded one at a time, with an index of the kind that serves every plan, and its statements. Each open
-/// one is over the database.
+/// A database whose tables are loaded one at a time, with an index that suits every plan, and its statements. Each open
+/// statement is over this database.
 #[derive(Drop)]
 pub struct Connection {
     pub(crate) database: KeptDatabase<CurveTree>,
@@ -44,7 +44,7 @@ impl Model for Connection {
 }
 
 impl Connection {
-    /// The database of the schema that a text spells, of which no table is loaded; or the text's first fault (SQL, CREATE TABLE).
+    /// Opens a database of the schema in a text, with no table loaded, or returns the text's first fault (SQL, CREATE TABLE).
     pub fn open(alloc: Global, text: &[u8]) -> Result<Connection, SchemaFault>
         ensures opened { IfOk result (IsOpened text.now) }
         ensures refused { IfErr result (λ fault. fault ≢ s.OutOfMemory → schema_of shape_named text.now ≡ Err fault) }
@@ -64,7 +64,7 @@ impl Connection {
         is_free(&self.statements)
     }
 
-    /// Keeps a statement under the first number that no open one has, and returns that; none where memory ran out.
+    /// Keeps a statement under the first number that no open one has, and returns that number; None if memory ran out.
     #[tactic(auto, using(crate::proofs::SlotLemmas::over_with))]
     pub(crate) fn keep(&mut self, statement: Statement) -> Option<usize>
         requires { IsOver (lent self.old.database) statement }
@@ -79,9 +79,9 @@ impl Connection {
         keep_in(&mut self.statements, statement)
     }
 
-    /// Finds the next row of an open statement, within so many looks: status 0 where one is there, 8 where none of so many candidates
-    /// gave one, and then the same rows are to come, 6 where none is left, 3 where memory ran out, and then none is to come until it
-    /// begins anew. Status 4 where no open statement has this number (SQL, the query).
+    /// Finds the next row of an open statement by at most `most` looks. Status 0 if there is one; 8 if that many
+    /// candidates gave none, and the same rows are still to come; 6 if no row is left; 3 if memory ran out, and then no
+    /// row comes until it is reset; 4 if no open statement has this number (SQL, the query).
     #[tactic(auto, using(crate::proofs::SlotLemmas::over_at, crate::proofs::SlotLemmas::over_set))]
     pub fn step(&mut self, alloc: Global, number: usize, most: u64) -> u32
         ensures unknown { statement_at self.old number ≡ None → result ≡ unknown }
@@ -97,7 +97,7 @@ impl Connection {
         step_slot(alloc, &database, most, &mut self.statements[number])
     }
 
-    /// An open statement begins anew, before its first row; status 4 where none has this number. It takes no memory.
+    /// Starts an open statement again, before its first row. Status 4 if none has this number. It allocates nothing.
     #[tactic(auto, using(crate::proofs::SlotLemmas::over_at, crate::proofs::SlotLemmas::over_set))]
     pub fn reset(&mut self, alloc: Global, number: usize) -> u32
         ensures status { result ≡ status_of_named (statement_at self.old number) }
@@ -113,7 +113,7 @@ impl Connection {
         begin_slot(alloc, &database, &mut self.statements[number])
     }
 
-    /// Ends an open statement, whose number is then free; status 4 where none has this number.
+    /// Closes an open statement, so that its number is free. Status 4 if none has this number.
     pub fn finalize(&mut self, number: usize) -> u32
         ensures status { result ≡ status_of_named (statement_at self.old number) }
         ensures ended { self.new ≡ with_slot number None self.old }
@@ -124,7 +124,7 @@ impl Connection {
         }
     }
 
-    /// Writes the work of an open statement so far; status 4 where none has this number (06-103r4, 6.1.15).
+    /// Writes the work of an open statement so far. Status 4 if none has this number (06-103r4, 6.1.15).
     pub fn write_work(&self, number: usize, work: &mut u64) -> u32
         ensures work { IfSome (statement_at self.now number) (λ found. work.new ≡ work_so_far found) }
         ensures kept { result ≢ ok → work.new ≡ work.old }
@@ -151,7 +151,7 @@ impl Connection {
         }
     }
 
-    /// Takes an open statement out of its slot, if one has this number, to change it and to put it back.
+    /// Takes an open statement out of its slot, if one has this number. A caller changes it and stores it again.
     #[tactic(auto, using(crate::proofs::SlotLemmas::over_at, crate::proofs::SlotLemmas::over_set))]
     pub(crate) fn take_out(&mut self, number: usize) -> Option<Statement>
         ensures taken { result ≡ statement_at self.old number }
@@ -164,7 +164,7 @@ impl Connection {
         self.statements[number].take()
     }
 
-    /// Puts a statement into the slot of a number, if there is one. After `take_out`, no other changes (`put_back` of `SlotLemmas`).
+    /// Puts a statement into the slot of a number, if there is one. After `take_out`, no other changes (`SlotLemmas::put_back`).
     #[tactic(auto, using(crate::proofs::SlotLemmas::over_set))]
     pub(crate) fn put_in(&mut self, number: usize, statement: Statement)
         requires { IsOver (lent self.old.database) statement }

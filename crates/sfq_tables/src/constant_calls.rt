@@ -1,4 +1,4 @@
-//! Calls over the constants of an open statement. Each takes the database by value, and returns it in a slot.
+//! C calls for the constants of an open statement. Each takes the database by value, and returns it in a slot.
 
 ghost use Rattle.std.specs.Prelude.{◌≡◌, ◌≢◌, ◌⊎◌, IfOk, IfSome, None, Some, is_some, true};
 ghost use Rattle.geometry_model.specs.CheckedTexts.{geometry_in_text};
@@ -17,8 +17,8 @@ use crate::table_faults::TablesFault;
 use std::alloc::Global;
 use table_model::values::Value;
 
-/// Writes how many constants the query of an open statement has: the numbers, texts and NULLs that are compared in ON and WHERE, and
-/// the geometries of ST_GeomFromText; status 4 where no open statement has this number (SQL, ON and WHERE).
+/// Writes the number of constants of an open statement's query: the numbers, texts and NULLs that ON and WHERE compare,
+/// and the geometries of ST_GeomFromText. Status 4 if no open statement has this number (SQL, ON and WHERE).
 #[unsafe(no_mangle)]
 pub extern "C" fn sfq_proved_constants(
     kept: KeptConnection,
@@ -38,8 +38,8 @@ pub extern "C" fn sfq_proved_constants(
     status
 }
 
-/// Writes the number of the type of a constant, from the left: 0 of integers, 1 of texts, 2 of geometries, 3 of NULL; status 4 where
-/// there is no such statement or constant (SQL, ON and WHERE; the numbers: this project's choice).
+/// Writes the number of the type of a constant, counted from the left: 0 for integers, 1 for texts, 2 for geometries, 3 for
+/// NULL. Status 4 if there is no such statement or constant (SQL, ON and WHERE; the numbers: this project's choice).
 #[unsafe(no_mangle)]
 pub extern "C" fn sfq_proved_constant_type(
     kept: KeptConnection,
@@ -61,9 +61,9 @@ pub extern "C" fn sfq_proved_constant_type(
     status
 }
 
-/// Binds a constant of an open statement, from the left, to a number, and begins the statement anew; status 4 where there is no such
-/// statement, or no such constant that takes a number, and then all is as it was; 3 where memory ran out, and then the statement has
-/// no rows any more (SQL, ON and WHERE).
+/// Binds a constant of an open statement, counted from the left, to a number, and starts the statement again. Status 4
+/// if there is no such statement, or no such constant that can be a number, and then nothing changes; 3 if memory ran
+/// out, and then the statement has no rows any more (SQL, ON and WHERE).
 #[unsafe(no_mangle)]
 pub extern "C" fn sfq_proved_bind_integer(
     alloc: Global,
@@ -91,7 +91,7 @@ pub extern "C" fn sfq_proved_bind_integer(
     status
 }
 
-/// Binds a constant to NULL, as sfq_proved_bind_integer does to a number; a geometry takes no NULL.
+/// Binds a constant to NULL, as sfq_proved_bind_integer does to a number. A geometry can't be replaced by NULL.
 #[unsafe(no_mangle)]
 pub extern "C" fn sfq_proved_bind_null(
     alloc: Global,
@@ -118,7 +118,7 @@ pub extern "C" fn sfq_proved_bind_null(
     status
 }
 
-/// Binds a constant to a text, as sfq_proved_bind_integer does to a number; status 4 also where the bytes aren't UTF-8.
+/// Binds a constant to a text, as sfq_proved_bind_integer does to a number. Status 4 also if the bytes aren't UTF-8.
 #[unsafe(no_mangle)]
 pub extern "C" fn sfq_proved_bind_text(
     alloc: Global,
@@ -145,8 +145,8 @@ pub extern "C" fn sfq_proved_bind_text(
     status
 }
 
-/// Binds a constant to the valid geometry of a well-known text, as sfq_proved_bind_integer does to a number; status 1 where the text is
-/// refused, with Q8 and its first fault in numbers (06-103r4, 7.2 and 6.1; the order and the numbers: this project's choice).
+/// Binds a constant to the valid geometry of a well-known text, as sfq_proved_bind_integer does to a number. Status 1 if the text
+/// is refused, with Q8 and its first fault in numbers (06-103r4, 7.2 and 6.1; the order and the numbers: this project's choice).
 #[unsafe(no_mangle)]
 pub extern "C" fn sfq_proved_bind_geometry(
     alloc: Global,

@@ -1,4 +1,4 @@
-//! A database behind the pointer that a caller in C keeps.
+//! The pointer to a database that a caller in C keeps.
 
 ghost use Rattle.std.specs.Prelude.{◌≡◌, Option, Some};
 ghost use Rattle.sfq_tables.specs.KeptConnections.{HeldDatabase, connection_coded, connection_owns, connection_slot_coded, connection_slot_owns};
@@ -8,8 +8,8 @@ use library_calls::parts::Parts;
 use std::alloc::Global;
 use std::marker::Model;
 
-/// A database behind one pointer. C holds that pointer. It hands the database to one call at a time, which hands it back, and at the
-/// end to the one that frees it. Contracts see which database it is.
+/// A database behind one pointer, which C holds. C passes it to one call at a time, which returns it, and at the end to
+/// the call that frees it. Contracts see which database it is.
 #[repr(C)]
 pub struct KeptConnection {
     at: *mut u8,
@@ -63,8 +63,8 @@ impl Drop for KeptConnection {
     }
 }
 
-/// A kept database, or none. It has the form of a [`KeptConnection`]: C takes the pointer out of it where a call has written one there.
-/// A slot that is written over forgets what it had, so C hands in only empty ones.
+/// A kept database, or none, in the form of a [`KeptConnection`]. C reads the pointer from it after a call has written
+/// one there. A slot that is overwritten forgets its content, so C passes only empty slots.
 #[derive(Drop)]
 #[repr(C)]
 pub struct ConnectionSlot {
@@ -78,7 +78,7 @@ impl Model for ConnectionSlot {
 }
 
 impl ConnectionSlot {
-    /// A slot with this database.
+    /// Makes a slot with this database.
     pub fn of(kept: KeptConnection) -> ConnectionSlot
         ensures { result.connection ≡ Some kept.connection }
     {

@@ -1,4 +1,4 @@
-//! A table is loaded from a text.
+//! Loads a table from a text.
 
 ghost use Rattle.std.specs.Prelude.{◌≡◌, ◌≢◌, ◌⊎◌};
 ghost use Rattle.sfq_tables.specs.Connections.{HasLoaded, IsUnloadedFor, status_of_load, status_of_table};
@@ -10,9 +10,9 @@ use kept_tables::KeptDatabase;
 use rtree::CurveTree;
 use std::alloc::Global;
 
-/// Loads the table at a place of the schema from its CSV text, in place of the one that was there; status 1 with the text's first
-/// fault, 4 where the schema has no such place, 10 where statements are open. Where it isn't loaded all is as it was (06-104r4,
-/// feature tables).
+/// Loads the table at a place of the schema from its CSV text, in place of the one before. Status 1 with the text's
+/// first fault, 4 if the schema has no such place, 10 if statements are open. If it isn't loaded, nothing changes
+/// (06-104r4, feature tables).
 #[tactic(auto, using(crate::proofs::SlotLemmas::over_idle))]
 pub fn load_table(
     alloc: Global,

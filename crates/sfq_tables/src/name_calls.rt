@@ -1,4 +1,4 @@
-//! Calls that say what a database has. Each takes the database by value, and returns it in a slot.
+//! C calls that describe a database. Each takes the database by value, and returns it in a slot.
 
 ghost use Rattle.std.specs.Prelude.{◌≡◌, ◌≢◌, ◌++◌, drop, IfSome, length, None, Some};
 ghost use Rattle.std.specs.Option.{option_map_or};
@@ -14,7 +14,7 @@ use crate::naming::{
 };
 use crate::table_calls::put_back;
 
-/// Writes how many tables the schema has.
+/// Writes the number of tables of the schema.
 #[unsafe(no_mangle)]
 pub extern "C" fn sfq_proved_table_count(
     kept: KeptConnection,
@@ -30,7 +30,7 @@ pub extern "C" fn sfq_proved_table_count(
     put_back(whole, back);
 }
 
-/// Writes the place of the table of a name, without regard to ASCII case; status 4 where there is none (SQL, names of tables).
+/// Writes the place of the table with a name, without regard to ASCII case. Status 4 if there is none (SQL, names of tables).
 #[unsafe(no_mangle)]
 pub extern "C" fn sfq_proved_find_table(
     kept: KeptConnection,
@@ -51,8 +51,8 @@ pub extern "C" fn sfq_proved_find_table(
     status
 }
 
-/// Hands out the name of the table at a place, as the schema spells it: its length, and the name where the room is enough; status 4
-/// where the schema has no such place (SQL, names of tables).
+/// Writes the length of the name of the table at a place, as the schema spells it, and the name if the buffer is large
+/// enough. Status 4 if the schema has no such place (SQL, names of tables).
 #[unsafe(no_mangle)]
 pub extern "C" fn sfq_proved_table_name(
     kept: KeptConnection,
@@ -77,7 +77,7 @@ pub extern "C" fn sfq_proved_table_name(
     status
 }
 
-/// Writes how many columns the table at a place has; status 4 where the schema has no such place.
+/// Writes the number of columns of the table at a place. Status 4 if the schema has no such place.
 #[unsafe(no_mangle)]
 pub extern "C" fn sfq_proved_table_columns(
     kept: KeptConnection,
@@ -97,9 +97,9 @@ pub extern "C" fn sfq_proved_table_columns(
     status
 }
 
-/// Hands out the name of a column of the table at a place, as the schema spells it, and writes the number of its type: 0 of
-/// integers, 1 of texts, 2 of geometries. Status 4 where there is no such column (SQL, names of columns; the numbers: this
-/// project's choice).
+/// Writes the length of the name of a column of the table at a place, as the schema spells it, the name if the buffer
+/// is large enough, and the number of its type: 0 for integers, 1 for texts, 2 for geometries. Status 4 if there is no
+/// such column (SQL, names of columns; the numbers: this project's choice).
 #[unsafe(no_mangle)]
 pub extern "C" fn sfq_proved_table_column(
     kept: KeptConnection,
@@ -129,7 +129,7 @@ pub extern "C" fn sfq_proved_table_column(
     status
 }
 
-/// Writes whether the table at a place is loaded; status 4 where the schema has no such place.
+/// Writes whether the table at a place is loaded. Status 4 if the schema has no such place.
 #[unsafe(no_mangle)]
 pub extern "C" fn sfq_proved_is_loaded(
     kept: KeptConnection,

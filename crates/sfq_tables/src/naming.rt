@@ -1,4 +1,4 @@
-//! What a database has, by names and numbers.
+//! Describes a database by names and numbers.
 
 ghost use Rattle.std.specs.Prelude.{◌≡◌, ◌≢◌, ◌++◌, drop, IfSome, length};
 ghost use Rattle.std.specs.Option.{option_map, option_map_or};
@@ -11,14 +11,14 @@ use crate::connections::Connection;
 use feature_table::{ColumnDef, ColumnType};
 use library_calls::hand_out;
 
-/// Writes how many tables the schema has.
+/// Writes the number of tables of the schema.
 pub fn write_table_count(connection: &Connection, count: &mut usize)
     ensures { count.new ≡ length connection.now.database.definitions }
 {
     *count = connection.database.definitions().len();
 }
 
-/// Writes the place of the table of a name, without regard to ASCII case; status 4 where there is none (SQL, names of tables).
+/// Writes the place of the table with a name, without regard to ASCII case. Status 4 if there is none (SQL, names of tables).
 pub fn write_place(connection: &Connection, name: &[u8], place: &mut usize) -> u32
     ensures place { IfSome (table_place connection.now.database.definitions name.now)
         (λ found. place.new ≡ found) }
@@ -34,8 +34,8 @@ pub fn write_place(connection: &Connection, name: &[u8], place: &mut usize) -> u
     }
 }
 
-/// Hands out the name of the table at a place, as the schema spells it: its length, and the name at the front of the room; status 5
-/// where the room is too small, 4 where the schema has no such place (SQL, names of tables).
+/// Writes the length of the name of the table at a place, as the schema spells it, and the name to the front of the
+/// buffer. Status 5 if the buffer is too small, 4 if the schema has no such place (SQL, names of tables).
 pub fn write_table_name(
     connection: &Connection,
     place: usize,
@@ -56,7 +56,7 @@ pub fn write_table_name(
     }
 }
 
-/// Writes how many columns the table at a place has; status 4 where the schema has no such place.
+/// Writes the number of columns of the table at a place. Status 4 if the schema has no such place.
 pub fn write_column_count(connection: &Connection, place: usize, count: &mut usize) -> u32
     ensures count { IfSome (column_count_at connection.now place) (λ found. count.new ≡ found) }
     ensures kept { result ≢ ok → count.new ≡ count.old }
@@ -71,9 +71,9 @@ pub fn write_column_count(connection: &Connection, place: usize, count: &mut usi
     }
 }
 
-/// Hands out the name of a column of the table at a place, as the schema spells it, and writes the number of its type: 0 of
-/// integers, 1 of texts, 2 of geometries. Status 5 where the room is too small, 4 where there is no such column (SQL, names of
-/// columns; the numbers: this project's choice).
+/// Writes the length of the name of a column of the table at a place, as the schema spells it, the name, and the number
+/// of its type: 0 for integers, 1 for texts, 2 for geometries. Status 5 if the buffer is too small, 4 if there is no
+/// such column (SQL, names of columns; the numbers: this project's choice).
 pub fn write_column(
     connection: &Connection,
     place: usize,
@@ -123,7 +123,7 @@ fn type_number(column_type: &ColumnType) -> u32
     }
 }
 
-/// Writes whether the table at a place is loaded; status 4 where the schema has no such place.
+/// Writes whether the table at a place is loaded. Status 4 if the schema has no such place.
 pub fn write_loaded(connection: &Connection, place: usize, loaded: &mut bool) -> u32
     ensures loaded { IfSome (loaded_at connection.now place) (λ found. loaded.new ≡ found) }
     ensures kept { result ≢ ok → loaded.new ≡ loaded.old }

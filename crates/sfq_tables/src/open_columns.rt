@@ -1,4 +1,4 @@
-//! What is said of the statements that are open: their columns, and the row that is there.
+//! Describes the open statements: their columns, and the current row.
 
 ghost use Rattle.std.specs.Prelude.{◌≡◌, ◌≢◌, IfOk, IfSome, Some, is_some};
 ghost use Rattle.std.specs.Option.{option_map, option_map_or};
@@ -19,7 +19,7 @@ use statements::{ColumnKind, CurrentRow, Statement};
 use std::alloc::Global;
 use streams::MemorySink;
 
-/// Hands out a text that was looked for; where it isn't there, the status says why.
+/// Writes a text that was looked for, or returns the status of the reason why it is missing.
 fn hand_out_found(found: Result<Vec<u8>, Missing>, room: &mut [u8], size: &mut usize) -> u32
     ensures { IsHandedOut (λ text. text.items) found room.old room.new size.old size.new result }
 {
@@ -29,7 +29,7 @@ fn hand_out_found(found: Result<Vec<u8>, Missing>, room: &mut [u8], size: &mut u
     }
 }
 
-/// Hands out a text that was written into memory; if there is none, the status says why.
+/// Writes a text that was printed into memory, or returns the status of the reason why it is missing.
 fn hand_out_sink(found: Result<MemorySink, Missing>, room: &mut [u8], size: &mut usize) -> u32
     ensures { IsHandedOut memory_bytes found room.old room.new size.old size.new result }
 {
@@ -39,7 +39,7 @@ fn hand_out_sink(found: Result<MemorySink, Missing>, room: &mut [u8], size: &mut
     }
 }
 
-/// Writes how many columns the rows of an open statement have; status 4 where none has this number.
+/// Writes the number of columns of an open statement's rows. Status 4 if none has this number.
 pub fn write_columns(connection: &Connection, number: usize, count: &mut usize) -> u32
     ensures count { IfSome (column_count_of connection.now number) (λ found. count.new ≡ found) }
     ensures kept { result ≢ ok → count.new ≡ count.old }
@@ -75,7 +75,7 @@ fn column_name(
     }
 }
 
-/// Hands out the name of a column, as the header has it; status 4 where there is no such statement or column, 3 where memory ran out
+/// Writes the name of a column, as in the header. Status 4 if there is no such statement or column, 3 if memory ran out
 /// (SQL, the select list).
 #[tactic(auto, using(crate::proofs::HandedTexts::hands_out))]
 pub fn write_column_name(
@@ -112,8 +112,8 @@ fn kind_of(connection: &Connection, number: usize, column: usize) -> Option<Colu
     statement.column_kind(&database, column)
 }
 
-/// Writes the number of a column's type: 0 of integers, 1 of texts, 2 of geometries; status 4 where there is no such statement or
-/// column (SQL, the select list; the numbers: this project's choice).
+/// Writes the number of a column's type: 0 for integers, 1 for texts, 2 for geometries. Status 4 if there is no such
+/// statement or column (SQL, the select list; the numbers: this project's choice).
 pub fn write_column_type(
     connection: &Connection,
     number: usize,
@@ -148,7 +148,7 @@ fn header_text(alloc: Global, connection: &Connection, number: usize) -> Result<
     }
 }
 
-/// Hands out the header, as `run` writes it; status 4 where no open statement has this number, 3 where memory ran out (SQL, the
+/// Writes the header, as `run` writes it. Status 4 if no open statement has this number, 3 if memory ran out (SQL, the
 /// select list).
 #[tactic(auto, using(crate::proofs::HandedTexts::hands_out))]
 pub fn write_header_text(
@@ -177,7 +177,7 @@ fn plan_text(alloc: Global, connection: &Connection, number: usize) -> Result<Me
     }
 }
 
-/// Hands out the plan, as EXPLAIN writes it; status 4 where no open statement has this number, 3 where memory ran out (SQL,
+/// Writes the plan, as EXPLAIN prints it. Status 4 if no open statement has this number, 3 if memory ran out (SQL,
 /// EXPLAIN).
 #[tactic(auto, using(crate::proofs::HandedTexts::hands_out))]
 pub fn write_plan_text(
@@ -193,7 +193,7 @@ pub fn write_plan_text(
     hand_out_sink(found, room, size)
 }
 
-/// The text of the row that is there.
+/// The text of the current row.
 fn row_text(alloc: Global, connection: &Connection, number: usize) -> Result<MemorySink, Missing>
     ensures { Gives missing.OutOfMemory memory_bytes result (row_text_of connection.now number) }
 {
@@ -208,7 +208,7 @@ fn row_text(alloc: Global, connection: &Connection, number: usize) -> Result<Mem
     }
 }
 
-/// Hands out the row that is there, as `run` writes it; status 12 where none is, 4 where no open statement has this number, 3 where
+/// Writes the current row, as `run` writes it. Status 12 if there is none, 4 if no open statement has this number, 3 if
 /// memory ran out (SQL, the query).
 #[tactic(auto, using(crate::proofs::HandedTexts::hands_out))]
 pub fn write_row_text(
@@ -224,7 +224,7 @@ pub fn write_row_text(
     hand_out_sink(found, room, size)
 }
 
-/// Whether a row is there.
+/// Whether there is a current row.
 fn has_row(statement: &Statement) -> bool
     ensures { (database : SpatialDatabase) → result ≡ is_some (row_record database statement.now) }
 {
@@ -247,7 +247,7 @@ fn statement_with(connection: &Connection, number: usize, column: usize) -> Opti
     }
 }
 
-/// A field, if it is there and isn't NULL.
+/// The field, if there is one and it isn't NULL.
 fn not_null(field: Option<Vec<u8>>) -> Result<Vec<u8>, Missing>
     ensures { Gives missing.OutOfMemory (λ text. text.items) result
         (not_null (option_map (λ text. text.items) field)) }
@@ -262,7 +262,7 @@ fn not_null(field: Option<Vec<u8>>) -> Result<Vec<u8>, Missing>
     }
 }
 
-/// The field of a column of the row that is there.
+/// The field in a column of the current row.
 fn field_text(
     alloc: Global,
     connection: &Connection,
@@ -285,8 +285,8 @@ fn field_text(
     }
 }
 
-/// Hands out the field of a column of the row that is there, as `run` writes it before quoting; status 6 where it is NULL, 12 where
-/// no row is there, 4 where there is no such statement or column, 3 where memory ran out (SQL, the select list).
+/// Writes the field in a column of the current row, as `run` writes it before quoting. Status 6 if it is NULL, 12 if
+/// there is no row, 4 if there is no such statement or column, 3 if memory ran out (SQL, the select list).
 #[tactic(auto, using(crate::proofs::HandedTexts::hands_out))]
 pub fn write_field(
     alloc: Global,
@@ -302,7 +302,7 @@ pub fn write_field(
     hand_out_found(found, room, size)
 }
 
-/// The number in a column of the row that is there.
+/// The number in a column of the current row.
 fn number_in(connection: &Connection, number: usize, column: usize) -> Result<i64, Missing>
     ensures { result ≡ number_at connection.now number column }
 {
@@ -319,8 +319,8 @@ fn number_in(connection: &Connection, number: usize, column: usize) -> Result<i6
     }
 }
 
-/// Writes the number in a column of the row that is there; status 6 where it is NULL or the column isn't of integers, 12 where no
-/// row is there, 4 where there is no such statement or column (SQL, the select list).
+/// Writes the number in a column of the current row. Status 6 if it is NULL or the column isn't of integers, 12 if
+/// there is no row, 4 if there is no such statement or column (SQL, the select list).
 pub fn write_number(connection: &Connection, number: usize, column: usize, value: &mut i64) -> u32
     ensures value { IfOk (number_at connection.now number column) (λ found. value.new ≡ found) }
     ensures kept { result ≢ ok → value.new ≡ value.old }

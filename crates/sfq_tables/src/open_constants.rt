@@ -1,4 +1,4 @@
-//! The constants of the statements that are open, and values in place of them.
+//! The constants of open statements, and values that replace them.
 
 ghost use Rattle.std.specs.Prelude.{◌≡◌, ◌≢◌, ◌⊎◌, IfOk, IfSome, Some};
 ghost use Rattle.geometry_model.specs.CheckedTexts.{geometry_in_text};
@@ -22,7 +22,7 @@ use table_model::typing::OperandType;
 use table_model::values::Value;
 use validity::read_valid;
 
-/// Writes how many constants the query of an open statement has; status 4 where none has this number (SQL, ON and WHERE).
+/// Writes the number of constants of an open statement's query. Status 4 if none has this number (SQL, ON and WHERE).
 pub fn write_constants(connection: &Connection, number: usize, count: &mut usize) -> u32
     ensures count { IfSome (constant_count_of connection.now number) (λ found. count.new ≡ found) }
     ensures kept { result ≢ ok → count.new ≡ count.old }
@@ -57,8 +57,8 @@ fn type_of(connection: &Connection, number: usize, k: usize) -> Option<OperandTy
     type_of_constant(&statement.bound, k)
 }
 
-/// Writes the number of the type of a constant, from the left: 0 of integers, 1 of texts, 2 of geometries, 3 of NULL; status 4 where
-/// there is no such statement or constant (SQL, ON and WHERE; the numbers: this project's choice).
+/// Writes the number of the type of a constant, counted from the left: 0 for integers, 1 for texts, 2 for geometries, 3 for
+/// NULL. Status 4 if there is no such statement or constant (SQL, ON and WHERE; the numbers: this project's choice).
 pub fn write_constant_type(connection: &Connection, number: usize, k: usize, kind: &mut u32) -> u32
     ensures kind { IfSome (constant_type_of connection.now number k)
         (λ found. kind.new ≡ constant_number found) }
@@ -75,8 +75,8 @@ pub fn write_constant_type(connection: &Connection, number: usize, k: usize, kin
 }
 
 impl Connection {
-    /// Binds the k-th constant of a statement to a value, and begins the statement anew: status 0; 4 where no such constant takes the
-    /// value, and then the statement is as it was; 3 where memory ran out, and then it has no rows any more.
+    /// Binds the k-th constant of a statement to a value, and starts the statement again. Status 0; 4 if no such constant can
+    /// be replaced by the value, and then nothing changes; 3 if memory ran out, and then the statement has no rows any more.
     fn bind_in(&self, alloc: Global, statement: &mut Statement, k: usize, value: Constant) -> u32
         requires { IsOver (lent self.now.database) statement.old }
         ensures bound { result ≡ ok → HasBound (lent self.now.database) k value statement.old (Some statement.new) }
@@ -93,9 +93,9 @@ impl Connection {
         }
     }
 
-    /// Binds the k-th constant of an open statement, from the left, to a value, and begins the statement anew: status 0; 4 where there is
-    /// no such statement, or no such constant that takes the value, and then all is as it was; 3 where memory ran out, and then the
-    /// statement has no rows any more (SQL, ON and WHERE).
+    /// Binds the k-th constant of an open statement, counted from the left, to a value, and starts the statement again.
+    /// Status 0; 4 if there is no such statement, or no such constant that can be replaced by the value, and then
+    /// nothing changes; 3 if memory ran out, and then the statement has no rows any more (SQL, ON and WHERE).
     pub fn bind(&mut self, alloc: Global, number: usize, k: usize, value: Constant) -> u32
         ensures bound { result ≡ ok → IfSome (statement_at self.old number)
             (λ before. HasBound (lent self.old.database) k value before (statement_at self.new number)) }
@@ -117,7 +117,7 @@ impl Connection {
     }
 }
 
-/// Binds a constant to a text, as `Connection::bind` does; status 4 also where the bytes aren't UTF-8.
+/// Binds a constant to a text, as `Connection::bind` does. Status 4 also if the bytes aren't UTF-8.
 #[tactic(auto, using(crate::proofs::SlotLemmas::slot_now))]
 pub fn bind_text(
     alloc: Global,
@@ -143,8 +143,8 @@ pub fn bind_text(
     }
 }
 
-/// Binds a constant to the valid geometry of a text, as `Connection::bind` does; status 1 with the text's first fault where it is
-/// refused, which comes before all else (06-103r4, 7.2 and 6.1; the order: this project's choice).
+/// Binds a constant to the valid geometry of a text, as `Connection::bind` does. Status 1 with the text's first fault
+/// if it is refused; that is tested before all else (06-103r4, 7.2 and 6.1; the order: this project's choice).
 #[tactic(auto, using(crate::proofs::SlotLemmas::slot_now))]
 pub fn bind_geometry(
     alloc: Global,

@@ -1,4 +1,4 @@
-//! A statement is prepared of the text of a query.
+//! Prepares a statement from the text of a query.
 
 ghost use Rattle.std.specs.Prelude.{◌≡◌, ◌≢◌, ◌⊎◌};
 ghost use Rattle.library_calls.specs.Refusals.{first_refused, ok, out_of_memory};
@@ -9,9 +9,9 @@ use crate::table_faults::{TablesFault, report_query};
 use statements::{PrepareFault, Statement};
 use std::alloc::Global;
 
-/// Opens a statement of the text of a query, and writes its number: status 1 with the text's first fault, 9 with the number of the
-/// first table that the query names and that isn't loaded, 4 where the bytes aren't UTF-8. Where none is opened all is as it was
-/// (SQL, the query).
+/// Opens a statement from the text of a query, and writes its number. Status 1 with the text's first fault, 9 with the
+/// place of the first table that the query names and that isn't loaded, 4 if the bytes aren't UTF-8. If none is opened,
+/// nothing changes (SQL, the query).
 pub fn prepare(
     alloc: Global,
     connection: &mut Connection,
@@ -42,7 +42,7 @@ pub fn prepare(
     }
 }
 
-/// Writes why a statement isn't prepared, and returns the status; where memory ran out, what was there is left.
+/// Writes why a statement isn't prepared, and returns the status. If memory ran out, nothing is written.
 fn report_prepare(found: PrepareFault, fault: &mut TablesFault) -> u32
     ensures status { result ≡ status_of_fault found }
     ensures written { result ≢ out_of_memory → fault.new ≡ prepare_fault_in_numbers found }

@@ -1,4 +1,4 @@
-//! The slots of the statements that are open over a database.
+//! The slots of the open statements of a database.
 
 ghost use Rattle.std.specs.Prelude.{◌≡◌, ◌<◌, IfSome, is_none, is_some, None, Some, length, slice_index_or};
 ghost use Rattle.std.specs.List.{position};
@@ -12,7 +12,7 @@ use rtree::CurveTree;
 use statements::{Statement, StatementStep};
 use std::alloc::{AllocError, Global};
 
-/// The first slot that has a statement, if one has.
+/// The first slot with a statement, if there is one.
 fn first_open(slots: &[Option<Statement>]) -> Option<usize>
     ensures { result ≡ position is_some slots.now }
 {
@@ -26,7 +26,7 @@ pub(crate) fn is_free(slots: &[Option<Statement>]) -> bool
     first_open(slots).is_none()
 }
 
-/// The first slot that has no statement, if one has none.
+/// The first slot without a statement, if there is one.
 fn first_empty(slots: &[Option<Statement>]) -> Option<usize>
     ensures first { result ≡ position is_none slots.now }
     ensures there { IfSome result (λ number. number < length slots.now) }
@@ -35,7 +35,7 @@ fn first_empty(slots: &[Option<Statement>]) -> Option<usize>
     slots.iter().position(|slot| slot.is_none())
 }
 
-/// Puts a statement into the first slot that has none, else into a new one, and returns its number; none where memory ran out.
+/// Puts a statement into the first slot without one, else into a new one, and returns its number; None if memory ran out.
 pub(crate) fn keep_in(slots: &mut Vec<Option<Statement>>, statement: Statement) -> Option<usize>
     ensures kept { IfSome result (λ number. slots.new.items ≡ slots_with number statement slots.old.items) }
     ensures there { IfSome result (λ number. slice_index_or slots.new.items number None ≡ Some statement) }
@@ -66,7 +66,7 @@ fn status_of(stepped: &Result<StatementStep, AllocError>) -> u32
     }
 }
 
-/// Steps the statement of a slot, within so many looks; status 4 where it has none.
+/// Steps the statement of a slot, by at most `most` looks. Status 4 if it has none.
 pub(crate) fn step_slot(
     alloc: Global,
     database: &Database<'_, CurveTree>,
@@ -87,7 +87,7 @@ pub(crate) fn step_slot(
     }
 }
 
-/// The statement of a slot begins anew; status 4 where it has none.
+/// Starts the statement of a slot again. Status 4 if it has none.
 pub(crate) fn begin_slot(
     alloc: Global,
     database: &Database<'_, CurveTree>,

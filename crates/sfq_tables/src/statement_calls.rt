@@ -1,4 +1,4 @@
-//! Calls over the statements that are open over a database. Each takes the database by value, and returns it in a slot.
+//! C calls for the open statements of a database. Each takes the database by value, and returns it in a slot.
 
 ghost use Rattle.std.specs.Prelude.{◌≡◌, ◌≢◌, ◌⊎◌, IfSome, is_some, None, Some, true};
 ghost use Rattle.kept_tables.specs.KeptTables.{lent};
@@ -13,9 +13,9 @@ use crate::table_calls::put_back;
 use crate::table_faults::TablesFault;
 use std::alloc::Global;
 
-/// Opens a statement of the text of a query, and writes its number; status 1 where the text is refused, with its first fault in
-/// numbers, 9 with the number of the first table that the query names and that isn't loaded, 4 where the bytes aren't UTF-8. Where
-/// none is opened the database is as it was (SQL, the query; the order and the numbers: this project's choice).
+/// Opens a statement from the text of a query, and writes its number. Status 1 if the text is refused, with its first
+/// fault in numbers, 9 with the place of the first table that the query names and that isn't loaded, 4 if the bytes
+/// aren't UTF-8. If none is opened, nothing changes (SQL, the query; the order and the numbers: this project's choice).
 #[unsafe(no_mangle)]
 pub extern "C" fn sfq_proved_prepare(
     alloc: Global,
@@ -41,9 +41,9 @@ pub extern "C" fn sfq_proved_prepare(
     status
 }
 
-/// Finds the next row of an open statement, within so many looks: status 0 where one is there, 8 where none of so many candidates gave
-/// one, and then the same rows are to come, 6 where none is left, 3 where memory ran out, and then none is to come until it begins
-/// anew; 4 where no open statement has this number. All else is as it was (SQL, the query; the looks: this project's choice).
+/// Finds the next row of an open statement by at most `most` looks. Status 0 if there is one; 8 if that many candidates gave
+/// none, and the same rows are still to come; 6 if no row is left; 3 if memory ran out, and then no row comes until it is
+/// reset; 4 if no open statement has this number. Nothing else changes (SQL, the query; the looks: this project's choice).
 #[unsafe(no_mangle)]
 pub extern "C" fn sfq_proved_step(
     alloc: Global,
@@ -67,7 +67,7 @@ pub extern "C" fn sfq_proved_step(
     status
 }
 
-/// An open statement begins anew, before its first row; status 4 where none has this number. All else is as it was.
+/// Starts an open statement again, before its first row. Status 4 if none has this number. Nothing else changes.
 #[unsafe(no_mangle)]
 pub extern "C" fn sfq_proved_reset(
     alloc: Global,
@@ -90,7 +90,7 @@ pub extern "C" fn sfq_proved_reset(
     status
 }
 
-/// Ends an open statement, whose number is then free; status 4 where none has this number. All else is as it was.
+/// Closes an open statement, so that its number is free. Status 4 if none has this number. Nothing else changes.
 #[unsafe(no_mangle)]
 pub extern "C" fn sfq_proved_finalize(
     kept: KeptConnection,
@@ -107,8 +107,8 @@ pub extern "C" fn sfq_proved_finalize(
     status
 }
 
-/// Writes the work of an open statement so far: how many DE-9IM predicates without a NULL argument were decided since it began. A
-/// pair that the probe or an earlier condition rules out costs none. Status 4 where no statement has this number (06-103r4, 6.1.15).
+/// Writes the work of an open statement: the number of DE-9IM predicates without a NULL argument decided since it began. A pair
+/// that the probe or an earlier condition rules out adds nothing. Status 4 if no statement has this number (06-103r4, 6.1.15).
 #[unsafe(no_mangle)]
 pub extern "C" fn sfq_proved_work(
     kept: KeptConnection,

@@ -1,4 +1,4 @@
-//! Calls that open a database, load its tables and close it. Each that takes a database by value returns it in a slot.
+//! C calls that open a database, load its tables and close it. Each that takes a database by value returns it in a slot.
 
 ghost use Rattle.std.specs.Prelude.{◌≡◌, ◌≢◌, ◌⊎◌, ◌↔◌, if◌then◌else◌, IfErr, IfOk, IfSome, is_some, None, Some, true};
 ghost use Rattle.sfq_tables.specs.Connections.{HasLoaded, IsOpened, IsUnloadedFor, is_idle, statements_open, status_of_load};
@@ -15,8 +15,8 @@ use crate::table_faults::{TablesFault, report_schema};
 use std::alloc::Global;
 use table_model::faults::SchemaFault;
 
-/// Opens a database of the schema that a text spells, of which no table is loaded; status 1 where the text is refused, with its first
-/// fault in numbers (SQL, CREATE TABLE; the order and the numbers: this project's choice).
+/// Opens a database of the schema that a text spells, without loading a table. Status 1 if the text is refused, with
+/// its first fault in numbers (SQL, CREATE TABLE; the order and the numbers: this project's choice).
 #[unsafe(no_mangle)]
 pub extern "C" fn sfq_proved_open(
     alloc: Global,
@@ -58,7 +58,7 @@ pub(crate) fn put_back(whole: Box<Connection>, slot: &mut ConnectionSlot)
     *slot = ConnectionSlot::of(KeptConnection::of(whole));
 }
 
-/// Frees a database with its tables; status 10 where statements are open, and then the slot has it again.
+/// Frees a database with its tables. Status 10 if statements are open, and then the slot contains it again.
 #[unsafe(no_mangle)]
 pub extern "C" fn sfq_proved_close(kept: KeptConnection, back: &mut ConnectionSlot) -> u32
     requires { back.old.connection ≡ None }
@@ -74,9 +74,9 @@ pub extern "C" fn sfq_proved_close(kept: KeptConnection, back: &mut ConnectionSl
     10
 }
 
-/// Loads the table at a place of the schema from its CSV text, in place of the one that was there; status 1 with the text's first
-/// fault in numbers, 4 where the schema has no such place, 10 where statements are open. Where it isn't loaded the database is as it
-/// was (06-104r4, feature tables; the order and the numbers: this project's choice).
+/// Loads the table at a place of the schema from its CSV text, in place of the one before. Status 1 with the text's
+/// first fault in numbers, 4 if the schema has no such place, 10 if statements are open. If it isn't loaded, nothing
+/// changes (06-104r4, feature tables; the order and the numbers: this project's choice).
 #[unsafe(no_mangle)]
 pub extern "C" fn sfq_proved_load(
     alloc: Global,

@@ -1,4 +1,4 @@
-//! Faults of schemas, tables and queries, in numbers that cross to C.
+//! Faults of schemas, tables and queries, in numbers that are passed to C.
 
 ghost use Rattle.std.specs.Prelude.{◌≡◌};
 ghost use Rattle.sfq_tables.specs.TableFaults.{IsReported, geometry_fault_at, has_failed_load, has_failed_query, has_failed_schema, load_fault_in_numbers, plain, query_fault_in_numbers, schema_fault_in_numbers};
@@ -7,9 +7,9 @@ use geometry_model::GeometryFault;
 use library_calls::Fault;
 use table_model::faults::{LoadFault, QueryFault, SchemaFault};
 
-/// A fault of a schema, a table or a query in numbers: its letter, `S`, `L` or `Q`; its number; and where it is. Of S1 to S5 and of
-/// queries that is the byte, from 0, of L3 to L9 the record, from 1. L6 and Q8 have the fault of the geometry's text. What a fault
-/// doesn't use is 0.
+/// A fault of a schema, a table or a query in numbers: its letter, `S`, `L` or `Q`; its number; and where it is. That
+/// is the byte, from 0, for S1 to S5 and for queries, and the record, from 1, for L3 to L9. L6 and Q8 have the fault of
+/// the geometry's text. Numbers that a fault doesn't use are 0.
 #[repr(C)]
 #[derive(Clone, Copy, Debug)]
 pub struct TablesFault {
@@ -20,7 +20,7 @@ pub struct TablesFault {
 }
 
 impl TablesFault {
-    /// The fault of a schema in numbers; all are 0 where memory ran out.
+    /// The fault of a schema in numbers. All are 0 if memory ran out.
     pub fn of_schema(fault: SchemaFault) -> TablesFault
         ensures { result ≡ schema_fault_in_numbers fault }
     {
@@ -35,7 +35,7 @@ impl TablesFault {
         }
     }
 
-    /// The fault of a table in numbers; all are 0 where memory ran out.
+    /// The fault of a table in numbers. All are 0 if memory ran out.
     pub fn of_load(fault: LoadFault) -> TablesFault
         ensures { result ≡ load_fault_in_numbers fault }
     {
@@ -55,7 +55,7 @@ impl TablesFault {
         }
     }
 
-    /// The fault of a query in numbers; all are 0 where memory ran out.
+    /// The fault of a query in numbers. All are 0 if memory ran out.
     pub fn of_query(fault: QueryFault) -> TablesFault
         ensures { result ≡ query_fault_in_numbers fault }
     {
@@ -76,7 +76,7 @@ impl TablesFault {
         }
     }
 
-    /// Of a table that isn't loaded, the place in the schema alone.
+    /// The place in the schema of a table that isn't loaded, as the only number that isn't 0.
     pub fn not_loaded(place: usize) -> TablesFault
         ensures { result ≡ plain 0 0 place }
     {
@@ -112,7 +112,7 @@ impl TablesFault {
     }
 }
 
-/// Writes the fault of a schema, and returns status 1; where memory ran out, status 3, and what was there is left.
+/// Writes the fault of a schema, and returns status 1. If memory ran out, it writes nothing and returns status 3.
 pub fn report_schema(found: SchemaFault, fault: &mut TablesFault) -> u32
     ensures { IsReported has_failed_schema schema_fault_in_numbers found fault.old fault.new result }
 {
@@ -125,8 +125,8 @@ pub fn report_schema(found: SchemaFault, fault: &mut TablesFault) -> u32
     }
 }
 
-/// Writes the fault of a table, and returns status 1; where memory ran out or reading failed, status 3, and what was there is left.
-/// Reading from memory doesn't fail.
+/// Writes the fault of a table, and returns status 1. If memory ran out or reading failed, it writes nothing and
+/// returns status 3. Reading from memory doesn't fail.
 pub fn report_load(found: LoadFault, fault: &mut TablesFault) -> u32
     ensures { IsReported has_failed_load load_fault_in_numbers found fault.old fault.new result }
 {
@@ -139,7 +139,7 @@ pub fn report_load(found: LoadFault, fault: &mut TablesFault) -> u32
     }
 }
 
-/// Writes the fault of a query, and returns status 1; where memory ran out, status 3, and what was there is left.
+/// Writes the fault of a query, and returns status 1. If memory ran out, it writes nothing and returns status 3.
 pub fn report_query(found: QueryFault, fault: &mut TablesFault) -> u32
     ensures { IsReported has_failed_query query_fault_in_numbers found fault.old fault.new result }
 {

@@ -46,7 +46,7 @@ impl<'g> Input<'g> {
     }
 }
 
-/// Does what words order over files. None if a word or path isn't UTF-8, or if the numbers of paths, texts and numbers differ.
+/// Does what words order over files. None if a word or path isn't UTF-8, or if paths, texts and numbers aren't equally many.
 pub fn serve_given(
     alloc: Global,
     words: Given<'_>,

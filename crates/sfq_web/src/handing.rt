@@ -76,7 +76,7 @@ impl<'f> Handing<'f> {
         }
     }
 
-    /// The reader of a file for a command, if it is handed in and can be opened. Standard input is read once, and then has no more bytes.
+    /// The reader of a file for a command, if it is handed in and can be opened. Standard input is read once, and then is empty.
     pub(crate) fn open(&mut self, alloc: Global, file: File<'_>) -> Option<HandedReader<'f>>
         ensures opens { OpensAs (handed self.old) file.entry result (handed self.new) }
         ensures fails { IfSome result (λ reader. fails_in reader ≡ fails_as self.old.files.now self.old.is_broken file.entry) }

@@ -1,4 +1,4 @@
-//! The proved call for JavaScript that does what the words of a command line order, over files that are handed in, as `sfq` does it.
+//! The proved call for JavaScript that does what the words of a command line order, over files that are handed in, as `sfq` does.
 #![tactic(auto)]
 
 mod cutting;

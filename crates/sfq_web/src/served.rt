@@ -40,8 +40,8 @@ pub enum Served {
     Missing(Missed),
 }
 
-/// Does what the words of a command line order, the program's name first, over files that are handed in. If the caller asks why, the order
-/// does too. It fails only when memory runs out.
+/// Does what the words of a command line order, the program's name first, over files that are handed in. If the caller asks why,
+/// the order does too. It fails only when memory runs out.
 pub fn serve_words<'w>(
     alloc: Global,
     words: &'w [&'w str],
@@ -90,8 +90,8 @@ fn serve_asked(alloc: Global, order: Order, handing: &mut Handing<'_>) -> Result
     }))
 }
 
-/// Does what an order says, and returns its status. To `more` it writes what explains a fault of the schema, of a table, of the query or of a
-/// geometry's text, or notes on a check or a query, if the order asks why. The files are opened among those that are handed in.
+/// Does what an order says, and returns its status. To `more` it writes what explains a fault of the schema, a table, the query or
+/// a geometry's text, or notes on a check or a query, if the order asks why. The files opened are those that are handed in.
 fn serve_handed(
     alloc: Global,
     order: &Order,
@@ -109,8 +109,8 @@ fn serve_handed(
     serve_observed(alloc, order, opener, out, err, more, &mut Unobserved)
 }
 
-/// What explains the end of an order that has ended with a status, if the order asks why. If nothing is said yet, that is why a file couldn't be
-/// opened or read.
+/// What explains the end of an order that has ended with a status, if the order asks why. If nothing is said yet, it is why a file
+/// couldn't be opened or read.
 fn explained(
     alloc: Global,
     order: &Order,

@@ -172,9 +172,9 @@ impl Statement {
         }
     }
 
-    /// Finds the next row by at most so many looks: if none of so many candidates and rows of the outer reference gave a row, it is
-    /// busy, and the same rows are to come. From 1 look a step on, the steps come to an end. The first step of a plan that needs a list isn't
-    /// busy (this project's choice). That it looks no further changes time alone: it is tested, and no clause says it.
+    /// Finds the next row by at most `most` looks. If that many candidates and rows of the outer reference gave no row, it is busy,
+    /// and the same rows are still to come. With 1 look or more a step, the steps end. The first step of a plan that needs a list
+    /// isn't busy (this project's choice). That it looks no further is tested, and no clause says it: only time depends on it.
     pub fn step_within<I: EnvelopeIndex + Drop>(
         &mut self,
         alloc: Global,
