@@ -41,9 +41,12 @@ class InFolder(engine_rows.WithLibrary):
         self.room = room.name
 
     def end_of(self, *words, at=None):
-        """Runs a command in the folder, where no variable says where sfq is, and returns how it ended."""
-        known = ["PATH=/usr/sbin:/usr/bin:/sbin:/bin", "HOME=/root", "LANG=C.UTF-8", "PIP_NO_INDEX=1", "DEBIAN_FRONTEND=noninteractive"]
-        inside = ["env", "-i", "-C", at or self.room[len(self.folder):], *known, *words]
+        """Runs a command in the folder, where no variable says where sfq is, and returns how it ended.
+
+        pip takes Debian's packages as they are: sid's shapely names no version, for which pip would look for another one in an index.
+        """
+        known = ["PATH=/usr/sbin:/usr/bin:/sbin:/bin", "HOME=/root", "LANG=C.UTF-8", "DEBIAN_FRONTEND=noninteractive"]
+        inside = ["env", "-i", "-C", at or self.room[len(self.folder):], *known, "PIP_NO_INDEX=1", "PIP_NO_DEPS=1", *words]
         return subprocess.run(peer_folder.words_in(self.folder, inside), stdin=subprocess.DEVNULL, capture_output=True, text=True)
 
     def run_in(self, *words, at=None):

@@ -78,12 +78,12 @@ RIMS = (
 
 
 # The name of what is tried besides, the suites in which it is, the file of its tests, and what two folders of each suite need for it: the
-# bare one, and the one where GeoPandas is.
+# bare one, and the one where GeoPandas is, for which Debian's pyproj finds its data by the command proj in an environment of its own.
 PACKAGES = "packages"
 DEBIANS = peer_folder.DEBIANS
 INSTALLED = "test_installed"
 PYTHON = ("python3", "python3-venv")
-JOINS = (*PYTHON, "python3-geopandas")
+JOINS = (*PYTHON, "python3-geopandas", "proj-bin")
 
 
 class Found(NamedTuple):
