@@ -65,8 +65,9 @@ class Folders(unittest.TestCase):
             self.assertEqual(today.main(words), 2)
 
 
-# Stand-ins for what makes folders and goes into them. Each notes its words. That of debootstrap wants signatures to be checked, and makes
-# of a folder what is looked at; that of unshare does what it is called for with debootstrap, and writes that a test passed in a folder.
+# A stand-in for each program that makes folders or goes into them. It notes the words that it is called with. That of debootstrap asks
+# for signatures to be checked, and makes of a folder what is looked at; that of unshare does what it is called for with debootstrap, and
+# writes that a test passed in a folder.
 NOTES = """#!/bin/sh
 echo "$(basename "$0") $*" >> {room}/calls
 """
@@ -84,7 +85,7 @@ done
 
 
 class FoldersThatAreMade(unittest.TestCase):
-    """A folder that isn't there is made, by stand-ins for what makes it: nothing is downloaded, and root isn't needed."""
+    """A folder that isn't there is made, by a stand-in for each program that makes it: nothing is downloaded, and root isn't needed."""
 
     def setUp(self):
         folder = tempfile.TemporaryDirectory(prefix="sfq-test-")
