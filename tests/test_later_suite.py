@@ -4,6 +4,7 @@ import contextlib
 import io
 import os
 import re
+import signal
 import sys
 import tempfile
 import unittest
@@ -59,6 +60,18 @@ class Folders(unittest.TestCase):
             browsers = next(it for it in today.RIMS if it.name == "browsers")
             for suite, wanted in (("sid", "firefox"), ("trixie", "firefox-esr")):
                 self.assertIn(wanted, today.missing_packages(suite, today.folder_of(suite), browsers.packages))
+
+    def test_an_interrupted_run_ends_what_it_started(self):
+        started = []
+
+        def interrupted(child):
+            started.append(child)
+            raise KeyboardInterrupt
+
+        with mock.patch.object(parts.subprocess.Popen, "communicate", interrupted), self.assertRaises(KeyboardInterrupt):
+            parts.run(["sleep", "60"])
+        (child,) = started
+        self.assertEqual(child.returncode, -signal.SIGTERM)
 
     def test_words(self):
         for words in (["buster"], ["trixie", "nothing"], ["--nothing"]):

@@ -94,7 +94,7 @@ class Counts:
 
 
 def run(words: Sequence[str], folder: str = repository.ROOT, given: Union[int, IO[bytes]] = subprocess.DEVNULL) -> tuple[int, str, str]:
-    """Runs a command, and returns its status and its two streams."""
+    """Runs a command, and returns its status and its two streams. Where it is interrupted, ends the command with what that started."""
     pipe = subprocess.PIPE
     with subprocess.Popen(
         words, cwd=folder, stdin=given, stdout=pipe, stderr=pipe, text=True, errors="replace", start_new_session=True
@@ -102,6 +102,9 @@ def run(words: Sequence[str], folder: str = repository.ROOT, given: Union[int, I
         CHILDREN.add(child)
         try:
             out, err = child.communicate()
+        except BaseException:
+            proving.end_groups([child], lambda it: it.poll() is not None)
+            raise
         finally:
             CHILDREN.discard(child)
     return child.returncode, out, err
