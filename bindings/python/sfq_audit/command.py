@@ -29,7 +29,7 @@ from .smaller import Small, made_smaller
 NAME = "sfq-audit"
 DIFFER = 1
 STATUSES = ("exit status: 0 all agree, 1 an engine differs, 2 the command line, 4 a record that isn't a pair, or no pair is compared, 6 a file, a database "
-            "or the output, 7 out of memory, 8 sfq or an engine isn't there or sfq fails, 130 interrupted; where it ends early the report is of what was "
+            "or the output, 7 out of memory, 8 sfq or an engine isn't there or sfq fails, 130 interrupted; if it ends early, it reports what was "
             "found before")
 OF_WRITING = ("exit status: 0 all pairs are written, 2 the command line, 4 a record that isn't a pair, or pairs that sfq refuses are left out, 6 a "
               "file, a database or the output, 7 out of memory, 8 sfq isn't there or fails, 130 interrupted")
