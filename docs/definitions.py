@@ -2,7 +2,7 @@
 """Writes DEFINITIONS.md and its further pages: what has to be believed, from the comments of the specifications.
 
 Run it anywhere: python3 docs/definitions.py. With --check it writes nothing and ends with status 1
-where a page isn't what it would write.
+if a page isn't what it would write.
 
 A definition's words are the comment above it, and its clause of the standard the parenthesis at the
 end of that comment. Each page has sections with their files, and in each file the helpers that are left

@@ -6,10 +6,10 @@
     sfq run SCHEMA DIR QUERY | python3 examples/draw.py --rows DIR/TABLE.csv > picture.svg
     python3 examples/draw.py --map DIR/TABLE.csv=COLOUR .. > picture.svg
 
-The first geometry is blue, the second orange. Where the two meet is marked: a point by a dot, a stretch by a thick line, an
-area by a ring around a point of it. The place of a fault is red. Of a table it draws all geometries in grey, and in blue those
-of the rows whose key is in the answer's first column. A map has all geometries of some tables, the first table at the bottom, each
-in its colour (a name or #RRGGBB; grey without one), and a key of the tables. Python's standard library is enough.
+The first geometry is blue, the second orange. Marks show where the two meet: a dot for a point, a thick line for a stretch, a
+ring around one of its points for an area. The place of a fault is red. It draws all geometries of a table in grey, and in blue
+those of the rows whose key is in the answer's first column. A map has all geometries of some tables, the first table at the
+bottom, each in its colour (a name or #RRGGBB; grey without one), and a key of the tables. Python's standard library is enough.
 """
 import csv
 import os

@@ -189,7 +189,7 @@ class Builds(WithBuild):
             time.sleep(1)
             child.send_signal(signal.SIGTERM)
             self.assertEqual(child.wait(timeout=20), 130)
-            self.assertIn(b"broken off", child.stderr.read())
+            self.assertIn(b"interrupted", child.stderr.read())
         before = len(self.checked())
         self.assertEqual(self.build().returncode, 0)
         self.assertEqual(self.checked()[before:], ["middle", "sfq"])

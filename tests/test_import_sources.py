@@ -74,7 +74,7 @@ class Proposals(unittest.TestCase):
 
     def test_documents_have_the_rule(self):
         rule = " ".join(proposing.__doc__.partition("\n\n")[2].split())
-        self.assertRegex(rule, r"^The step is the finest .* The origin is 0,0 where .* as metres\.$")
+        self.assertRegex(rule, r"^The step is the finest .* The origin is 0,0 if .* as metres\.$")
         for it in ("docs/DATA.md", "docs/PYTHON.md", "packaging/man/sfq-import.1", "bindings/qgis/sfq_qgis/basis.py"):
             self.assertEqual(" ".join(read(f"{ROOT}/{it}").split()).count(rule), 1, it)
 

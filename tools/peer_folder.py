@@ -6,7 +6,7 @@ usage: peer_folder.py make DIR [--suite bookworm|trixie|sid] [--bare] [--mirror 
        peer_folder.py run DIR COMMAND ..
 
 `make` takes some minutes and 2 GB. The folder gets GEOS, shapely, SpatiaLite, sqlite3, JTS with Java, gcc, Python and valgrind, and the
-packages that are named; with `--bare` it gets these alone beside the base system. Debian's archive keyring has to confirm the suite, and
+packages that you name; with `--bare` it gets only these and the base system. Debian's archive keyring has to confirm the suite, and
 apt confirms each package. `add` installs more packages.
 `run` runs a command in the folder, with this repository under its own path, and returns the command's status. What is mounted for that
 is gone when the command ends, so the folder can be removed at any time.
@@ -111,7 +111,7 @@ def main() -> int:
     for it in (making, adding, running):
         it.add_argument("folder", metavar="DIR")
     making.add_argument("--suite", choices=DEBIANS, default="sid", help="the suite of Debian (sid)")
-    making.add_argument("--bare", action="store_true", help="the base system and the named packages alone")
+    making.add_argument("--bare", action="store_true", help="only the base system and the named packages")
     making.add_argument("--mirror", default=MIRROR, help=f"where packages come from ({MIRROR})")
     making.add_argument("words", metavar="PACKAGE", nargs="*")
     adding.add_argument("words", metavar="PACKAGE", nargs="+")

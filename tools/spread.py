@@ -1,5 +1,5 @@
 #!/usr/bin/env python3
-"""Prints how far each row of ARCHITECTURE's table "Where is the room for" is spread: how many crates and files name its example.
+"""Prints how far each row of ARCHITECTURE's table "Where to add a feature" is spread: how many crates and files name its example.
 
 usage: python3 tools/spread.py [ROOT]
 

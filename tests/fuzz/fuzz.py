@@ -2,7 +2,7 @@
 """Runs sfq on changed rows of the tests' scripts, and prints each case in which it does what it may not do.
 
 It needs the programs that ./build and `rt run` in crates/gauge make. Without gauge, matrices aren't compared with labels. It
-ends with status 1 where a case fails; the last lines count what runs ended in, also if it is broken off.
+ends with status 1 if a case fails; the last lines count what runs ended in, even if it is interrupted.
 """
 import argparse
 import multiprocessing

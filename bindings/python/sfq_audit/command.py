@@ -29,7 +29,7 @@ from .smaller import Small, made_smaller
 NAME = "sfq-audit"
 DIFFER = 1
 STATUSES = ("exit status: 0 all agree, 1 an engine differs, 2 the command line, 4 a record that isn't a pair, or no pair is compared, 6 a file, a database "
-            "or the output, 7 out of memory, 8 sfq or an engine isn't there or sfq fails, 130 interrupted; where it ends early the report is of what was "
+            "or the output, 7 out of memory, 8 sfq or an engine isn't there or sfq fails, 130 interrupted; if it ends early, it reports what was "
             "found before")
 OF_WRITING = ("exit status: 0 all pairs are written, 2 the command line, 4 a record that isn't a pair, or pairs that sfq refuses are left out, 6 a "
               "file, a database or the output, 7 out of memory, 8 sfq isn't there or fails, 130 interrupted")
@@ -71,20 +71,20 @@ def parser() -> argparse.ArgumentParser:
     add = run.add_argument
     add_sources(run)
     add("--engine", metavar="ENGINE", action="append", required=True, help=f"the engine: {listed()}; several in turn")
-    add("--ask", choices=ASKS, default=ASKS[0], help="what is asked (matrix; of an engine without matrices the predicates)")
+    add("--ask", choices=ASKS, default=ASKS[0], help="what engines are asked for (matrix; predicates if an engine has no matrices)")
     add("--format", choices=tuple(reports.FORMATS), default="text", help="how the report is written (text)")
-    add("--output", metavar="FILE", default="", help="write the report into a file, which is there as a whole at the end")
+    add("--output", metavar="FILE", default="", help="write the report into a file, which appears as a whole at the end")
     add("--all", metavar="FILE", default="", help="write each pair that differs into a CSV file")
     add("--tests", metavar="FILE", default="", help="write the cases as tests, in the XML of JTS's tests")
-    add("--cases", type=whole(0), default=20, metavar="N", help="report at most so many cases of an engine (20)")
-    add("--tries", type=whole(0), default=3000, metavar="N", help="make each case smaller by at most so many pairs; 0 leaves it as it is (3000)")
+    add("--cases", type=whole(0), default=20, metavar="N", help="report at most N cases of an engine (20)")
+    add("--tries", type=whole(0), default=3000, metavar="N", help="try at most N pairs to make each case smaller; 0 leaves it as it is (3000)")
     add("--patience", type=seconds, default=5.0, metavar="SECONDS", help="how long an engine may be silent (5)")
     write = commands.add_parser("write", help="write pairs, with their matrices and predicates, for the tests of other engines", epilog=OF_WRITING)
     add = write.add_argument
     add_sources(write)
     add("--format", choices=tuple(writing.FORMS), required=True, help="the XML of JTS's tests, a record or a feature for each pair")
-    add("--predicates", choices=writing.PREDICATES_OF, default=writing.ALL, help="of which predicates jts-xml has a test (all)")
-    add("--output", metavar="FILE", default="", help="write into a file, which is there as a whole at the end")
+    add("--predicates", choices=writing.PREDICATES_OF, default=writing.ALL, help="the predicates for which jts-xml has a test (all)")
+    add("--output", metavar="FILE", default="", help="write into a file, which appears as a whole at the end")
     return found
 
 
@@ -92,11 +92,11 @@ def add_sources(parser: argparse.ArgumentParser) -> None:
     """Adds the words that say where pairs come from, and which program says what is right."""
     add = parser.add_argument
     add("file", metavar="FILE", nargs="?", help="a CSV file of pairs, without a header; - for standard input")
-    add("--random", type=whole(1), metavar="N", help="make so many pairs")
+    add("--random", type=whole(1), metavar="N", help="make N pairs")
     add("--seed", type=int, default=1, metavar="S", help="what the pairs are made from (1)")
     add("--family", choices=tuple(families.ALL_FAMILIES), action="append", default=[],
         help=f"make pairs of this family, several in turn (all but {', '.join(families.NAMED_ALONE)})")
-    add("--scale", type=whole(1, families.MOST), metavar="N", help="stretch made pairs by up to so much (by several scales)")
+    add("--scale", type=whole(1, families.MOST), metavar="N", help="scale made pairs by up to N (by several scales)")
     add("--sql", nargs=2, metavar=("DATABASE", "QUERY"), help="take the pairs of a query of two columns of well-known text, of a file of SQLite, or of "
         "PostgreSQL by postgresql://..")
     add("--layers", nargs=2, metavar="SOURCE", help="take the geometries of two sources that GDAL reads whose envelopes meet, by sfq-import; needs --grid")

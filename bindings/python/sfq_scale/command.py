@@ -30,7 +30,7 @@ Taking = Union[merging.Count, merging.Rows]
 
 def read_words(given: Optional[list[str]]) -> argparse.Namespace:
     """Reads the command line."""
-    parser = argparse.ArgumentParser(prog="sfq-scale", description="One query of sfq over tables of any number of rows, by a Dask cluster.", epilog=STATUSES)
+    parser = argparse.ArgumentParser(prog="sfq-scale", description="Runs one query of sfq over tables of any number of rows, on a Dask cluster.", epilog=STATUSES)
     parser.add_argument("--version", action="version", version=f"sfq-scale {VERSION}")
     commands = parser.add_subparsers(dest="command", required=True, metavar="run")
     run = commands.add_parser("run", help="run a query", epilog=STATUSES)
@@ -39,7 +39,7 @@ def read_words(given: Optional[list[str]]) -> argparse.Namespace:
     run.add_argument("query", metavar="QUERY", help="the SELECT; @FILE takes it from a file, @- from standard input")
     run.add_argument("--scheduler", required=True, metavar="tcp://HOST:PORT", help="the scheduler of a running Dask cluster")
     run.add_argument("--send", action="store_true", help="send the program and the tables to the workers: they need no shared folder")
-    run.add_argument("--explain", action="store_true", help="say on standard error how the query was split, and what that took")
+    run.add_argument("--explain", action="store_true", help="say on standard error how the query was split, and what that cost")
     run.add_argument("--rows", type=int, default=50_000, metavar="N", help="the rows of a tile or a stretch, about (50000; at most 100000)")
     run.add_argument("--most-pairs", type=int, default=MOST_PAIRS, metavar="N", help="the most pairs of a query that looks at them all")
     run.add_argument("--room", metavar="DIR", help="a folder for the tiles, which the workers see too (the folder for temporary files)")
@@ -47,7 +47,7 @@ def read_words(given: Optional[list[str]]) -> argparse.Namespace:
     run.add_argument("--sfq", metavar="PATH", help="the program sfq; else it is beside this one, or on the path")
     run.add_argument("--worker-sfq", metavar="PATH", help="where workers find sfq, if that is another path")
     run.add_argument("--tiles", metavar="PATH", help="the program sfq-tiles; else it is beside this one, or on the path")
-    run.add_argument("--progress", action="store_true", help="show progress also where standard error is no terminal")
+    run.add_argument("--progress", action="store_true", help="show progress even if standard error is no terminal")
     found = parser.parse_args(given)
     if not 1 <= found.rows <= plans.MOST_ROWS:
         run.error(f"--rows is 1 to {plans.MOST_ROWS}")

@@ -24,11 +24,11 @@ GRID_HELP = """
 <h3>The grid</h3>
 <p>The engine takes whole coordinates up to 10,000,000 either way. So each position is moved to the nearest point of a grid, which is
 proposed. The step is the finest of 1, 2 and 5 times a power of ten at which every coordinate is within 10,000,000 steps of the origin,
-but not finer than about a centimetre: 0.0000001 of a degree, 0.01 of a metre or a foot. The origin is 0,0 where that takes the same
-step, else the middle of everything to the nearest 100,000 steps. Where no reference system says the unit, coordinates within 180 and
-90 either way are taken as degrees, and others as metres. The log says which step and origin were taken, and by how much positions
-moved. Take the same step and origin in the next run to compare answers. A step and an origin that don't take all positions are
-refused, and the error names some that do.</p>
+but not finer than about a centimetre: 0.0000001 of a degree, 0.01 of a metre or a foot. The origin is 0,0 if the step is the same with
+it, and otherwise the middle of everything to the nearest 100,000 steps. If no reference system gives the unit, coordinates within 180 and
+90 either way count as degrees, and others as metres. The log says which step and origin were taken, and by how much positions moved. Take
+the same step and origin in the next run to compare answers. A step and an origin that don't take all positions are refused, and the error
+names some that do.</p>
 """
 LEFT_OUT_HELP = """
 <h3>What is left out</h3>

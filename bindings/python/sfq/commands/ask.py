@@ -244,19 +244,19 @@ def is_imported(path: str) -> bool:
 
 def parser() -> argparse.ArgumentParser:
     found = argparse.ArgumentParser(
-        prog=NAME, usage="sfq-ask [OPTION ..] FOLDER|SOURCE .. QUERY", description="Asks layers a query, in their own coordinates.",
+        prog=NAME, usage="sfq-ask [OPTION ..] FOLDER|SOURCE .. QUERY", description="Runs a query over layers, in their own coordinates.",
         epilog="Statuses are those of sfq run: 3 the schema, 4 a table, a record under --invalid stop or --strict, or no record was kept, 5 the query, "
         "6 a file or the output, 7 out of memory; else 0 done, 1 GDAL, or both the library and sfq aren't there, 2 the command line. The manual: man sfq-ask.")
     add = found.add_argument
     add("words", metavar="FOLDER|SOURCE .. QUERY", nargs="+",
         help="a folder that sfq-import made, or files, folders or databases that GDAL reads; and the SELECT, or @FILE that has it")
-    add("--out", choices=MODES, help="how the answer is written (as --output ends; else table on a terminal, and csv elsewhere)")
+    add("--out", choices=MODES, help="how the answer is written (by the ending of --output; else table on a terminal, and csv elsewhere)")
     add("--output", metavar="FILE", default="", help="write the answer into a file, as a whole or not at all")
     add("--no-cache", action="store_true", help="keep no tables in $XDG_CACHE_HOME/sfq")
     imports.add_options(found, {"action": "append"})
-    add("--strict", action="store_true", help="end with status 4 where a record is left out")
-    add("--allow-empty", action="store_true", help="ask also where no record is kept")
-    add("--sfq", metavar="PROGRAM", default="", help="check and ask by this program in place of the libraries libsfq and libsfq_tables")
+    add("--strict", action="store_true", help="end with status 4 if a record is left out")
+    add("--allow-empty", action="store_true", help="run the query even if no record is kept")
+    add("--sfq", metavar="PROGRAM", default="", help="check and query with this proved program, not with the libraries libsfq and libsfq_tables")
     add("--version", action="version", version=f"{NAME} {__version__}")
     return found
 

@@ -321,7 +321,7 @@ def parser() -> argparse.ArgumentParser:
     add("--to", metavar="OUT.geojson", default="", help="write GeoJSON")
     add("--svg", metavar="OUT.svg", default="", help="write a picture")
     add("--geometry", metavar="NAME", default="", help="the column of the answer that is the geometry, by its header")
-    add("--wgs84", action="store_true", help="write longitude and latitude, where the source's coordinate system is known")
+    add("--wgs84", action="store_true", help="write longitude and latitude, if the source's coordinate system is known")
     add("--version", action="version", version=f"{NAME} {__version__}")
     return found
 

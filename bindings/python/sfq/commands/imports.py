@@ -350,19 +350,19 @@ def add_options(found: argparse.ArgumentParser, many: Mapping[str, Any] = MANY) 
     """Adds the options of an import to those of a command. `many` says how one takes several values."""
     add = found.add_argument
     add("--grid", metavar="STEP", default=AUTO,
-        help="the size of a step of the grid, in units of the source: 0.01; auto proposes the finest that takes all (auto)")
-    add("--origin", metavar="X,Y", default="", help="where the grid's 0 0 is in the source, or auto (0,0; auto where the step is)")
+        help="the size of a step of the grid, in units of the source: 0.01; auto proposes the finest that reaches all (auto)")
+    add("--origin", metavar="X,Y", default="", help="where the grid's 0 0 is in the source, or auto (0,0; auto if the step is)")
     add("--to", metavar="EPSG:N", default="", help="move all geometries to this reference system")
-    add("--from", metavar="EPSG:N", default="", dest="of", help="the reference system of sources that say none")
-    add("--layer", metavar="NAME", default=[], **many, help="the layers to take (all)")
+    add("--from", metavar="EPSG:N", default="", dest="of", help="the reference system of sources that don't give one")
+    add("--layer", metavar="NAME", default=[], **many, help="the layers to import (all)")
     add("--key", metavar="COLUMN", default="", help="the column of whole numbers that is the key (the FID)")
     add("--scale", metavar="COLUMN=STEP", default=[], **many,
-        help="make whole numbers of a column, which count steps of this size: width=0.01")
-    add("--xy", metavar="X,Y", default="", help="make points of two columns of a CSV file: lon,lat")
-    add("--wkt", metavar="COLUMN", default="", help="make geometries of a column of well-known text of a CSV file")
-    add("--invalid", choices=("leave-out", "mend", "stop"), default="leave-out", help="what becomes of records that sfq refuses (leave-out)")
-    add("--flat", action="store_true", help="take geometries with Z or M without them")
-    add("--part", action="store_true", help="make several rows of a record with more than 10,000 positions")
+        help="turn a column into whole numbers, which count steps of this size: width=0.01")
+    add("--xy", metavar="X,Y", default="", help="make points from two columns of a CSV file: lon,lat")
+    add("--wkt", metavar="COLUMN", default="", help="make geometries from a column of well-known text of a CSV file")
+    add("--invalid", choices=("leave-out", "mend", "stop"), default="leave-out", help="what to do with records that sfq refuses (leave-out)")
+    add("--flat", action="store_true", help="drop Z and M from geometries")
+    add("--part", action="store_true", help="split a record with more than 10,000 positions into several rows")
 
 
 def parser() -> argparse.ArgumentParser:
@@ -373,10 +373,10 @@ def parser() -> argparse.ArgumentParser:
     add("source", metavar="SOURCE", nargs="+", help="a file, folder or database that GDAL reads, as ogrinfo takes it")
     add("--out", metavar="DIR", required=True, help="a folder that isn't there yet, is empty, or gets more tables")
     add_options(found)
-    add("--replace", action="store_true", help="make tables anew that the folder has already")
-    add("--strict", action="store_true", help="end with status 4 where a record was left out")
-    add("--allow-empty", action="store_true", help="end with status 0 where no record is kept, too")
-    add("--sfq", metavar="PROGRAM", default="", help="check by this program in place of the library libsfq")
+    add("--replace", action="store_true", help="replace tables that the folder already has")
+    add("--strict", action="store_true", help="end with status 4 if a record was left out")
+    add("--allow-empty", action="store_true", help="end with status 0 even if no record is kept")
+    add("--sfq", metavar="PROGRAM", default="", help="check with this proved program, not with the library libsfq")
     add("--version", action="version", version=f"{NAME} {__version__}")
     return found
 

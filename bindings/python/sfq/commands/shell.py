@@ -345,11 +345,11 @@ def parser() -> argparse.ArgumentParser:
     add = found.add_argument
     add("schema", metavar="SCHEMA", help="the file of CREATE TABLE statements")
     add("folder", metavar="DIR", help="the directory of the tables: t.csv for table t")
-    add("-c", "--command", metavar="QUERY", action="append", default=[], help="ask this, or do this command, and end; several in turn")
+    add("-c", "--command", metavar="QUERY", action="append", default=[], help="run this query or this command, and end; several in turn")
     add("--mode", choices=tuple(showing.MODES), help="how answers are written (table on a terminal, else csv)")
-    add("--all", action="store_true", help="load all tables at the start, in place of each when it is first named")
-    add("--no-history", action="store_true", help="keep no file of what was typed, which is $XDG_STATE_HOME/sfq/shell-history")
-    add("--sfq", metavar="PROGRAM", default="", help="ask by runs of this program in place of the library libsfq_tables")
+    add("--all", action="store_true", help="load all tables at the start, and not each when it is first named")
+    add("--no-history", action="store_true", help="keep no history of what you typed, $XDG_STATE_HOME/sfq/shell-history")
+    add("--sfq", metavar="PROGRAM", default="", help="run this program for each query, not the library libsfq_tables")
     add("--version", action="version", version=f"{NAME} {__version__}")
     return found
 

@@ -1,9 +1,9 @@
 """Proposes a grid for what people didn't choose one for.
 
 The step is the finest of 1, 2 and 5 times a power of ten at which every coordinate is within 10,000,000 steps of the origin, but not
-finer than about a centimetre: 0.0000001 of a degree, 0.01 of a metre or a foot. The origin is 0,0 where that takes the same step, else
-the middle of everything to the nearest 100,000 steps. Where no reference system says the unit, coordinates within 180 and 90 either way
-are taken as degrees, and others as metres.
+finer than about a centimetre: 0.0000001 of a degree, 0.01 of a metre or a foot. The origin is 0,0 if the step is the same with it, and
+otherwise the middle of everything to the nearest 100,000 steps. If no reference system gives the unit, coordinates within 180 and 90
+either way count as degrees, and others as metres.
 """
 from __future__ import annotations
 
