@@ -8,8 +8,8 @@ edits, and the pages and lists that name laws. So a name that two lemmas share h
 invariants are left out, because the prover asks for what is in them by name.
 """
 import collections
-import glob
 import os
+import pathlib
 import re
 import sys
 
@@ -31,21 +31,19 @@ def words_of(text: str) -> collections.Counter[str]:
     return collections.Counter(BREAK.split(REMARK.sub("", kept)))
 
 
-def read(root: str, path: str) -> str:
-    """Returns the text of a file below the root."""
-    with open(f"{root}/{path}", encoding="utf-8") as file:
-        return file.read()
+def texts_of(root: str, pattern: str) -> list[tuple[str, str]]:
+    """Returns the files below the root whose paths have a form, in order: each with its path from the root and its text."""
+    return [(path.relative_to(root).as_posix(), path.read_text(encoding="utf-8")) for path in sorted(pathlib.Path(root).glob(pattern))]
 
 
 def check(root: str = repository.ROOT) -> list[repository.Finding]:
     """Returns a finding for each lemma that nothing uses, in the order of the files."""
     uses: collections.Counter[str] = collections.Counter()
     for pattern in PAGES:
-        for path in glob.glob(pattern, root_dir=root, recursive=True):
-            uses.update(BREAK.split(read(root, path)))
+        for _, text in texts_of(root, pattern):
+            uses.update(BREAK.split(text))
     lemmas: list[tuple[str, antt.Declaration]] = []
-    for path in sorted(glob.glob("crates/*/**/*.antt", root_dir=root, recursive=True)):
-        text = read(root, path)
+    for path, text in texts_of(root, "crates/*/**/*.antt"):
         uses.update(words_of(text))
         if os.path.basename(path) not in ASKED_FOR and "/proofs/" in path:
             lemmas += [(path, it) for it in antt.File(text).declarations if it.kind in ("lemma", "definition") and "◌" not in it.name]
