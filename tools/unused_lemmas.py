@@ -55,5 +55,6 @@ def check(root: str = repository.ROOT) -> list[repository.Finding]:
 
 
 if __name__ == "__main__":
+    repository.print_help(__doc__)
     for found in check(*sys.argv[1:2]):
         print("{}:{}: {}".format(*found))
