@@ -397,9 +397,13 @@ class Sources(WithImports):
         for _ in range(6):
             child = subprocess.Popen([*python_command(PYTHON, "sfq-import"), more, "--out", "broken", "--replace"], cwd=self.room,
                                      env={**os.environ, "PYTHONDONTWRITEBYTECODE": "1"}, stderr=subprocess.PIPE, text=True)
-            # Before Python is ready a signal ends it as any program.
-            time.sleep(0.2 + takes * chance.uniform(0, 1))
-            child.send_signal(signal.SIGINT)
+            # Before Python is ready a signal ends it as any program. An import that ends before the signal shows how long one takes.
+            begun = time.monotonic()
+            try:
+                child.wait(0.2 + takes * chance.uniform(0, 1))
+                takes = time.monotonic() - begun
+            except subprocess.TimeoutExpired:
+                child.send_signal(signal.SIGINT)
             said = child.communicate()[1]
             statuses.append(child.returncode)
             if child.returncode == 0:
