@@ -84,6 +84,19 @@ def needs_build(test):
     return run
 
 
+def read_terminal(ours):
+    """Returns all that is written on a terminal until its last writer ends."""
+    shown = b""
+    while True:
+        try:
+            more = os.read(ours, 1 << 16)
+        except OSError:
+            return shown
+        if not more:
+            return shown
+        shown += more
+
+
 @functools.lru_cache(maxsize=None)
 def asked():
     """Returns the calls that documents show, their answers, and the answers to the calls of help: asked once, of one build."""

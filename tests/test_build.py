@@ -15,7 +15,7 @@ import time
 import unittest
 import zipfile
 
-from support import LANGUAGES, ROOT, WithCheckout, needs, read, write
+from support import LANGUAGES, ROOT, WithCheckout, needs, read, read_terminal, write
 
 import debian
 import library
@@ -207,7 +207,7 @@ class Builds(WithBuild):
         self.addCleanup(os.close, ours)
         self.assertEqual(self.checkout.run(["build"], stdout=theirs).returncode, 0)
         os.close(theirs)
-        shown = os.read(ours, 1 << 16)
+        shown = read_terminal(ours)
         self.assertRegex(shown, rb"\r\d of 4 crates proved; now [a-z_, ]+\x1b\[K")
         self.assertNotIn(b": proved low", shown)
         self.assertIn(b"\r\x1b[Kproved: 4 crates, ", shown)

@@ -17,7 +17,7 @@ import unittest
 import xml.etree.ElementTree as tree
 from fractions import Fraction
 
-from support import ROOT, needs, needs_build, python_command, read, write
+from support import ROOT, needs, needs_build, python_command, read, read_terminal, write
 
 import bindings
 import engine_rows
@@ -699,10 +699,7 @@ class Imports(WithImports):
         known = {**os.environ, "SFQ_LIBRARY": library.SHARED, "PYTHONDONTWRITEBYTECODE": "1"}
         with subprocess.Popen(words, env=known, stderr=follower) as child:
             os.close(follower)
-            said = b""
-            with contextlib.suppress(OSError):
-                while part := os.read(leader, 65_536):
-                    said += part
+            said = read_terminal(leader)
         self.assertEqual(child.returncode, 0)
         shown = re.findall(rb"\rsfq-import: points ([\d,]+)(?: of 60,000)?\x1b\[K", said)
         self.assertTrue(shown and len(shown) == len(set(shown)), said)

@@ -7,7 +7,7 @@ import subprocess
 import tempfile
 import unittest
 
-from support import needs_build, write
+from support import needs_build, read_terminal, write
 import repository
 
 # Takes a line away: up to its first column, and all from there on is erased.
@@ -22,19 +22,6 @@ ROWS = 8_000
 SCHEMA = "CREATE TABLE t (id INTEGER PRIMARY KEY, n INTEGER); CREATE TABLE u (id INTEGER PRIMARY KEY, n INTEGER);"
 QUERY = "SELECT a.id, b.id FROM t a JOIN u b ON a.n <= b.n"
 ANSWER = b"a.id,b.id\n5,7\n"
-
-
-def read_terminal(ours):
-    """Returns all that is written on a terminal until its last writer ends."""
-    shown = b""
-    while True:
-        try:
-            more = os.read(ours, 1 << 16)
-        except OSError:
-            return shown
-        if not more:
-            return shown
-        shown += more
 
 
 class ProgressOnATerminal(unittest.TestCase):

@@ -8,7 +8,7 @@ import subprocess
 import tempfile
 import unittest
 
-from support import ROOT, needs_build, read, write
+from support import ROOT, needs_build, read, read_terminal, write
 
 import answers
 import repository
@@ -243,7 +243,7 @@ class Streams(unittest.TestCase):
             plain = {name: it for name, it in os.environ.items() if name != "NO_COLOR"}
             subprocess.run(words, env={**plain, **variables}, stderr=theirs, timeout=60)
             os.close(theirs)
-            first, *added = os.read(ours, 1 << 16).decode().replace("\r", "").splitlines()
+            first, *added = read_terminal(ours).decode().replace("\r", "").splitlines()
             os.close(ours)
             self.assertEqual(first, "sfq: first W1 at 8")
             self.assertEqual(len(added), 3)
