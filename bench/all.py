@@ -27,12 +27,12 @@ import pathlib
 import runpy
 import sys
 import tempfile
-from typing import NamedTuple
+from typing import NamedTuple, Optional
 
 import plots
 import quick
 from timing import PROGRAM, README, ROOT, Table, exponent, figure, read_options
-from workloads import Measure, Workload, built_programs, commands_in, compare_outputs, folder_of, outputs, ratios, workloads
+from workloads import Measure, Programs, Workload, built_programs, commands_in, compare_outputs, folder_of, outputs, ratios, workloads
 
 runpy.run_path(str(ROOT / "tools" / "paths.py"))
 import repository
@@ -46,19 +46,20 @@ class Measured(NamedTuple):
     """What a workload took: the costs of each program by size, start-up left out."""
 
     workload: Workload
-    costs: dict
+    costs: dict[str, list[tuple[int, float]]]
 
-    def row(self):
+    def row(self) -> list[str]:
         """The row of README: its largest size, and what `sfq` takes of what the peer and the floor take."""
         size = self.costs["sfq"][-1][0]
-        return [self.workload.named(size), *reversed(ratios(self.workload, {who: line[-1][1] for who, line in self.costs.items()}))]
+        return [self.workload.name_of(size), *reversed(ratios(self.workload, {who: line[-1][1] for who, line in self.costs.items()}))]
 
 
-def measured(workload, room, programs, how, table):
+def measured(workload: Workload, room: pathlib.Path, programs: Programs, how: Measure, table: Table) -> Measured:
     """Measures a workload, and adds its rows to a table."""
     bare = folder_of(room, workload, 0)
     starts = how.costs(commands_in(bare, workload, programs), bare)
-    found, before = {who: [] for who in starts}, None
+    found: dict[str, list[tuple[int, float]]] = {who: [] for who in starts}
+    before: Optional[tuple[float, float]] = None
     for size in workload.sizes:
         folder = folder_of(room, workload, size)
         commands = commands_in(folder, workload, programs)
@@ -76,12 +77,12 @@ def measured(workload, room, programs, how, table):
     return Measured(workload, found)
 
 
-def table_of_costs(unit):
+def table_of_costs(unit: str) -> Table:
     """The table of all workloads at all sizes."""
     return Table([f"{unit} a row", "sfq", "floor", "to the floor", *OF_PEER, "growth", "sfq MB"], OF_PEER)
 
 
-def table_of_ratios(found):
+def table_of_ratios(found: list[Measured]) -> Table:
     """The table of README, of those workloads that it names."""
     table = Table(["task (more in [bench](bench/README.md))", "C program", OF_PEER[0]], OF_PEER)
     for it in found:
@@ -90,7 +91,7 @@ def table_of_ratios(found):
     return table
 
 
-def need_program(program):
+def need_program(program: str) -> None:
     """Ends the program where the one that is measured isn't there, or is that of ./build and of other sources than the present ones."""
     if program != str(PROGRAM):
         if not os.access(program, os.X_OK):
@@ -100,7 +101,7 @@ def need_program(program):
         sys.exit(f"the program {lacking}: run ./build, which proves and links it, in about half an hour")
 
 
-def measure_all(options):
+def measure_all(options: argparse.Namespace) -> None:
     """Measures the workloads at their sizes, and writes what is asked for."""
     with tempfile.TemporaryDirectory() as name:
         room = pathlib.Path(name)
@@ -125,7 +126,7 @@ def measure_all(options):
         PICTURE.write_text(plots.costs([(it.workload.label, it.costs) for it in found], unit))
 
 
-def main():
+def main() -> None:
     about, *more = __doc__.split("\n\n")
     parser = argparse.ArgumentParser(description=about, epilog=more[0])
     parser.add_argument("--quick", action="store_true", help="the rows of README's table of speed, by instructions and by time")

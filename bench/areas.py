@@ -15,6 +15,7 @@ import pathlib
 import random
 import sys
 import tempfile
+from typing import Any
 
 from gauged import GAUGE, built_peer, each, options_of
 from timing import README, Table, read_options
@@ -25,13 +26,13 @@ POINTS = 10_000
 WORDS = ("read", "check", "locate")
 
 
-def ring(positions):
+def ring(positions: list[tuple[int, int]]) -> str:
     """The text of a ring."""
     closed = positions + positions[:1]
     return "(" + ",".join(f"{x} {y}" for x, y in closed) + ")"
 
 
-def star(count):
+def star(count: int) -> list[list[tuple[int, int]]]:
     """Positions around the origin, at distances that vary."""
     chance = random.Random(count)
     positions = []
@@ -42,14 +43,14 @@ def star(count):
     return [positions]
 
 
-def thrown(count):
+def thrown(count: int) -> list[list[tuple[int, int]]]:
     """A star of which one corner is thrown across, out of the other side."""
     positions = star(count)[0]
     positions[count // 4] = (0, -2 * SPAN)
     return [positions]
 
 
-def holed(holes):
+def holed(holes: int) -> list[list[tuple[int, int]]]:
     """A square with this many square holes, row by row."""
     side = math.ceil(math.sqrt(holes))
     step = 2 * SPAN // side
@@ -61,7 +62,7 @@ def holed(holes):
     return rings
 
 
-def spiral(count):
+def spiral(count: int) -> list[list[tuple[int, int]]]:
     """A band that winds outwards at right angles, with half of the positions on either side."""
     corners, x, y = [(0, 0)], 0, 0
     for k in range(count // 2 - 1):
@@ -81,7 +82,7 @@ def spiral(count):
     return [left + right[::-1]]
 
 
-def border(count):
+def border(count: int) -> list[list[tuple[int, int]]]:
     """A parcel whose right side is a ragged border of this many positions."""
     chance = random.Random(count)
     step = 2 * SPAN // count
@@ -98,7 +99,7 @@ CASES = (
 )
 
 
-def points_for(rings):
+def points_for(rings: list[list[tuple[int, int]]]) -> list[tuple[int, int]]:
     """Points to be located: half of them anywhere in the envelope, half near its positions."""
     chance = random.Random(7)
     listed = [position for positions in rings for position in positions]
@@ -113,7 +114,7 @@ def points_for(rings):
     return points
 
 
-def main():
+def main() -> None:
     options = read_options(options_of(__doc__.splitlines()[0]), ("only",))
     with tempfile.TemporaryDirectory() as name:
         folder = pathlib.Path(name)
@@ -131,7 +132,7 @@ def main():
         table.write_into(README)
 
 
-def measures(program, rings, folder, repeats):
+def measures(program: list[str], rings: list[list[tuple[int, int]]], folder: pathlib.Path, repeats: int) -> dict[str, Any]:
     """The seconds in which a program reads and checks an area, and locates in it if it is valid; and its answers."""
     text = "POLYGON(" + ",".join(map(ring, rings)) + ")\n"
     (folder / "input").write_text(text)
@@ -144,7 +145,7 @@ def measures(program, rings, folder, repeats):
     return {"read": read, "check": max(whole - read, 1e-9), "locate": located, "answers": valid + inside}
 
 
-def cell(word, count, ours, theirs):
+def cell(word: str, count: int, ours: dict[str, Any], theirs: dict[str, Any]) -> str:
     """What a position or a point takes here and in GEOS, and the ratio; nothing where it isn't measured."""
     if word not in ours:
         return ""

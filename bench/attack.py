@@ -34,12 +34,17 @@ import signal
 import sys
 import tempfile
 import time
-from typing import Callable, NamedTuple, Optional
+from typing import Callable, Iterable, Iterator, Mapping, NamedTuple, Optional, Sequence, TypeVar
 
 import bad_shapes
 import worst
 from peers import SEPARATOR, SHAPES, TABLES, compiled
 from timing import PROGRAM, Table, exponent, figure, instructions, probe, read_options
+
+Item = TypeVar("Item")
+Found = TypeVar("Found")
+# What makes the values of so many rows.
+Forms = Callable[[random.Random, int], Sequence[object]]
 
 # How many rows or positions an input has at first, by what it grows, and at which seconds it is large enough.
 ROWS, MOST_ROWS, POSITIONS, MOST_POSITIONS, TIMES, ENOUGH = 500, 64_000, 150, 9_900, 4, 0.06
@@ -55,7 +60,7 @@ NEAR = 0.6
 
 # ---- forms of data ----
 
-def shuffled(dice, items):
+def shuffled(dice: random.Random, items: Iterable[Item]) -> list[Item]:
     """The items in another order."""
     items = list(items)
     dice.shuffle(items)
@@ -63,7 +68,7 @@ def shuffled(dice, items):
 
 
 # Each makes the numbers of so many rows; an empty text is NULL.
-NUMBERS = {
+NUMBERS: dict[str, Forms] = {
     "each once": lambda dice, rows: shuffled(dice, range(rows)),
     "ascending": lambda dice, rows: range(rows),
     "of a tenth as many": lambda dice, rows: [dice.randrange(max(1, rows // 10)) for _ in range(rows)],
@@ -72,7 +77,7 @@ NUMBERS = {
     "half of them one": lambda dice, rows: [7 if dice.random() < 0.5 else at for at in range(rows)],
     "NULL but for a tenth": lambda dice, rows: ["" if dice.random() < 0.9 else at for at in range(rows)],
 }
-TEXTS = {
+TEXTS: dict[str, Forms] = {
     "each once": lambda dice, rows: [f"t{at}" for at in shuffled(dice, range(rows))],
     "of a tenth as many": lambda dice, rows: [f"t{dice.randrange(max(1, rows // 10))}" for _ in range(rows)],
     "of eight": lambda dice, rows: [f"t{dice.randrange(8)}" for _ in range(rows)],
@@ -82,35 +87,35 @@ TEXTS = {
 }
 
 
-def around(dice):
+def around(dice: random.Random) -> tuple[int, int]:
     """A position anywhere."""
     return dice.randint(-SPAN, SPAN), dice.randint(-SPAN, SPAN)
 
 
-def box(x, y, across, up):
+def box(x: int, y: int, across: int, up: int) -> str:
     """The text of a rectangle from its lower left corner on."""
     return f"POLYGON(({x} {y},{x + across} {y},{x + across} {y + up},{x} {y + up},{x} {y}))"
 
 
-def in_cells(rows, shape):
+def in_cells(rows: int, shape: Callable[[int, int, int], str]) -> list[str]:
     """A shape for each cell of a square grid, by its lower left corner and its side."""
     across = max(1, int(rows**0.5 + 0.999))
     side = 2 * SPAN // across
     return [shape(-SPAN + side * (at % across), -SPAN + side * (at // across), side) for at in range(rows)]
 
 
-def line(*positions):
+def line(*positions: tuple[int, int]) -> str:
     """The text of a line."""
     return "LINESTRING(" + ",".join(f"{x} {y}" for x, y in positions) + ")"
 
 
-def small_lines(dice, rows):
+def small_lines(dice: random.Random, rows: int) -> list[str]:
     """Short lines anywhere."""
     step = 1 + SPAN // max(1, int(rows**0.5))
     return [line((x, y), (x + dice.randint(1, step), y + dice.randint(-step, step))) for x, y in (around(dice) for _ in range(rows))]
 
 
-GEOMETRIES = {
+GEOMETRIES: dict[str, Callable[[random.Random, int], list[str]]] = {
     "points anywhere": lambda dice, rows: ["POINT(%d %d)" % around(dice) for _ in range(rows)],
     "points in one place": lambda dice, rows: ["POINT(0 0)"] * rows,
     "points of a line": lambda dice, rows: [f"POINT({at} {at})" for at in shuffled(dice, range(rows))],
@@ -138,14 +143,16 @@ GEOMETRIES = {
     "NULL but for a tenth": lambda dice, rows: ["" if dice.random() < 0.9 else "POINT(%d %d)" % around(dice) for _ in range(rows)],
     "EMPTY but for a tenth": lambda dice, rows: ["POINT EMPTY" if dice.random() < 0.9 else "POINT(%d %d)" % around(dice) for _ in range(rows)],
 }
+# The columns, each with its forms.
+COLUMNS: Sequence[tuple[str, Mapping[str, Forms]]] = (("n", NUMBERS), ("t", TEXTS), ("g", GEOMETRIES))
 
 
-def square(x, y, side):
+def square(x: int, y: int, side: int) -> list[tuple[int, int]]:
     """The corners of a square from its lower left one on."""
     return [(x, y), (x + side, y), (x + side, y + side), (x, y + side)]
 
 
-def comb(x, y, step, teeth):
+def comb(x: int, y: int, step: int, teeth: int) -> list[tuple[int, int]]:
     """The corners of a comb whose teeth point up, from its lower left one on."""
     corners = [(x, y), (x + 4 * step * teeth, y), (x + 4 * step * teeth, y + step)]
     for at in reversed(range(teeth)):
@@ -154,12 +161,12 @@ def comb(x, y, step, teeth):
     return [*corners, (x, y + step)]
 
 
-def beside(dice, rows, large):
+def beside(dice: random.Random, rows: int, large: str) -> list[str]:
     """A large shape in one row, and small squares in the others."""
     return shuffled(dice, [large, *GEOMETRIES["small squares anywhere"](dice, rows - 1)])
 
 
-def star(x, y, far):
+def star(x: int, y: int, far: int) -> str:
     """The text of a polygon of twelve corners round a position."""
     around_it = [(2, 0), (1, 1), (1, 2), (0, 1), (-1, 2), (-1, 1), (-2, 0), (-1, -1), (-1, -2), (0, -1), (1, -2), (1, -1)]
     corners = [f"{x + far * a // 3} {y + far * b // 3}" for a, b in around_it]
@@ -190,30 +197,30 @@ class Query(NamedTuple):
 
     tables: int
     items: str
-    conjuncts: list
+    conjuncts: list[str]
     limit: str
-    forms: dict
+    forms: dict[str, str]
 
     @property
-    def condition(self):
+    def condition(self) -> str:
         return " AND ".join(self.conjuncts)
 
     @property
-    def text(self):
+    def text(self) -> str:
         """The text that `sfq` is asked."""
         return f"SELECT {self.items} FROM a a{', b b' * (self.tables - 1)} WHERE {self.condition}{self.limit}"
 
     @property
-    def is_spatial(self):
+    def is_spatial(self) -> bool:
         return "ST_" in self.text
 
     @property
-    def label(self):
+    def label(self) -> str:
         """The query, and the forms of the columns that it names."""
         return f"`{self.text}`; " + ", ".join(f"{it}: {form}" for it, form in sorted(self.forms.items()) if it in self.text)
 
 
-def atom(dice, tables):
+def atom(dice: random.Random, tables: int) -> str:
     """A condition without AND, OR or NOT."""
     one, other = ("a", "b")[:: dice.choice((1, -1))] if tables == 2 else ("a", "a")
     kind = dice.random()
@@ -232,7 +239,7 @@ def atom(dice, tables):
     return dice.choice((f"{one}.n IS NULL", f"{one}.t IS NOT NULL", f"ST_IsEmpty({one}.g)", f"ST_Dimension({one}.g) = 0", *more))
 
 
-def conjunct(dice, tables):
+def conjunct(dice: random.Random, tables: int) -> str:
     """A condition, at times under NOT, or two with OR between them."""
     kind = dice.random()
     if kind < 0.7:
@@ -240,41 +247,41 @@ def conjunct(dice, tables):
     return f"NOT {atom(dice, tables)}" if kind < 0.82 else f"({atom(dice, tables)} OR {atom(dice, tables)})"
 
 
-def drawn_query(dice):
+def drawn_query(dice: random.Random) -> Query:
     """A query at random."""
     tables = 1 if dice.random() < 0.2 else 2
     conjuncts = [conjunct(dice, tables) for _ in range(dice.choice((1, 1, 2, 2, 3)))]
     items = dice.choice(ITEMS_OF_ONE if tables == 1 else ITEMS_OF_TWO)
     limit = f" LIMIT {dice.choice((1, 5, 100))}" if dice.random() < 0.2 and items != "COUNT(*)" else ""
-    forms = {f"{it}.{column}": dice.choice(list(kinds)) for it in "ab" for column, kinds in (("n", NUMBERS), ("t", TEXTS), ("g", GEOMETRIES))}
+    forms = {f"{it}.{column}": dice.choice(list(kinds)) for it in "ab" for column, kinds in COLUMNS}
     return Query(tables, items, conjuncts, limit, forms)
 
 
-def write_tables(query, dice, rows, folder):
+def write_tables(query: Query, dice: random.Random, rows: int, folder: pathlib.Path) -> None:
     """Writes the schema and the tables of a query; the second table has a row less."""
     names = "ab"[: query.tables]
     (folder / "schema.sql").write_text("".join(f"CREATE TABLE {it} (id INTEGER PRIMARY KEY, n INTEGER, t TEXT, g GEOMETRY);\n" for it in names))
     for at, it in enumerate(names):
         count = max(1, rows - at)
-        columns = [kinds[query.forms[f"{it}.{name}"]](dice, count) for name, kinds in (("n", NUMBERS), ("t", TEXTS), ("g", GEOMETRIES))]
+        columns = [kinds[query.forms[f"{it}.{name}"]](dice, count) for name, kinds in COLUMNS]
         lines = [f'{key},{n},{t},"{g}"' if g else f"{key},{n},{t}," for key, (n, t, g) in enumerate(zip(*columns))]
         (folder / f"{it}.csv").write_text("\n".join(["id,n,t,g", *lines]) + "\n")
 
 
-def in_spatialite(text):
+def in_spatialite(text: str) -> str:
     """A condition or items in the SQL of SpatiaLite: there a NULL argument makes a predicate -1, and texts have blanks behind commas."""
     text = re.sub(r"ST_IsEmpty\((\w\.g)\)", r"NULLIF(ST_IsEmpty(\1), -1)", text)
     return re.sub(r"ST_AsText\((\w\.g)\)", r"replace(ST_AsText(\1), ', ', ',')", text)
 
 
-def forces_meeting(text):
+def forces_meeting(text: str) -> bool:
     """Whether a text is a predicate of both tables that holds of geometries alone whose envelopes meet."""
     if not CALL.fullmatch(text) or "FromText" in text:
         return False
     return ", 'T" in text if text.startswith("ST_Relate") else PREDICATES[text.split("(")[0]]
 
 
-def of_sqlite(query):
+def of_sqlite(query: Query) -> tuple[str, bool]:
     """The query in the SQL of sqlite3 or of SpatiaLite, and whether it searches a tree."""
     text = in_spatialite(CALL.sub(r"(NULLIF(\1(\2), -1) = 1)", query.condition))
     names = "ab"[: query.tables]
@@ -286,7 +293,7 @@ def of_sqlite(query):
     return f"SELECT {in_spatialite(query.items)} FROM {from_} WHERE {text}{order}{query.limit};", has_tree
 
 
-def sqlite_words(query):
+def sqlite_words(query: Query) -> list[str]:
     """The words that have sqlite3 load the tables and run the query."""
     text, has_tree = of_sqlite(query)
     script = [".load mod_spatialite"] * query.is_spatial + [".mode csv"]
@@ -299,7 +306,7 @@ def sqlite_words(query):
     return ["sqlite3", ":memory:", *script, ".headers off", SEPARATOR, text]
 
 
-def duckdb_words(query):
+def duckdb_words(query: Query) -> list[str]:
     """The words that have DuckDB load the tables and run the query, in one thread."""
     script = ["SET threads = 1", ".mode csv", ".headers off"]
     for it in "ab"[: query.tables]:
@@ -315,7 +322,7 @@ OF_GEOS = {"ST_Within": "within", "ST_Touches": "touches", "ST_Crosses": "crosse
            "ST_Contains": "within"}  # fmt: skip
 
 
-def geos_words(query, program):
+def geos_words(query: Query, program: str) -> list[str]:
     """The words of the program over GEOS, where the query is one that it knows; else nothing."""
     found = re.fullmatch(r"(ST_\w+)\((\w)\.g, (?:(\w)\.g|ST_GeomFromText\('([^']*)'\))\)", query.condition)
     if not found or found[1] not in OF_GEOS or query.limit or query.items not in ("a.id, b.id", "a.id", "COUNT(*)"):
@@ -327,7 +334,7 @@ def geos_words(query, program):
     return [program, "join", OF_GEOS[found[1]], *(f"{it}.pairs" for it in names)] if names[0] != names[1] else []
 
 
-def write_for_geos(query, folder):
+def write_for_geos(query: Query, folder: pathlib.Path) -> None:
     """Writes the tables and the constant of a query as the program over GEOS reads them."""
     for it in "ab"[: query.tables]:
         records = ([*line.split(",", 3)] for line in (folder / f"{it}.csv").read_text().splitlines())
@@ -343,27 +350,27 @@ class Shapes(NamedTuple):
     is changed then."""
 
     asked: str
-    made: tuple
+    made: tuple[tuple[worst.Input, int, tuple[str, ...]], ...]
 
     @property
-    def label(self):
+    def label(self) -> str:
         """What is asked, and of what."""
         return f"{self.asked}: " + " beside ".join(f"{bad.label} ({which + 1}{''.join(f', {it}' for it in changes)})" for bad, which, changes in self.made)
 
 
-def of_squares(count):
+def of_squares(count: int) -> str:
     """So many closed lines round the squares of a grid, in no order."""
     across = max(1, int(count**0.5 + 0.999))
     rings = [square(10 * (at % across), 10 * (at // across), 6) for at in range(count)]
     return bad_shapes.lines([[*it, it[0]] for it in shuffled(random.Random(count), rings)])
 
 
-def long_lines(count):
+def long_lines(count: int) -> str:
     """So many long lines side by side and askew, in no order."""
     return bad_shapes.lines([[(3 * at, 0), (SPAN + 3 * at, SPAN)] for at in shuffled(random.Random(count), range(count))])
 
 
-def star_in_pieces(count):
+def star_in_pieces(count: int) -> str:
     """The edges of a star, each a line of its own, in no order."""
     ring = bad_shapes.star_ring(count)
     return bad_shapes.lines(shuffled(random.Random(count), [[it, ring[at - 1]] for at, it in enumerate(ring)]))
@@ -380,7 +387,7 @@ MORE = (
 CHANGES = ("moved", "sheared", "turned round", "shuffled", "mirrored")
 
 
-def elements_of(body):
+def elements_of(body: str) -> list[str]:
     """The elements of a text of several, without their type."""
     found, depth, start = [], 0, 0
     for at, it in enumerate(body):
@@ -391,28 +398,30 @@ def elements_of(body):
     return [*found, body[start:]]
 
 
-def changed(text, how, dice):
+def changed(text: str, how: str, dice: random.Random) -> str:
     """A text changed in a way that keeps it valid: its positions mapped, or its elements in another order, or all of it turned round."""
     if how == "shuffled":
         word, _, body = text.partition("(")
         return f"{word}({','.join(shuffled(dice, elements_of(body[:-1])))})" if word.startswith("MULTI") else text
     if how == "turned round":
-        return worst.shapes.backwards(text) if word_of(text) not in ("POLYGON", "MULTIPOLYGON") else text
-    maps = {"moved": lambda x, y: (x + 17, y - 5), "sheared": lambda x, y: (3 * x + y, y - 2 * x), "mirrored": lambda x, y: (y, x)}
+        return bad_shapes.backwards(text) if word_of(text) not in ("POLYGON", "MULTIPOLYGON") else text
+    maps: dict[str, Callable[[int, int], tuple[int, int]]] = {
+        "moved": lambda x, y: (x + 17, y - 5), "sheared": lambda x, y: (3 * x + y, y - 2 * x), "mirrored": lambda x, y: (y, x),
+    }
     return re.sub(r"(-?\d+) (-?\d+)", lambda it: "%d %d" % maps[how](int(it[1]), int(it[2])), text)
 
 
-def word_of(text):
+def word_of(text: str) -> str:
     """The type of a text."""
     return text.partition("(")[0]
 
 
-def drawn_shapes(dice):
+def drawn_shapes(dice: random.Random) -> Shapes:
     """Shapes at random: one that is checked, or two that are related."""
     known = [(it, which) for it in worst.PAIRS for which in (0, 1)] + [(it, 0) for it in worst.SINGLES + 3 * MORE]
     asked = "relate" if dice.random() < 0.7 else "check"
 
-    def one():
+    def one() -> tuple[worst.Input, int, tuple[str, ...]]:
         bad, which = dice.choice(known)
         return bad, which, tuple(sorted(dice.sample(CHANGES, dice.choice((0, 1, 1, 2)))))
 
@@ -422,7 +431,7 @@ def drawn_shapes(dice):
     return Shapes(asked, (first, (first[0], 1 - first[1] if first[0] in worst.PAIRS else 0, one()[2]) if dice.random() < 0.3 else one()))
 
 
-def texts_of(shapes, dice, size):
+def texts_of(shapes: Shapes, dice: random.Random, size: int) -> list[str]:
     """The texts of drawn shapes at a size."""
     found = []
     for bad, which, changes in shapes.made:
@@ -440,10 +449,10 @@ class Task(NamedTuple):
     """An input in a folder: the words of each program, how many bytes it has, what is on standard input, how what a program prints is
     read as its answer."""
 
-    words: dict
+    words: dict[str, list[str]]
     size: int
     given: str
-    answer: Callable
+    answer: Callable[[str, bytes], Sequence[object]]
 
 
 class Drawn(NamedTuple):
@@ -453,8 +462,8 @@ class Drawn(NamedTuple):
     label: str
     first: int
     most: int
-    task: Callable
-    words: tuple
+    task: Callable[[int, pathlib.Path], Task]
+    words: tuple[str, ...]
 
 
 class Programs(NamedTuple):
@@ -468,7 +477,7 @@ class Programs(NamedTuple):
     duckdb: bool = False
 
 
-def found_programs(sfq, folder):
+def found_programs(sfq: str, folder: pathlib.Path) -> Programs:
     """The programs that are there; those over GEOS are compiled."""
     geos, tables = (compiled(it, folder, "-lgeos_c") for it in (SHAPES, TABLES))
     found = Programs(sfq, geos, tables, bool(shutil.which("sqlite3")), bool(worst.has_spatialite()), bool(shutil.which("duckdb")))
@@ -478,7 +487,7 @@ def found_programs(sfq, folder):
     return found
 
 
-def query_task(query, seed, programs, rows, folder):
+def query_task(query: Query, seed: str, programs: Programs, rows: int, folder: pathlib.Path) -> Task:
     """The tables of a query in a folder, and the words of each program. SpatiaLite has no empty points."""
     write_tables(query, random.Random(f"{seed} {rows}"), rows, folder)
     size = sum(it.stat().st_size for it in folder.glob("*.csv"))
@@ -496,12 +505,12 @@ def query_task(query, seed, programs, rows, folder):
     return Task(words, size, os.devnull, lambda who, printed: answer_of_query(query, who, printed))
 
 
-def words_of_query(query):
+def words_of_query(query: Query) -> tuple[str, ...]:
     """What `sfq` is run with for a query."""
     return "run", "schema.sql", ".", query.text
 
 
-def shapes_task(shapes, seed, programs, size, folder):
+def shapes_task(shapes: Shapes, seed: str, programs: Programs, size: int, folder: pathlib.Path) -> Task:
     """The texts of shapes in a folder, and the words of each program."""
     texts = texts_of(shapes, random.Random(f"{seed} {size}"), size)
     (folder / "input").write_text("\n".join(texts) + "\n")
@@ -516,12 +525,12 @@ def shapes_task(shapes, seed, programs, size, folder):
     return Task(words, sum(map(len, texts)), "input", answer_of_shapes)
 
 
-def words_of_shapes(shapes):
+def words_of_shapes(shapes: Shapes) -> tuple[str, ...]:
     """What `sfq` is run with for shapes."""
     return ("check", "schema.sql", ".") if shapes.asked == "check" else ("relate", "@first", "@second")
 
 
-def drawn(seed, number, programs):
+def drawn(seed: int, number: int, programs: Programs) -> Drawn:
     """The input of a number: two in three are queries."""
     dice = random.Random(f"{seed} {number}")
     if dice.random() < 2 / 3:
@@ -539,7 +548,7 @@ class Ran(NamedTuple):
 
     seconds: Optional[float]
     status: int
-    answer: list
+    answer: Sequence[object]
 
 
 class At(NamedTuple):
@@ -548,7 +557,7 @@ class At(NamedTuple):
     size: int
     ran: Ran
     weight: int
-    others: list
+    others: list[str]
 
 
 class Noted(NamedTuple):
@@ -566,14 +575,14 @@ class Noted(NamedTuple):
     ratio: float = 0
     counted_ratio: float = 0
     is_counted: bool = False
-    seen: tuple = ()
+    seen: tuple[str, ...] = ()
 
     @property
-    def order(self):
+    def order(self) -> tuple[float, float]:
         """By what rows are sorted: what is furthest behind comes first, then what grows most."""
         return -(self.counted_ratio or self.ratio), -self.growth
 
-    def cells(self):
+    def cells(self) -> list[str]:
         """The cells of its row."""
         took = figure(self.seconds * 1e3) if self.seconds else f"> {SECONDS:,}000"
         best = [f"{self.best} {figure(self.best_seconds * 1e3)}", f"{self.best_growth:.2f}" if self.best_growth else ""] if self.best else ["", ""]
@@ -581,7 +590,7 @@ class Noted(NamedTuple):
         shown = [f"{self.growth:.2f}" if self.growth else "", *best, *ratios, ", ".join(self.seen)]
         return [f"{self.number}", self.it.label.replace("|", "\\|"), f"{self.size:,}", took, *shown]
 
-    def commands(self, seed):
+    def commands(self, seed: int) -> str:
         """The commands that make its files and run `sfq` on them."""
         kept = f"attack-{self.number}"
         again = f"bench/attack.py --seed {seed} --only {self.number} --keep {kept}"
@@ -594,11 +603,12 @@ HEADS = ["number", "input", "size", "sfq ms", "growth", "best peer, ms", "its gr
 class Measures:
     """Measures inputs of numbers."""
 
-    def __init__(self, options, room, programs):
+    def __init__(self, options: argparse.Namespace, room: pathlib.Path, programs: Programs) -> None:
         self.options, self.room, self.programs = options, room, programs
-        self.starts, self.counts = {}, shutil.which("valgrind") is not None and not options.times
+        self.starts: dict[tuple[object, ...], float] = {}
+        self.counts = shutil.which("valgrind") is not None and not options.times
 
-    def in_folder(self, it, size, run):
+    def in_folder(self, it: Drawn, size: int, run: Callable[[pathlib.Path, Task], Found]) -> Found:
         """What a function of a folder and the task there returns, for an input at a size. The folder is kept where that is asked for."""
         with tempfile.TemporaryDirectory(dir=self.room) as name:
             folder = pathlib.Path(name)
@@ -607,9 +617,10 @@ class Measures:
                 shutil.copytree(folder, f"{self.options.keep}/{size}", dirs_exist_ok=True)
             return found
 
-    def ran(self, who, folder, task, repeats=2, seconds=SECONDS):
+    def ran(self, who: str, folder: pathlib.Path, task: Task, repeats: int = 2, seconds: int = SECONDS) -> Ran:
         """The least of some runs of a program."""
-        least, answer = None, []
+        least: Optional[float] = None
+        answer: list[object] = []
         for _ in range(repeats):
             _, processor, _, status = probe(task.words[who], folder, folder / task.given, seconds)
             if status != 0:
@@ -618,11 +629,11 @@ class Measures:
         printed = (folder / "output").read_bytes()
         return Ran(least, 0, task.answer(who, printed))
 
-    def start(self, who, it, is_counted=False):
+    def start(self, who: str, it: Drawn, is_counted: bool = False) -> float:
         """What a program takes of the smallest input of a kind: seconds, or instructions."""
         kind = who, it.first, it.words[:1], "ST_" in it.label, is_counted
 
-        def taken(folder, task):
+        def taken(folder: pathlib.Path, task: Task) -> float:
             if who not in task.words:
                 return 0
             return instructions(task.words[who], folder, folder / task.given) if is_counted else self.ran(who, folder, task, 3).seconds or 0
@@ -631,10 +642,10 @@ class Measures:
             self.starts[kind] = self.in_folder(it, 4 if it.first == ROWS else 8, taken)
         return self.starts[kind]
 
-    def at(self, it, size, who="sfq", seconds=SECONDS):
+    def at(self, it: Drawn, size: int, who: str = "sfq", seconds: int = SECONDS) -> At:
         """What a program takes of an input at a size."""
 
-        def taken(folder, task):
+        def taken(folder: pathlib.Path, task: Task) -> At:
             ran = self.ran(who, folder, task, 2, seconds)
             beyond = None if ran.seconds is None else max(ran.seconds - self.start(who, it), 1e-4)
             weight = task.size + (folder / "output").stat().st_size
@@ -642,9 +653,10 @@ class Measures:
 
         return self.in_folder(it, size, taken)
 
-    def sizes(self, it):
+    def sizes(self, it: Drawn) -> list[At]:
         """What `sfq` takes of an input at each size, until that is enough or it refuses a size."""
-        found, size = [], it.first
+        found: list[At] = []
+        size = it.first
         while size <= it.most:
             at = self.at(it, size)
             if at.ran.status > 0:
@@ -655,12 +667,12 @@ class Measures:
             size *= TIMES
         return found
 
-    def counted(self, who, it, sizes):
+    def counted(self, who: str, it: Drawn, sizes: Sequence[int]) -> list[float]:
         """The instructions of a program beyond start-up at some sizes."""
         taken = lambda folder, task: instructions(task.words[who], folder, folder / task.given)
         return [max(self.in_folder(it, size, taken) - self.start(who, it, True), 1) for size in sizes]
 
-    def noted(self, number):
+    def noted(self, number: int) -> tuple[Optional[Noted], list[At]]:
         """What is noted of the input of a number, by time; None where no size of it is valid. And what was measured of it."""
         it = drawn(self.options.seed, number, self.programs)
         measured = self.sizes(it)
@@ -677,13 +689,13 @@ class Measures:
         found = Noted(number, it, last.size, ours.seconds, growth, best, answered.get(best, 0), 0, ratio)
         return found._replace(seen=(*self.seen(found, 1), *differ, *["is ended"] * (ours.seconds is None))), measured
 
-    def seen(self, noted, times):
+    def seen(self, noted: Noted, times: int) -> list[str]:
         """Whether an input grows, or is behind: by instructions, or by so many times the ratio of time."""
         ratio, most = noted.counted_ratio, self.options.behind
         is_behind = ratio > most or (noted.ratio > times * most and (noted.seconds or SECONDS) > 0.01)
         return ["grows"] * (noted.growth > self.options.growth) + ["behind"] * is_behind
 
-    def confirmed(self, noted, measured):
+    def confirmed(self, noted: Noted, measured: list[At]) -> Noted:
         """What is noted of an input once its instructions are counted, and those of the best peer where that is near by."""
         measured = [at for at in measured if at.ran.seconds and at.ran.seconds <= COUNTED]
         if not self.counts or len(measured) < 2 or noted.best == "DuckDB":
@@ -698,20 +710,20 @@ class Measures:
         kept = [it for it in noted.seen if it not in ("grows", "behind")]
         return found._replace(seen=(*self.seen(found, 2), *kept))
 
-    def row(self, number):
+    def row(self, number: int) -> Optional[Noted]:
         """What is noted of the input of a number; None where it isn't valid."""
         noted, measured = self.noted(number)
         return self.confirmed(noted, measured) if noted and noted.seen else noted
 
 
-def growth_of(before, now):
+def growth_of(before: tuple[int, Optional[float]], now: tuple[int, Optional[float]]) -> float:
     """The exponent of growth from a size and its seconds to another; 0 where these are too few, a lower one where the first are."""
     if now[1] is None or now[1] < ENOUGH / 6 or now[0] <= before[0]:
         return 0
-    return float(exponent((before[0], max(before[1], LEAST)), now))
+    return float(exponent((before[0], max(before[1] or 0, LEAST)), (now[0], now[1])))
 
 
-def answer_of_query(query, who, printed):
+def answer_of_query(query: Query, who: str, printed: bytes) -> list[list[str]]:
     """The rows that a program printed, each of its fields, in an order of ours. `sfq` and the program over GEOS print a header, and the
     latter prints the rows where it is asked for their number."""
     rows = [[in_one_form(it) for it in row] for row in csv.reader(io.StringIO(printed.decode("utf-8", "replace"), newline=""))]
@@ -719,17 +731,17 @@ def answer_of_query(query, who, printed):
     return [[str(len(rows))]] if who == "GEOS" and query.items == "COUNT(*)" else sorted(rows)
 
 
-def in_one_form(field):
+def in_one_form(field: str) -> str:
     """A field of an answer; the points of a MULTIPOINT have no parentheses of their own, as SpatiaLite prints them."""
     return re.sub(r"[()]", "", field) if field.startswith("MULTIPOINT") else field
 
 
-def answer_of_shapes(_, printed):
+def answer_of_shapes(_: object, printed: bytes) -> list[str]:
     """The matrix that a program printed, or the number, 1 for a valid geometry."""
     return re.findall(r"\b(?:[F012]{9}|\d+)\b", printed.decode("utf-8", "replace"))
 
 
-def numbers_of(options):
+def numbers_of(options: argparse.Namespace) -> Iterator[int]:
     """The numbers that are drawn, until the minutes are over."""
     if options.only is not None:
         yield options.only
@@ -740,9 +752,10 @@ def numbers_of(options):
         number += 1
 
 
-def all_noted(measures, options):
+def all_noted(measures: Measures, options: argparse.Namespace) -> tuple[list[Noted], int, int]:
     """What is noted of each input, to be shown, and how many were drawn and weren't valid, until it is interrupted."""
-    found, counts = [], [0, 0]
+    found: list[Noted] = []
+    counts = [0, 0]
     try:
         for number in numbers_of(options):
             noted = measures.row(number)
@@ -753,15 +766,15 @@ def all_noted(measures, options):
                 print(f"after {counts[0]}: " + " | ".join(noted.cells()), file=sys.stderr, flush=True)
     except KeyboardInterrupt:
         print("interrupted", file=sys.stderr)
-    return sorted(found, key=lambda it: it.order), *counts
+    return sorted(found, key=lambda it: it.order), counts[0], counts[1]
 
 
-def interrupt(*_):
+def interrupt(*_: object) -> None:
     """Ends the run as Ctrl-C does."""
     raise KeyboardInterrupt
 
 
-def options_of():
+def options_of() -> argparse.Namespace:
     """The options."""
     about, *more = __doc__.split("\n\n")
     parser = argparse.ArgumentParser(description=about, epilog=more[2])
@@ -785,7 +798,7 @@ def options_of():
     return options
 
 
-def main():
+def main() -> None:
     options = options_of()
     if options.list:
         numbers = [options.only] if options.only is not None else range(options.start, options.start + (options.numbers or 100))
@@ -795,8 +808,9 @@ def main():
     if not os.access(options.program, os.X_OK):
         sys.exit(f"there is no program {options.program}" if options.program != str(PROGRAM) else "the program isn't built: run ./build")
     signal.signal(signal.SIGTERM, interrupt)
-    with tempfile.TemporaryDirectory(prefix="sfq-attack-") as room:
-        programs = found_programs(os.path.abspath(options.program), pathlib.Path(room))
+    with tempfile.TemporaryDirectory(prefix="sfq-attack-") as name:
+        room = pathlib.Path(name)
+        programs = found_programs(os.path.abspath(options.program), room)
         found, count, invalid = all_noted(Measures(options, room, programs), options)
     table = Table(HEADS)
     for it in found:

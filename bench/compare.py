@@ -17,6 +17,7 @@ import random
 import shutil
 import sys
 import tempfile
+from typing import Iterator, Optional
 
 from peers import SEPARATOR
 from timing import PROGRAM, README, Table, best, exponent, figure, instructions, read_options
@@ -28,7 +29,7 @@ COMMAND = [str(PROGRAM), "run", "schema.sql", ".", QUERY]
 NAMES = ("alma", "bern", "cork", "dale", "elm street", "fern, upper", "gull's rest", "hay")
 
 
-def make_table(folder, rows):
+def make_table(folder: pathlib.Path, rows: int) -> int:
     """Writes the schema and t.csv, its rows in a shuffled order; returns the size of t.csv in bytes."""
     chance = random.Random(rows)
     keys = list(range(1, rows + 1))
@@ -44,7 +45,7 @@ def make_table(folder, rows):
     return table.stat().st_size
 
 
-def sqlite_command():
+def sqlite_command() -> list[str]:
     """sqlite3 importing t.csv with its types, an empty field being NULL, and returning rows in key order."""
     script = [
         ".mode csv",
@@ -58,7 +59,7 @@ def sqlite_command():
     return ["sqlite3", ":memory:", *script]
 
 
-def folders(room):
+def folders(room: pathlib.Path) -> Iterator[tuple[int, pathlib.Path, int]]:
     """Makes a folder with a table of each size; returns sizes, folders and the bytes of the table."""
     for rows in SIZES:
         folder = pathlib.Path(room) / str(rows)
@@ -66,10 +67,11 @@ def folders(room):
         yield rows, folder, make_table(folder, rows)
 
 
-def table_of_times(room, repeats):
+def table_of_times(room: pathlib.Path, repeats: int) -> Table:
     """The table of times beside `sqlite3`."""
     heads = ["`sfq` wall", "`sqlite3` wall", "ratio", "`sfq` processor", "`sqlite3` processor", "ratio", "growth", "`sfq` peak, MB"]
-    table, before = Table(["rows", "CSV, KB", *heads], ("`sqlite3` wall", "`sqlite3` processor", "ratio")), None
+    table = Table(["rows", "CSV, KB", *heads], ("`sqlite3` wall", "`sqlite3` processor", "ratio"))
+    before: Optional[tuple[float, float]] = None
     for rows, folder, size in folders(room):
         ours, theirs = (best(command, folder, repeats) for command in (COMMAND, sqlite_command()))
         if ours[3] != theirs[3]:
@@ -81,9 +83,10 @@ def table_of_times(room, repeats):
     return table
 
 
-def table_of_counts(room):
+def table_of_counts(room: pathlib.Path) -> Table:
     """The table of the instructions of `sfq`."""
-    table, before = Table(["rows", "instructions, in millions", "times the row above"]), None
+    table = Table(["rows", "instructions, in millions", "times the row above"])
+    before: Optional[int] = None
     for rows, folder, _ in folders(room):
         counted = instructions(COMMAND, folder)
         table.add([f"{rows:,}", figure(counted / 1e6), f"{counted / before:.1f}" if before else ""])
@@ -91,7 +94,7 @@ def table_of_counts(room):
     return table
 
 
-def main():
+def main() -> None:
     parser = argparse.ArgumentParser(description=__doc__.splitlines()[0])
     parser.add_argument("--repeats", type=int, default=5, help="runs of each command (5)")
     parser.add_argument("--instructions", action="store_true", help="count instructions of sfq in place of time")
@@ -100,7 +103,8 @@ def main():
         sys.exit("the program isn't built: run ./build")
     if shutil.which("sqlite3") is None:
         sys.exit("sqlite3 isn't installed: apt-get install sqlite3")
-    with tempfile.TemporaryDirectory() as room:
+    with tempfile.TemporaryDirectory() as name:
+        room = pathlib.Path(name)
         table = table_of_counts(room) if options.instructions else table_of_times(room, options.repeats)
     if options.write:
         table.write_into(README)

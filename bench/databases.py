@@ -23,6 +23,7 @@ import random
 import subprocess
 import sys
 import tempfile
+from typing import Optional, Sequence
 
 from peers import FOLDER, build_extension
 from timing import README, ROOT, Table, counted_shares, figure, marked, measure, read_options
@@ -32,11 +33,12 @@ ENGINES = ("sfq", "sqlite", "geos")
 BY_SQLITE = ("sfq0", "spatialite")
 # What is done, how often in a turn, where that isn't once for each row, and which engines do it.
 WINDOWS, FILTERS, KEYS = 1_000, 100, 1_000
-WHAT = {
+Tasks = dict[str, tuple[Optional[int], tuple[str, ...]]]
+WHAT: Tasks = {
     "load": (None, ENGINES), "windows": (WINDOWS, ENGINES), "filters": (FILTERS, ENGINES[:2]), "keys": (KEYS, ENGINES[:2]),
     "join": (None, ENGINES),
 }
-WHAT_BY_SQLITE = {"load": (None, BY_SQLITE), "windows": (WINDOWS, BY_SQLITE), "join": (None, BY_SQLITE)}
+WHAT_BY_SQLITE: Tasks = {"load": (None, BY_SQLITE), "windows": (WINDOWS, BY_SQLITE), "join": (None, BY_SQLITE)}
 # The schema of the tables for SQLite's extension, as `databases.c` has it.
 SCHEMA = "CREATE TABLE point (id INTEGER PRIMARY KEY, n INTEGER, geom POINT);\nCREATE TABLE parcel (id INTEGER PRIMARY KEY, geom POLYGON);\n"
 # How many turns are timed.
@@ -47,7 +49,7 @@ AIMS = {"keys": 2}
 SIDE = 1_000
 
 
-def write_tables(folder, size):
+def write_tables(folder: pathlib.Path, size: int) -> None:
     """Points anywhere over a grid of parcels, each with one of the numbers that some ten others have, and windows as large as a parcel."""
     chance = random.Random(size)
     across = max(1, math.isqrt(size // 10))
@@ -63,7 +65,7 @@ def write_tables(folder, size):
     (folder / "windows").write_text("".join(f"{x} {y} {x + SIDE} {y + SIDE}\n" for x, y in places))
 
 
-def built(folder):
+def built(folder: pathlib.Path) -> pathlib.Path:
     """Compiles the program over the libraries, and returns its path."""
     library = ROOT / "bindings" / "c" / "out" / "libsfq_tables.a"
     if not library.exists():
@@ -74,7 +76,7 @@ def built(folder):
     return program
 
 
-def main():
+def main() -> None:
     parser = argparse.ArgumentParser(description=__doc__.splitlines()[0])
     parser.add_argument("what", nargs="*", help=f"what is measured, of {', '.join(WHAT)}: all of it, if nothing is named")
     parser.add_argument("--time", action="store_true", help="microseconds in place of instructions")
@@ -89,10 +91,10 @@ def main():
         program = built(folder)
         extensions = {"sfq0": build_extension(folder), "spatialite": "mod_spatialite"} if options.sqlite else {}
 
-        def words(engine, what, turns):
+        def words(engine: str, what: str, turns: int) -> list[object]:
             return [program, engine, what, turns, folder, *([extensions[engine]] if engine in extensions else [])]
 
-        def timed(engines, what):
+        def timed(engines: Sequence[str], what: str) -> list[float]:
             """What a turn takes by each engine, which alternate."""
             least = {it: [math.inf, math.inf] for it in engines}
             for _ in range(5):

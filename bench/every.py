@@ -23,7 +23,7 @@ import subprocess
 import sys
 import textwrap
 import time
-from typing import NamedTuple
+from typing import Callable, NamedTuple, Sequence, Union
 
 import figures
 import machine
@@ -45,7 +45,7 @@ class Measure(NamedTuple):
 
     words: str
     kind: str
-    builds: tuple
+    builds: tuple[str, ...]
     has_table: bool = True
 
 
@@ -86,7 +86,7 @@ DEBIAN, OF_DEBIAN = "/usr/bin/python3", ("frames.py",)
 PACKAGE = ROOT / "bindings" / "javascript" / "out" / "sfq"
 
 
-def is_gauge_made():
+def is_gauge_made() -> bool:
     """Whether the program gauge is there, and is later than the sources of the crates: than their files or, where git has them
     unchanged, than their last commit, since a checkout makes files new."""
     if not GAUGE.exists():
@@ -98,8 +98,9 @@ def is_gauge_made():
     return changed <= GAUGE.stat().st_mtime
 
 
-# What builds make: the command, and whether it is there, of the present sources.
-BUILDS = {
+# What builds make, by their names: the command, and whether it is there, of the present sources.
+Builds = dict[str, tuple[str, Callable[[], bool]]]
+BUILDS: Builds = {
     "sfq": ("./build", repository.is_built),
     "library": ("./build --library", library.are_made),
     "tiles": ("./build --tiles", tiles.is_made),
@@ -112,37 +113,37 @@ class Outcome(NamedTuple):
     """What came of a measure: why it didn't end well, so that its tables are kept, or nothing; and how many seconds it took."""
 
     measure: Measure
-    fault: str
+    fault: Union[str, int]
     seconds: float
 
     @property
-    def word(self):
+    def word(self) -> str:
         """What became of its tables."""
         if not self.measure.has_table:
             return "not well" if self.fault else "well"
         return "kept" if self.fault else "written"
 
 
-def lacking(measure, builds):
+def lacking(measure: Measure, builds: Builds) -> str:
     """Why a measure can't be made, or nothing."""
     missing = [command for name, (command, is_made) in builds.items() if name in measure.builds and not is_made()]
     return f"needs {', '.join(missing)}" if missing else ""
 
 
-def run(measure, folder, builds):
+def run(measure: Measure, folder: pathlib.Path, builds: Builds) -> Outcome:
     """Runs a program, and passes on what it prints; returns what came of it."""
-    began, reason = time.monotonic(), lacking(measure, builds)
+    began = time.monotonic()
+    reason: Union[str, int] = lacking(measure, builds)
     print(f"-- {measure.words}", file=sys.stderr, flush=True)
     if not reason:
         name, *more = shlex.split(measure.words)
         python = DEBIAN if name in OF_DEBIAN and os.path.exists(DEBIAN) else sys.executable
         words = [python, "-B", str(folder / name), *more, *(["--write"] if measure.has_table else [])]
         # In a session of its own, so that it hears of Ctrl-C once, from here, and removes its temporary files.
-        streams = {"stdout": subprocess.PIPE, "stderr": subprocess.STDOUT, "text": True}
-        with subprocess.Popen(words, start_new_session=True, **streams) as running:
+        with subprocess.Popen(words, start_new_session=True, stdout=subprocess.PIPE, stderr=subprocess.STDOUT, text=True) as running:
             last = ""
             try:
-                for line in running.stdout:
+                for line in running.stdout or ():
                     print(line, end="", file=sys.stderr, flush=True)
                     last = line.strip() or last
             except BaseException:
@@ -152,21 +153,21 @@ def run(measure, folder, builds):
     return Outcome(measure, reason, time.monotonic() - began)
 
 
-def older(shown, day, commit):
+def older(shown: Sequence[figures.Shown], day: str, commit: str) -> list[figures.Shown]:
     """The tables with figures of before a day or of another commit."""
     return [it for it in shown if it.day and (it.day < day or it.commit != commit)]
 
 
-def first_line(shown, day, commit):
+def first_line(shown: Sequence[figures.Shown], day: str, commit: str) -> str:
     """The first lines of the document: the day, the commit and the machine of the figures that were taken last, and which are older."""
     text = f"Figures of {day}, commit {commit}: {machine.processor()}; {machine.system()}."
-    said = dict.fromkeys(f"'{it.section}' ({it.day if it.day < day else f'commit {it.commit}'})" for it in older(shown, day, commit))
+    said = dict.fromkeys(f"'{it.section}' ({it.day if str(it.day) < day else f'commit {it.commit}'})" for it in older(shown, day, commit))
     if said:
         text += f" Older ones are below {', '.join(said)}."
     return textwrap.fill(text, 100, break_on_hyphens=False, break_long_words=False)
 
 
-def with_first_line(text, line):
+def with_first_line(text: str, line: str) -> str:
     """A document in which the first lines after its heading say of when the figures are."""
     heading, _, rest = text.split("\n", 2)
     if rest.startswith("Figures of "):
@@ -174,10 +175,10 @@ def with_first_line(text, line):
     return f"{heading}\n\n{line}\n\n{rest}"
 
 
-def changes(before, after):
+def changes(before: str, after: str) -> dict[str, figures.Changes]:
     """The figures that changed by more than a tenth between two texts of a document, by heading."""
     now = {it.heads: it for it in figures.tables(after)}
-    found = {}
+    found: dict[str, figures.Changes] = {}
     for it in figures.tables(before):
         if it.day and it.heads in now:
             found.setdefault(it.section, {}).update(figures.changed(it, now[it.heads]))
@@ -187,31 +188,31 @@ def changes(before, after):
 class Report:
     """What a run has done to the document with the measures."""
 
-    def __init__(self, readme, documents):
+    def __init__(self, readme: pathlib.Path, documents: dict[str, pathlib.Path]) -> None:
         self.readme, self.documents = readme, documents
         self.before = readme.read_text()
         self.now = machine.day(), machine.commit()
-        self.outcomes = []
+        self.outcomes: list[Outcome] = []
 
-    def close(self):
+    def close(self) -> int:
         """Writes the first line where figures were taken, and prints what was done; returns the status."""
         text = self.readme.read_text()
         if any(it.word == "written" for it in self.outcomes):
             text = with_first_line(text, first_line(figures.tables(text), *self.now))
-            repository.write_whole(self.readme, text)
+            repository.write_whole(str(self.readme), text)
         self.print_outcomes(text)
         self.print_prose(text)
         return 1 if any(it.fault for it in self.outcomes) else 0
 
-    def print_outcomes(self, text):
+    def print_outcomes(self, text: str) -> None:
         """Prints the measures, and the tables that are older."""
         for it in self.outcomes:
             print(f"{it.word:9}{it.seconds:7,.0f} s  {it.measure.words}{f': {it.fault}' if it.fault else ''}")
         print(f"{'in all':9}{sum(it.seconds for it in self.outcomes):7,.0f} s")
-        for it in older(figures.tables(text), *self.now):
-            print(f"older, of {it.day}, commit {it.commit}: {it.section}: {it.heads}")
+        for table in older(figures.tables(text), *self.now):
+            print(f"older, of {table.day}, commit {table.commit}: {table.section}: {table.heads}")
 
-    def print_prose(self, text):
+    def print_prose(self, text: str) -> None:
         """Prints the lines of prose whose figures aren't those of the tables any longer."""
         by_section = changes(self.before, text)
         found = list(figures.lines_to_mend(text, "bench/README.md", by_section))
@@ -223,21 +224,21 @@ class Report:
             print(f"bench/README.md: {section}: look at the other figures too, in the lines {', '.join(map(str, numbers))}")
 
 
-def documents():
+def documents() -> dict[str, pathlib.Path]:
     """The other documents that may have figures in prose, by their names."""
     return {str(it.relative_to(ROOT)): it for it in (ROOT / "README.md", *sorted(ROOT.glob("docs/*.md")))}
 
 
-def chosen(options):
+def chosen(options: argparse.Namespace) -> list[Measure]:
     """The measures that are asked for."""
     kinds = [it for it, is_asked in ((COUNTS, options.instructions), (TIMES, options.times)) if is_asked] or [COUNTS, TIMES]
-    def has(measure, words):
+    def has(measure: Measure, words: Sequence[str]) -> bool:
         return any(it in measure.words for it in words)
 
     return [it for it in MEASURES if it.kind in kinds and has(it, options.only or [""]) and not has(it, options.without)]
 
 
-def main():
+def main() -> int:
     about, *more = __doc__.split("\n\n")
     parser = argparse.ArgumentParser(description=about, epilog="\n".join(more))
     parser.add_argument("--instructions", action="store_true", help="only what doesn't depend on the clock")
@@ -251,20 +252,20 @@ def main():
         for it in asked:
             print(f"{it.kind:14}{it.words}{f': {lacking(it, BUILDS)}' if lacking(it, BUILDS) else ''}")
         return 0
-    for it in signal.SIGINT, signal.SIGTERM, signal.SIGHUP:
-        signal.signal(it, end_well)
+    for number in signal.SIGINT, signal.SIGTERM, signal.SIGHUP:
+        signal.signal(number, end_well)
     if any(it.kind == TIMES for it in asked) and os.getloadavg()[0] > 1:
         print(f"the machine isn't quiet: its load is {os.getloadavg()[0]:.1f}", file=sys.stderr)
     return run_all(asked, pathlib.Path(__file__).resolve().parent, BUILDS, Report(README, documents()))
 
 
-def end_well(number, _):
+def end_well(number: int, _: object) -> None:
     """Has a signal end the run as Ctrl-C does; a second one isn't heard."""
     signal.signal(number, signal.SIG_IGN)
     raise KeyboardInterrupt
 
 
-def run_all(asked, folder, builds, report):
+def run_all(asked: list[Measure], folder: pathlib.Path, builds: Builds, report: Report) -> int:
     """Runs the measures, prints the report of those that have ended, whatever ends the run, and returns the status."""
     try:
         for it in asked:

@@ -2,7 +2,7 @@
 
 import re
 from itertools import takewhile
-from typing import NamedTuple
+from typing import Iterator, NamedTuple, Optional, Sequence
 
 from timing import STAMP
 
@@ -13,6 +13,9 @@ A_TENTH = 0.1
 # Below another heading than its table's a figure is looked for where it has so many digits; a shorter one may be any other number.
 DIGITS = 3
 
+# The figures of a table that changed, each with what is there now.
+Changes = dict[str, list[str]]
+
 
 class Shown(NamedTuple):
     """A table of a document: the heading that it is below, its heads as a line, the cells of its rows, and the day and the commit of
@@ -20,12 +23,12 @@ class Shown(NamedTuple):
 
     section: str
     heads: str
-    rows: list
-    day: str
-    commit: str
+    rows: list[list[str]]
+    day: Optional[str]
+    commit: Optional[str]
 
 
-def sections(text):
+def sections(text: str) -> Iterator[tuple[int, str, str, bool]]:
     """The lines of a document, each with its number, the heading that it is below, and whether it is in a block of code."""
     heading, is_code = "", False
     for number, line in enumerate(text.split("\n"), 1):
@@ -35,37 +38,38 @@ def sections(text):
         yield number, line, heading, is_code
 
 
-def tables(text):
+def tables(text: str) -> list[Shown]:
     """The tables of a document."""
-    found, before = [], ""
+    found: list[Shown] = []
+    before = ""
     for _, line, heading, is_code in sections(text):
         if not is_code and line.startswith("|"):
             cells = [it.strip() for it in line.strip().strip("|").split("|")]
             if not before.startswith("|"):
                 stamp = STAMP.fullmatch(before)
-                found.append(Shown(heading, line, [], *(stamp.groups() if stamp else (None, None))))
+                found.append(Shown(heading, line, [], *((stamp[1], stamp[2]) if stamp else (None, None))))
             elif set(line) - set("|-: "):
                 found[-1].rows.append(cells)
         before = line
     return found
 
 
-def labels(rows):
+def labels(rows: Sequence[Sequence[str]]) -> int:
     """How many cells at the head of each row tell the rows apart."""
     most = max(map(len, rows), default=0)
     return next((count for count in range(1, most) if len({tuple(it[:count]) for it in rows}) == len(rows)), 1)
 
 
-def value(text):
+def value(text: str) -> float:
     return float(text.replace(",", ""))
 
 
-def changed(old, new):
+def changed(old: Shown, new: Shown) -> Changes:
     """The figures of a table that differ by more than a tenth in another table with its heads, or aren't in it, each with what is
     there now."""
     count = labels(old.rows)
     now = {tuple(it[:count]): it for it in new.rows}
-    found = {}
+    found: Changes = {}
     for row in old.rows:
         other = now.get(tuple(row[:count]), [])
         for at, cell in enumerate(row[count:], count):
@@ -77,19 +81,19 @@ def changed(old, new):
     return found
 
 
-def prose(text):
+def prose(text: str) -> Iterator[tuple[int, str, str]]:
     """The lines of prose of a document, with their numbers and headings, without the number of a point of a list."""
     for number, line, heading, is_code in sections(text):
         if not is_code and line and not line.startswith(("|", "#", "<!--", "!", "```")):
             yield number, re.sub(r"^\s*\d+\. ", "", line), heading
 
 
-def is_long(figure):
+def is_long(figure: str) -> bool:
     """Whether a figure has so many digits that it is hardly another number, zeros at its ends left out."""
     return len(figure.replace(",", "").replace(".", "").strip("0")) >= DIGITS
 
 
-def lines_to_mend(text, name, by_section):
+def lines_to_mend(text: str, name: str, by_section: dict[str, Changes]) -> Iterator[str]:
     """Says of each line of prose of the document with the measures which figures it has that changed: `by_section` has those by the
     heading of their table."""
     everywhere = {figure: there for each in by_section.values() for figure, there in each.items() if is_long(figure)}
@@ -97,7 +101,7 @@ def lines_to_mend(text, name, by_section):
         yield from to_mend(name, number, line, {**everywhere, **by_section.get(heading, {})})
 
 
-def lines_elsewhere(text, name, by_section):
+def lines_elsewhere(text: str, name: str, by_section: dict[str, Changes]) -> Iterator[str]:
     """The same of a document of which some paragraphs name bench."""
     known = {figure: there for each in by_section.values() for figure, there in each.items()}
     lines = text.split("\n")
@@ -108,7 +112,7 @@ def lines_elsewhere(text, name, by_section):
             yield from to_mend(name, number, line, known)
 
 
-def to_mend(name, number, line, known):
+def to_mend(name: str, number: int, line: str, known: Changes) -> Iterator[str]:
     """What is to be said of a line of prose, where it has a figure of those that changed."""
     found = {it: known[it] for it in NUMBER.findall(line) if it in known}
     if found:
@@ -116,10 +120,10 @@ def to_mend(name, number, line, known):
         yield f"{name}:{number}: {said}: {line.strip()}"
 
 
-def other_lines(text, by_section):
+def other_lines(text: str, by_section: dict[str, Changes]) -> dict[str, list[int]]:
     """The numbers of the lines of prose with any other figure, by the heading of a table that changed: figures that were reckoned of
     it may be there."""
-    found = {}
+    found: dict[str, list[int]] = {}
     for number, line, heading in prose(text):
         if by_section.get(heading) and any(it not in by_section[heading] for it in NUMBER.findall(line)):
             found.setdefault(heading, []).append(number)

@@ -14,6 +14,7 @@ import argparse
 import os
 import runpy
 import time
+from typing import Any, Callable, Sequence
 
 from joins import parcels, points
 from peers import LIBRARY
@@ -39,14 +40,14 @@ CASES = (
 class Parts:
     """Notes how long calls take that parts of a join are made of."""
 
-    def __init__(self):
-        self.spent = {}
+    def __init__(self) -> None:
+        self.spent: dict[str, float] = {}
 
-    def around(self, module, name, label):
+    def around(self, module: Any, name: str, label: str) -> None:
         """Has a function of a module be timed."""
         call = getattr(module, name)
 
-        def timed(*words, **more):
+        def timed(*words: Any, **more: Any) -> Any:
             begun = time.process_time()
             found = call(*words, **more)
             self.spent[label] = self.spent.get(label, 0) + time.process_time() - begun
@@ -55,11 +56,13 @@ class Parts:
         setattr(module, name, timed)
 
 
-def frame(shapes):
+def frame(shapes: Sequence[Any]) -> Any:
     return geopandas.GeoDataFrame({"id": range(len(shapes))}, geometry=list(shapes))
 
 
-def least(repeats, join, left, right, parts):
+def least(
+    repeats: int, join: Callable[..., Any], left: Sequence[Any], right: Sequence[Any], parts: Parts
+) -> tuple[float, dict[str, float], list[tuple[Any, Any]]]:
     """Returns the least time of some joins of new frames, the parts of that one, and the pairs."""
     best = None
     for _ in range(repeats):
@@ -71,10 +74,11 @@ def least(repeats, join, left, right, parts):
         spent = time.process_time() - begun
         if best is None or spent < best[0]:
             best = spent, parts.spent, sorted(zip(joined.index, joined.index_right))
+    assert best is not None
     return best
 
 
-def main():
+def main() -> None:
     parser = argparse.ArgumentParser(description=__doc__.splitlines()[0])
     parser.add_argument("--repeats", type=int, default=3, help="how often each is measured (3)")
     options = read_options(parser)
@@ -88,8 +92,8 @@ def main():
     for label, predicate, count, side in CASES:
         cells = [wkt.loads(it) for it in parcels(side)]
         left = [wkt.loads(it) for it in points(count)] if count else cells
-        own = least(options.repeats, lambda *both: sfq.geopandas.sjoin(*both, predicate=predicate), left, cells, parts)
-        theirs = least(options.repeats, lambda *both: geopandas.sjoin(*both, predicate=predicate), left, cells, parts)
+        own = least(options.repeats, lambda one, other: sfq.geopandas.sjoin(one, other, predicate=predicate), left, cells, parts)
+        theirs = least(options.repeats, lambda one, other: geopandas.sjoin(one, other, predicate=predicate), left, cells, parts)
         if own[2] != theirs[2]:
             raise SystemExit(f"{label}: the pairs differ")
         of_parts = [own[1].get(it, 0) for it in ("writing", "reading", "pairs")]

@@ -5,6 +5,7 @@ import pathlib
 import shutil
 import subprocess
 import sys
+from typing import Optional
 
 from timing import ROOT, measure
 
@@ -15,7 +16,7 @@ JTS = "/usr/share/java/jts-core.jar"
 JAVA = ("java", "-XX:+UseSerialGC", "-Xbatch")
 
 
-def built_peer(folder):
+def built_peer(folder: pathlib.Path) -> list[str]:
     """Compiles the peer over GEOS, and returns its command; ends the program where something that it needs isn't there."""
     if not GAUGE.exists():
         sys.exit("the program isn't built: run `rt run` in crates/gauge once")
@@ -26,7 +27,7 @@ def built_peer(folder):
     return [str(peer)]
 
 
-def java_peer(folder, jar):
+def java_peer(folder: pathlib.Path, jar: str) -> Optional[list[str]]:
     """Compiles the peer over JTS, and returns its command; None where the compiler or the jar isn't there, which it says."""
     if shutil.which("javac") is None or not pathlib.Path(jar).exists():
         lacking = f"javac or {jar} isn't there (apt-get install default-jdk-headless libjts-java)"
@@ -36,11 +37,11 @@ def java_peer(folder, jar):
     return [*JAVA, "-cp", f"{jar}:{folder}", "JtsPeer"]
 
 
-def each(command, word, folder, repeats):
+def each(command: list[str], word: str, folder: pathlib.Path, repeats: int) -> tuple[float, str, int]:
     """The least processor seconds of one turn over the file `input`, start-up left out, the answer and the peak kilobytes.
 
     The turns take as long as start-up at least, since its own noise would else be all that is measured."""
-    def run(turns):
+    def run(turns: int) -> tuple[float, float, int]:
         return measure([*command, word, str(turns)], folder, folder / "input")
 
     idle = min(run(0)[1] for _ in range(repeats))
@@ -53,14 +54,14 @@ def each(command, word, folder, repeats):
     return least, (folder / "output").read_text(), max(peak for _, _, peak in runs)
 
 
-def each_in_java(command, word, folder, repeats):
+def each_in_java(command: list[str], word: str, folder: pathlib.Path, repeats: int) -> tuple[float, str, int]:
     """The same of the peer over JTS, which times its turns itself."""
     _, _, peak = measure([*command, word, str(repeats + 2)], folder, folder / "input")
     answer, least = (folder / "output").read_text().splitlines()
     return float(least), answer + "\n", peak
 
 
-def options_of(summary):
+def options_of(summary: str) -> argparse.ArgumentParser:
     """The words that a measure of shapes takes."""
     parser = argparse.ArgumentParser(description=summary)
     parser.add_argument("--repeats", type=int, default=3, help="runs of each measure (3)")

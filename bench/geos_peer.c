@@ -4,7 +4,8 @@
  * the second how often: `read` reads the text, `check` reads and tests it, `locate` reads, tests and prepares it once and
  * then locates every point. It prints one line: for `read` the number of geometries in it, for `check` 1 where the geometry is
  * valid and else 0, for `locate` how many points are in the interior or on the boundary. Of `relate` the first two lines are
- * geometries, which it reads and tests once, and it prints their matrix.
+ * geometries, which it reads and tests once, and it prints their matrix; of `prepared`, which GEOS has from 3.13 on, it prepares the
+ * first one before.
  */
 #define GEOS_USE_ONLY_R_API
 #include <geos_c.h>
@@ -12,7 +13,19 @@
 #include <stdlib.h>
 #include <string.h>
 
-static int relate(GEOSContextHandle_t geos, const char *first, long times) {
+#if GEOS_VERSION_MAJOR > 3 || GEOS_VERSION_MINOR >= 13
+#define HAS_PREPARED 1
+#else
+#define HAS_PREPARED 0
+#define GEOSPreparedRelate_r(geos, prepared, other) NULL
+#endif
+
+static char *matrix_of(GEOSContextHandle_t geos, const GEOSGeometry *a, const GEOSPreparedGeometry *prepared, const GEOSGeometry *b) {
+    return prepared ? GEOSPreparedRelate_r(geos, prepared, b) : GEOSRelate_r(geos, a, b);
+}
+
+static int relate(GEOSContextHandle_t geos, const char *first, long times, int is_prepared) {
+    if (is_prepared && !HAS_PREPARED) return 2;
     char *line = NULL;
     size_t room = 0;
     if (getline(&line, &room, stdin) < 0) return 6;
@@ -20,10 +33,11 @@ static int relate(GEOSContextHandle_t geos, const char *first, long times) {
     GEOSGeometry *a = GEOSWKTReader_read_r(geos, reader, first);
     GEOSGeometry *b = GEOSWKTReader_read_r(geos, reader, line);
     if (a == NULL || b == NULL || GEOSisValid_r(geos, a) != 1 || GEOSisValid_r(geos, b) != 1) return 5;
-    char *matrix = GEOSRelate_r(geos, a, b);
+    const GEOSPreparedGeometry *prepared = is_prepared ? GEOSPrepare_r(geos, a) : NULL;
+    char *matrix = matrix_of(geos, a, prepared, b);
     for (long k = 0; k < times; k++) {
         GEOSFree_r(geos, matrix);
-        matrix = GEOSRelate_r(geos, a, b);
+        matrix = matrix_of(geos, a, prepared, b);
     }
     printf("%s\n", matrix);
     return 0;
@@ -40,7 +54,8 @@ int main(int argc, char **argv) {
     GEOSContextHandle_t geos = GEOS_init_r();
     GEOSContext_setErrorMessageHandler_r(geos, quiet, NULL);
     GEOSContext_setNoticeMessageHandler_r(geos, quiet, NULL);
-    if (strcmp(argv[1], "relate") == 0) return relate(geos, line, times);
+    int is_prepared = strcmp(argv[1], "prepared") == 0;
+    if (is_prepared || strcmp(argv[1], "relate") == 0) return relate(geos, line, times, is_prepared);
     GEOSGeometry **asked = NULL;
     size_t points = 0, kept = 0;
     double x, y;

@@ -3,7 +3,7 @@
 
 For points and for polygons of six positions, as GeoPackage, shapefile and GeoJSON, it runs both in turns and prints the least
 processor seconds of each and their ratio, which is to be at most 4. `sfq-import` also rounds, and has each geometry checked by the
-library. It needs what ./build --library makes, python3-gdal and gdal-bin. It is no test: the gate doesn't run it.
+library; it compares no relations. It needs what ./build --library makes, python3-gdal and gdal-bin. It is no test: the gate doesn't run it.
 """
 
 import argparse
@@ -42,7 +42,7 @@ file.CommitTransaction()
 """
 
 
-def is_ready():
+def is_ready() -> None:
     """Ends the program where something that it needs isn't there."""
     if not LIBRARY.exists():
         sys.exit("the library isn't made: run ./build --library")
@@ -50,7 +50,7 @@ def is_ready():
         sys.exit("ogr2ogr isn't installed: apt-get install gdal-bin python3-gdal")
 
 
-def sources(room, kind, count):
+def sources(room: pathlib.Path, kind: str, count: int) -> list[tuple[str, pathlib.Path]]:
     """Makes the three sources, and returns their formats and paths."""
     first = room / f"{kind}.gpkg"
     subprocess.run(["/usr/bin/python3", "-c", SOURCE, first, kind, str(count)], check=True)
@@ -61,9 +61,9 @@ def sources(room, kind, count):
     return found
 
 
-def seconds(path, room, repeats):
+def seconds(path: pathlib.Path, room: pathlib.Path, repeats: int) -> tuple[float, float, int]:
     """The least processor seconds of `sfq-import` and of `ogr2ogr`, and the peak kilobytes of the first."""
-    grid = ["--grid", "0.01", "--origin", "525000,5525000"]
+    grid = ["--grid", "0.01", "--origin", "525000,5525000", "--no-relations"]
     ours, theirs, peak = [], [], 0
     for _ in range(repeats):
         for it in ("ours", "theirs.csv"):
@@ -76,7 +76,7 @@ def seconds(path, room, repeats):
     return min(ours), min(theirs), peak
 
 
-def main():
+def main() -> int:
     parser = argparse.ArgumentParser(description=__doc__.splitlines()[0])
     parser.add_argument("--repeats", type=int, default=3, help="runs of each command (3)")
     parser.add_argument("--rows", type=int, default=100_000, help="rows of each source (100000)")
@@ -86,7 +86,7 @@ def main():
     # What the commands say of each import isn't shown, what this program says is.
     sys.stderr = os.fdopen(os.dup(2), "w")
     os.dup2(os.open(os.devnull, os.O_WRONLY), 2)
-    table, worst = Table(["import of", "sfq-import s", "ogr2ogr s", "ratio", "MB"]), 0
+    table, worst = Table(["import of", "sfq-import s", "ogr2ogr s", "ratio", "MB"]), 0.0
     with tempfile.TemporaryDirectory() as name:
         room = pathlib.Path(name)
         for kind in ("points", "polygons"):

@@ -16,6 +16,7 @@ import pathlib
 import random
 import sys
 import tempfile
+from typing import Callable
 
 from peers import build_beside_geos
 from timing import README, Table, figure, instructions, measure, read_options
@@ -26,18 +27,18 @@ WINDOWS = 1_000
 LIMIT = 10_000_000
 
 
-def around(chance, wide, high):
+def around(chance: random.Random, wide: int, high: int) -> tuple[int, int, int, int]:
     """The bounds of an envelope of this size, somewhere."""
     x, y = chance.randint(-LIMIT, LIMIT - wide), chance.randint(-LIMIT, LIMIT - high)
     return x, x + wide, y, y + high
 
 
-def small(chance, size):
+def small(chance: random.Random, size: int) -> list[tuple[int, int, int, int]]:
     step = int(2 * LIMIT / math.sqrt(size))
     return [around(chance, chance.randint(0, step // 4), chance.randint(0, step // 4)) for _ in range(size)]
 
 
-def parcels(chance, size):
+def parcels(chance: random.Random, size: int) -> list[tuple[int, int, int, int]]:
     side = math.isqrt(size - 1) + 1
     step = 2 * LIMIT // side
     cells = [(x * step - LIMIT, (x + 1) * step - LIMIT, y * step - LIMIT, (y + 1) * step - LIMIT) for x in range(side) for y in range(side)]
@@ -45,7 +46,7 @@ def parcels(chance, size):
     return cells[:size]
 
 
-def bands(chance, size):
+def bands(chance: random.Random, size: int) -> list[tuple[int, int, int, int]]:
     """Half of them across, half of them up, a tenth of the whole long."""
     return [around(chance, *((LIMIT // 5, 100) if it % 2 else (100, LIMIT // 5))) for it in range(size)]
 
@@ -53,7 +54,7 @@ def bands(chance, size):
 KINDS = [("small ones", small), ("parcels", parcels), ("bands", bands)]
 
 
-def write_input(path, kind, size):
+def write_input(path: pathlib.Path, kind: Callable[[random.Random, int], list[tuple[int, int, int, int]]], size: int) -> None:
     chance = random.Random(size)
     found = kind(chance, size)
     step = int(2 * LIMIT / math.sqrt(size) * 3)
@@ -62,7 +63,7 @@ def write_input(path, kind, size):
     path.write_text("\n".join([f"{size} {WINDOWS}", *(" ".join(map(str, it)) for it in found)]) + "\n")
 
 
-def main():
+def main() -> None:
     parser = argparse.ArgumentParser(description=__doc__.splitlines()[0])
     parser.add_argument("--time", action="store_true", help="nanoseconds in place of instructions")
     options = read_options(parser, ("time",))
@@ -70,11 +71,11 @@ def main():
         folder = pathlib.Path(room)
         program, given = build_beside_geos("indexes", folder), folder / "input"
 
-        def output(how, turns):
+        def output(how: str, turns: int) -> str:
             measure([program, how, turns], folder, given)
             return (folder / "output").read_text()
 
-        def taken(ways, turns):
+        def taken(ways: list[str], turns: int) -> list[float]:
             """What a turn takes by each of two ways, which alternate."""
             if not options.time:
                 return [(instructions([program, it, turns], folder, given) - instructions([program, it, 0], folder, given)) / turns for it in ways]

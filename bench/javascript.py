@@ -24,9 +24,9 @@ MOST_TURNS, LEAST_SECONDS = 1_000_000, 0.1
 ASKED = {"position, intersects": "locate", "point, intersects": "holds", "point, contains": "contains"}
 
 
-def native(program, folder, given, how, count):
+def native(program: pathlib.Path, folder: pathlib.Path, given: pathlib.Path, how: str, count: int) -> tuple[float, int, str]:
     """Returns the nanoseconds of a call of the C library, how many turns that took, and what it prints."""
-    def seconds(turns):
+    def seconds(turns: int) -> float:
         return min(measure([program, how, turns], folder, given)[1] for _ in range(3))
 
     turns = 100
@@ -37,14 +37,14 @@ def native(program, folder, given, how, count):
     return taken, turns, (folder / "output").read_text()
 
 
-def in_node(given, how, turns):
+def in_node(given: pathlib.Path, how: str, turns: int) -> tuple[float, str]:
     """Returns the nanoseconds of a call of the package, and what it prints."""
-    words = ["node", ROOT / "bench" / "javascript.mjs", PACKAGE, how, str(turns), given]
+    words = ["node", str(ROOT / "bench" / "javascript.mjs"), str(PACKAGE), how, str(turns), str(given)]
     found, nanoseconds = subprocess.run(words, capture_output=True, text=True, check=True).stdout.splitlines()
     return float(nanoseconds), f"{found}\n"
 
 
-def main():
+def main() -> None:
     options = read_options(argparse.ArgumentParser(description=__doc__.splitlines()[0]))
     if not PACKAGE.exists() or shutil.which("node") is None:
         sys.exit("the package isn't there, or Node: run ./build --javascript once; apt-get install nodejs")
@@ -53,7 +53,7 @@ def main():
         program, given = build_beside_geos("prepared", folder), folder / "input"
         table = Table(["asked", "positions", "C", "Node", "ratio"])
 
-        def compare(what, size, how, count):
+        def compare(what: str, size: int, how: str, count: int) -> None:
             ours, turns, found = native(program, folder, given, how, count)
             theirs, shown = in_node(given, how, turns)
             if found != shown:

@@ -18,27 +18,27 @@ import math
 import pathlib
 import random
 import tempfile
-from typing import Callable, NamedTuple, Optional
+from typing import Callable, NamedTuple, Optional, Sequence, Union
 
 from peers import SEPARATOR, Comparison, add_options, build_extension, build_geos, is_ready, spatialite_command, table_of_rows
-from timing import PROGRAM, README, read_options
+from timing import PROGRAM, README, Table, read_options
 
 SPAN = 1_000_000
 
 
-def text_of(word, positions):
+def text_of(word: str, positions: Sequence[tuple[int, int]]) -> str:
     """A geometry of one list of positions."""
     listed = ",".join(f"{x} {y}" for x, y in positions)
     return f"{word}(({listed}))" if word == "POLYGON" else f"{word}({listed})"
 
 
-def points(count):
+def points(count: int) -> list[str]:
     """Points anywhere."""
     chance = random.Random(count)
     return [text_of("POINT", [(chance.randint(-SPAN, SPAN), chance.randint(-SPAN, SPAN))]) for _ in range(count)]
 
 
-def areas(count):
+def areas(count: int) -> list[str]:
     """Stars of twelve corners, apart from each other, each in a cell of its own."""
     chance = random.Random(count)
     side = math.ceil(math.sqrt(count))
@@ -55,7 +55,7 @@ def areas(count):
     return texts
 
 
-def lines(count):
+def lines(count: int) -> list[str]:
     """Lines of five positions, some cells long."""
     chance = random.Random(count)
     step = 2 * SPAN // math.ceil(math.sqrt(count))
@@ -70,7 +70,7 @@ def lines(count):
     return texts
 
 
-def parcels(side):
+def parcels(side: int) -> list[str]:
     """A grid of four-cornered parcels, which share their ragged corners."""
     chance = random.Random(side)
     cell = 2 * SPAN // side
@@ -91,11 +91,11 @@ class Case(NamedTuple):
     """What is joined, by which predicate, and at which sizes."""
 
     label: str
-    first: Callable
+    first: Callable[[int], list[str]]
     first_type: str
-    second: Optional[Callable]
+    second: Optional[Callable[[int], list[str]]]
     predicate: str
-    sizes: tuple
+    sizes: tuple[tuple[int, int], ...]
 
 
 # A second table that is None is the first one again; sizes are numbers of rows, and of parcels the parcels on a side.
@@ -108,19 +108,19 @@ CASES = (
 )
 
 
-def write_table(folder, table, texts):
+def write_table(folder: pathlib.Path, table: str, texts: Sequence[str]) -> None:
     """Writes a table's CSV."""
     rows = [f'{key},"{text}"' if "," in text else f"{key},{text}" for key, text in enumerate(texts, 1)]
     (folder / f"{table}.csv").write_text("\n".join(["id,geom", *rows]) + "\n")
 
 
-def extension_command(extension, tables, query):
+def extension_command(extension: pathlib.Path, tables: Sequence[str], query: str) -> list[str]:
     """sqlite3 with a virtual table of each table, which it loads, and the rows of a query."""
     made = [f"CREATE VIRTUAL TABLE {table} USING sfq(folder='.', table='{table}');" for table in tables]
     return ["sqlite3", ":memory:", f".load {extension.with_suffix('')}", *made, ".headers on", SEPARATOR, query]
 
 
-def commands(geos, predicate, second, extension=None):
+def commands(geos: Union[str, pathlib.Path], predicate: str, second: str, extension: Optional[pathlib.Path] = None) -> dict[str, list[str]]:
     """The command of each program, for the pairs of the table `first` and the second one; of sfq by SQLite, if there is an extension."""
     function = f"ST_{predicate.capitalize()}"
     query = f"SELECT a.id, b.id FROM first a JOIN {second} b ON {function}(a.geom, b.geom)"
@@ -145,7 +145,7 @@ def commands(geos, predicate, second, extension=None):
     }
 
 
-def make_tables(folder, case, size):
+def make_tables(folder: pathlib.Path, case: Case, size: Optional[tuple[int, int]]) -> tuple[int, int]:
     """Makes a folder with the schema and the tables of a case, which are empty where no size is given; answers their numbers of rows."""
     folder.mkdir()
     schema = [f"CREATE TABLE first (id INTEGER PRIMARY KEY, geom {case.first_type})"]
@@ -159,7 +159,7 @@ def make_tables(folder, case, size):
     return len(first), len(second)
 
 
-def main():
+def main() -> None:
     parser = argparse.ArgumentParser(description=__doc__.splitlines()[0])
     add_options(parser)
     parser.add_argument("--only", default="", help="the joins whose name has this word")
@@ -179,7 +179,9 @@ def main():
         table.write_into(README)
 
 
-def measure_case(case, geos, folder, options, extension, table):
+def measure_case(
+    case: Case, geos: pathlib.Path, folder: pathlib.Path, options: argparse.Namespace, extension: Optional[pathlib.Path], table: Table
+) -> None:
     """Measures a join at its sizes, and adds its rows to the table."""
     runs = commands(geos, case.predicate, "first" if case.second is None else "second", extension)
     make_tables(folder / "bare", case, None)

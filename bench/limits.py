@@ -15,6 +15,7 @@ import resource
 import subprocess
 import sys
 import tempfile
+from typing import Optional
 
 from timing import PROGRAM
 
@@ -29,7 +30,7 @@ QUERIES = {
 }
 
 
-def make_table(folder):
+def make_table(folder: pathlib.Path) -> None:
     """Writes the schema and t.csv, its rows in a shuffled order."""
     chance = random.Random(1)
     keys = list(range(1, ROWS + 1))
@@ -39,10 +40,10 @@ def make_table(folder):
     (folder / "t.csv").write_text("\n".join(lines) + "\n")
 
 
-def run(folder, query, megabytes=None):
+def run(folder: pathlib.Path, query: str, megabytes: Optional[int] = None) -> tuple[int, bytes, bytes]:
     """The status, the output and the fault line of a run."""
 
-    def limited():
+    def limited() -> None:
         if megabytes is not None:
             resource.setrlimit(resource.RLIMIT_AS, (megabytes << 20, megabytes << 20))
 
@@ -51,7 +52,7 @@ def run(folder, query, megabytes=None):
     return done.returncode, done.stdout, done.stderr
 
 
-def main():
+def main() -> None:
     if not PROGRAM.exists():
         sys.exit("the program isn't built: run ./build")
     bad = 0

@@ -21,12 +21,12 @@ PEERS = {
 }  # fmt: skip
 
 
-def day():
+def day() -> str:
     """The day of today, such as 2026-11-23."""
     return datetime.date.today().isoformat()
 
 
-def git(*words):
+def git(*words: str) -> str:
     """What a command of git prints of this repository; nothing where it can't be asked."""
     try:
         ran = subprocess.run(["git", "-C", str(ROOT), *words], capture_output=True, text=True)
@@ -35,7 +35,7 @@ def git(*words):
     return ran.stdout.strip() if ran.returncode == 0 else ""
 
 
-def commit():
+def commit() -> str:
     """The commit of this repository, and whether its crates or its C were changed since."""
     if COMMIT in os.environ:
         return os.environ[COMMIT]
@@ -43,25 +43,25 @@ def commit():
     return f"{found} with changes" if git("status", "--porcelain", "--", "crates", "bindings/c") else found
 
 
-def processor():
+def processor() -> str:
     """The processor as it calls itself, and how many of it there are."""
     name = said_in("/proc/cpuinfo", r"^model name\s*: (.+)") or platform.machine()
     return f"{' '.join(name.split())}, {os.cpu_count()} processors"
 
 
-def system():
+def system() -> str:
     """The system and its kernel."""
     name = said_in("/etc/os-release", r'^PRETTY_NAME="?([^"\n]+)')
     return ", ".join(filter(None, [name, f"{platform.system()} {platform.release()} {platform.machine()}"]))
 
 
-def is_beside_newer():
+def is_beside_newer() -> bool:
     """Whether this runs in a folder of newer peers."""
     return INSIDE in os.environ
 
 
 @functools.lru_cache
-def versions():
+def versions() -> dict[str, str]:
     """The versions of the peers that are installed by Debian's packages, by their names."""
     try:
         ran = subprocess.run(["dpkg-query", "-W", "-f", "${Package} ${Version}\n", *PEERS], capture_output=True, text=True)
@@ -71,17 +71,17 @@ def versions():
     return {PEERS[name]: version for name, version in found}
 
 
-def peers():
+def peers() -> str:
     """The peers that are installed by Debian's packages, each with its version."""
     return ", ".join(f"{name} {version}" for name, version in versions().items()) or "unknown"
 
 
-def versioned(text):
+def versioned(text: str) -> str:
     """A text in which each peer that is installed has its version behind its name."""
     return re.sub(rf"\b({'|'.join(PEERS.values())})\b(?! \d)", lambda it: " ".join(filter(None, [it[1], versions().get(it[1])])), text)
 
 
-def said_in(path, pattern):
+def said_in(path: str, pattern: str) -> str:
     """What a pattern finds in a file of the system; nothing where it isn't there."""
     try:
         found = re.search(pattern, pathlib.Path(path).read_text(), re.M)
@@ -90,6 +90,6 @@ def said_in(path, pattern):
     return found[1] if found else ""
 
 
-def described():
+def described() -> str:
     """All of it in a line."""
     return f"{processor()}; {system()}; commit {commit()}; {day()}"

@@ -11,6 +11,7 @@ It needs Python's standard library and takes a minute. With `--write` it writes 
 
 import argparse
 import re
+from typing import Sequence
 
 import bad_shapes as shapes
 from timing import README, Table, figure, read_options
@@ -50,63 +51,66 @@ SINGLES = (
 )
 
 
-def edges_of(text):
+def edges_of(text: str) -> list[tuple[int, int, int, int]]:
     """The edges of a geometry's text, each as the numbers of its two ends; of points each is its own."""
-    positions = lambda part: [tuple(map(int, it.split())) for it in part.split(",")]
-    lists = [positions(part) for part in re.findall(r"\(([^()]*)\)", text)]
+    parts = re.findall(r"\(([^()]*)\)", text)
+    lists = [[(int(x), int(y)) for x, y in (it.split() for it in part.split(","))] for part in parts]
     if "POINT" in text:
         return [(*at, *at) for (at,) in lists]
     return [(*a, *b) for line in lists for a, b in zip(line, line[1:]) if a != b]
 
 
-def bounds(edge):
+def bounds(edge: tuple[int, int, int, int]) -> tuple[int, int, int, int]:
     """The least and the greatest x and y of an edge."""
     a, b, c, d = edge
     return min(a, c), max(a, c), min(b, d), max(b, d)
 
 
-def joined(several):
+def joined(several: Sequence[tuple[int, int, int, int]]) -> tuple[int, int, int, int]:
     """The bounds of several."""
     low_x, high_x, low_y, high_y = zip(*several)
     return min(low_x), max(high_x), min(low_y), max(high_y)
 
 
-def overlap(p, q):
+def overlap(p: tuple[int, int, int, int], q: tuple[int, int, int, int]) -> bool:
     """Whether two bounds have a point in common."""
     return p[0] <= q[1] and q[0] <= p[1] and p[2] <= q[3] and q[2] <= p[3]
 
 
-def is_beside(edge, other):
+def is_beside(edge: tuple[int, int, int, int], other: tuple[int, int, int, int]) -> bool:
     """Whether both ends of the other edge lie on one side of the line of an edge."""
     a, b, c, d = edge
     first, second = ((c - a) * (y - b) - (d - b) * (x - a) for x, y in (other[:2], other[2:]))
     return first * second > 0
 
 
-def shares(edge, other):
+def shares(edge: tuple[int, int, int, int], other: tuple[int, int, int, int]) -> bool:
     """Whether two edges share a point, whose bounds overlap."""
     return not is_beside(edge, other) and not is_beside(other, edge)
 
 
-def row(label, first, second):
+def row(label: str, first: Sequence[tuple[int, int, int, int]], second: Sequence[tuple[int, int, int, int]]) -> list[str]:
     """The row of two lists of edges."""
     of_first, of_second = [bounds(it) for it in first], [bounds(it) for it in second]
     leaves = [joined(of_second[k : k + LEAF]) for k in range(0, len(second), LEAF)]
     met = sum(overlap(p, leaf) for p in of_first for leaf in leaves)
     near = [(e, f) for e, p in zip(first, of_first) for f, q in zip(second, of_second) if overlap(p, q)]
     shared = sum(shares(e, f) for e, f in near)
-    share = lambda count, others: figure(round(100 * count / len(first) / others, 1))
+
+    def share(count: int, others: int) -> str:
+        return figure(round(100 * count / len(first) / others, 1))
+
     return [label, f"{len(first):,}", f"{len(second):,}", share(met, len(leaves)), share(len(near), len(second)), figure(shared / len(first))]
 
 
-def main():
+def main() -> None:
     parser = argparse.ArgumentParser(description=__doc__.splitlines()[0])
     options = read_options(parser)
     table = Table(["input", "edges", "of the other", "of 100 leaves", "of 100 edges", "share a point with an edge"])
     for label, make, size in PAIRS:
         table.add(row(label, *map(edges_of, make(size))))
-    for label, make, size in SINGLES:
-        edges = edges_of(make(size))
+    for label, single, size in SINGLES:
+        edges = edges_of(single(size))
         table.add(row(label, edges, edges))
     if options.write:
         table.write_into(README)

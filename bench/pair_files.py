@@ -12,12 +12,14 @@ built program: run ./build. It is no test: the gate doesn't run it.
 """
 
 import argparse
+import itertools
 import pathlib
 import random
 import shutil
 import subprocess
 import sys
 import tempfile
+from typing import Callable, Sequence
 
 from timing import PROGRAM, README, Table, instructions, measure, read_options
 
@@ -25,18 +27,18 @@ PEER = pathlib.Path(__file__).resolve().parent / "geos_pairs.c"
 GRID = 20
 
 
-def listed(positions):
+def listed(positions: Sequence[tuple[int, int]]) -> str:
     """Positions in parentheses."""
     return "(" + ",".join(f"{x} {y}" for x, y in positions) + ")"
 
 
-def box(chance):
+def box(chance: random.Random) -> list[tuple[int, int]]:
     """A ring of four corners."""
     (left, right), (low, high) = (sorted(chance.sample(range(GRID), 2)) for _ in range(2))
     return [(left, low), (right, low), (right, high), (left, high), (left, low)]
 
 
-def triangle(chance, at):
+def triangle(chance: random.Random, at: Callable[[], tuple[int, int]]) -> list[tuple[int, int]]:
     """A ring of three corners that aren't on one line."""
     while True:
         (ax, ay), (bx, by), (cx, cy) = a, b, c = at(), at(), at()
@@ -44,9 +46,9 @@ def triangle(chance, at):
             return [a, b, c, a]
 
 
-def draw(chance):
+def draw(chance: random.Random) -> str:
     """The text of a small geometry."""
-    def at():
+    def at() -> tuple[int, int]:
         return chance.randrange(GRID), chance.randrange(GRID)
 
     kind = chance.randrange(5)
@@ -60,7 +62,7 @@ def draw(chance):
     return "POLYGON(" + listed(box(chance) if kind == 3 else triangle(chance, at)) + ")"
 
 
-def write_pairs(path, count):
+def write_pairs(path: pathlib.Path, count: int) -> None:
     """Writes a file of so many pairs."""
     chance = random.Random(count)
     with open(path, "w") as out:
@@ -68,13 +70,13 @@ def write_pairs(path, count):
             out.write(f'"{draw(chance)}","{draw(chance)}"\n')
 
 
-def least(command, folder, repeats):
+def least(command: Sequence[object], folder: pathlib.Path, repeats: int) -> tuple[float, int, list[str]]:
     """The least processor seconds of several runs, the peak kilobytes, and the lines that it printed."""
     runs = [measure(command, folder) for _ in range(repeats)]
     return min(it[1] for it in runs), max(it[2] for it in runs), (folder / "output").read_text().splitlines()
 
 
-def main():
+def main() -> None:
     parser = argparse.ArgumentParser(description=__doc__.split("\n\n")[0])
     parser.add_argument("--sizes", type=int, nargs="+", default=[1_000_000], help="numbers of pairs (1000000)")
     parser.add_argument("--repeats", type=int, default=3, help="runs of each program (3)")
@@ -101,14 +103,14 @@ def main():
         table.write_into(README)
 
 
-def table_of_times(options, ours, theirs, file):
+def table_of_times(options: argparse.Namespace, ours: Sequence[object], theirs: Sequence[object], file: pathlib.Path) -> Table:
     """The table of times at each size."""
     table = Table(["pairs", "`sfq` s", "GEOS s", "ratio", "`sfq` MB", "lines that differ"])
     for size in options.sizes:
         write_pairs(file, size)
         taken, peak, lines = least(ours, file.parent, options.repeats)
         other, _, wanted = least(theirs, file.parent, options.repeats)
-        differing = sum(a != b for a, b in zip(lines, wanted, strict=True))
+        differing = sum(a != b for a, b in itertools.zip_longest(lines, wanted))
         table.add([f"{size:,}", f"{taken:.2f}", f"{other:.2f}", f"{taken / other:.2f}", f"{peak / 1024:.1f}", f"{differing:,}"])
     return table
 

@@ -24,15 +24,17 @@ from sfq_audit import families
 from sfq_audit.shapes import WORDS as TYPES
 
 
-def draw(chance, word):
+def draw(chance: random.Random, word: str) -> str:
     """The text of a random geometry of a type, which may have a fault."""
     return families.draw(chance, word).text
 
 
-def relate_pairs(first, second, seed, count):
+def relate_pairs(first: str, second: str, seed: str, count: int) -> tuple[int, list[str], list[tuple[tuple[str, str], str]]]:
     """Relates so many valid pairs of two types; returns how many were drawn, the matrices, and the pairs that differ."""
     chance = random.Random(seed)
-    drawn, matrices, differing = 0, [], []
+    drawn = 0
+    matrices: list[str] = []
+    differing: list[tuple[tuple[str, str], str]] = []
     while len(matrices) < count:
         pairs = [(draw(chance, first), draw(chance, second)) for _ in range(2_000)]
         text = "".join(f"{a}\n{b}\n" for a, b in pairs)
@@ -50,7 +52,7 @@ def relate_pairs(first, second, seed, count):
     return drawn, matrices, differing
 
 
-def main():
+def main() -> None:
     parser = argparse.ArgumentParser(description=__doc__.splitlines()[0])
     parser.add_argument("--count", type=int, default=10_000, help="valid pairs of each two types (10000)")
     parser.add_argument("--seed", type=int, default=1, help="what the seeds begin with (1)")

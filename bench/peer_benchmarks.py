@@ -26,7 +26,7 @@ import subprocess
 import sys
 import tempfile
 from concurrent.futures import ThreadPoolExecutor
-from typing import Callable, NamedTuple
+from typing import Callable, Mapping, NamedTuple, Sequence
 
 import peer_shapes as shapes
 from peers import build_beside_geos
@@ -48,9 +48,9 @@ class Case(NamedTuple):
     """A kind of shapes: its name, what makes them, the sizes, and what is asked."""
 
     label: str
-    make: Callable
-    sizes: tuple
-    asked: tuple
+    make: Callable[[int], tuple[list[str], list[str]]]
+    sizes: tuple[int, ...]
+    asked: tuple[str, ...]
 
 
 CASES = (
@@ -80,10 +80,10 @@ class Row(NamedTuple):
     folder: pathlib.Path
 
     @property
-    def name(self):
+    def name(self) -> str:
         return f"{self.case.label}, {self.size:,}, {self.asked}"
 
-    def command(self, program, who, nanoseconds=0):
+    def command(self, program: pathlib.Path, who: str, nanoseconds: int = 0) -> list[str]:
         """The command of one engine."""
         return [str(it) for it in (program, who, self.asked, nanoseconds, self.folder / "input")]
 
@@ -91,17 +91,17 @@ class Row(NamedTuple):
 class Measured(NamedTuple):
     """What a row took: the instructions of each engine, and where those of `sfq` go."""
 
-    instructions: dict
-    shares: list
+    instructions: dict[str, int]
+    shares: list[tuple[str, float]]
 
 
-def write_input(folder, firsts, others):
+def write_input(folder: pathlib.Path, firsts: Sequence[str], others: Sequence[str]) -> None:
     """Writes the input of the program."""
     folder.mkdir(parents=True, exist_ok=True)
     (folder / "input").write_text("\n".join([*firsts, "", *others]) + "\n")
 
 
-def rows_of(cases, room, largest):
+def rows_of(cases: Sequence[Case], room: pathlib.Path, largest: int) -> list[tuple[Row, int]]:
     """The rows of some cases, with their inputs in folders, and how many calls a turn of each has."""
     found = []
     for case in cases:
@@ -114,7 +114,7 @@ def rows_of(cases, room, largest):
     return found
 
 
-def said(row, program, who, nanoseconds=0):
+def said(row: Row, program: pathlib.Path, who: str, nanoseconds: int = 0) -> tuple[str, float]:
     """What an engine finds, and the nanoseconds of its least turn."""
     words = row.command(program, who, nanoseconds)
     ran = subprocess.run(words, stdout=subprocess.PIPE, text=True)
@@ -125,17 +125,17 @@ def said(row, program, who, nanoseconds=0):
 
 
 @functools.lru_cache
-def prepares_relate(program):
+def prepares_relate(program: pathlib.Path) -> bool:
     """Whether GEOS has relate of prepared geometries, as the program says that was compiled with it."""
     return subprocess.run([program], stdout=subprocess.PIPE, text=True).stdout.split()[-1:] == ["1"]
 
 
-def engines_of(row, program):
+def engines_of(row: Row, program: pathlib.Path) -> tuple[str, ...]:
     """Who is asked in a row."""
     return UNPREPARED if row.asked == "relate" and not prepares_relate(program) else ASKED[row.asked]
 
 
-def check(row, program):
+def check(row: Row, program: pathlib.Path) -> None:
     """Ends the program where the answers of one engine differ from those of another."""
     found = {who: said(row, program, who)[0] for who in engines_of(row, program)}
     for who, answers in found.items():
@@ -143,7 +143,7 @@ def check(row, program):
             sys.exit(f"{row.name}: sfq and {who} differ: {found['sfq']} and {answers}")
 
 
-def counted(row, program):
+def counted(row: Row, program: pathlib.Path) -> Measured:
     """The instructions of a turn by each engine."""
     found, room = {}, row.folder / row.asked
     for who in reversed(engines_of(row, program)):
@@ -152,24 +152,24 @@ def counted(row, program):
     return Measured(found, counted_shares(room / "sfq"))
 
 
-def timed(row, program):
+def timed(row: Row, program: pathlib.Path) -> dict[str, float]:
     """The nanoseconds of a turn by each engine."""
     rounds = [{who: said(row, program, who, NANOSECONDS)[1] for who in engines_of(row, program)} for _ in range(ROUNDS)]
     return {who: min(it[who] for it in rounds) for who in rounds[0]}
 
 
-def columns_of(taken, calls):
+def columns_of(taken: Mapping[str, float], calls: int) -> list[str]:
     """The columns of one unit: what a call takes by each engine, and the ratio to the best of the peers."""
     shown = [figure(taken[who] / calls) if who in taken else "" for who in ALL]
     return [*shown, f"{ratio_of(taken):.2g}"]
 
 
-def ratio_of(taken):
+def ratio_of(taken: Mapping[str, float]) -> float:
     """What `sfq` takes of what the best of the peers takes."""
     return taken["sfq"] / min(taken[who] for who in taken if who != "sfq")
 
 
-def options_of():
+def options_of() -> argparse.Namespace:
     """The words of the command line."""
     parser = argparse.ArgumentParser(description=__doc__.splitlines()[0])
     parser.add_argument("--only", default="", help="the shapes whose name has this word")
@@ -179,7 +179,7 @@ def options_of():
     return read_options(parser, ("only", "largest"))
 
 
-def main():
+def main() -> None:
     options = options_of()
     with tempfile.TemporaryDirectory() as name, ThreadPoolExecutor(options.jobs) as pool:
         room = pathlib.Path(name)

@@ -8,6 +8,7 @@ The star of both is the sine star: the distance of its positions from its centre
 
 import math
 import random
+from typing import Callable
 
 from areas import SPAN
 from bad_shapes import line, lines, polygon, polygons
@@ -23,7 +24,7 @@ WAVES, HEIGHT = 4, 0.02
 CELL = 2 * SPAN // 5
 
 
-def sine_star(count, x=0, y=0, radius=SPAN):
+def sine_star(count: int, x: int = 0, y: int = 0, radius: int = SPAN) -> list[tuple[int, int]]:
     """The positions of a sine star about a centre."""
     found = []
     for k in range(count):
@@ -33,54 +34,54 @@ def sine_star(count, x=0, y=0, radius=SPAN):
     return found
 
 
-def star_of(size):
+def star_of(size: int) -> str:
     """A large sine star of so many positions, the closing one counted."""
     return polygon(sine_star(size - 1))
 
 
-def outline(positions):
+def outline(positions: list[tuple[int, int]]) -> str:
     """The text of a closed line."""
     return line(positions + positions[:1])
 
 
-def square(x, y, half):
+def square(x: int, y: int, half: int) -> list[tuple[int, int]]:
     """The positions of a square about a centre."""
     return [(x - half, y - half), (x + half, y - half), (x + half, y + half), (x - half, y + half)]
 
 
-def centres(side):
+def centres(side: int) -> tuple[list[tuple[int, int]], int]:
     """The centres of the cells of a grid over the large star's envelope, so many along a side, and half the side of a cell."""
     half = SPAN // side
     return [(2 * half * i + half - SPAN, 2 * half * k + half - SPAN) for i in range(side) for k in range(side)], half
 
 
-def small_stars(side=SIDE):
+def small_stars(side: int = SIDE) -> list[list[tuple[int, int]]]:
     """The positions of a sine star in each cell, as wide as it is."""
     places, half = centres(side)
     return [sine_star(POSITIONS - 1, x, y, half) for x, y in places]
 
 
-def star_and_squares(size):
+def star_and_squares(size: int) -> tuple[list[str], list[str]]:
     """A star, and a grid of squares that are half as wide as their cells: JTS and GEOS, whether rectangles meet a polygon
     (RectangleIntersects), and prepared polygons."""
     places, half = centres(SIDE)
     return [star_of(size)], [polygon(square(x, y, half // 2)) for x, y in places]
 
 
-def star_and_outlines(size):
+def star_and_outlines(size: int) -> tuple[list[str], list[str]]:
     """A star, and a grid of outlines of small stars: JTS and GEOS, whether lines meet a prepared polygon
     (PreparedPolygonIntersects)."""
     places, half = centres(SIDE)
     return [star_of(size)], [outline(sine_star(POSITIONS - 1, x, y, half // 2)) for x, y in places]
 
 
-def star_and_stars(size):
+def star_and_stars(size: int) -> tuple[list[str], list[str]]:
     """A star, and a grid of small ones: JTS and GEOS, polygons that overlap (RelateNG), and predicates of topology
     (TopologyPredicate)."""
     return [star_of(size)], list(map(polygon, small_stars()))
 
 
-def star_and_points(size):
+def star_and_points(size: int) -> tuple[list[str], list[str]]:
     """A star, and points anywhere in its envelope: JTS and GEOS, points in an indexed area (IndexedPointInArea), and in a
     polygon (RelateNG)."""
     chance = random.Random(size)
@@ -88,12 +89,12 @@ def star_and_points(size):
     return [star_of(size)], [f"POINT({x} {y})" for x, y in places]
 
 
-def outline_and_outlines(size):
+def outline_and_outlines(size: int) -> tuple[list[str], list[str]]:
     """The outline of a star, and a grid of those of small ones: JTS and GEOS, lines that overlap (RelateNG)."""
     return [outline(sine_star(size - 1))], list(map(outline, small_stars()))
 
 
-def border(x, y, across, up, count):
+def border(x: int, y: int, across: int, up: int, count: int) -> list[tuple[int, int]]:
     """The positions of a border from a corner of the grid of cells to the next, without this one: waves of a sine."""
     found = []
     for k in range(count):
@@ -102,12 +103,12 @@ def border(x, y, across, up, count):
     return found
 
 
-def backwards_to(border, end):
+def backwards_to(border: list[tuple[int, int]], end: tuple[int, int]) -> list[tuple[int, int]]:
     """A border the other way round: from its end, without its first position."""
     return [end, *border[:0:-1]]
 
 
-def cell(i, k, count):
+def cell(i: int, k: int, count: int) -> list[tuple[int, int]]:
     """The positions of the cell of this place, of which each border has so many."""
     x, y = i * CELL - SPAN, k * CELL - SPAN
     top = border(x, y + CELL, 1, 0, count)
@@ -118,7 +119,7 @@ def cell(i, k, count):
     ]
 
 
-def cells(size):
+def cells(size: int) -> tuple[list[str], list[str]]:
     """A cell of so many positions at most whose borders are waves, and the 24 cells round it, with the same borders: JTS and
     GEOS, polygons side by side (RelateNG), which are countries there."""
     count = (size - 1) // 4
@@ -126,21 +127,21 @@ def cells(size):
     return [polygon(cell(2, 2, count))], list(map(polygon, others))
 
 
-def boxes_and_squares(size):
+def boxes_and_squares(size: int) -> tuple[list[str], list[str]]:
     """One MULTIPOLYGON of a grid of so many squares at most, and squares of another grid: GEOS, prepared geometries of many
     parts."""
     (boxes, half), (places, other) = centres(math.isqrt(size)), centres(4)
     return [polygons([[square(x, y, half // 2)] for x, y in boxes])], [polygon(square(x, y, other // 2)) for x, y in places]
 
 
-def grid_lines_and_stars(size):
+def grid_lines_and_stars(size: int) -> tuple[list[str], list[str]]:
     """One MULTILINESTRING of so many lines across one another, and small stars: JTS, predicates over a grid of lines."""
     steps = [2 * SPAN * k // (size // 2) - SPAN for k in range(size // 2)]
     across = [[(-SPAN, at), (SPAN, at)] for at in steps] + [[(at, -SPAN), (at, SPAN)] for at in steps]
     return [lines(across)], list(map(polygon, small_stars(3)))
 
 
-def box_of(bounds):
+def box_of(bounds: tuple[int, int, int, int]) -> str:
     """The text of an envelope, by its bounds: a point, a line or a polygon."""
     low_x, high_x, low_y, high_y = bounds
     if (low_x, low_y) == (high_x, high_y):
@@ -150,9 +151,9 @@ def box_of(bounds):
     return polygon([(low_x, low_y), (high_x, low_y), (high_x, high_y), (low_x, high_y)])
 
 
-def indexed(kind):
+def indexed(kind: Callable[[random.Random, int], list[tuple[int, int, int, int]]]) -> Callable[[int], tuple[list[str], list[str]]]:
     """What makes envelopes of a kind, and windows over them that are as wide as two cells of a grid of them all."""
-    def make(size):
+    def make(size: int) -> tuple[list[str], list[str]]:
         chance = random.Random(size)
         boxes, wide = kind(chance, size), int(4 * LIMIT / math.sqrt(size))
         return list(map(box_of, boxes)), [box_of(around(chance, wide, wide)) for _ in range(WINDOWS)]
@@ -160,7 +161,7 @@ def indexed(kind):
     return make
 
 
-def spots(chance, size):
+def spots(chance: random.Random, size: int) -> list[tuple[int, int, int, int]]:
     """The bounds of points anywhere."""
     return [around(chance, 0, 0) for _ in range(size)]
 
@@ -169,18 +170,18 @@ def spots(chance, size):
 grid_of_boxes, random_boxes, random_points = map(indexed, (parcels, small, spots))
 
 
-def one_star(size):
+def one_star(size: int) -> tuple[list[str], list[str]]:
     """A star: JTS and GEOS, reading well-known text."""
     return [star_of(size)], []
 
 
-def many_points(size):
+def many_points(size: int) -> tuple[list[str], list[str]]:
     """Points anywhere: the same."""
     chance = random.Random(size)
     return [box_of(it) for it in spots(chance, size)], []
 
 
-def slanted_holes(size):
+def slanted_holes(size: int) -> tuple[list[str], list[str]]:
     """A square with a grid of so many slanted holes at most, each of which reaches into the bounds of its neighbours: JTS, validity
     of polygons with many holes (IsValid)."""
     places, half = centres(math.isqrt(size))

@@ -1,5 +1,6 @@
 """What measures beside peers share: the commands of the peers, the lines that compare them with `sfq`, and the programs over GEOS."""
 
+import argparse
 import os
 import pathlib
 import re
@@ -7,8 +8,11 @@ import shutil
 import subprocess
 import sys
 import time
+from typing import Optional, Sequence
 
 from timing import PROGRAM, ROOT, Table, exponent, figure, instructions, measure, ratios
+
+import bindings
 
 FOLDER = pathlib.Path(__file__).resolve().parent
 TABLES, SHAPES = FOLDER / "geos_tables.c", FOLDER / "geos_peer.c"
@@ -20,7 +24,7 @@ SEPARATOR = '.separator "," "\\n"'
 SECONDS = 8
 
 
-def is_ready():
+def is_ready() -> None:
     """Ends the program where something that it needs isn't there."""
     if not PROGRAM.exists():
         sys.exit("the program isn't built: run ./build")
@@ -29,7 +33,7 @@ def is_ready():
             sys.exit(f"{tool} isn't installed: apt-get install {package}")
 
 
-def compiled(source, folder, *libraries):
+def compiled(source: pathlib.Path, folder: pathlib.Path, *libraries: str) -> Optional[str]:
     """Compiles a program, and returns its path; None where gcc, a header or a library isn't there."""
     if shutil.which("gcc") is None:
         return None
@@ -43,14 +47,14 @@ def compiled(source, folder, *libraries):
     sys.exit(f"gcc can't compile {source.name}: {(re.findall('.*error.*', ran.stderr) or ['it was ended'])[0]}")
 
 
-def build_geos(folder):
+def build_geos(folder: pathlib.Path) -> pathlib.Path:
     """Compiles the peer over GEOS, and returns its path."""
     program = folder / "geos_tables"
     subprocess.run(["gcc", "-O2", "-o", str(program), str(TABLES), "-lgeos_c"], check=True)
     return program
 
 
-def build_beside_geos(name, folder):
+def build_beside_geos(name: str, folder: pathlib.Path) -> pathlib.Path:
     """Compiles the program of this name over the C library and GEOS, and returns its path."""
     if not LIBRARY.exists():
         sys.exit("the library isn't there: run ./build --library once")
@@ -60,18 +64,18 @@ def build_beside_geos(name, folder):
     return program
 
 
-def build_extension(folder):
+def build_extension(folder: pathlib.Path) -> pathlib.Path:
     """Compiles the extension of SQLite over the C libraries, and returns its path."""
     archives = [LIBRARY, LIBRARY.with_name("libsfq_tables.a")]
     if not all(it.exists() for it in archives):
         sys.exit("the libraries aren't there: run ./build --library once")
     extension = folder / "sfq0.so"
-    words = ["gcc", "-O2", "-fPIC", "-shared", "-fvisibility=hidden", "-o", extension, ROOT / "bindings" / "sqlite" / "sfq0.c"]
+    words = ["gcc", "-O2", "-fPIC", "-shared", "-fvisibility=hidden", "-o", extension, *bindings.of_sqlite()]
     subprocess.run([str(it) for it in [*words, f"-I{ROOT}/bindings/c", *archives, "-Wl,--exclude-libs,ALL"]], check=True)
     return extension
 
 
-def spatialite_command(tables, *statements):
+def spatialite_command(tables: Sequence[str], *statements: str) -> list[str]:
     """sqlite3 with SpatiaLite, which imports the CSV of each table, its geometry as text, and runs the statements."""
     script = [".load mod_spatialite", ".mode csv"]
     for table in tables:
@@ -81,13 +85,13 @@ def spatialite_command(tables, *statements):
     return ["sqlite3", ":memory:", *script, *made, ".headers on", SEPARATOR, answer]
 
 
-def add_options(parser):
+def add_options(parser: argparse.ArgumentParser) -> None:
     """The options that the measures share."""
     parser.add_argument("--repeats", type=int, default=9, help="runs of each command (9)")
     parser.add_argument("--instructions", action="store_true", help="count instructions of sfq and GEOS in place of time")
 
 
-def table_of_rows(title, options, ours="sfq"):
+def table_of_rows(title: str, options: argparse.Namespace, ours: str = "sfq") -> Table:
     """The table whose rows a comparison adds, with what is asked for of our program, which is named."""
     if options.instructions:
         peers = ["GEOS, millions", "ratio"]
@@ -99,16 +103,18 @@ def table_of_rows(title, options, ours="sfq"):
 class Comparison:
     """The rows of a case, from size to size: `sfq` beside its peers, each in one process, start-up left out."""
 
-    def __init__(self, commands, bare, options, table):
+    def __init__(self, commands: dict[str, list[str]], bare: pathlib.Path, options: argparse.Namespace, table: Table) -> None:
         """Takes the commands that run in a folder with tables without rows, which is the start-up of each program."""
         self.starts, self.bare, self.options, self.table = commands, bare, options, table
-        self.before = None
+        self.before: Optional[tuple[float, float]] = None
 
-    def measured(self, commands, folder):
+    def measured(self, commands: dict[str, list[str]], folder: pathlib.Path) -> dict[str, tuple[float, float, int]]:
         """Of each program the processor seconds of its start-up and of its command, and peak kilobytes. Times are the least of
         several runs, more of short ones, the programs in turn and each start-up beside its command, so that what else
         runs on the machine meets all of them."""
-        starts, times, peaks = ({who: [] for who in commands} for _ in range(3))
+        starts: dict[str, list[float]] = {who: [] for who in commands}
+        times: dict[str, list[float]] = {who: [] for who in commands}
+        peaks: dict[str, list[int]] = {who: [] for who in commands}
         begun = time.monotonic()
         turns = 0
         while turns < self.options.repeats or time.monotonic() < begun + SECONDS:
@@ -120,11 +126,11 @@ class Comparison:
             turns += 1
         return {who: (min(starts[who]), min(times[who]), max(peaks[who])) for who in commands}
 
-    def counted(self, who, commands, folder):
+    def counted(self, who: str, commands: dict[str, list[str]], folder: pathlib.Path) -> float:
         """The instructions of a program's command beyond its start-up, in millions."""
         return (instructions(commands[who], folder) - instructions(self.starts[who], self.bare)) / 1e6
 
-    def add_row(self, label, rows, commands, folder):
+    def add_row(self, label: str, rows: int, commands: dict[str, list[str]], folder: pathlib.Path) -> None:
         """Measures each command in a folder, and adds what was asked for to the table."""
         if self.options.instructions:
             ours, theirs = (self.counted(who, commands, folder) for who in ("sfq", "geos"))
@@ -134,7 +140,7 @@ class Comparison:
         else:
             self.add_times(label, rows, commands, folder)
 
-    def add_times(self, label, rows, commands, folder):
+    def add_times(self, label: str, rows: int, commands: dict[str, list[str]], folder: pathlib.Path) -> None:
         """Adds processor times, ratios, the exponent of growth in rows, and memory, and compares the answers."""
         times, peaks, answers = {}, [], {}
         for who, (start, processor, peak) in self.measured(commands, folder).items():

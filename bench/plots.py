@@ -1,6 +1,7 @@
 """Draws what `all.py` and `scale.py` measure: for each workload a panel with costs over the size, both logarithmic."""
 
 import math
+from typing import Any, Mapping, Sequence
 
 ACROSS, WIDTH, HEIGHT, LEFT, TOP = 4, 210, 150, 46, 30
 COLOURS = {"sfq": "#1f5fbf", "floor": "#2a8a4a", "peer": "#c26a1a"}
@@ -10,7 +11,7 @@ STYLE = (
 )
 
 
-def costs(panels, unit):
+def costs(panels: Sequence[tuple[str, dict[str, list[tuple[int, float]]]]], unit: str) -> str:
     """The picture of panels: each a title, and the sizes and costs of each program."""
     rows = math.ceil(len(panels) / ACROSS)
     width, height = ACROSS * (WIDTH + LEFT) + 20, rows * (HEIGHT + 2 * TOP) + 30
@@ -24,7 +25,7 @@ def costs(panels, unit):
     return "\n".join([*parts, "</svg>", ""])
 
 
-def times(panels):
+def times(panels: Sequence[tuple[str, dict[str, list[Any]]]]) -> str:
     """The picture of panels of seconds: one run of sfq as far as it goes, and sfq-scale, whose last size may be an estimate."""
     width, height = len(panels) * (WIDTH + LEFT) + 20, HEIGHT + 2 * TOP + 50
     parts = [f'<svg xmlns="http://www.w3.org/2000/svg" width="{width}" height="{height}" role="img">']
@@ -32,7 +33,7 @@ def times(panels):
     parts.append(f'<rect class="paper" width="{width}" height="{height}"/>')
     for place, (title, found) in enumerate(panels):
         drawn = {"peer": found["peer"] + found["estimate"], "sfq": [it for it in found["sfq"] if it[1] is not None]}
-        parts += panel(LEFT + place * (WIDTH + LEFT), TOP, title, drawn, "peer", {"peer"} if found["estimate"] else ())
+        parts += panel(LEFT + place * (WIDTH + LEFT), TOP, title, drawn, "peer", ("peer",) if found["estimate"] else ())
     parts.append(f'<text x="{LEFT}" y="{height - 36}">seconds of processor time over the number of rows</text>')
     scaled = "sfq-scale; dashes: an estimate" if any(found["estimate"] for _, found in panels) else "sfq-scale"
     for at, (who, name) in enumerate((("sfq", "one run of sfq"), ("peer", scaled))):
@@ -41,14 +42,16 @@ def times(panels):
     return "\n".join([*parts, "</svg>", ""])
 
 
-def panel(left, top, title, found, widest="sfq", estimated=()):
+def panel(
+    left: int, top: int, title: str, found: Mapping[str, Sequence[tuple[float, float]]], widest: str = "sfq", estimated: Sequence[str] = ()
+) -> list[str]:
     """The lines of one panel. `widest` is the line with all sizes; the last size of those that are estimated is dashed."""
     sizes = [math.log10(size) for size, _ in found[widest]]
     values = [math.log10(cost) for line in found.values() for _, cost in line]
     low, high = math.floor(min(values)), math.ceil(max(values))
     span = max(sizes[-1] - sizes[0], 1e-9)
 
-    def at(size, cost):
+    def at(size: float, cost: float) -> tuple[float, float]:
         x = left + (math.log10(size) - sizes[0]) / span * (WIDTH - 20)
         return x, top + (high - math.log10(cost)) / max(high - low, 1) * (HEIGHT - 20)
 
@@ -70,12 +73,12 @@ def panel(left, top, title, found, widest="sfq", estimated=()):
     return parts
 
 
-def power_text(power):
+def power_text(power: int) -> str:
     """A power of ten, in short."""
     return {-3: "0.001", -2: "0.01", -1: "0.1", 0: "1", 1: "10", 2: "100", 3: "1k", 4: "10k", 5: "100k", 6: "1M", 7: "10M"}.get(power, f"1e{power}")
 
 
-def legend(left, y, unit):
+def legend(left: int, y: int, unit: str) -> list[str]:
     """Which colour is which, and what the panels show."""
     parts = [f'<text x="{left}" y="{y}">{unit} for each row, over the number of rows:</text>']
     x = left + 310

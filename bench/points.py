@@ -18,6 +18,7 @@ import resource
 import shutil
 import subprocess
 import sys
+from typing import Optional, Sequence
 
 SIZES = (1_000, 10_000)
 ORDERS = ("shuffled", "ascending", "equal")
@@ -27,7 +28,7 @@ SFQ = ROOT / "crates" / "sfq" / "out" / "sfq"
 GAUGE = ROOT / "crates" / "gauge" / "out" / "gauge"
 
 
-def positions(count, order, span, chance):
+def positions(count: int, order: str, span: int, chance: random.Random) -> list[tuple[int, int]]:
     """Positions with both coordinates below span, in this order; `equal` ones are all the same."""
     if order == "equal":
         return [(span - 1, span - 1)] * count
@@ -35,12 +36,12 @@ def positions(count, order, span, chance):
     return sorted(picked) if order == "ascending" else picked
 
 
-def text_of(points):
+def text_of(points: Sequence[tuple[int, int]]) -> str:
     """The text of a MULTIPOINT, without parentheses around its points: a word of a command has at most 128 KB."""
     return "MULTIPOINT(" + ",".join(f"{x} {y}" for x, y in points) + ")"
 
 
-def run(command, text):
+def run(command: list[str], text: str) -> tuple[str, str, float]:
     """Runs a command on this standard input; returns its output, what is on standard error, and its processor
     seconds."""
     before = resource.getrusage(resource.RUSAGE_CHILDREN)
@@ -51,7 +52,7 @@ def run(command, text):
     return done.stdout, done.stderr, after.ru_utime + after.ru_stime - before.ru_utime - before.ru_stime
 
 
-def instructions(command, text):
+def instructions(command: list[str], text: str) -> int:
     """How many instructions valgrind counts."""
     counter = ["valgrind", "--tool=callgrind", "--callgrind-out-file=/dev/null"]
     for line in run(counter + command, text)[1].splitlines():
@@ -60,14 +61,14 @@ def instructions(command, text):
     sys.exit("valgrind printed no count")
 
 
-def print_case(count, order):
+def print_case(count: int, order: str) -> tuple[list[str], str, str]:
     """The command that reads and prints, its input, and the output that is wanted."""
     points = positions(count, order, 99_999, random.Random(count))
     printed = "MULTIPOINT(" + ",".join(f"({x} {y})" for x, y in points) + ")\n"
     return [str(GAUGE)], text_of(points), printed
 
 
-def relate_case(count, order):
+def relate_case(count: int, order: str) -> tuple[list[str], str, str]:
     """The command that relates two lists, of which the second has about half of the positions of the first; its
     input, and the output that is wanted."""
     chance = random.Random(count)
@@ -83,7 +84,7 @@ def relate_case(count, order):
     return [str(SFQ), "relate", text_of(first), text_of(second)], "", matrix + "\n"
 
 
-def main():
+def main() -> None:
     parser = argparse.ArgumentParser(description=__doc__.splitlines()[0])
     parser.add_argument("--repeats", type=int, default=5, help="runs of each command (5)")
     repeats = parser.parse_args().repeats
@@ -101,7 +102,7 @@ def main():
     ):
         base = instructions(empty, empty_input)
         for order in ORDERS:
-            before = None
+            before: Optional[int] = None
             for count in SIZES:
                 command, text, wanted = case(count, order)
                 if run(command, text)[0] != wanted:

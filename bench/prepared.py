@@ -15,6 +15,7 @@ import pathlib
 import random
 import sys
 import tempfile
+from typing import Callable, Sequence
 
 from areas import SPAN, ring, star
 from peers import build_beside_geos
@@ -28,7 +29,7 @@ POINTS = 1_000
 ASKED = [("position, intersects", "locate", "geos"), ("point, intersects", "holds", "geos"), ("point, contains", "contains", "geos_contains")]
 
 
-def write_input(path, size):
+def write_input(path: pathlib.Path, size: int) -> None:
     """Writes a polygon of so many positions, its closing one counted, and the positions that are asked for."""
     chance = random.Random(size)
     lines = [f"POLYGON({ring(star(size - 1)[0])})"]
@@ -36,18 +37,18 @@ def write_input(path, size):
     path.write_text("\n".join(lines) + "\n")
 
 
-def write_two(path, size, by):
+def write_two(path: pathlib.Path, size: int, by: int) -> None:
     """Writes two stars of so many positions, one of them moved."""
     first, second = ([(x + to, y + to) for x, y in star(size - 1)[0]] for to in (0, by))
     path.write_text("".join(f"POLYGON({ring(it)})\n" for it in (first, second)))
 
 
-def beyond_start(run, turns, count=POINTS):
+def beyond_start(run: Callable[[int], float], turns: int, count: int = POINTS) -> float:
     """What one turn takes for each position."""
     return (run(turns) - run(0)) / turns / count
 
 
-def main():
+def main() -> None:
     parser = argparse.ArgumentParser(description=__doc__.splitlines()[0])
     parser.add_argument("--time", action="store_true", help="nanoseconds in place of instructions")
     options = read_options(parser, ("time",))
@@ -55,10 +56,10 @@ def main():
         folder = pathlib.Path(room)
         program, given = build_beside_geos("prepared", folder), folder / "input"
 
-        def compare(table, what, size, ways, count, turns):
+        def compare(table: Table, what: Sequence[str], size: int, ways: Sequence[str], count: int, turns: int) -> None:
             taken, found = [], []
             for how in ways:
-                def seconds(turns):
+                def seconds(turns: int) -> float:
                     return min(measure([program, how, turns], folder, given)[1] for _ in range(3))
 
                 if options.time:

@@ -4,16 +4,18 @@ The table goes to standard output, what is being measured and what is left out t
 files are removed and the programs that it started are ended.
 """
 
+import argparse
 import os
 import pathlib
 import shutil
 import signal
 import sys
 import tempfile
+from typing import Sequence
 
 import machine
 from timing import Table
-from workloads import Measure, built_programs, commands_in, compare_outputs, folder_of, outputs, ratios, workloads
+from workloads import Measure, Programs, Workload, built_programs, commands_in, compare_outputs, folder_of, outputs, ratios, workloads
 
 SIGNALS = (signal.SIGINT, signal.SIGTERM, signal.SIGHUP)
 
@@ -26,19 +28,19 @@ class Ended(BaseException):
     """A signal has ended the program."""
 
 
-def note(text):
+def note(text: str) -> None:
     """Prints a line on standard error."""
     print(text, file=sys.stderr, flush=True)
 
 
-def run(options):
+def run(options: argparse.Namespace) -> int:
     """Measures the rows and prints them; returns the status."""
     try:
         set_signals(60 * options.minutes)
         return measure_rows(options)
     except Ended as it:
         note("broken off")
-        return 128 + it.args[0]
+        return 128 + int(it.args[0])
     except Over:
         note(f"{options.minutes:g} minutes are over before the first row")
         return 1
@@ -50,14 +52,14 @@ def run(options):
         return 1
 
 
-def set_signals(seconds):
+def set_signals(seconds: float) -> None:
     """Has signals, and the end of the time that is given, raise what ends the measures."""
-    def end(number, _):
+    def end(number: int, _: object) -> None:
         for it in SIGNALS:
             signal.signal(it, signal.SIG_IGN)
         raise Ended(number)
 
-    def stop(*_):
+    def stop(*_: object) -> None:
         raise Over
 
     for it in SIGNALS:
@@ -66,7 +68,7 @@ def set_signals(seconds):
     signal.setitimer(signal.ITIMER_REAL, seconds)
 
 
-def measure_rows(options):
+def measure_rows(options: argparse.Namespace) -> int:
     """Measures each row by the ways that are there, and prints the table and the machine."""
     with tempfile.TemporaryDirectory(prefix="sfq-quick-") as name:
         room = pathlib.Path(name)
@@ -87,7 +89,7 @@ def measure_rows(options):
     return 1 if left else 0
 
 
-def print_table(rows, room, programs, ways, largest):
+def print_table(rows: Sequence[Workload], room: pathlib.Path, programs: Programs, ways: dict[str, Measure], largest: int) -> list[str]:
     """Prints the table, and returns the tasks that were left out since the time was over."""
     print("sfq, divided by the fastest peer, and by a C program for that task alone\n", flush=True)
     table = Table(["task", *(f"{it}: {head}" for it in ways for head in ("fastest peer", "C program"))])
@@ -96,14 +98,14 @@ def print_table(rows, room, programs, ways, largest):
         try:
             table.add(row(f"{number} of {len(tasks)}", workload, size, room, programs, ways))
         except Over:
-            return [it.named(at) for it, at in tasks[number - 1 :]]
+            return [it.name_of(at) for it, at in tasks[number - 1 :]]
     signal.setitimer(signal.ITIMER_REAL, 0)
     return []
 
 
-def row(place, workload, size, room, programs, ways):
+def row(place: str, workload: Workload, size: int, room: pathlib.Path, programs: Programs, ways: dict[str, Measure]) -> list[str]:
     """Measures a row: its task, and the ratios by each way, start-up left out."""
-    task = workload.named(size)
+    task = workload.name_of(size)
     bare, folder = (folder_of(room, workload, it) for it in (0, size))
     starts, commands = (commands_in(it, workload, programs) for it in (bare, folder))
     compare_outputs(outputs(commands, folder)[0], task)

@@ -21,6 +21,7 @@ import subprocess
 import sys
 import tempfile
 import time
+from typing import Any, Iterator, Optional
 
 import plots
 from timing import PROGRAM, README, ROOT, Table, exponent, figure, measure, read_options
@@ -47,14 +48,14 @@ MOST_DRAWN = 10_000_000
 WORKERS = 4
 
 
-def hash_of(answer):
+def hash_of(answer: bytes) -> bytes:
     return hashlib.sha256(answer).digest()
 
 
 class Scaled:
     """A run by a cluster: its seconds by parts, its wall clock, its longest part and its answer."""
 
-    def __init__(self, given, folder, text, cluster, rows):
+    def __init__(self, given: argparse.Namespace, folder: pathlib.Path, text: str, cluster: scale_cluster.Cluster, rows: int) -> None:
         words = [SCALE, "run", "--sfq", given.sfq, "--tiles", given.tiles, "--scheduler", cluster.address, "--explain", "--rows", rows]
         begun, before = time.monotonic(), cluster.seconds()
         ran = subprocess.run(
@@ -65,18 +66,18 @@ class Scaled:
         if ran.returncode:
             sys.exit(ran.stderr.decode())
         said = ran.stderr.decode()
-        self.seconds = {it: float(re.search(rf"seconds {it} ([\d.]+)", said)[1]) for it in ("splitting", "sfq", "client")}
+        self.seconds = {it: float(re.findall(rf"seconds {it} ([\d.]+)", said)[0]) for it in ("splitting", "sfq", "client")}
         self.seconds["cluster"] = cluster.seconds() - before
-        self.longest = float(re.search(r"longest ([\d.]+)", said)[1])
-        self.runs = int(re.search(r"runs (\d+)", said)[1])
+        self.longest = float(re.findall(r"longest ([\d.]+)", said)[0])
+        self.runs = int(re.findall(r"runs (\d+)", said)[0])
         self.answer = hash_of(ran.stdout)
 
     @property
-    def total(self):
+    def total(self) -> float:
         return sum(self.seconds.values())
 
 
-def best(runs):
+def best(runs: list[Scaled]) -> Scaled:
     """The run of least processor time, with the least of each part and of the wall clock."""
     found = min(runs, key=lambda it: it.total)
     found.seconds = {it: min(run.seconds[it] for run in runs) for it in PARTS}
@@ -84,7 +85,7 @@ def best(runs):
     return found
 
 
-def make_town(folder, trees):
+def make_town(folder: pathlib.Path, trees: int) -> tuple[int, int]:
     """Makes a town, unless it is there, and returns the rows of its two tables."""
     parcels = trees * 3 // 10
     if not folder.exists():
@@ -93,12 +94,15 @@ def make_town(folder, trees):
     return trees, parcels
 
 
-def measured(given, text, towns, clusters):
+def measured(
+    given: argparse.Namespace, text: str, towns: pathlib.Path, clusters: dict[int, scale_cluster.Cluster]
+) -> Iterator[tuple[tuple[int, int], Optional[tuple[float, ...]], dict[int, Scaled]]]:
     """Measures a query at each size: that of the town, the seconds of one run or None, and the runs of each cluster."""
     for trees in given.sizes:
         folder = towns / str(trees)
         rows = make_town(folder, trees)
-        whole, runs = [], {number: [] for number in clusters}
+        whole: list[tuple[float, float]] = []
+        runs: dict[int, list[Scaled]] = {number: [] for number in clusters}
         for _ in range(given.repeats if trees <= LARGE else 1):
             if max(rows) <= MOST_ROWS:
                 whole.append(measure([given.sfq, "run", "schema.sql", ".", text], folder)[:2])
@@ -114,25 +118,25 @@ def measured(given, text, towns, clusters):
 class Point:
     """What was measured of a query at a size: the seconds of one run, or None, and the runs of the smallest and the largest cluster."""
 
-    def __init__(self, label, size, one, runs):
+    def __init__(self, label: str, size: int, one: Optional[float], runs: dict[int, Scaled]) -> None:
         self.label, self.size, self.one = label, size, one
         self.first, self.last = runs[min(runs)], runs[max(runs)]
         self.dask = self.first.seconds["cluster"] + self.first.seconds["client"]
 
     @property
-    def name(self):
+    def name(self) -> str:
         return f"{self.label}, {self.size:,}"
 
     @property
-    def ratios(self):
+    def ratios(self) -> tuple[float, float, float]:
         """Of processor time: splitting to that of sfq in all tiles, that of Dask and Python to it, all of the largest cluster to the smallest."""
         return self.first.seconds["splitting"] / self.first.seconds["sfq"], self.dask / self.first.seconds["sfq"], self.last.total / self.first.total
 
 
-def measure_all(given, towns, clusters):
+def measure_all(given: argparse.Namespace, towns: pathlib.Path, clusters: dict[int, scale_cluster.Cluster]) -> tuple[Table, dict[str, list[Point]]]:
     """Measures all queries, prints the first table, and returns it with the points of each query."""
     costs = Table(["rows", "one run", "splitting", "sfq in tiles", "splitting / sfq", "cluster", "client", "Dask / sfq", "growth"])
-    points = {}
+    points: dict[str, list[Point]] = {}
     for label, text in QUERIES.items():
         for (trees, parcels), one, runs in measured(given, text, towns, clusters):
             it = Point(label, trees + parcels if "tree" in label else parcels, one[1] if one else None, runs)
@@ -141,12 +145,12 @@ def measure_all(given, towns, clusters):
             costs.add([
                 it.name, figure(it.one) if it.one else "too large", figure(it.first.seconds["splitting"]), figure(it.first.seconds["sfq"]),
                 f"{it.ratios[0]:.2f}", figure(it.first.seconds["cluster"]), figure(it.first.seconds["client"]), f"{it.ratios[1]:.2f}",
-                exponent(before and (before.size, before.first.total), (it.size, it.first.total)),
+                exponent((before.size, before.first.total) if before else None, (it.size, it.first.total)),
             ])
     return costs, points
 
 
-def compare_workers(points):
+def compare_workers(points: list[Point]) -> Table:
     """Prints the table of one worker beside several, and returns it."""
     table = Table(["rows", "runs", "processor, 1 worker", "4 workers", "ratio", "wall, 1 worker", "4 workers", "ratio", "longest run"])
     for it in points:
@@ -157,7 +161,7 @@ def compare_workers(points):
     return table
 
 
-def compare_aims(points):
+def compare_aims(points: list[Point]) -> Table:
     """Prints the table of aims, and returns it."""
     table, large = Table(["aim", "at most", "measured", "met"]), [it for it in points if it.size >= LARGE]
     shared = [it for it in points if it.last.runs >= WORKERS]
@@ -171,7 +175,7 @@ def compare_aims(points):
     return table
 
 
-def lines(points, drawn):
+def lines(points: list[Point], drawn: int) -> dict[str, list[Any]]:
     """Returns the lines of a panel: those of one run and of sfq-scale; and an estimate at ten times the last size, unless so many trees are drawn."""
     scaled = [(it.size, it.first.total) for it in points]
     growth = float(exponent(scaled[-2], scaled[-1])) if len(scaled) > 1 else 1
@@ -180,7 +184,7 @@ def lines(points, drawn):
     return {"sfq": [(it.size, it.one) for it in points], "peer": scaled, "estimate": estimate}
 
 
-def main():
+def main() -> None:
     parser = argparse.ArgumentParser(description=__doc__, formatter_class=argparse.RawDescriptionHelpFormatter)
     parser.add_argument("--sfq", default=str(PROGRAM))
     parser.add_argument("--tiles", default=str(TILES))
@@ -202,8 +206,8 @@ def main():
     every = [it for each in points.values() for it in each]
     tables = costs, compare_workers(every), compare_aims(every)
     if given.write:
-        for it in tables:
-            it.write_into(README)
+        for table in tables:
+            table.write_into(README)
         PICTURE.write_text(plots.times([(label, lines(each, max(given.sizes))) for label, each in points.items()]))
 
 

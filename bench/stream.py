@@ -26,7 +26,7 @@ QUERIES = (
 )
 
 
-def main():
+def main() -> None:
     parser = argparse.ArgumentParser(description=__doc__.splitlines()[0])
     parser.add_argument("--repeats", type=int, default=15, help="runs of each query (15)")
     options = read_options(parser)

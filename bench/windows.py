@@ -18,6 +18,7 @@ import math
 import pathlib
 import random
 import tempfile
+from typing import Union
 
 from peers import Comparison, add_options, build_geos, is_ready, spatialite_command, table_of_rows
 from timing import PROGRAM, README, read_options
@@ -28,7 +29,7 @@ SPAN = 1_000_000
 SCHEMA = "CREATE TABLE pt (id INTEGER PRIMARY KEY, geom POINT);"
 
 
-def window(positions):
+def window(positions: int) -> str:
     """The text of a star of this many positions, the closing one counted, or of a square where they are five."""
     chance = random.Random(positions)
     corners = []
@@ -39,7 +40,7 @@ def window(positions):
     return "POLYGON((" + ",".join(corners + corners[:1]) + "))"
 
 
-def make_points(folder, rows):
+def make_points(folder: pathlib.Path, rows: int) -> None:
     """Writes the schema and pt.csv, its rows in a shuffled order."""
     chance = random.Random(rows)
     keys = list(range(1, rows + 1))
@@ -51,7 +52,7 @@ def make_points(folder, rows):
     (folder / "pt.csv").write_text("\n".join(lines) + "\n")
 
 
-def commands(folder, geos, text):
+def commands(folder: pathlib.Path, geos: Union[str, pathlib.Path], text: str) -> dict[str, list[str]]:
     """The command of each program."""
     (folder / "window").write_text(text + "\n")
     condition = f"ST_Within(geom, ST_GeomFromText('{text}'))"
@@ -63,7 +64,7 @@ def commands(folder, geos, text):
     }
 
 
-def main():
+def main() -> None:
     parser = argparse.ArgumentParser(description=__doc__.splitlines()[0])
     add_options(parser)
     options = read_options(parser)
@@ -82,7 +83,7 @@ def main():
         table.write_into(README)
 
 
-def new_folder(name, positions, rows):
+def new_folder(name: str, positions: int, rows: int) -> pathlib.Path:
     """A folder with the schema and a table of so many points."""
     folder = pathlib.Path(name) / f"{positions}-{rows}"
     folder.mkdir()

@@ -4,10 +4,11 @@ A floor (bench/floor) is a short C program that does one workload and nothing el
 """
 
 import math
+import pathlib
 import random
 import shutil
 import sys
-from typing import Callable, NamedTuple, Optional
+from typing import Callable, NamedTuple, Optional, Union
 
 import compare
 import joins
@@ -22,8 +23,8 @@ FLOORS = FOLDER / "floor"
 class Command(NamedTuple):
     """The words of a program, and the file that is its standard input."""
 
-    words: list
-    given: str = "/dev/null"
+    words: list[str]
+    given: Union[str, pathlib.Path] = "/dev/null"
 
 
 class Workload(NamedTuple):
@@ -31,24 +32,28 @@ class Workload(NamedTuple):
     peer's name, and how README names a size, where it is there."""
 
     label: str
-    sizes: tuple
-    make: Callable
-    commands: Callable
+    sizes: tuple[int, ...]
+    make: Callable[[pathlib.Path, int], object]
+    commands: Callable[[pathlib.Path], dict[str, Command]]
     peer: str = "GEOS"
-    named: Optional[Callable] = None
+    named: Optional[Callable[[int], str]] = None
+
+    def name_of(self, size: int) -> str:
+        """How README names a size, where it is there."""
+        return self.named(size) if self.named else ""
 
 
 class Programs(NamedTuple):
     """`sfq`, the floors by their names, the peers over GEOS, and what isn't there of these, with the packages that bring it."""
 
     sfq: str
-    floors: dict
+    floors: dict[str, str]
     tables: str
     shapes: str
-    lacking: dict
+    lacking: dict[str, str]
 
 
-def built_programs(folder, sfq):
+def built_programs(folder: pathlib.Path, sfq: str) -> Programs:
     """Compiles the floors and the peers beside a program `sfq`."""
     floors = {it.stem: compiled(it, folder) for it in FLOORS.glob("*.c")}
     tables, shapes = (compiled(it, folder, "-lgeos_c") for it in (TABLES, SHAPES))
@@ -59,12 +64,13 @@ def built_programs(folder, sfq):
         lacking["GEOS"] = "gcc libc6-dev libgeos-dev"
     if shutil.which("sqlite3") is None:
         lacking["sqlite3"] = "sqlite3"
-    return Programs(sfq, floors, tables, shapes, lacking)
+    # What isn't there isn't run.
+    return Programs(sfq, {name: it or "" for name, it in floors.items()}, tables or "", shapes or "", lacking)
 
 
-def filtering(programs):
+def filtering(programs: Programs) -> Workload:
     """Numbers and texts of one table."""
-    def commands(folder):
+    def commands(folder: pathlib.Path) -> dict[str, Command]:
         return {
             "sfq": Command([str(PROGRAM), "run", "schema.sql", ".", compare.QUERY]),
             "floor": Command([programs.floors["filter"], "t.csv"]),
@@ -75,11 +81,11 @@ def filtering(programs):
     return Workload("filter, numbers and texts", (1_000, 10_000, 100_000), compare.make_table, commands, "sqlite3", named)
 
 
-def windowing(programs, positions):
+def windowing(programs: Programs, positions: int) -> Workload:
     """Points within a polygon."""
     text = windows.window(positions)
 
-    def commands(folder):
+    def commands(folder: pathlib.Path) -> dict[str, Command]:
         made = windows.commands(folder, programs.tables, text)
         floor = Command([programs.floors["window"], "pt.csv", "window"])
         return {"sfq": Command(made["sfq"]), "floor": floor, "peer": Command(made["geos"])}
@@ -88,18 +94,18 @@ def windowing(programs, positions):
     return Workload(f"points in {positions:,} positions", (1_000, 10_000, 100_000), windows.make_points, commands, named=named)
 
 
-def joining(programs, label, floor, task):
+def joining(programs: Programs, label: str, floor: str, task: str) -> Workload:
     """One of the joins that joins.py has."""
     case = next(it for it in joins.CASES if it.label == label)
     second = "first" if case.second is None else "second"
     sizes = {(it[0] if case.first is joins.points else it[0] ** 2): it for it in case.sizes}
 
-    def make(folder, size):
+    def make(folder: pathlib.Path, size: int) -> None:
         joins.make_tables(folder / "tables", case, sizes.get(size))
         for it in (folder / "tables").iterdir():
             it.rename(folder / it.name)
 
-    def commands(folder):
+    def commands(folder: pathlib.Path) -> dict[str, Command]:
         made = joins.commands(programs.tables, case.predicate, second)
         tables = ["first.csv"] if case.second is None else ["first.csv", "second.csv"]
         return {"sfq": Command(made["sfq"]), "floor": Command([programs.floors[floor], *tables]), "peer": Command(made["geos"])}
@@ -108,12 +114,12 @@ def joining(programs, label, floor, task):
     return Workload(label, tuple(sizes), make, commands, named=lambda size: task.format(size, parcels=parcels[size]))
 
 
-def corner(x, y, distance, turn):
+def corner(x: int, y: int, distance: float, turn: float) -> tuple[int, int]:
     """The position that is so far from another, in the direction of a part of a full turn."""
     return x + round(distance * math.cos(2 * math.pi * turn)), y + round(distance * math.sin(2 * math.pi * turn))
 
 
-def make_polygons(folder, count):
+def make_polygons(folder: pathlib.Path, count: int) -> None:
     """Writes a table of stars of 20 positions, the closing one counted, each in a cell of its own."""
     chance = random.Random(count)
     side = math.isqrt(count) + 1
@@ -127,9 +133,9 @@ def make_polygons(folder, count):
     (folder / "schema.sql").write_text("CREATE TABLE area (id INTEGER PRIMARY KEY, geom POLYGON);")
 
 
-def checking(programs):
+def checking(programs: Programs) -> Workload:
     """Polygons that are read and tested."""
-    def commands(folder):
+    def commands(folder: pathlib.Path) -> dict[str, Command]:
         return {
             "sfq": Command([str(PROGRAM), "check", "schema.sql", "."]),
             "floor": Command([programs.floors["check_polygons"], "area", "area.csv"]),
@@ -140,14 +146,14 @@ def checking(programs):
     return Workload("check polygons of 20", (100, 1_000, 10_000), make_polygons, commands, named=named)
 
 
-def relating(programs):
+def relating(programs: Programs) -> Workload:
     """Two stars over one another, read, tested and related."""
-    def make(folder, size):
+    def make(folder: pathlib.Path, size: int) -> None:
         texts = relate.many_crossings(max(size, 12))
         for name, text in ("first", texts[0]), ("second", texts[1]), ("input", "\n".join(texts)):
             (folder / name).write_text(f"{text}\n")
 
-    def commands(folder):
+    def commands(folder: pathlib.Path) -> dict[str, Command]:
         return {
             "sfq": Command([str(PROGRAM), "relate", "@first", "@second"]),
             "floor": Command([programs.floors["stars"], "input"]),
@@ -158,7 +164,7 @@ def relating(programs):
     return Workload("matrix of two stars", (100, 1_000, 9_998), make, commands, named=named)
 
 
-def workloads(programs):
+def workloads(programs: Programs) -> list[Workload]:
     """All of them, in the table's order."""
     return [
         filtering(programs),
@@ -170,7 +176,7 @@ def workloads(programs):
     ]
 
 
-def commands_in(folder, workload, programs):
+def commands_in(folder: pathlib.Path, workload: Workload, programs: Programs) -> dict[str, Command]:
     """What runs in a folder, of the programs that are there."""
     found = workload.commands(folder)
     found["sfq"].words[0] = programs.sfq
@@ -181,21 +187,21 @@ def commands_in(folder, workload, programs):
 class Measure:
     """How costs are taken: instructions, or nanoseconds of processor time, the least of some runs."""
 
-    def __init__(self, is_time, repeats):
+    def __init__(self, is_time: bool, repeats: int) -> None:
         self.is_time, self.repeats = is_time, repeats
 
-    def costs(self, commands, folder):
+    def costs(self, commands: dict[str, Command], folder: pathlib.Path) -> dict[str, float]:
         """The cost of each command; the programs in turn."""
         if not self.is_time:
             return {who: instructions(it.words, folder, it.given) for who, it in commands.items()}
-        runs = {who: [] for who in commands}
+        runs: dict[str, list[float]] = {who: [] for who in commands}
         for _ in range(self.repeats):
             for who, it in commands.items():
                 runs[who].append(measure(it.words, folder, it.given)[1] * 1e9)
         return {who: min(times) for who, times in runs.items()}
 
 
-def outputs(commands, folder):
+def outputs(commands: dict[str, Command], folder: pathlib.Path) -> tuple[dict[str, bytes], int]:
     """What each program prints, and the peak kilobytes of sfq."""
     printed, peak = {}, 0
     for who, it in commands.items():
@@ -205,13 +211,13 @@ def outputs(commands, folder):
     return printed, peak
 
 
-def compare_outputs(printed, name):
+def compare_outputs(printed: dict[str, bytes], name: str) -> None:
     """Says where sfq and the floor print different texts."""
     if printed["sfq"] != printed.get("floor", printed["sfq"]):
         print(f"{name}: sfq and the floor print different texts", file=sys.stderr)
 
 
-def folder_of(room, workload, size):
+def folder_of(room: pathlib.Path, workload: Workload, size: int) -> pathlib.Path:
     """A folder with the files of a size."""
     folder = room / f"{workload.label.replace(' ', '-')}-{size}"
     folder.mkdir()
@@ -219,7 +225,7 @@ def folder_of(room, workload, size):
     return folder
 
 
-def ratios(workload, beyond):
+def ratios(workload: Workload, beyond: dict[str, float]) -> list[str]:
     """What `sfq` takes beyond its start-up of what the peer and the floor take, as README has it; what isn't there is named."""
     peer = f"{beyond['sfq'] / beyond['peer']:.2f}, {workload.peer}" if "peer" in beyond else f"no {workload.peer}"
     return [peer, f"{beyond['sfq'] / beyond['floor']:.1f}" if "floor" in beyond else "no gcc"]

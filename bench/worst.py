@@ -28,7 +28,7 @@ import subprocess
 import sys
 import tempfile
 from concurrent.futures import ThreadPoolExecutor
-from typing import Callable, NamedTuple, Optional
+from typing import Any, Callable, Iterator, NamedTuple, Optional, Sequence, TypeVar, Union
 
 import bad_shapes as shapes
 import bad_tables as tables
@@ -36,6 +36,8 @@ from joins import commands as spatial_commands
 from peers import SHAPES, TABLES, compiled
 from timing import PROGRAM, README, Table, exponent, figure, instructions, read_options, probe, shares
 
+
+Made = TypeVar("Made")
 
 # The size at which the first input of a kind takes little more than start-up.
 SMALLEST = 4
@@ -49,7 +51,7 @@ class Input(NamedTuple):
     measured yet. Lower it where that falls."""
 
     label: str
-    make: Callable
+    make: Callable[[int], Any]
     size: int
     small: int
     bound: Optional[float] = None
@@ -265,7 +267,7 @@ QUADRATIC = {
 FAULT = 4
 
 
-def start_of(bad):
+def start_of(bad: Input) -> Input:
     """The input whose smallest size gives the start-up of a command."""
     return next(kind[0] for kind in (PAIRS, SINGLES + FAULTY, SPATIAL, PLAIN + ALONE) if bad in kind)
 
@@ -273,7 +275,7 @@ def start_of(bad):
 class Run(NamedTuple):
     """A command, the file on its standard input, and the status that it ends with."""
 
-    command: list
+    command: Sequence[object]
     given: str = os.devnull
     status: int = 0
 
@@ -281,11 +283,11 @@ class Run(NamedTuple):
 class Peers:
     """The peers that are there; GEOS is compiled here."""
 
-    def __init__(self, folder):
+    def __init__(self, folder: pathlib.Path) -> None:
         self.sqlite = has_spatialite()
         self.geos, self.geos_tables = (compiled(source, folder, "-lgeos_c") for source in (SHAPES, TABLES))
 
-    def name_lacking(self, is_written):
+    def name_lacking(self, is_written: bool) -> "Peers":
         """Says which are left out, and ends the program where the table is to be written."""
         lacking = [] if self.geos and self.geos_tables else ["GEOS is left out: apt-get install gcc libc6-dev libgeos-dev"]
         if not self.sqlite:
@@ -297,13 +299,13 @@ class Peers:
         return self
 
 
-def has_spatialite():
+def has_spatialite() -> bool:
     """Whether `sqlite3` is there, and loads SpatiaLite."""
-    return shutil.which("sqlite3") and subprocess.run(
+    return shutil.which("sqlite3") is not None and subprocess.run(
         ["sqlite3", ":memory:", ".load mod_spatialite"], stdout=subprocess.DEVNULL, stderr=subprocess.DEVNULL).returncode == 0
 
 
-def runs_of(bad, size, folder, program, peers):
+def runs_of(bad: Input, size: int, folder: pathlib.Path, program: Union[str, pathlib.Path], peers: Optional[Peers]) -> dict[str, Run]:
     """Makes an input at a size in a folder, and returns what each program runs there, `sfq` first."""
     made = bad.make(size)
     if bad in PAIRS:
@@ -313,7 +315,7 @@ def runs_of(bad, size, folder, program, peers):
     return runs_of_tables(made, folder, program, peers)
 
 
-def runs_of_pair(texts, folder, program, peers):
+def runs_of_pair(texts: tuple[str, str], folder: pathlib.Path, program: Union[str, pathlib.Path], peers: Optional[Peers]) -> dict[str, Run]:
     """The matrix of two geometries."""
     (folder / "input").write_text("\n".join(texts) + "\n")
     runs = {"sfq": Run([program, "relate", *texts])}
@@ -322,7 +324,7 @@ def runs_of_pair(texts, folder, program, peers):
     return runs
 
 
-def runs_of_single(text, folder, program, peers, status):
+def runs_of_single(text: str, folder: pathlib.Path, program: Union[str, pathlib.Path], peers: Optional[Peers], status: int) -> dict[str, Run]:
     """The validity of a geometry; the status that sfq ends with."""
     (folder / "input").write_text(text + "\n")
     (folder / "schema.sql").write_text("CREATE TABLE one (id INTEGER PRIMARY KEY, geom GEOMETRY);\n")
@@ -333,7 +335,7 @@ def runs_of_single(text, folder, program, peers, status):
     return runs
 
 
-def runs_of_tables(made, folder, program, peers):
+def runs_of_tables(made: tables.Tables, folder: pathlib.Path, program: Union[str, pathlib.Path], peers: Optional[Peers]) -> dict[str, Run]:
     """The rows of a query over two tables."""
     names = ",".join([*(column.split()[0] for column in made.columns.split(", ")), *made.ignored])
     columns = f"(id INTEGER PRIMARY KEY, {made.columns})"
@@ -348,14 +350,14 @@ def runs_of_tables(made, folder, program, peers):
     return runs | (peers_of_join(made, peers) if made.predicate else peers_of_query(made, columns, peers))
 
 
-def peers_of_join(made, peers):
+def peers_of_join(made: tables.Tables, peers: Peers) -> dict[str, Run]:
     """The peers of a join by a predicate of geometries, which print all its pairs."""
-    given = spatial_commands(peers.geos_tables, made.predicate, "second")
+    given = spatial_commands(str(peers.geos_tables), str(made.predicate), "second")
     there = {"SpatiaLite": peers.sqlite and given["spatialite"], "GEOS": peers.geos_tables and given["geos"]}
     return {who: Run(command) for who, command in there.items() if command}
 
 
-def peers_of_query(made, columns, peers):
+def peers_of_query(made: tables.Tables, columns: str, peers: Peers) -> dict[str, Run]:
     """The peer of a query without a geometry."""
     if not peers.sqlite:
         return {}
@@ -366,10 +368,11 @@ def peers_of_query(made, columns, peers):
     return {"sqlite3": Run(["sqlite3", ":memory:", *script, made.query + ";"])}
 
 
-def least(run, folder, options):
+def least(run: Run, folder: pathlib.Path, options: argparse.Namespace) -> tuple[Optional[float], int]:
     """The least processor seconds of some runs, of a long one of fewer, and the greatest kilobytes; None for the seconds where a
     run is broken off or gives no answer."""
-    times, peaks = [], []
+    times: list[float] = []
+    peaks: list[int] = []
     while len(times) < options.repeats and sum(times) < options.seconds / 4:
         _, processor, peak, status = probe(run.command, folder, folder / run.given, options.seconds)
         peaks.append(peak)
@@ -384,15 +387,15 @@ def least(run, folder, options):
 class Measures:
     """The rows of the table, of which each is one input at two sizes."""
 
-    def __init__(self, room, program, peers, options):
+    def __init__(self, room: pathlib.Path, program: Union[str, pathlib.Path], peers: Optional[Peers], options: argparse.Namespace) -> None:
         self.room, self.program, self.peers, self.options = room, program, peers, options
-        self.starts = {}
+        self.starts: dict[tuple[str, str], float] = {}
 
-    def folder(self, name):
+    def folder(self, name: str) -> pathlib.Path:
         """A new folder for an input at a size."""
         return pathlib.Path(tempfile.mkdtemp(prefix=name, dir=self.room))
 
-    def start(self, bad, who):
+    def start(self, bad: Input, who: str) -> float:
         """The processor seconds of a program's start-up: what the smallest input of this kind takes."""
         smallest = start_of(bad)
         if (smallest.label, who) not in self.starts:
@@ -401,7 +404,7 @@ class Measures:
             self.starts[smallest.label, who] = least(run, folder, self.options)[0] or 0
         return self.starts[smallest.label, who]
 
-    def beyond_start(self, bad, size, only=None):
+    def beyond_start(self, bad: Input, size: int, only: Optional[str] = None) -> dict[str, tuple[Optional[float], int]]:
         """Of each program, or of one alone, the processor seconds beyond its start-up, and kilobytes."""
         folder = self.folder("input")
         measured = {}
@@ -412,14 +415,14 @@ class Measures:
         shutil.rmtree(folder)
         return measured
 
-    def row(self, bad):
+    def row(self, bad: Input) -> list[str]:
         """Measures an input, and returns its row."""
         small = self.beyond_start(bad, bad.size, "sfq")["sfq"][0]
         measured = self.beyond_start(bad, 2 * bad.size)
         ours, peak = measured.pop("sfq")
         growth = exponent((bad.size, small), (2 * bad.size, ours)) if small and ours else ""
         answers = {who: seconds for who, (seconds, _) in measured.items() if seconds}
-        best = min(answers, key=answers.get, default=None)
+        best = min(answers, key=answers.__getitem__, default=None)
         peer = f"{best} {figure(answers[best] * 1e3)}" if best else ""
         if not best and measured:
             peer = f"{', '.join(measured)} > {self.options.seconds * 1_000:,}"
@@ -427,7 +430,7 @@ class Measures:
         times = [self.shown(small), self.shown(ours)]
         return [bad.label, f"{bad.size:,}", *times, growth, peer, ratio, f"{peak / 1024:.0f}"]
 
-    def shown(self, seconds):
+    def shown(self, seconds: Optional[float]) -> str:
         """A time in milliseconds, or that a run was broken off."""
         return figure(seconds * 1e3) if seconds else f"> {self.options.seconds * 1_000:,}"
 
@@ -435,15 +438,15 @@ class Measures:
 class Profiles:
     """The time of an input at a limit, and where the instructions of a small one go."""
 
-    def __init__(self, room, program, options):
+    def __init__(self, room: pathlib.Path, program: Union[str, pathlib.Path], options: argparse.Namespace) -> None:
         self.room, self.program, self.options = room, program, options
 
-    def run(self, bad, size):
+    def run(self, bad: Input, size: int) -> tuple[pathlib.Path, Run]:
         """A new folder with an input of a size, and what `sfq` runs there."""
         folder = pathlib.Path(tempfile.mkdtemp(prefix="input", dir=self.room))
         return folder, runs_of(bad, size, folder, self.program, None)["sfq"]
 
-    def row(self, bad):
+    def row(self, bad: Input) -> list[str]:
         """Measures an input, and returns its row."""
         size = QUADRATIC[bad.label]
         folder, run = self.run(bad, size)
@@ -456,28 +459,29 @@ class Profiles:
 class Counts:
     """Instructions of `sfq` on inputs of small sizes, by valgrind, beyond those of its start-up, which are taken first."""
 
-    def __init__(self, room, program):
-        self.room, self.program, self.starts = room, program, {}
+    def __init__(self, room: pathlib.Path, program: Union[str, pathlib.Path]) -> None:
+        self.room, self.program = room, program
+        self.starts: dict[str, int] = {}
 
-    def at(self, bad, size):
+    def at(self, bad: Input, size: int) -> int:
         """Those of an input at a size."""
         with tempfile.TemporaryDirectory(dir=self.room) as name:
             folder = pathlib.Path(name)
             run = runs_of(bad, size, folder, self.program, None)["sfq"]
             return instructions(run.command, folder, status=run.status)
 
-    def take_starts(self):
+    def take_starts(self) -> None:
         """Counts those of start-up: what the smallest input of each kind takes."""
         self.starts = {it.label: self.at(it, SMALLEST) for it in set(map(start_of, ALL))}
 
-    def growth(self, bad):
+    def growth(self, bad: Input) -> tuple[int, int, float]:
         """The counts at the small size of an input and at twice that, and the exponent between them."""
         start = self.starts[start_of(bad).label]
         before, now = (self.at(bad, size) - start for size in (bad.small, 2 * bad.small))
         return before, now, float(exponent((1, before), (2, now)))
 
 
-def main():
+def main() -> None:
     parser = argparse.ArgumentParser(description=__doc__.splitlines()[0])
     parser.add_argument("--program", default=str(PROGRAM), help="the program that is measured (that of ./build)")
     parser.add_argument("--seconds", type=int, default=20, help="processor seconds at which a run is broken off (20)")
@@ -492,35 +496,36 @@ def main():
         sys.exit("the program isn't built: run ./build")
     program = os.path.abspath(options.program)
     chosen = [bad for bad in ALL if options.only in bad.label]
-    with tempfile.TemporaryDirectory() as room:
+    with tempfile.TemporaryDirectory() as name:
+        room = pathlib.Path(name)
         if options.instructions:
             table = table_of_counts(chosen, Counts(room, program), options)
         elif options.profile:
             table = table_of_profiles(chosen, Profiles(room, program, options), options)
         else:
-            peers = Peers(pathlib.Path(room)).name_lacking(options.write)
+            peers = Peers(room).name_lacking(options.write)
             table = table_of_times(chosen, Measures(room, program, peers, options), options)
     if options.write:
         table.write_into(README)
 
 
-def with_bounds(text, growths):
+def with_bounds(text: str, growths: dict[str, float]) -> str:
     """This file's text with the bounds that follow from the growths of some inputs, by their labels."""
 
-    def bounded(line):
+    def bounded(line: re.Match[str]) -> str:
         growth = growths.get(line[2])
         return line[0] if growth is None else f'{line[1]}, {max(growth, 1) + MARGIN:.2f})'
 
     return re.sub(r'(    Input\("([^"]*)", \w+\.\w+, [\d_]+, [\d_]+)(?:, [\d.]+)?\)', bounded, text)
 
 
-def side_by_side(what, chosen, jobs):
+def side_by_side(what: Callable[[Input], Made], chosen: Sequence[Input], jobs: int) -> Iterator[tuple[Input, Made]]:
     """What a function returns of each input, in order, of so many at a time."""
     with ThreadPoolExecutor(jobs) as pool:
         yield from zip(chosen, pool.map(what, chosen))
 
 
-def table_of_counts(chosen, counts, options):
+def table_of_counts(chosen: Sequence[Input], counts: Counts, options: argparse.Namespace) -> Table:
     """The table of instructions; it sets the bounds of its inputs where that is asked for."""
     growths = {}
     table = Table(["input", "n", "sfq at n, millions", "at 2n", "exponent", "bound"])
@@ -535,7 +540,7 @@ def table_of_counts(chosen, counts, options):
     return table
 
 
-def table_of_profiles(chosen, profiles, options):
+def table_of_profiles(chosen: Sequence[Input], profiles: Profiles, options: argparse.Namespace) -> Table:
     """The table of what grows with a square."""
     table = Table(["input", "n", "sfq s", "of 100 instructions"])
     for _, row in side_by_side(profiles.row, [bad for bad in chosen if bad.label in QUADRATIC], options.jobs):
@@ -543,7 +548,7 @@ def table_of_profiles(chosen, profiles, options):
     return table
 
 
-def table_of_times(chosen, measures, options):
+def table_of_times(chosen: Sequence[Input], measures: Measures, options: argparse.Namespace) -> Table:
     """The table of times."""
     table = Table(["input", "n", "sfq ms at n", "at 2n", "exponent", "best peer, ms at 2n", "ratio", "MB"])
     for _, row in side_by_side(measures.row, chosen, options.jobs):

@@ -9,7 +9,7 @@ SANITIZED = ["-g", "-O1", "-fsanitize=address,undefined", "-fno-sanitize-recover
 
 
 @functools.lru_cache(maxsize=None)
-def has_sanitizers():
+def has_sanitizers() -> bool:
     """Whether the compiler makes programs that sanitizers watch."""
     with tempfile.TemporaryDirectory(prefix="sfq-sanitizers-") as room:
         words = ["cc", *SANITIZED, "-x", "c", "-", "-o", f"{room}/it"]
@@ -20,11 +20,11 @@ def has_sanitizers():
         return made.returncode == 0 and subprocess.run([f"{room}/it"], capture_output=True).returncode == 0
 
 
-def trapping():
+def trapping() -> str:
     """Returns the flags by which undefined behaviour ends a program that another one loads, none where the compiler hasn't them."""
     return "-fsanitize=undefined -fno-sanitize=alignment,vptr -fsanitize-undefined-trap-on-error" if has_sanitizers() else ""
 
 
-def watched():
+def watched() -> list[str]:
     """Returns the flags by which a program is watched, none where the compiler has no sanitizers."""
     return SANITIZED if has_sanitizers() else ["-g", "-O1"]

@@ -5,7 +5,7 @@ import os
 import re
 import tempfile
 import unittest
-from typing import Dict, List, NamedTuple
+from typing import Mapping, NamedTuple
 
 import library
 import printed
@@ -31,9 +31,9 @@ class Query(NamedTuple):
 
     tables: str
     text: str
-    rows: List[tuple]
+    rows: list[tuple[str, ...]]
     schema: str
-    files: Dict[str, str]
+    files: dict[str, str]
 
 
 class WithLibrary(unittest.TestCase):
@@ -42,17 +42,17 @@ class WithLibrary(unittest.TestCase):
     ASKS_LIBRARY = True
 
     @classmethod
-    def setUpClass(cls):
+    def setUpClass(cls) -> None:
         if not library.are_made():
             raise unittest.SkipTest("needs ./build --library")
 
 
-def rows_of(name):
+def rows_of(name: str) -> list[required_rows.Row]:
     with open(f"{DATA}/{name}.txt", encoding="utf-8") as file:
         return required_rows.rows_of(file.read())
 
 
-def reasons():
+def reasons() -> list[tuple[list[str], str]]:
     """Returns what the command `why` prints for texts of its script: the words, of which there are one or two, and the lines."""
     found = []
     for row in rows_of("why"):
@@ -62,7 +62,7 @@ def reasons():
     return found
 
 
-def pairs():
+def pairs() -> list[Pair]:
     """Returns the pairs that scripts relate, but for texts that no word of a command line can have."""
     found = []
     for row in [row for name in ("relations", "validity", "texts", "locations") for row in rows_of(name)]:
@@ -74,15 +74,17 @@ def pairs():
     return found
 
 
-def canonical_texts():
+def canonical_texts() -> list[tuple[str, str]]:
     """Returns texts of geometries, each with its canonical text as the engine prints it."""
     row = next(it for it in rows_of("texts") if it.command.startswith("SELECT"))
     spelled = list(csv.reader(io.StringIO(row.files["table spelled"], newline="")))[1:]
     canonical = list(csv.reader(io.StringIO(row.output, newline="")))[1:]
-    return [(one[1], other[1]) for one, other in zip(spelled, canonical, strict=True)]
+    if len(spelled) != len(canonical):
+        raise ValueError("the script's table and its output differ in their number of rows")
+    return [(one[1], other[1]) for one, other in zip(spelled, canonical)]
 
 
-def measures():
+def measures() -> list[tuple[str, str, bool, list[str]]]:
     """Returns texts of geometries, each with its dimension, whether it is empty, and its bounds, least and greatest x, least and greatest y."""
     found = []
     for _, text in canonical_texts():
@@ -93,12 +95,12 @@ def measures():
     return found
 
 
-def quoted(field):
+def quoted(field: str) -> str:
     """Returns a field of CSV as SQL has it: an empty one is NULL."""
     return "'" + field.replace("'", "''") + "'" if field else "NULL"
 
 
-def as_sql(schema, tables):
+def as_sql(schema: str, tables: Mapping[str, str]) -> str:
     """Returns the SQL that makes tables and their rows, with geometries as texts. `tables` has the text of CSV by the name."""
     text = re.sub(r"\b(GEOMETRY|(MULTI)?(POINT|LINESTRING|POLYGON))\b", "TEXT", re.sub(r"--.*", "", schema))
     lines = [text if text.rstrip().endswith(";") else text.rstrip() + ";\n"]
@@ -108,19 +110,19 @@ def as_sql(schema, tables):
     return "\n".join(lines)
 
 
-def sorted_rows(text):
+def sorted_rows(text: str) -> list[tuple[str, ...]]:
     """Returns the rows of a CSV text, sorted."""
-    return sorted(map(tuple, csv.reader(io.StringIO(text, newline=""))))
+    return sorted(tuple(it) for it in csv.reader(io.StringIO(text, newline="")))
 
 
-def files_of(folder):
+def files_of(folder: str) -> tuple[str, dict[str, str]]:
     """Returns the schema of a folder of examples/, and the text of CSV of each table by its name."""
     names = sorted(it for it in os.listdir(f"{repository.ROOT}/{folder}") if it.endswith(".csv"))
     files = {it[:-4]: repository.read(f"{repository.ROOT}/{folder}/{it}") for it in names}
     return repository.read(f"{repository.ROOT}/{folder}/schema.sql"), files
 
 
-def example_queries():
+def example_queries() -> list[Query]:
     """Returns the queries over examples/ that documents show, with the rows that they show."""
     with tempfile.TemporaryDirectory(prefix="sfq-documents-") as room:
         shown = [it for it in printed.everything(room) if it.words[:1] == ["run"] and it.words[-2].startswith("examples/")]
@@ -132,7 +134,7 @@ def example_queries():
     return list(found.values())
 
 
-def predicate_queries():
+def predicate_queries() -> list[Query]:
     """Returns the queries of the predicates' script with their rows."""
     found = []
     for row in rows_of("predicates"):

@@ -7,6 +7,7 @@ import pickle
 import random
 import unittest
 import warnings
+from fractions import Fraction
 from unittest import mock
 
 import geopandas
@@ -75,7 +76,7 @@ def rounded(series, step, origin=("0", "0")):
     """Returns a GeoSeries as it is on the grid, in steps, as sfq-import rounds it, without what sfq refuses."""
     grid, found = grids.Grid(step, origin), []
     for it in series:
-        text = None if it is None else binary.text(binary.shape(it.wkb), grid, grids.Shift())
+        text = None if it is None else binary.text(it.wkb, grid, grids.Shift())
         found.append(wkt.loads(text) if text and sfq.Geometry(text).is_valid else None)
     return GeoSeries(found, index=series.index)
 
@@ -208,30 +209,50 @@ class Grids(unittest.TestCase):
     """Rounding, what is said of it, and what is refused."""
 
     def test_what_is_said_of_rounding(self):
-        """The counts are those of sfq-import."""
+        """The counts, by hand."""
         numbers = [(1.004, 2), (3, 4.0051), (7.11, 8.22), (0.005, 0)]
-        shift = grids.Shift()
-        grids.Grid("0.01").rounded([it for pair in numbers for it in pair], shift)
         left = frame([Point(*it) for it in numbers] + [LineString([(0, 0), (0.001, 0), (5, 5)])])
         found, (said,) = warned(sfq.geopandas.sjoin, left, frame([box(0, 0, 9, 9)]), step=0.01)
         self.assertIs(said.category, sfq.geopandas.RoundingWarning)
         self.assertEqual(said.filename, __file__)
         self.assertEqual(
             str(said.message),
-            "sfq: rounded to the step 0.01 from the origin 0,0; left: 4 of 7 positions moved by at most 0.005, 0.00213 in the mean, "
-            "1 merged; right: 0 of 5 positions moved by at most 0, 0 in the mean, 0 merged",
+            "sfq: rounded to the step 0.01 from the origin 0,0; left: 4 of 7 positions moved by at most 0.005, "
+            "1 merged; right: 0 of 5 positions moved by at most 0, 0 merged",
         )
         kept = found.attrs["sfq"]
         self.assertEqual(json.loads(json.dumps(kept)), kept)
         self.assertEqual([kept["step"], kept["origin"], kept["left"]["moved"], kept["left"]["positions"]], ["0.01", ["0", "0"], 4, 7])
-        self.assertAlmostEqual(kept["left"]["greatest"], shift.greatest)
-        self.assertAlmostEqual(kept["left"]["mean"] * 7, shift.total + 0.001)
+        self.assertAlmostEqual(kept["left"]["greatest"], 0.005)
 
     def test_no_warning_where_nothing_moves(self):
         left = frame([Point(1, 2), Point(564_000, 5_935_000)])
         for words in ({}, {"step": None}, {"step": "1"}):
             found, said = warned(sfq.geopandas.sjoin, left, left, **words)
             self.assertEqual((len(found), said), (2, []), words)
+
+    def test_each_position_that_moves_counts(self):
+        """As a double 0.1 + 0.2 is 2**-54 more than the one that is nearest to 0.3, and 3.7649999999999997 is 2**-51 less than 3.765."""
+        left = frame([Point(0.1 + 0.2, 1), Point(0.3, 1), box(0, 0, 3.7649999999999997, 1)])
+        found, (said,) = warned(sfq.geopandas.sjoin, left, left, step="0.001")
+        kept = found.attrs["sfq"]["left"]
+        self.assertEqual((kept["positions"], kept["moved"]), (7, 4))
+        self.assertAlmostEqual(kept["greatest"] / float(Fraction("3.765") - Fraction(3.7649999999999997)), 1)
+        self.assertIn("left: 4 of 7 positions moved by at most ", str(said.message))
+
+    def test_relations_that_change(self):
+        """A sliver of 2**-51, a gap of a quarter, and a pair that stays."""
+        left = frame([box(0, 0, 1, 1), box(1 - 2**-53, 0, 2, 1), box(2.25, 0, 3, 1), box(2.5, 0.25, 2.75, 0.5)])
+        left.index = list("abcd")
+        found, _ = warned(sfq.geopandas.changed, left, step="0.5", on_invalid="warn")
+        self.assertEqual([tuple(it) for it in found[["left", "right", "before", "after"]].itertuples(index=False)], [("a", "b", "overlaps", "touches")])
+        self.assertTrue(all(1 - 2**-53 <= it.x <= 1 and 0 <= it.y <= 1 for it in found.geometry))
+        found, _ = warned(sfq.geopandas.sjoin, left.iloc[:3], left.iloc[1:3], step="1", relations=True)
+        self.assertEqual(found.attrs["sfq"]["relations"], {
+            "pairs": 5, "changed": 3, "said": "rounding changed 3 of 5 pairs that meet: 2 were apart by at most a step and now touch; "
+            "1 overlapped by at most a step and now touches",
+        })
+        self.assertEqual(json.loads(json.dumps(found.attrs["sfq"])), found.attrs["sfq"])
 
     def grid(self, found, system=None, **words):
         series = GeoSeries(found, crs=system)
@@ -240,15 +261,15 @@ class Grids(unittest.TestCase):
 
     def test_proposed_steps_and_origins(self):
         for found, system, words, wanted in (
-            ([Point(564_000.123, 5_935_000.5), Point(565_000, 5_936_000)], 25832, {}, ("0.01", ["565000", "5936000"], 0)),
+            ([Point(564_000.123, 5_935_000.5), Point(565_000, 5_936_000)], 25832, {}, ("0.001", ["564500", "5935500"], 0)),
             ([Point(0, 0), Point(99_000, 1)], 25832, {}, ("0.01", ["0", "0"], 0)),
             ([Point(-900_000, 0), Point(900_000, 1)], 25832, {}, ("0.1", ["0", "0"], 0)),
-            ([Point(-180, -90), Point(180, 83.6)], 4326, {}, ("0.00002", ["0", "0"], 0)),
+            ([Point(-180, -90), Point(180, 83.6)], 4326, {}, ("0.0001", ["0", "0"], 0)),
             ([Point(8.1, 47.2), Point(8.2, 47.3)], 4326, {}, ("0.0000001", ["8.15", "47.25"], 0)),
             # Feet of the survey, and no system at all.
             ([Point(900_000, 120_000), Point(1_060_000, 270_000)], 2263, {}, ("0.01", ["980000", "195000"], 0)),
             ([Point(0, 0), Point(1, 1)], None, {}, ("0.0000001", ["0", "0"], 0)),
-            ([Point(0, 0), Point(1_000_000, 1)], None, {}, ("0.05", ["500000", "0"], 0)),
+            ([Point(0, 0), Point(1_000_000, 1)], None, {}, ("0.1", ["0", "0"], 0)),
             ([Point(-1_000_000, 0), Point(1_000_000, 1)], None, {}, ("0.1", ["0", "0"], 0)),
             ([Point(0, 0), Point(300, 5)], None, {}, ("0.01", ["0", "0"], 0)),
             ([None, Point()], None, {}, ("0.0000001", ["0", "0"], 0)),
@@ -336,8 +357,16 @@ class LaterShapely(unittest.TestCase):
         return numpy.array([-1 if it is None else 3 if it.has_z else 2 for it in geometry])
 
     def get_coordinates(self, geometry):
-        """Nothing for an empty point."""
-        return numpy.array([[it.x, it.y] for it in geometry if not it.is_empty], dtype=float).reshape(-1, 2)
+        """Nothing for an empty geometry and a missing one."""
+        found = [position[:2] for it in geometry if it is not None and not it.is_empty for position in self.positions(it)]
+        return numpy.array(found, dtype=float).reshape(-1, 2)
+
+    def positions(self, shape):
+        """Returns the positions of a geometry."""
+        if hasattr(shape, "geoms"):
+            return [position for it in shape.geoms for position in self.positions(it)]
+        rings = [shape.exterior, *shape.interiors] if shape.type == "Polygon" else [shape]
+        return [position for it in rings for position in it.coords]
 
     def test_missing_geometries_and_heights(self):
         left, right = frame([Point(1, 2, 3), None, Point(9, 9)]), frame([box(0, 0, 4, 4)])

@@ -50,7 +50,7 @@ def texts(source, folder):
     opened = ogr.Open(source)
     # A geometry is gone with its feature.
     of_records = {it.GetFID(): bytes(it.GetGeometryRef().ExportToIsoWkb(1)) for it in opened.GetLayer(0) if it.GetGeometryRef()}
-    return {number: binary.text(binary.shape(it), grid, grids.Shift()) for number, it in of_records.items()}
+    return {number: binary.text(it, grid, grids.Shift()) for number, it in of_records.items()}
 
 
 def meetings(source, folder):

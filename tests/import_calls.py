@@ -33,6 +33,11 @@ def collection(path, features):
     write(path, json.dumps({"type": "FeatureCollection", "features": features}, ensure_ascii=False))
 
 
+# A feature that sfq refuses, whose reason is `W1 at 0: GEOMETRYCOLLECTION`.
+MIXED = {"type": "Feature", "properties": {}, "geometry": {"type": "GeometryCollection", "geometries": [
+    {"type": "Point", "coordinates": [1, 2]}, {"type": "LineString", "coordinates": [[1, 2], [3, 4]]}]}}
+
+
 class WithImports(engine_rows.WithLibrary):
     """A test case of imports by the command, over the library that ./build --library made. Each folder that one makes has to load."""
 

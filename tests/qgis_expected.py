@@ -24,7 +24,7 @@ def texts_of(source, layer, grid):
             continue
         geometry.FlattenTo2D()
         try:
-            yield feature.GetFID(), binary.text(binary.shape(bytes(geometry.ExportToIsoWkb(ogr.wkbNDR))), grid, grids.Shift())
+            yield feature.GetFID(), binary.text(bytes(geometry.ExportToIsoWkb(ogr.wkbNDR)), grid, grids.Shift())
         except binary.NoText:
             yield feature.GetFID(), None
 

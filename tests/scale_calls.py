@@ -9,6 +9,7 @@ import os
 import runpy
 import sys
 import tempfile
+from typing import Any
 
 ROOT = os.path.dirname(os.path.dirname(os.path.realpath(__file__)))
 runpy.run_path(f"{ROOT}/tools/paths.py")
@@ -16,7 +17,7 @@ runpy.run_path(f"{ROOT}/tools/paths.py")
 from sfq_scale import command
 
 
-def call(words):
+def call(words: list[str]) -> list[Any]:
     """Makes one call, and returns what it wrote and its status."""
     with tempfile.TemporaryFile() as out, tempfile.TemporaryFile() as err:
         kept = os.dup(1), os.dup(2)
@@ -24,15 +25,15 @@ def call(words):
             for number, it in ((1, out), (2, err)):
                 os.dup2(it.fileno(), number)
             try:
-                status = command.answer(command.read_words(words))
-            except SystemExit as it:
-                status = it.code
+                status: Any = command.answer(command.read_words(words))
+            except SystemExit as end:
+                status = end.code
         finally:
             sys.stdout.flush()
             sys.stderr.flush()
-            for number, it in zip((1, 2), kept):
-                os.dup2(it, number)
-                os.close(it)
+            for number, old in zip((1, 2), kept):
+                os.dup2(old, number)
+                os.close(old)
         texts = []
         for it in (out, err):
             it.seek(0)
@@ -40,7 +41,7 @@ def call(words):
         return [*texts, status]
 
 
-def main():
+def main() -> None:
     given = json.load(sys.stdin)
     exec(given["before"], {})
     found = [call(it) for it in given["calls"]]

@@ -2,6 +2,7 @@
 import csv
 import os
 import random
+from typing import Iterable, Sequence
 
 SCHEMA = """-- Land, what is built on it, and what crosses it; `s` and `w` are names that marks have as well.
 CREATE TABLE parcel (id INTEGER PRIMARY KEY, name TEXT, geom POLYGON, w INTEGER);
@@ -50,17 +51,17 @@ QUERIES = [
 NAMES = ["Quay House", "a \"quoted\" name", "two\nlines", "one, two", "", "ends\r\n", "\u00c5rhus", "it's FROM here; -- (a) AND \"b\"", "'"]
 
 
-def ring(x, y, wide, high):
+def ring(x: int, y: int, wide: int, high: int) -> str:
     return f"POLYGON(({x} {y},{x + wide} {y},{x + wide} {y + high},{x} {y + high},{x} {y}))"
 
 
-def write_table(folder, name, header, rows):
+def write_table(folder: str, name: str, header: Sequence[object], rows: Iterable[Sequence[object]]) -> None:
     os.makedirs(folder, exist_ok=True)
     with open(f"{folder}/{name}.csv", "w", encoding="utf-8", newline="") as file:
         csv.writer(file, lineterminator="\n").writerows([header, *rows])
 
 
-def small(folder, seed=1):
+def small(folder: str, seed: int = 1) -> None:
     """Writes the schema and small tables: squares that share corners and sides, points on them, and lines along them."""
     draw = random.Random(seed)
     with open(f"{folder}/schema.sql", "w", encoding="utf-8") as file:
@@ -85,7 +86,7 @@ def small(folder, seed=1):
     write_table(folder, "bare", ["id", "geom"], [])
 
 
-def land(folder, side, points, seed=1):
+def land(folder: str, side: int, points: int, seed: int = 1) -> None:
     """Writes squares in rows and points over them, as `parcel` and `tree`, some trees on corners."""
     draw = random.Random(seed)
     with open(f"{folder}/schema.sql", "w", encoding="utf-8") as file:
@@ -101,7 +102,7 @@ def land(folder, side, points, seed=1):
             file.write(f"{at},POINT({draw.randrange(100 * side + 1)} {draw.randrange(100 * side + 1)})\n")
 
 
-def crowds(folder, kind, seed=1):
+def crowds(folder: str, kind: str, seed: int = 1) -> None:
     """Writes two tables of skewed areas: all over one point, many in one corner, in a few towns, or with one line across them all."""
     draw = random.Random(seed)
     with open(f"{folder}/schema.sql", "w", encoding="utf-8") as file:

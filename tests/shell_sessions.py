@@ -15,7 +15,7 @@ import tempfile
 import termios
 import time
 
-from support import ROOT, python_command, read, write
+from support import ROOT, over_program, read, write
 
 import printed
 
@@ -74,7 +74,7 @@ class Program:
 
     def words(self, *more, schema=SCHEMA, folder=FOLDER):
         """Returns the words of a session."""
-        return [*python_command(sys.executable, "sfq-shell"), "--sfq", f"{self.room}/sfq", schema, folder, *more]
+        return [*over_program(sys.executable, f"{self.room}/sfq", "sfq-shell"), schema, folder, *more]
 
     def environment(self):
         return {**os.environ, "PATH": f"{self.room}:{os.environ['PATH']}", "XDG_STATE_HOME": f"{self.room}/state", "TERM": "dumb"}

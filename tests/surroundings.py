@@ -9,8 +9,9 @@ import sys
 import tempfile
 import time
 import unittest
+from typing import Any, Optional, Sequence
 
-from support import python_command, python_with, write
+from support import over_program, python_command, python_with, write
 
 # The program in the commands: it says the same of each query and each pair. Where WAITS names a file it makes that, and waits.
 STAND_IN = """#!/bin/sh
@@ -41,19 +42,24 @@ PYTHON = "/usr/bin/python3" if os.path.isfile("/usr/bin/python3") else sys.execu
 NEW = ".sfq-"
 
 
-def words_of(name, room, out):
+def words_of(name: str, room: str, out: str) -> list[str]:
     """Returns the words of a command that reads from a room. `out` is the path of what it writes, which is nothing where it writes on standard output."""
-    python, program = GDAL if name == "sfq-import" else PYTHON, f"{room}/sfq"
+    python, program = str(GDAL) if name == "sfq-import" else PYTHON, f"{room}/sfq"
     to = ["--output", out] if out else []
     words = {
         "sfq-schema": [f"{room}/plain"], "sfq-export": [f"{room}/rows.csv", "--like", f"{room}/tables", *(["--to", out] if out else ["--svg", "/dev/stdout"])],
-        "sfq-import": [f"{room}/source.geojson", "--grid", "1", "--sfq", program, "--out", out],
-        "sfq-ask": [f"{room}/tables", QUERY, "--out", "csv", "--sfq", program, *to],
-        "sfq-shell": [f"{room}/tables/schema.sql", f"{room}/tables", "--sfq", program, *(["-c", f".output {shlex.quote(out)}"] if out else []), "-c", QUERY],
+        "sfq-import": [f"{room}/source.geojson", "--grid", "1", "--out", out],
+        "sfq-ask": [f"{room}/tables", QUERY, "--out", "csv", *to],
+        "sfq-shell": [f"{room}/tables/schema.sql", f"{room}/tables", *(["-c", f".output {shlex.quote(out)}"] if out else []), "-c", QUERY],
         "sfq-audit": ["write", f"{room}/pairs.csv", "--format", "csv", "--sfq", program, *to],
         "sfq-scale": ["run", f"{room}/tables/schema.sql", f"{room}/tables", QUERY, "--scheduler", "tcp://127.0.0.1:1", "--sfq", program, "--tiles", program],
     }
-    return [*python_command(python, name), *words[name]]
+    return [*command(python, room, name), *words[name]]
+
+
+def command(python: str, room: str, name: str) -> list[str]:
+    """Returns the words that run a command: one that calls the libraries over the room's stand-in for the program."""
+    return over_program(python, f"{room}/sfq", name) if name in ("sfq-import", "sfq-ask", "sfq-shell") else python_command(python, name)
 
 
 # Those that write into a file that is named, and what it may be called.
@@ -64,7 +70,7 @@ COMMANDS = ("sfq-schema", "sfq-export", "sfq-ask", "sfq-shell", "sfq-audit", "sf
 class Room(unittest.TestCase):
     """A test case with a room of inputs, and a folder `place` for what is written."""
 
-    def setUp(self):
+    def setUp(self) -> None:
         self.room = tempfile.mkdtemp(prefix="surroundings-")
         self.addCleanup(shutil.rmtree, self.room, ignore_errors=True)
         for name, text in FILES.items():
@@ -76,32 +82,32 @@ class Room(unittest.TestCase):
         os.chmod(self.room, 0o755)
         os.chmod(self.temporary, 0o1777)
 
-    def environment(self, **more):
-        usual = {"TMPDIR": self.temporary, "XDG_CACHE_HOME": f"{self.room}/cache", "PYTHONDONTWRITEBYTECODE": "1", "PYTHONPATH": None}
-        known = {**os.environ, **usual, **more}
+    def environment(self, **more: Optional[str]) -> dict[str, str]:
+        usual: dict[str, Optional[str]] = {"TMPDIR": self.temporary, "XDG_CACHE_HOME": f"{self.room}/cache", "PYTHONDONTWRITEBYTECODE": "1", "PYTHONPATH": None}
+        known: dict[str, Optional[str]] = {**os.environ, **usual, **more}
         return {name: it for name, it in known.items() if it is not None}
 
-    def run_words(self, words, shut="", **how):
+    def run_words(self, words: Sequence[str], shut: str = "", **how: Any) -> tuple[int, str, str]:
         """Runs words, with the streams closed whose numbers `shut` has, and returns the status and what came on both streams."""
         closed = "".join(f" {it}>&-" for it in shut)
         words = ["sh", "-c", f'exec "$@"{closed}', "sh", *words] if shut else words
-        usual = {"stdin": subprocess.DEVNULL, "stdout": subprocess.PIPE, "stderr": subprocess.PIPE, "env": self.environment(), "cwd": self.room}
+        usual: dict[str, Any] = {"stdin": subprocess.DEVNULL, "stdout": subprocess.PIPE, "stderr": subprocess.PIPE, "env": self.environment(), "cwd": self.room}
         ran = subprocess.run(words, timeout=300, **{**usual, **how})
         return ran.returncode, (ran.stdout or b"").decode("utf-8", "surrogateescape"), (ran.stderr or b"").decode("utf-8", "surrogateescape")
 
-    def text_of(self, name):
+    def text_of(self, name: str) -> Any:
         """Returns what a command writes into its file where nothing is amiss."""
         path = f"{self.place}/{WRITE[name]}"
         status, _, err = self.run_words(words_of(name, self.room, path))
         self.assertEqual(status, 0, err)
         return contents(path)
 
-    def need_nothing_left(self, *folders):
+    def need_nothing_left(self, *folders: str) -> None:
         """Fails where a file that was being written is left in the place or in the folder for temporary files."""
         for it in (self.place, self.temporary, *folders):
             self.assertEqual([name for name in os.listdir(it) if name.startswith(NEW) or "sfq" in name or name.endswith(".new")], [], it)
 
-    def waiting(self, words, **how):
+    def waiting(self, words: Sequence[str], **how: Any) -> subprocess.Popen[bytes]:
         """Starts words whose program waits, and returns the process once it does."""
         mark = f"{self.room}/waits"
         with contextlib.suppress(FileNotFoundError):
@@ -114,7 +120,7 @@ class Room(unittest.TestCase):
         return child
 
 
-def contents(path):
+def contents(path: str) -> Any:
     """Returns the text of a file, of a folder those of its files by their names; None where there is nothing."""
     if not os.path.lexists(path):
         return None

@@ -8,7 +8,8 @@ import ctypes
 import io
 import re
 
-from sfq.tables import databases
+import parts_model
+from sfq.tables import databases, parts
 
 OK, REFUSED, UNKNOWN, TOO_SMALL, NONE, BUSY, NOT_LOADED, OPEN, UNREADABLE, NO_ROW = 0, 1, 4, 5, 6, 8, 9, 10, 11, 12
 QUERY = re.compile(r"SELECT (.*?) FROM (\w+)(?: WHERE (\w+) ([=>]) +(-?\d+|'(?:[^']|'')*')\s*)?")
@@ -36,6 +37,8 @@ class Calls:
 
     def __init__(self, binds=True):
         self.tables, self.rows, self.statements, self.made = [], {}, {}, 0
+        # The tables, the rows and the statements of each database, by what its struct has.
+        self.databases = {}
         self.refused, self.seen, self.binds = {}, [], binds
         # What is called before each step.
         self.before_step = lambda: None
@@ -50,6 +53,8 @@ class Calls:
     def asked(self, name, words):
         """Makes a call, or returns the status that it is to have."""
         self.seen.append(name)
+        if name not in ("sfq_open", "sfq_text_parts"):
+            self.tables, self.rows, self.statements = self.databases[words[0]._obj.kept]
         return self.refused.pop(name) if name in self.refused else object.__getattribute__(self, name)(*words)
 
     def use(self, case):
@@ -79,13 +84,24 @@ class Calls:
         ref._obj.value = value
         return OK
 
+    def sfq_text_parts(self, address, length, room, size, count):
+        found = parts_model.parts_of(ctypes.string_at(address, length))
+        count._obj.value = len(found)
+        if len(found) > size:
+            return TOO_SMALL
+        data = b"".join(parts.LAYOUT.pack(*it) for it in found)
+        ctypes.memmove(room, data, len(data))
+        return OK
+
     def sfq_open(self, schema, _length, database, fault):
+        self.tables, self.rows, self.statements = [], {}, {}
         for name, body in re.findall(r"CREATE TABLE (\w+) \((.*?)\)", schema.decode()):
             columns = [it.split()[:2] for it in body.split(",")]
             self.tables.append((name, [(it[0], ("INTEGER", "TEXT").index(it[1])) for it in columns]))
         if not self.tables:
             return self.fault(fault, "S1", 0)
-        database._obj.kept = self.KEPT
+        database._obj.kept = self.KEPT + len(self.databases)
+        self.databases[database._obj.kept] = self.tables, self.rows, self.statements
         return OK
 
     def sfq_close(self, database):
@@ -106,6 +122,20 @@ class Calls:
     def sfq_table_column(self, _database, table, column, room, size, length, kind):
         self.number(kind, self.tables[table][1][column][1])
         return self.write(self.tables[table][1][column][0], room, size, length)
+
+    def sfq_column_form(self, _database, _table, column, form):
+        form._obj.geometry, form._obj.is_key, form._obj.is_required = 0, column == 0, False
+        return OK
+
+    def sfq_reference(self, _database, number, reference, room, size, length, table):
+        if reference:
+            return UNKNOWN
+        self.number(table, self.statements[number].table)
+        return self.write(self.tables[self.statements[number].table][0], room, size, length)
+
+    def sfq_column_origin(self, _database, number, column, origin):
+        origin._obj.reference, origin._obj.column, origin._obj.function = 0, self.statements[number].columns[column], 0
+        return OK
 
     def sfq_is_loaded(self, _database, table, loaded):
         return self.number(loaded, table in self.rows)

@@ -19,13 +19,14 @@ import xml.etree.ElementTree as tree
 from fractions import Fraction
 from unittest import mock
 
-from support import ROOT, python_command, python_with, read, write
+from made_libraries import over_library
+from support import ROOT, over_program, python_command, python_with, read, write
 
 import engine_rows
 import library
 import test_databases_python as databases
 from shell_sessions import Program
-from sfq.commands import ask, asking, caches, conditions, constants, endings, imports, units
+from sfq.commands import ask, asking, caches, conditions, constants, endings, imports, left_out, units
 from sfq.geometry import grids
 from sfq.geometry.faults import MEANINGS
 from sfq.tables import errors
@@ -41,6 +42,7 @@ def made(query, grid=GRID):
     return constants.Written(query, grid).made
 
 
+@over_library
 class Constants(unittest.TestCase):
     """Numbers in the strings of ST_GeomFromText, on a grid of halves from 100 -50."""
 
@@ -163,6 +165,13 @@ OF_TEXTS = [
 ]
 
 
+# Where the faults of these texts are, in the coordinates in which they are written; the other codes have no place.
+PLACES = {code: f"the fault is at {at}" for code, at in (
+    ("V1 0", "100.5 -50.0"), ("V2 0", "100.0 -50.0"), ("V3 0", "101.0 -49.0"), ("V4 0 1", "100.0 -49.0"), ("V5 1", "110.0 -30.0"), ("V6 1 2", "102.0 -48.0"),
+    ("V7 0 1", "104.0 -46.0"), ("V8 0 1", "101.0 -49.0"),
+)}
+
+
 def byte_of(text):
     """Returns a text without its sign, and the byte that the sign is before."""
     return text.replace("¤", ""), len(text.partition("¤")[0].encode())
@@ -202,6 +211,7 @@ class WithRoom(unittest.TestCase):
         self.addCleanup(shutil.rmtree, self.room, True)
 
 
+@over_library
 class Conditions(WithRoom):
     """What is found in conditions by tokens."""
 
@@ -226,13 +236,84 @@ class Conditions(WithRoom):
                 self.conditions(query, **parted).need_lawful("sfq-ask")
             self.assertEqual(met.exception.status, 5)
             first, shown, caret = met.exception.text.splitlines()
-            self.assertEqual(first, f"sfq-ask: {predicate} of a part says nothing of the whole: u was imported by --part, so it takes ST_Intersects and ST_Disjoint alone")
+            self.assertEqual(first, f"sfq-ask: {predicate} of a part says nothing of the whole: u has records in parts, so it takes ST_Intersects and ST_Disjoint alone")
             self.assertEqual(shown[caret.index("^") :][: len(predicate)].lower(), predicate.lower())
         for query in ("SELECT id FROM u WHERE ST_Intersects(geom, geom) OR ST_Disjoint(geom, geom)", "SELECT a.id FROM t a JOIN u b ON ST_Within(a.geom, ST_GeomFromText('POINT(1 1)')) AND a.id = b.id",
                       "SELECT id FROM u WHERE ST_IsEmpty(geom) AND ST_Within = 'ST_Within(geom, geom)'", "SELECT id FROM u WHERE"):
             found = self.conditions(query, **parted)
             found.need_lawful("sfq-ask")
             self.assertEqual(found.notes()[:1], ["2 records of u are in 31 parts, each a row: those of one have the same number in whole, and one is disjoint from another where all its parts are"])
+
+    def decimals(self, query, **more):
+        """Returns what sfq gets of a query over wells whose depth and height count steps that the import found, of 0.1 and 0.001."""
+        columns = [column("id", "INTEGER"), column("depth", "INTEGER", step="0.1", is_decimal=True), column("height", "INTEGER", step="0.001", is_decimal=True),
+                   column("given", "INTEGER", step="0.1"), column("geom", "GEOMETRY")]
+        folder = units.Folder(folder_of(self.room, t={"columns": columns}, **more))
+        found = conditions.Conditions(query, folder)
+        return constants.Written(query, folder.grid, found.numbers("sfq-ask")).made, found.notes()
+
+    def test_decimal_numbers(self):
+        for condition, wanted in (
+            ("depth > 12.3", "depth > 123"), ("depth = 12", "depth = 120"), ("t.depth<>-.5", "t.depth<>-5"), ("12 >= DEPTH", "120 >= DEPTH"), ("height = 0.25", "height = 250"),
+            # Between two steps: what is greater than 12.34 is greater than 12.3, and what is at least 12.34 is at least 12.4.
+            ("depth > 12.34", "depth > 123"), ("depth >= 12.34", "depth >= 124"), ("depth < 12.34", "depth < 124"), ("depth <= 12.34", "depth <= 123"),
+            ("depth > -12.34", "depth > -124"), ("depth >= -12.34", "depth >= -123"), ("12.34 < depth", "123 < depth"), ("12.34 <= depth", "124 <= depth"),
+            ("-12.34 > depth AND 3 = 3", "-123 > depth AND 3 = 3"), ("NOT depth > 1 OR (2 < depth)", "NOT depth > 10 OR (20 < depth)"),
+            ("depth BETWEEN 1.25 AND 3", "depth BETWEEN 13 AND 30"), ("depth NOT BETWEEN 1 AND 3.25", "depth NOT BETWEEN 10 AND 32"), ("depth -- b\n > 1", "depth -- b\n > 10"),
+            ("id > 12 AND given > 12", "id > 12 AND given > 12"), ("depth IS NULL", "depth IS NULL"), ("depth > 1e5", "depth > 1e5"), ("depth > 'a'", "depth > 'a'"),
+            ("depth > height", None), ("depth = 12.34", None), ("0.05 <> depth", None), ("depth = id", None), ("depth = given", "depth = given"), ("depth >", "depth >"),
+            ("depth > 2 * 3", "depth > 2 * 3"), ("2 * depth > 3", "2 * depth > 3"), ("id - 3 < depth", "id - 3 < depth"), ("depth + 1 > 3", "depth + 1 > 3"),
+        ):
+            if wanted is None:
+                with self.assertRaises(asking.Refused) as met:
+                    self.decimals(f"SELECT depth FROM t WHERE {condition}")
+                self.assertEqual(met.exception.status, 5)
+                continue
+            self.assertEqual(self.decimals(f"SELECT depth FROM t WHERE {condition}")[0], f"SELECT depth FROM t WHERE {wanted}")
+
+    def test_decimal_numbers_that_are_refused(self):
+        for condition, first in (
+            ("depth = ¤12.34", "no depth is 12.34: its numbers have steps of 0.1"),
+            ("¤depth < height", "depth counts steps of 0.1, and height others: import both in one call, or by --scale with one step"),
+        ):
+            text, byte = byte_of(f"SELECT id FROM t WHERE {condition}")
+            with self.assertRaises(asking.Refused) as met:
+                self.decimals(text)
+            said, shown, caret = met.exception.text.splitlines()
+            self.assertEqual((said, shown[caret.index("^") :]), (f"sfq-ask: {first}", text.encode()[byte:].decode()))
+
+    def test_notes_about_decimal_numbers(self):
+        """Where a number isn't taken as the source has it, a note says so."""
+        for condition, wanted in (("depth > 1", []), ("depth > 1 AND height < 2.5", []), ("given > 1", ["given counts steps of 0.1 in a condition"]),
+                                  ("2 * depth > 3", ["depth counts steps of 0.1 in a condition"]), ("depth > 2 * 3", ["depth counts steps of 0.1 in a condition"])):
+            self.assertEqual(self.decimals(f"SELECT id FROM t WHERE {condition}")[1], wanted, condition)
+
+    def test_a_place_behind_a_number(self):
+        """The byte of a fault is that of the query as it was written."""
+        query, _ = byte_of("SELECT id FROM t WHERE depth > 12.3 AND nope = 1")
+        folder = units.Folder(folder_of(self.room, t={"columns": [column("id", "INTEGER"), column("depth", "INTEGER", step="0.1", is_decimal=True)]}))
+        found = constants.Written(query, folder.grid, conditions.Conditions(query, folder).numbers("sfq-ask"))
+        self.assertEqual(found.made, "SELECT id FROM t WHERE depth > 123 AND nope = 1")
+        self.assertEqual([constants.place(found.pieces, found.made.index(it)) for it in ("depth", "123", "nope")], [query.index(it) for it in ("depth", "12.3", "nope")])
+
+    def test_more_columns_than_sfq_takes(self):
+        """By hand: the key, the geometry and 30 others, of which those that the query names take the place of the last."""
+        columns = [column("id", "INTEGER"), *(column(f"c{it}", "INTEGER") for it in range(40)), column("geom", "GEOMETRY")]
+        path = folder_of(self.room, t={"columns": columns, "key": "id"})
+        listed = ", ".join(["id INTEGER PRIMARY KEY", *(f"c{it} INTEGER" for it in range(30)), "geom GEOMETRY"])
+        write(f"{path}/schema.sql", f"-- Wells.\nCREATE TABLE t ({listed});\nCREATE TABLE u (id INTEGER PRIMARY KEY, geom POLYGON);\n")
+        for query, wanted, said in (
+            ("SELECT c3 FROM t WHERE c4 > 1", [*range(30)], []), ("SELECT C35 FROM t x WHERE x.c31 > 1", [*range(28), 31, 35], []), ("SELECT COUNT(*) FROM t", [*range(30)], []),
+            ("SELECT * FROM t, u WHERE c39 = 1", [*range(29), 39], ["* leaves out 10 of the 42 columns of t, which show where they are named: c29, c30, c31, c32, c33 .."]),
+            ("SELECT id FROM u", [*range(30)], []), (f"SELECT {', '.join(f'c{it}' for it in range(10, 40))} FROM t", [*range(10, 40)], []),
+        ):
+            folder = units.Folder(path)
+            self.assertEqual(folder.choose_columns(query), said, query)
+            self.assertEqual([name for name, _ in folder.tables[0].columns], ["id", *(f"c{it}" for it in wanted), "geom"], query)
+            self.assertTrue(folder.schema.startswith("-- Wells.\nCREATE TABLE t (") and folder.tables[1].name == "u", folder.schema)
+        with self.assertRaises(endings.Stopped) as met:
+            units.Folder(path).choose_columns(f"SELECT {', '.join(f'c{it}' for it in range(31))} FROM t")
+        self.assertIn("the query names 33 columns of t, with its key and geometries, and sfq takes at most 32", str(met.exception))
 
     def test_two_reference_systems(self):
         other = {"u": {"coordinate_system": {"authority": "EPSG:4326", "wkt": "EPSG:4326"}}}
@@ -319,6 +400,7 @@ class Cache(WithRoom):
         self.assertIsNone(caches.sum_of([f"{self.room}/s/a.shp", "PG:dbname=x"], 1))
 
 
+@over_library
 class Kept(WithRoom):
     """The tables of sources, over a stand-in for the import, which copies a folder that was imported."""
 
@@ -363,14 +445,14 @@ class Kept(WithRoom):
         self.assertEqual((self.count, self.entries()), (1, [os.path.basename(path)]))
 
     def test_other_options_and_other_sources_have_others(self):
-        paths = {self.made(*words)[0] for words in ([], ["--grid", "0.5"], ["--grid", "0.5", "--origin", "-1,1"], ["--flat"], ["--layer", "t"], ["--part"], ["--to", "EPSG:4326"])}
+        paths = {self.made(*words)[0] for words in ([], ["--grid", "0.5"], ["--grid", "0.5", "--origin", "-1,1"], ["--layer", "t"], ["--part"], ["--to", "EPSG:4326"])}
         write(self.source, "b")
         path = self.made()[0]
         self.assertIn("9,b", read(f"{path}/t.csv"))
         write(f"{self.room}/t.prj", "")
         with mock.patch.dict(os.environ, {"OGR_GEOJSON_MAX_OBJ_SIZE": "1"}):
             paths |= {path, self.made()[0]}
-        self.assertEqual(len({*paths, self.made()[0]}), 10)
+        self.assertEqual(len({*paths, self.made()[0]}), 9)
         write(self.source, "a")
         os.remove(f"{self.room}/t.prj")
         self.assertIn("the tables are in", self.made()[2])
@@ -423,7 +505,9 @@ class Kept(WithRoom):
     def test_what_was_left_out_is_said_each_time(self):
         write(f"{self.room}/folder/left-out.csv", "layer,record,fid,reason,done,table\nt,1,1,V1 0,left out,t\nt,2,2,V3 0,mended,t\nt,3,3,V3 0,mended,t\n")
         path = self.made()[0]
-        self.assertEqual(self.made()[2].splitlines()[1:], [f"sfq-ask: t: 1 left out: {path}/left-out.csv says why", f"sfq-ask: t: 2 mended: {path}/left-out.csv says why"])
+        self.assertEqual(self.made()[2].splitlines()[1:], [f"sfq-ask: t: 2 mended: {path}/left-out.csv says why"])
+        folder = units.Folder(path)
+        self.assertEqual(list(left_out.notes(folder, folder.layers.values())), [f"t: 1 record is left out: fid 1; {path}/left-out.csv says why"])
 
     def test_too_few_records(self):
         folder_of(self.room, t={"records": 6, "left_out": 2})
@@ -442,15 +526,13 @@ class Kept(WithRoom):
 
 ALL = "SELECT * FROM t"
 CONSTANT = "SELECT id FROM t WHERE ST_Within(geom, ST_GeomFromText('POINT(101.5 -53.5)'))"
-WRONG = "SELECT id FROM t WHERE ST_Within(geom, ST_GeomFromText('POINT(101.5 -53.5)')) ORDER BY id"
-NOTED = "SELECT id FROM t WHERE ST_Equals(geom, ST_GeomFromText('POINT(101.5 -53.5)')) AND name = NULL"
+WRONG = "SELECT id FROM t WHERE ST_Within(geom, ST_GeomFromText('POINT(101.5 -53.5)')) SORTED BY id"
 COUNTED, PLANNED, SEVERAL = "SELECT COUNT(*) FROM t", "EXPLAIN SELECT id FROM t", "SELECT a.geom, b.id, b.geom FROM t a, u b"
 MANY, OTHER = "SELECT id FROM t, u", "SELECT id FROM u"
 # What the stand-in for the program has: queries as sfq gets them, on the grid.
 KNOWN = {
     ALL: (TABLES["t.csv"], "", 0), CONSTANT.replace("101.5 -53.5", "3 -7"): ("id\n1\n", "", 0), COUNTED: ("COUNT(*)\n4\n", "", 0), PLANNED: ("cost 4\nouter t scan\n", "", 0),
     WRONG.replace("101.5 -53.5", "3 -7"): ("", f"sfq: Q2 at {WRONG.replace('101.5 -53.5', '3 -7').index('BY')}\n  1 | SELECT .. ORDER BY id\n    |   ^\nsfq: ORDER BY isn't there: rows come in the order of the key; sort the output\n", 5),
-    NOTED.replace("101.5 -53.5", "3 -7"): ("id\n", "  1 | SELECT ..\n    |    ^\nsfq: note: a comparison with NULL never holds: write IS NULL\n", 0),
     SEVERAL: ('a.geom,b.id,b.geom\nPOINT(3 -7),7,"POLYGON((2 2,8 2,8 8,2 8,2 2))"\n,7,\n', "", 0), MANY: ("id\n" + "1\n" * 40_000, "", 0), OTHER: ("id\n7\n", "", 0),
 }
 SHOWN = [
@@ -469,7 +551,7 @@ class WithProgram(WithRoom):
         self.folder = folder_of(self.room)
 
     def words(self, *words, python=sys.executable):
-        return [*python_command(python, "sfq-ask"), "--sfq", f"{self.program.room}/sfq", *words]
+        return [*over_program(python, f"{self.program.room}/sfq", "sfq-ask"), *words]
 
     def environment(self):
         return {**os.environ, "XDG_CACHE_HOME": f"{self.room}/cache", "PYTHONDONTWRITEBYTECODE": "1"}
@@ -482,6 +564,7 @@ class WithProgram(WithRoom):
         return ran.stdout, ran.stderr, ran.returncode
 
 
+@over_library
 class Outputs(WithProgram):
     """Each format is read again."""
 
@@ -561,6 +644,7 @@ class Outputs(WithProgram):
         self.assertEqual(self.run_words(self.folder, ALL, "--output", "/nothing/a.csv")[1:], ("sfq-ask: /nothing/a.csv: No such file or directory\n", 6))
 
 
+@over_library
 class Asking(WithProgram):
     """What is asked, and what is refused."""
 
@@ -577,9 +661,6 @@ class Asking(WithProgram):
         self.assertEqual((out, status), ("", 5))
         self.assertEqual(err, f"sfq: Q2 at {at}\n  1 | {WRONG}\n    | {' ' * at}^\nsfq: ORDER BY isn't there: rows come in the order of the key; sort the output\n")
 
-    def test_a_note_comes_without_the_query_that_sfq_got(self):
-        self.assertEqual(self.run_words(self.folder, NOTED), ("id\n", "sfq: note: a comparison with NULL never holds: write IS NULL\n", 0))
-
     def test_queries_in_files(self):
         write(f"{self.room}/q.sql", CONSTANT + "\n")
         self.assertEqual(self.run_words(self.folder, "@q.sql"), ("id\n1\n", "", 0))
@@ -588,10 +669,10 @@ class Asking(WithProgram):
 
     def test_more_rows_than_a_run_takes(self):
         folder_of(self.room, t={"rows": 100_001})
-        out, err, status = self.run_words(self.folder, CONSTANT)
+        out, err, status = self.run_words(self.folder, CONSTANT.replace("t WHERE", "t, u WHERE"))
         self.assertEqual((out, status), ("", 4))
         self.assertIn("t has 100,001 rows, and one run of sfq takes at most 100,000. sfq-scale takes more", err)
-        self.assertIn(f"sfq-scale run {self.folder}/schema.sql {self.folder} 'SELECT id FROM t WHERE ST_Within(geom, ST_GeomFromText('\"'\"'POINT(3 -7)'\"'\"'))'", err)
+        self.assertIn(f"sfq-scale run {self.folder}/schema.sql {self.folder} 'SELECT id FROM t, u WHERE ST_Within(geom, ST_GeomFromText('\"'\"'POINT(3 -7)'\"'\"'))'", err)
         self.assertEqual(self.run_words(self.folder, OTHER), ("id\n7\n", "", 0))
 
     def test_misuse(self):
@@ -612,12 +693,16 @@ class Asking(WithProgram):
             self.assertEqual((out, status), ("", 4))
             self.assertIn("grid.json isn't one that sfq-import made", err)
 
-    def test_no_program(self):
-        words = [*python_command(sys.executable, "sfq-ask"), "--sfq", "/nothing/sfq", self.folder, ALL]
-        ran = subprocess.run(words, capture_output=True, text=True)
-        self.assertEqual((ran.stdout, ran.stderr, ran.returncode), ("", "sfq-ask: no program /nothing/sfq\n", 1))
+    def test_no_library(self):
+        """One line names the command that builds it, also where a program is on the path."""
+        known = {**self.environment(), "SFQ_LIBRARY": "/nowhere/libsfq.so.0", "PATH": f"{self.program.room}:/usr/bin:/bin"}
+        ran = subprocess.run([*python_command(sys.executable, "sfq-ask"), self.folder, ALL], capture_output=True, text=True, env=known)
+        self.assertEqual((ran.stdout, ran.returncode, ran.stderr.count("\n")), ("", 1, 1), ran.stderr)
+        self.assertIn(f"sfq-ask: no libsfq_tables.so.0: build it by `{ROOT}/build --library`, or set SFQ_LIBRARY", ran.stderr)
+        self.assertEqual(self.program.asked(), [])
 
 
+@over_library
 class Endings(WithProgram):
     """Closed pipes, full outputs and Ctrl-C."""
 
@@ -695,7 +780,7 @@ class Faults(OverTheLibrary):
         folder = units.Folder(self.folder)
         written = constants.Written(query, folder.grid)
         written.need_on_grid("sfq-ask")
-        asker = asking.asker("sfq-ask", "", [folder.schema_file, folder.path], folder.schema)
+        asker = asking.Asker("sfq-ask", [folder.schema_file, folder.path], folder.schema)
         with self.assertRaises(asking.Refused) as met:
             asker.ask(written.made)
         self.assertEqual(met.exception.status, 5)
@@ -727,7 +812,8 @@ class Faults(OverTheLibrary):
             first, _, more = self.fault(query).partition("\n")
             self.assertEqual(first, f"sfq: Q8 at {quote} {code}{place}", text[:80])
             shown = f"{asking.placed(asking.encoded(query), quote)}sfq: {errors.MEANINGS['Q8']}: {MEANINGS[code[:2]]}\n"
-            self.assertEqual(more, shown + ("sfq-ask: the grid reaches from -4999900.0 -5000050.0 to 5000100.0 4999950.0\n" if code == "W3" else ""))
+            behind = {"W3": "the grid reaches from -4999900.0 -5000050.0 to 5000100.0 4999950.0", **PLACES}.get(code, "")
+            self.assertEqual(more, shown + (f"sfq-ask: {behind}\n" if behind else ""))
         self.assertEqual({code[:2] for code, _ in OF_TEXTS}, {*MEANINGS} - {"W2"})
 
 
@@ -776,7 +862,7 @@ class OverLayers(OverTheLibrary):
         """Has the counts of predicates over two tables be those of GEOS, the tables being made by the first call and kept."""
         count = f"SELECT COUNT(*) FROM {first} a JOIN {second} b ON ST_%s(a.geom, b.geom)"
         found, counts = "", {}
-        out, err, status = self.run_words(*sources, count % "Intersects", python=PYTHON)
+        out, err, status = self.run_words(*sources, count % "Intersects", "--lenient", python=PYTHON)
         self.assertEqual(status, 0, err)
         counts["intersects"] = int(out.split()[1])
         found = re.search(r"the tables are kept in (.*)\n", err)[1]
@@ -786,7 +872,7 @@ class OverLayers(OverTheLibrary):
         wanted = json.loads(ran.stdout)
         self.assertTrue(wanted["intersects"])
         for it in predicates:
-            out, err, status = self.run_words(found, count % it)
+            out, err, status = self.run_words(found, count % it, "--lenient")
             self.assertEqual(status, 0, err)
             counts[it.lower()] = int(out.split()[1])
         self.assertEqual(counts, {it: wanted[it] for it in counts})
@@ -798,23 +884,26 @@ class Layers(OverLayers):
 
     def test_counties(self):
         source, = self.need(("sf", "shape/nc.shp"))
-        folder = self.agree("nc", "nc", source)
-        out, err, status = self.run_words(source, "SELECT b.NAME FROM nc a JOIN nc b ON ST_Touches(a.geom, b.geom) WHERE a.NAME = 'Ashe'", python=PYTHON)
+        folder = self.agree("nc", "nc", source, "--invalid", "leave-out")
+        out, err, status = self.run_words(source, "--lenient", "--invalid", "leave-out", "SELECT b.NAME FROM nc a JOIN nc b ON ST_Touches(a.geom, b.geom) WHERE a.NAME = 'Ashe'", python=PYTHON)
         self.assertEqual((out.splitlines(), status), (["b.NAME", "Alleghany", "Wilkes", "Watauga"], 0))
-        self.assertIn(f"the tables are in {folder}, and what was said of them in its report.txt\nsfq-ask: nc: 2 left out: {folder}/left-out.csv says why\n", err)
+        self.assertIn(f"the tables are in {folder}, and what was said of them in its report.txt\n", err)
+        self.assertRegex(err, f"note: nc: 2 records are left out: the largest fid .*; {folder}/left-out.csv says why\n")
         self.assertIn("nc: 98 of 100 records in nc.csv; ", read(f"{folder}/report.txt"))
 
     def test_cities_in_countries_of_another_source(self):
         countries, cities = self.need(("spData", "shapes/world.gpkg"), ("geopandas", "naturalearth_cities/naturalearth_cities.shp"))
         folder = self.agree("naturalearth_cities", "world", cities, countries)
-        out, err, status = self.run_words(cities, countries, "SELECT c.name, w.name_long, c.geom FROM naturalearth_cities c JOIN world w ON ST_Within(c.geom, w.geom) WHERE w.continent = 'Oceania'",
+        out, err, status = self.run_words(cities, countries, "--lenient", "SELECT c.name, w.name_long, c.geom FROM naturalearth_cities c JOIN world w ON ST_Within(c.geom, w.geom) WHERE w.continent = 'Oceania'",
                                           "--out", "geojson", python=PYTHON)
         self.assertEqual(status, 0, err)
         found = {it["properties"]["c.name"]: it for it in json.loads(out)["features"]}
         self.assertEqual(found["Canberra"]["properties"]["w.name_long"], "Australia")
         x, y = found["Canberra"]["geometry"]["coordinates"]
         constant = f"SELECT name_long FROM world WHERE ST_Contains(geom, ST_GeomFromText('POINT({x} {y})'))"
-        self.assertEqual(self.run_words(folder, constant), ("name_long\nAustralia\n", "", 0))
+        out, err, status = self.run_words(folder, constant)
+        self.assertEqual((out, status), ("name_long\nAustralia\n", 0))
+        self.assertIn("note: 1 records of world are in 2 parts, each a row: ", err)
 
     def test_two_reference_systems(self):
         one, other = self.need(("spData", "shapes/world.gpkg"), ("spData", "shapes/boston_tracts.shp"))
@@ -823,7 +912,7 @@ class Layers(OverLayers):
         self.assertEqual((out, status), ("", 2))
         self.assertIn("EPSG:4326", err)
         self.assertIn("--to EPSG:N", err)
-        out, err, status = self.run_words(one, other, query, "--to", "EPSG:4326", python=PYTHON)
+        out, err, status = self.run_words(one, other, query, "--to", "EPSG:4326", "--lenient", python=PYTHON)
         self.assertEqual(status, 0, err)
         self.assertGreater(int(out.split()[1]), 200)
 
@@ -848,7 +937,7 @@ class MoreLayers(OverLayers):
 class Hostile(OverTheLibrary):
     """Two runs at once, and one that is broken off."""
 
-    QUERY = "SELECT COUNT(*) FROM nc a JOIN nc b ON ST_Touches(a.geom, b.geom)"
+    QUERY = "SELECT COUNT(*) FROM nc a JOIN nc b ON ST_Intersects(a.geom, b.geom)"
 
     def setUp(self):
         super().setUp()
@@ -860,7 +949,7 @@ class Hostile(OverTheLibrary):
 
     def begun(self):
         known = {**os.environ, "XDG_CACHE_HOME": f"{self.room}/cache", "SFQ_LIBRARY": library.SHARED, "PYTHONDONTWRITEBYTECODE": "1"}
-        return subprocess.Popen([*python_command(PYTHON, "sfq-ask"), self.source, self.QUERY], env=known, stdout=subprocess.PIPE, stderr=subprocess.PIPE, text=True)
+        return subprocess.Popen([*python_command(PYTHON, "sfq-ask"), self.source, self.QUERY, "--lenient"], env=known, stdout=subprocess.PIPE, stderr=subprocess.PIPE, text=True)
 
     def entries(self):
         folder = f"{self.room}/cache/sfq/tables"
@@ -880,7 +969,7 @@ class Hostile(OverTheLibrary):
             time.sleep(wait)
             broken.kill()
             broken.communicate()
-        out, err, status = self.run_words(self.source, self.QUERY, python=PYTHON)
+        out, err, status = self.run_words(self.source, self.QUERY, "--lenient", python=PYTHON)
         self.assertEqual((status, int(out.split()[1]) > 300), (0, True), err)
         self.assertEqual(len([it for it in self.entries() if not it.startswith(caches.NEW)]), 1)
 

@@ -22,11 +22,12 @@ from support import ROOT, needs_build, python_command, python_with, read, write
 import proving
 import repository
 
+import engine_rows
 import exact_cells
 import exact_places
 from faults import sweeps
 from fuzz import outcomes
-from sfq_audit import asking, comparing, engines, families, predicates, shapes, smaller
+from sfq_audit import asking, comparing, engines, families, predicates, proved, shapes, smaller
 from sfq_audit.finding import Interrupts
 
 SQUARE = "POLYGON((0 0,4 0,4 4,0 4,0 0))"
@@ -250,6 +251,10 @@ class Finds(WithRoom):
             ran = self.room.run("--sql", "pairs.db", query, "--engine", "command:true")
             self.assertEqual((ran.returncode, ran.stdout, ran.stderr.count("\n")), (6, "", 1), ran.stderr)
 
+
+class Layers(engine_rows.WithLibrary, WithRoom):
+    """Layers, which sfq-import brings to a grid."""
+
     def test_pairs_of_two_layers(self):
         python = python_with("osgeo")
         if not python:
@@ -268,6 +273,32 @@ class Finds(WithRoom):
             ran = self.room.run("--layers", "a.geojson", f"{other}.geojson", f"--grid={grid}", "--engine", engine, python=python)
             self.assertEqual(ran.returncode, status, ran.stderr)
             self.assertRegex(ran.stderr, said)
+
+
+class WhichProgram(unittest.TestCase):
+    """Whether the program that is asked is a proved one."""
+
+    def test_the_script_of_another_checkout(self):
+        """Nothing of it is run."""
+        with tempfile.TemporaryDirectory(prefix="sfq-audit-") as room:
+            os.mkdir(f"{room}/tools")
+            for it in ("sfq", "tools/current.sh"):
+                write(f"{room}/{it}", f"#!/bin/sh\ntouch {room}/run\n", stat.S_IRWXU)
+            os.symlink(f"{room}/sfq", f"{room}/link")
+            for it in ("sfq", "link"):
+                self.assertRegex(proved.unproved(f"{room}/{it}"), f"^{room}/{it} is the script of another checkout: run {room}/bindings/python/bin/sfq-audit")
+            self.assertFalse(os.path.exists(f"{room}/run"))
+
+    def test_what_a_checkout_keeps_without_proof(self):
+        with tempfile.TemporaryDirectory(prefix="sfq-audit-") as room:
+            for it in ("tools/current.sh", "out/unproved/sfq"):
+                write(f"{room}/{it}", "", stat.S_IRWXU)
+            self.assertEqual(proved.unproved(f"{room}/out/unproved/sfq"), f"{room}/out/unproved/sfq isn't the proved program: run {room}/build first")
+            self.assertEqual(proved.unproved(f"{room}/tools/current.sh"), "")
+
+    def test_the_script_of_this_checkout(self):
+        wanted = "" if repository.is_built() else f"{ROOT}/sfq isn't the proved program: run {ROOT}/build first"
+        self.assertEqual(proved.unproved(f"{ROOT}/sfq"), wanted)
 
 
 class ByLine(asking.Engine):

@@ -4,6 +4,7 @@ import sys
 import unittest
 from unittest import mock
 
+from made_libraries import over_library
 from support import ROOT, python_command, write
 
 import surroundings
@@ -15,6 +16,7 @@ FAILED = "write failed"
 ANSWER = ("sfq-schema", "sfq-ask", "sfq-shell", "sfq-audit")
 
 
+@over_library
 class Streams(surroundings.Room):
     """Each command, with each set of streams closed."""
 
@@ -77,11 +79,11 @@ class Streams(surroundings.Room):
     def test_standard_input_that_is_closed(self):
         for name, words in (
             ("sfq-export", ["-", "--like", f"{self.room}/tables", "--to", f"{self.place}/o.json"]), ("sfq-ask", [f"{self.room}/tables", "@-"]),
-            ("sfq-shell", [f"{self.room}/tables/schema.sql", f"{self.room}/tables", "--sfq", f"{self.room}/sfq"]),
+            ("sfq-shell", [f"{self.room}/tables/schema.sql", f"{self.room}/tables"]),
             ("sfq-audit", ["write", "-", "--format", "csv", "--sfq", f"{self.room}/sfq"]),
         ):
             with self.subTest(name=name):
-                self.assertEqual(self.run_words([*python_command(sys.executable, name), *words], "0")[0::2], (6, f"{name}: standard input: Bad file descriptor\n"))
+                self.assertEqual(self.run_words([*surroundings.command(sys.executable, self.room, name), *words], "0")[0::2], (6, f"{name}: standard input: Bad file descriptor\n"))
         self.assertEqual(os.listdir(self.place), [])
 
     def test_one_line_for_each_message(self):
@@ -110,6 +112,7 @@ class Homes(unittest.TestCase):
         self.assertEqual(endings.outcome(OSError(28, "No space left on device")), ("No space left on device", 6))
 
 
+@over_library
 @unittest.skipUnless(os.geteuid() == 0, "needs a user who may become another")
 class Nobody(surroundings.Room):
     """A user without an entry and without HOME."""
@@ -117,7 +120,7 @@ class Nobody(surroundings.Room):
     @unittest.skipUnless(surroundings.GDAL, "needs the package python3-gdal")
     def test_no_folder_is_made_where_the_user_is(self):
         os.chmod(self.room, 0o777)
-        words = [*python_command(surroundings.GDAL, "sfq-ask"), f"{self.room}/source.geojson", "SELECT fid FROM source", "--sfq", f"{self.room}/sfq"]
+        words = [*surroundings.command(surroundings.GDAL, self.room, "sfq-ask"), f"{self.room}/source.geojson", "SELECT fid FROM source"]
         before = sorted(os.listdir(self.room))
         environment = self.environment(HOME=None, XDG_CACHE_HOME=None)
         status, _, err = self.run_words(words, env=environment, preexec_fn=lambda: os.setuid(54_321))

@@ -113,6 +113,28 @@ BINDINGS = [
      "1=i1;1=tT********;0=gPOINT(1 2)", "2 4 4 0 7|"),
 ]
 
+# The text, and each part by its numbers: the kind, the type of the constant, the first byte and how many bytes. By hand, by
+# bindings/c/sfq_tables.h.
+PARTS = [
+    ("", "0 10.4@0+0"),
+    ("a='x''';|--b|LIMIT 5", "0 0.4@0+1 4.4@1+1 3.1@2+5 5.4@7+1 1.4@13+5 2.4@19+1 10.4@20+0"),
+    ("a<>?AND", "0 0.4@0+1 4.4@1+2 6.1@3+1"),
+    ("ST_GeomFromText( :b_1)", "0 0.4@0+15 4.4@15+1 7.2@17+4"),
+    ("x '?", "0 0.4@0+1 8.1@2+2"),
+    ("NULL#", "0 1.3@0+4 9.1@4+1"),
+    ("IS NOT NULL", "0 1.4@0+2 1.4@3+3 1.4@7+4 10.4@11+0"),
+]
+
+# A query over the first table, and what is printed: of each column of the schema the number of its geometries and its marks; of each
+# reference its table and its name; of each column of the rows its reference, its column and its function. By hand.
+FORMS = "0k 0n 1 0k 2"
+DESCRIBED = [
+    ("SELECT * FROM city", "0:0=City 0/0/0 0/1/0 0/2/0"),
+    ("SELECT ST_IsEmpty(b.at), a.name, ST_AsText(a.at), ST_Dimension(b.at) FROM city a, City AS b", "0:0=a 0:0=b 1/2/3 0/1/0 0/2/1 1/2/2"),
+    ("SELECT COUNT(*) FROM CITY Town", "0:0=Town -"),
+    ("EXPLAIN SELECT id FROM city", "0:0=City -"),
+]
+
 
 def row_calls():
     """Returns the calls over rows and constants, each with what it prints."""
@@ -129,7 +151,9 @@ def lines_of_calls():
     calls.append(("database\t\tcity\t", "0 4"))
     # Of an empty database nothing is asked; of one that is open nothing has these numbers.
     calls += [(f"query\t{SCHEMA}\t{text}\t{query}", wanted) for text, query, wanted in QUERIES]
-    return calls + row_calls() + [("closed", " ".join("7" * 27)), (f"numbers\t{SCHEMA}", " ".join("4" * 52))]
+    calls += [(f"parts\t{text}", wanted) for text, wanted in PARTS]
+    calls += [(f"described\t{SCHEMA}\t{POINTS}\t{query}", f"{FORMS} {wanted}") for query, wanted in DESCRIBED]
+    return calls + row_calls() + [("closed", " ".join("7" * 30)), (f"numbers\t{SCHEMA}", " ".join("4" * 58))]
 
 
 @needs("gcc", "cc")

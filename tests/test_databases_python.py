@@ -73,7 +73,10 @@ def tables_of(row):
 
 
 class Texts(unittest.TestCase):
-    """What is for `?`, and what tables are written as: no library is asked."""
+    """What is for `?`, and what tables are written as: over a stand-in, which cuts texts into parts."""
+
+    def setUp(self):
+        tables_stand_in.Calls().use(self)
 
     def filled(self, text, *values):
         constants = [placeholders.of_value(it, at) for at, it in enumerate(values, 1)]
@@ -126,6 +129,25 @@ class Texts(unittest.TestCase):
         ):
             query, constants = self.filled(text, *values)
             self.assertEqual(query.constants(constants), wanted, text)
+
+    def test_values_by_names(self):
+        query = placeholders.query("a = :one AND b <> ':one' AND c = : one AND d = :two-:one --:three")
+        self.assertEqual((query.marks, len(query.parts)), ([":one", ":two", ":one"], 4))
+        constants = query.constants_of({"two": 2, "one": "x", "three": 3})
+        self.assertEqual(query.filled(constants).decode(), "a =  'x'  AND b <> ':one' AND c = : one AND d =  2 - 'x'  --:three")
+        self.assertEqual([query.place_of_mark(it) for it in range(3)], [4, 47, 52])
+        made = query.filled(constants)
+        self.assertEqual([query.place(made.index(it), constants) for it in (b"'x'", b"2", b"--")], [(4, True), (47, True), (57, False)])
+        for text, values, kind, said in (
+            ("a = :b", [1], sfq.InterfaceError, "values for parameters by names come in a dict, not in a list"),
+            ("a = :b AND c = :d", {"b": 1}, sfq.ProgrammingError, "no value was handed in for :d"),
+            ("a = :b AND c = ?", {"b": 1}, sfq.ProgrammingError, "both \\? and parameters by names"),
+            ("a = ?", {"b": 1}, sfq.InterfaceError, "values come in a list or a tuple, one for each \\?, not in a dict"),
+            ("a = ?", [1, 2], sfq.ProgrammingError, "2 values were handed in for a query with 1 times \\?"),
+            ("a = :b", {"b": 1.5}, sfq.InterfaceError, "the value for :b is a float: sfq has whole numbers, texts"),
+        ):
+            with self.assertRaisesRegex(kind, said):
+                placeholders.query(text).constants_of(values)
 
     def test_what_is_no_value(self):
         for value, name in ((1.5, "float"), (b"a", "bytes"), ([1], "list"), (datetime.timedelta(1), "timedelta")):
@@ -493,6 +515,23 @@ class Loading(WithTables):
                 self.assertEqual(found, fault and fault[1], row.command)
         self.assertGreaterEqual(len(seen), 12)
 
+    def test_parameters_by_names(self):
+        """A name that comes twice has one value; names in strings and comments are none; a geometry's text may be one."""
+        rows = {"id": [1, 2, 3], "pop": [4, 5, 6], "name": [":a", None, "c"], "geom": ["POINT(1 1)", "POINT(2 2)", "POINT EMPTY"]}
+        with sfq.connect(SHAPES, {"t": rows}) as db:
+            for query, values, wanted in (
+                ("SELECT id FROM t WHERE pop > :least AND pop < :most OR pop=:least -- :no", {"most": 6, "least": 4}, [1, 2]),
+                ("SELECT id FROM t WHERE name = ':a' AND name = :a", {"a": ":a", "b": 1}, [1]),
+                ("SELECT id FROM t WHERE ST_Intersects(geom, :at) OR ST_Equals(geom, ST_GeomFromText(:text))",
+                 {"at": sfq.Geometry("POINT(2 2)"), "text": "POINT EMPTY"}, [2, 3]),
+            ):
+                self.assertEqual([it for it, in db.execute(query, values)], wanted, query)
+            found = db.executemany("SELECT id FROM t WHERE pop = -:pop OR pop = :pop", [{"pop": 4}, {"pop": 6}]).fetchall()
+            self.assertEqual(found, [(1,), (3,)])
+            with self.assertRaises(sfq.DataError) as met:
+                db.execute("SELECT id FROM t WHERE ST_Within(geom, ST_GeomFromText( :text))", {"text": "POINT(1"})
+            self.assertEqual((met.exception.code, met.exception.at, met.exception.fault.code), ("Q8", 56, "W1"))
+
     def test_tables_of_columns(self):
         db = sfq.connect(SHAPES, {"T": {"id": [2, 1.0], "pop": [None, float("nan")], "name": ["it's, so", ""],
                                         "geom": ["POINT(1 1)", sfq.Geometry("point empty")]}})
@@ -645,7 +684,7 @@ class Land(WithTables):
         text = "import sfq\ntry:\n    sfq.connect('')\nexcept sfq.LibraryError as error:\n    print(error)\n"
         known = {**os.environ, "PYTHONPATH": f"{ROOT}/bindings/python", "SFQ_LIBRARY": "/nowhere/libsfq.so.0"}
         shown = subprocess.run([sys.executable, "-c", text], env=known, capture_output=True, text=True).stdout
-        self.assertRegex(shown, r"^sfq: no libsfq_tables.so.0: install it by .*SFQ_LIBRARY to the path of libsfq.so.0 beside it.*/nowhere/libsfq_tables.so.0")
+        self.assertRegex(shown, r"^sfq: no libsfq_tables.so.0: build it by .*/build --library`, or set SFQ_LIBRARY to the path of libsfq.so.0 beside it.*/nowhere/libsfq_tables.so.0")
 
 
 if __name__ == "__main__":

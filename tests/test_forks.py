@@ -59,14 +59,11 @@ class Locks(unittest.TestCase):
             def renew(self):
                 raise ValueError("lost")
         def hold(begun):
-            with lost:
-                begun.set()
-                time.sleep(DUE)
+            lost.alone(lambda: (begun.set(), time.sleep(DUE)))
         DUE, lost, idle, own = 60, Held(), Held(), Held()
         busy(hold)
         def use(it):
-            with it:
-                return "held"
+            return it.alone(lambda: "held")
     """
 
     def test_what_no_other_thread_held_goes_on(self):
@@ -91,23 +88,23 @@ class Locks(unittest.TestCase):
             thread.start()
             time.sleep(0.2)
             print(own.is_lost, found)
-            own.__exit__()
+            own.lock.release()
             thread.join()
             print(found)
-        with own:
-            in_child(child)
+        own.alone(lambda: in_child(child))
         """), ["False []", "['held']"])
 
     def test_many_threads_of_a_child(self):
         self.assertEqual(ran(self.HELD + """
         def child():
             count = [0]
+            def add_one():
+                before = count[0]
+                time.sleep(0)
+                count[0] = before + 1
             def add():
                 for _ in range(500):
-                    with idle:
-                        before = count[0]
-                        time.sleep(0)
-                        count[0] = before + 1
+                    idle.alone(add_one)
             threads = [threading.Thread(target=add) for _ in range(8)]
             for it in threads:
                 it.start()
@@ -116,6 +113,35 @@ class Locks(unittest.TestCase):
             print(count)
         in_child(child)
         """), ["[4000]"])
+
+    def test_ctrl_c_at_any_time_gives_a_lock_back(self):
+        """What takes a lock only to be interrupted before it has noted that would keep it for ever."""
+        self.assertEqual(ran(self.HELD + """
+        import signal
+        def interrupted(ask):
+            try:
+                signal.setitimer(signal.ITIMER_REAL, 0.001)
+                while True:
+                    ask()
+            except KeyboardInterrupt:
+                return forks.owner(own._lock), forks.owner(idle._lock)
+        signal.signal(signal.SIGALRM, signal.default_int_handler)
+        print({interrupted(lambda: own.alone(lambda: None)) for _ in range(400)})
+        print({interrupted(lambda: forks.alone((own, idle, own), lambda: None)) for _ in range(400)})
+        """), ["{(0, 0)}", "{(0, 0)}"])
+
+    def test_several_are_held_and_given_back(self):
+        self.assertEqual(ran(self.HELD + """
+        here = threading.get_ident()
+        def fail():
+            raise OSError([forks.owner(it._lock) == here for it in (own, idle)])
+        print(forks.alone((own, idle), lambda: [forks.owner(it._lock) == here for it in (own, idle, lost)]))
+        try:
+            forks.alone((idle, own), fail)
+        except OSError as error:
+            print(error)
+        print([forks.owner(it._lock) for it in (own, idle)], forks.owner(lost._lock) not in (0, here))
+        """), ["[True, True, False]", "[True, True]", "[0, 0] True"])
 
     def test_a_connection_over_a_stand_in(self):
         self.assertEqual(ran("""

@@ -9,6 +9,7 @@ import sys
 import time
 import unittest
 
+from made_libraries import over_library
 from support import ROOT, python_command, write
 
 import scale_programs
@@ -134,6 +135,7 @@ class Surroundings:
             write(f"{self.room}/{it}", surroundings.FILES[it])
 
 
+@over_library
 class ShortSurroundings(Surroundings, Case):
     """Some of them together."""
 
@@ -147,6 +149,7 @@ class LongSurroundings(Surroundings, Case):
     IS_LONG = True
 
 
+@over_library
 class Places(Case):
     """Files and folders that can't be written, and a working folder that is gone."""
 

@@ -17,7 +17,8 @@ import unittest
 import xml.etree.ElementTree as tree
 from fractions import Fraction
 
-from support import ROOT, needs, needs_build, python_command, read, read_terminal, write
+from made_libraries import over_library
+from support import ROOT, needs, needs_build, over_program, python_command, read, read_terminal, write
 
 import bindings
 import engine_rows
@@ -28,7 +29,7 @@ import postgresql_server
 import repository
 import sfq
 from import_calls import PYTHON, WithImports, collection, feature, square
-from sfq.commands import checking, endings, exports, imports
+from sfq.commands import endings, exports, imports
 from sfq.geometry import binary, grids
 from sfq.layers import reading
 from sfq.tables import rules
@@ -42,12 +43,16 @@ REFUSED = {
     "V5 1: ": [[[0, 0], [4, 0], [4, 4], [0, 4], [0, 0]], [[20, 20], [21, 20], [21, 21], [20, 20]]],
     "V6 1 2: ": [[[0, 0], [9, 0], [9, 9], [0, 9], [0, 0]], [[1, 1], [8, 1], [8, 8], [1, 8], [1, 1]], [[2, 2], [3, 2], [3, 3], [2, 2]]],
     "W3 at 9": [[[30_000_001, 0], [4, 0], [4, 4], [30_000_001, 0]]],
-    "W1 at 8: POLYGON Z": [[[0, 0, 7], [4, 0, 7], [4, 4, 7], [0, 0, 7]]],
 }
 
 
-class Rounding(unittest.TestCase):
+class Rounding(engine_rows.WithLibrary):
     """The grid, which needs no GDAL. The values are computed by hand."""
+
+    @classmethod
+    def setUpClass(cls):
+        super().setUpClass()
+        os.environ["SFQ_LIBRARY"] = library.SHARED
 
     def places(self, step, origin, *values):
         grid = grids.Grid(step, (origin, "0"))
@@ -65,7 +70,14 @@ class Rounding(unittest.TestCase):
     def test_by_the_exact_value_of_the_double(self):
         """0.145 as a double is 0.1449999999999999900, and 0.035 is 0.0350000000000000033; 0.125 is itself."""
         self.assertEqual(self.places("0.01", "0", 0.145, 0.035, 0.125, math.nextafter(0.125, 0)), [14, 4, 13, 12])
-        self.assertEqual(self.places("1", "0", math.nextafter(0.5, 0), math.nextafter(4503599627370.5, 0)), [0, 4503599627370])
+        self.assertEqual(self.places("1", "0", math.nextafter(0.5, 0), math.nextafter(9_999_999.5, 0)), [0, 9_999_999])
+
+    def test_past_the_limit(self):
+        """What is past the limit stays past it, and isn't counted as moved."""
+        self.assertEqual(self.places("1", "0", 10_000_000.25, 10_000_000.5, -1e300, 4503599627370.0), [10_000_000, *[10_000_001] * 3])
+        shift = grids.Shift()
+        grids.Grid("1").rounded([1e9 + 0.25, 0.0], shift)
+        self.assertEqual((shift.positions, shift.moved), (1, 0))
 
     def test_as_fractions_round(self):
         chance = random.Random(3)
@@ -104,6 +116,12 @@ class Rounding(unittest.TestCase):
             with self.assertRaises(ValueError):
                 grids.Grid(it)
 
+    def test_grids_with_too_many_digits(self):
+        for step, origin in (("1e-16", "0"), ("1e16", "0"), ("1", "1e19"), ("1", "0.0000000000000001")):
+            with self.assertRaisesRegex(ValueError, "too many digits"):
+                grids.Grid(step, (origin, "0")).check()
+        grids.Grid("1e-15", ("9223.372036854775", "0")).check()
+
 
 class Scales(unittest.TestCase):
     """Whole numbers of decimal ones, which need no GDAL. The values are computed by hand."""
@@ -115,6 +133,20 @@ class Scales(unittest.TestCase):
             ("1", ("9223372036854775807", "-9223372036854775808"), ("9223372036854775807", "-9223372036854775808")),
         ):
             self.assertEqual(tuple(grids.Scale(step).field(it) for it in given), wanted, step)
+
+    def test_steps_that_numbers_have(self):
+        for given, wanted in (
+            ((3.25, -0.5, 7.0), "0.01"), ((4.0, 1e14), "1"), ((1e-7,), "0.0000001"), ((0.1, 0.2, 0.30000000000000004), ""), ((0.0,), "1"), ((), ""), ((float("nan"), 1.0), ""),
+            ((float("inf"),), ""), ((1e15,), ""), ((123456789012.25,), "0.01"), ((1234567890123.25, 0.001), ""), ((1e-13,), ""), ((1e-12,), "0.000000000001"),
+        ):
+            found = grids.Places()
+            for it in given:
+                found.add(it)
+            self.assertEqual(found.step, wanted, given)
+            if wanted:
+                scale = grids.Scale(wanted)
+                self.assertEqual([float(scale.axis.text(int(scale.field(repr(it))))) for it in given], list(given))
+                self.assertEqual(scale.moved, 0)
 
     def test_what_is_moved(self):
         scale = grids.Scale("0.01")
@@ -128,7 +160,7 @@ class Scales(unittest.TestCase):
                 grids.Scale("1").field(it)
 
     def test_steps_of_the_command_line(self):
-        self.assertEqual(imports.steps_of(["a=0.01", "b=c=2"], "id"), {"a": "0.01", "b=c": "2"})
+        self.assertEqual(imports.steps_of(["a=0.01", "b=c=2", "none"], "id"), {"a": "0.01", "b=c": "2"})
         for it in (["a"], ["=1"], ["a=0"], ["a=x"], ["a=1", "a=2"], ["id=1"]):
             with self.assertRaises(ValueError):
                 imports.steps_of(it, "id")
@@ -140,17 +172,6 @@ class Scales(unittest.TestCase):
             ("3", "1000", "3000"), ("ä", "TEXT", '"ä"'),
         ):
             self.assertEqual(exports.value(text, kind), wanted)
-
-
-class Programs(unittest.TestCase):
-    """Which program checks."""
-
-    def test_the_script_of_a_checkout_without_a_proved_program_checks_nothing(self):
-        with tempfile.TemporaryDirectory() as room:
-            shutil.copy(f"{ROOT}/sfq", f"{room}/sfq")
-            shutil.copytree(f"{ROOT}/tools", f"{room}/tools")
-            with self.assertRaisesRegex(checking.LibraryError, "/sfq isn't the proved program: run .*/build first"):
-                checking.checker(f"{room}/sfq")
 
 
 class Texts(unittest.TestCase):
@@ -325,18 +346,18 @@ class Imports(WithImports):
     def test_each_record_that_is_left_out_has_sfqs_reason(self):
         features = [feature(("Polygon", it)) for it in REFUSED.values()] + [feature(("Polygon", square(0, 0)))]
         features.append({"type": "Feature", "properties": {}, "geometry": {"type": "GeometryCollection", "geometries": [
-            {"type": "Point", "coordinates": [1, 1]}]}})
+            {"type": "Point", "coordinates": [1, 1]}, {"type": "LineString", "coordinates": [[1, 1], [2, 2]]}]}})
         features.append(feature(("MultiPolygon", [square(0, 0), square(4, 4)])))
         features.append(feature(("MultiPolygon", [square(1, 1, 1), square(0, 0)])))
         features.append(feature(("MultiPoint", [[it, 0] for it in range(10_001)])))
-        folder, said = self.imported(features)
+        folder, said = self.imported(features, "--invalid", "leave-out", "--anyway")
         wanted = [*REFUSED, "W1 at 0: GEOMETRYCOLLECTION", "V7 0 1: ", "V8 0 1: ", "W4"]
         found = self.left_out(folder)
         self.assertEqual(len(found), len(wanted))
         for (_, _, reason, done), it in zip(found, wanted):
             self.assertTrue(reason.startswith(it), (reason, it))
             self.assertEqual(done, "left out")
-        self.assertEqual(self.column(folder, "fid"), ["8"])
+        self.assertEqual(self.column(folder, "fid"), ["7"])
         for it in wanted:
             self.assertRegex(said, rf"(?m)^sfq-import: t: 1 left out: {it[:2]}: ")
         self.assertIn("W3: the number at this byte is past 10,000,000 either way", said)
@@ -350,12 +371,11 @@ class Imports(WithImports):
     def test_curves_m_and_no_numbers(self):
         path = self.texts("CIRCULARSTRING(0 0,4 4,8 0)", "POINT M (1 2 3)", "POINT ZM (1 2 3 4)",
                           "MULTIPOLYGON(((0 0,4 0,4 4,0 0)),EMPTY)", "POINT(7 8)")
-        folder, _ = self.imported(path)
-        self.assertEqual([it[2] for it in self.left_out(folder)], [
-            "W1 at 0: CIRCULARSTRING", "W1 at 6: POINT M", "W1 at 6: POINT ZM",
-            "W1 at 13: MULTIPOLYGON(EMPTY"])
+        folder, said = self.imported(path)
+        self.assertEqual([it[2] for it in self.left_out(folder)], ["W1 at 0: CIRCULARSTRING", "W1 at 13: MULTIPOLYGON(EMPTY"])
+        self.assertIn("sfq-import: t: 2 geometries without their Z or M", said)
         folder, _ = self.imported(path, "--invalid", "mend")
-        self.assertEqual([it[3] for it in self.left_out(folder)], ["mended"] * 4)
+        self.assertEqual([it[3] for it in self.left_out(folder)], ["mended"] * 2)
         line, *rest = [it for it in self.column(folder) if it]
         self.assertTrue(line.startswith("LINESTRING(0 0,") and line.endswith(",8 0)"), line)
         self.assertEqual(rest, ["POINT(1 2)", "POINT(1 2)", "MULTIPOLYGON(((0 0,4 0,4 4,0 0)))", "POINT(7 8)"])
@@ -383,7 +403,7 @@ class Imports(WithImports):
             if "MULTIPOINT" not in text:
                 given.append(sfq.Geometry(text))
         path = self.texts(*(it.text for it in given))
-        folder, _ = self.imported(path)
+        folder, _ = self.imported(path, "--invalid", "leave-out")
         self.assertEqual(self.column(folder), [it.text for it in given if it.is_valid])
         refused = [it for it in given if not it.is_valid]
         self.assertGreaterEqual(len(refused), 100)
@@ -391,7 +411,7 @@ class Imports(WithImports):
         # What is mended is a folder that loads, as each that is made here has to.
         folder, _ = self.imported(path, "--invalid", "mend")
         done = [it[3] for it in self.left_out(folder)]
-        self.assertEqual((len(done), len(self.column(folder))), (len(refused), len(given) - done.count("left out")))
+        self.assertEqual(len(set(self.column(folder, "whole"))), len(given) - done.count("left out"))
         self.assertGreaterEqual(done.count("mended"), 10)
 
     def test_a_record_that_gdal_cannot_read(self):
@@ -406,23 +426,25 @@ class Imports(WithImports):
 
     def test_z_is_dropped_only_where_that_is_asked(self):
         features = [feature(("Point", [1, 2, 3])), feature(("Point", [4, 5]))]
-        self.assertEqual(self.column(self.imported(features)[0]), ["POINT(4 5)"])
-        folder, said = self.imported(features, "--flat")
-        self.assertEqual((self.column(folder), self.left_out(folder)), (["POINT(1 2)", "POINT(4 5)"], []))
-        self.assertIn("sfq-import: t: 1 geometries without their Z or M", said)
+        # The option of earlier versions changes nothing.
+        for words in ([], ["--flat"]):
+            folder, said = self.imported(features, *words)
+            self.assertEqual((self.column(folder), self.left_out(folder)), (["POINT(1 2)", "POINT(4 5)"], []))
+            self.assertIn("sfq-import: t: 1 geometries without their Z or M", said)
 
     def test_mended(self):
         spike = [[[0, 0], [6, 0], [6, 6], [3, 6], [3, 9], [3, 6], [0, 6], [0, 0]]]
         features = [feature(("Polygon", it)) for it in (spike, REFUSED["V3 0: "], REFUSED["V1 0: 3 positions left"])]
-        folder, said = self.imported(features, "--invalid", "mend")
-        self.assertEqual(self.column(folder, "fid"), ["0"])
-        self.assertEqual(sorted(re.findall(r"\d \d", self.column(folder)[0])[:-1]), ["0 0", "0 6", "3 6", "6 0", "6 6"])
+        folder, said = self.imported(features, "--invalid", "mend", "--anyway")
+        # The two halves of the bow tie share a point, so they are two rows; the narrow one has no area on the grid.
+        self.assertEqual(self.column(folder, "fid"), ["0", "1", "1"])
+        self.assertEqual([sorted(re.findall(r"\d \d", it)[:-1]) for it in self.column(folder)], [
+            ["0 0", "0 6", "3 6", "6 0", "6 6"], ["0 0", "0 4", "2 2"], ["2 2", "4 0", "4 4"]])
         found = self.left_out(folder)
-        self.assertEqual([it[3] for it in found], ["mended", "left out", "left out"])
-        # The two halves share a point, which sfq doesn't take; the narrow one has no area on the grid.
-        self.assertIn("; after make-valid V7 0 1: ", found[1][2])
-        self.assertTrue(found[2][2].endswith("; make-valid leaves nothing of it"), found[2][2])
-        self.assertIn("1 mended: V3: this ring touches or crosses itself", said)
+        self.assertEqual([it[3] for it in found], ["mended", "mended", "left out"])
+        self.assertTrue(found[2][2].endswith("; make-valid leaves nothing of it; valid in the source, broken by the grid"), found[2][2])
+        self.assertIn("2 mended: V3: this ring touches or crosses itself", said)
+        self.assertIn("1 records are parted into 2 rows, 1 of them since their rings touch", said)
 
     def test_stop(self):
         features = [feature(("Point", [1, 1])), feature(("Polygon", REFUSED["V3 0: "])), feature(("Point", [1, 1, 1]))]
@@ -468,16 +490,34 @@ class Imports(WithImports):
         folder, _ = self.imported([feature(("Point", [0, 0]), **values), feature(("Point", [0, 0]), a=0, b=3.0)])
         head, first, second = self.table(folder)
         self.assertEqual(dict(zip(head, first)), {
-            "fid": "0", "a": "9223372036854775807", "b": "0.1", "c": "x", "d": "2024-02-29", "e": "2024-02-29T07:05:03Z", "f": "[1,2]",
+            "fid": "0", "a": "9223372036854775807", "b": "1", "c": "x", "d": "2024-02-29", "e": "2024-02-29T07:05:03Z", "f": "[1,2]",
             "g": "1", "h": '["u","v,w"]', "geom": "POINT(0 0)"})
-        self.assertEqual(second, ["1", "0", "3"] + [""] * 6 + ["POINT(0 0)"])
+        self.assertEqual(second, ["1", "0", "30"] + [""] * 6 + ["POINT(0 0)"])
         self.assertEqual(self.columns(folder), {
-            "fid": "INTEGER", "a": "INTEGER", "b": "TEXT", "c": "TEXT", "d": "TEXT", "e": "TEXT", "f": "TEXT", "g": "INTEGER", "h": "TEXT",
+            "fid": "INTEGER", "a": "INTEGER", "b": "INTEGER", "c": "TEXT", "d": "TEXT", "e": "TEXT", "f": "TEXT", "g": "INTEGER", "h": "TEXT",
             "geom": "POINT"})
+
+    def test_decimal_numbers(self):
+        """They are whole numbers by themselves, and come back as they were."""
+        values = [(3.25, 4.0, 1 / 3), (-0.005, 1e14, 2.5), (None, None, None)]
+        folder, said = self.imported([feature(("Point", [0, 0]), width=a, people=b, third=c) for a, b, c in values])
+        self.assertEqual([it[1:4] for it in self.table(folder)[1:]], [["3250", "4", "0.3333333333333333"], ["-5", "100000000000000", "2.5"], ["", "", ""]])
+        self.assertEqual([self.columns(folder)[it] for it in ("width", "people", "third")], ["INTEGER", "INTEGER", "TEXT"])
+        self.assertIn("t: decimal numbers are whole ones, which count steps: width of 0.001, people of 1\n", said)
+        self.assertIn("t: numbers with a point are TEXT, which sfq compares as texts: third; --scale third=STEP makes whole ones\n", said)
+        self.assertEqual(self.command("sfq-export", f"{folder}/t.csv", "--like", folder, "--to", f"{folder}/o.geojson").returncode, 0)
+        found = [it["properties"] for it in json.loads(read(f"{folder}/o.geojson"), parse_float=str)["features"]]
+        self.assertEqual([(it["width"], it["people"]) for it in found], [("3.250", 4), ("-0.005", 100000000000000), (None, None)])
+
+    def test_columns_of_one_name_have_one_step(self):
+        one, other = self.source([feature(None, w=0.25, v=1.5)], "a"), self.source([feature(None, w=3.5, v=2)], "b")
+        out = f"{os.path.dirname(one)}/out"
+        self.assertEqual(self.command("sfq-import", one, other, "--grid", "1", "--out", out).returncode, 0)
+        self.assertEqual([self.table(out, it)[1][1:3] for it in "ab"], [["25", "15"], ["350", "2"]])
 
     def test_numbers_with_a_point(self):
         features = [feature(("Point", [0, 0]), width=it, n=7) for it in (3.25, 3.255, None, -0.5)]
-        folder, said = self.imported(features)
+        folder, said = self.imported(features, "--scale", "none")
         self.assertEqual((self.column(folder, "width"), self.columns(folder)["width"]), (["3.25", "3.255", "", "-0.5"], "TEXT"))
         self.assertIn("t: numbers with a point are TEXT, which sfq compares as texts: width; --scale width=STEP makes whole ones\n", said)
         folder, said = self.imported(features, "--scale", "width=0.01", "n=7")
@@ -495,7 +535,7 @@ class Imports(WithImports):
         self.assertEqual((ran.returncode, ran.stderr), (2, "sfq-import: --scale: no layer has a column depth\n"))
 
     def test_an_import_that_keeps_nothing(self):
-        for features, said in (([feature(("Point", [1, 2, 3]))], "no record was kept: empty/left-out.csv says why; --allow-empty takes that"),
+        for features, said in (([feature(("LineString", [[1, 2], [1, 2]]))], "no record was kept: empty/left-out.csv says why; --allow-empty takes that"),
                                ([], "no record was kept: the source has none; --allow-empty takes that")):
             ran = self.command("sfq-import", self.source(features), "--grid", "1", "--out", "empty")
             self.assertEqual((ran.returncode, ran.stderr.splitlines()[-1]), (4, f"sfq-import: {said}"))
@@ -555,7 +595,7 @@ class Imports(WithImports):
         self.assertIn("the layers have different coordinate systems", said)
         folder, _ = self.imported(path, "--layer", "lines", "--key", "fid", "--allow-empty", grid="0.5")
         self.assertEqual(self.table(folder, "lines"), [["fid", "nr", "geom"]])
-        self.assertEqual(sorted(os.listdir(folder)), ["grid.json", "left-out.csv", "lines.csv", "schema.sql"])
+        self.assertEqual(sorted(os.listdir(folder)), ["changed-relations.csv", "grid.json", "left-out.csv", "lines.csv", "schema.sql"])
         ran = self.command("sfq-import", path, "--grid", "1", "--out", "x", "--layer", "nope")
         self.assertEqual((ran.returncode, ran.stderr), (2, "sfq-import: no layer nope; there are Größe 1, lines\n"))
 
@@ -572,14 +612,14 @@ class Imports(WithImports):
     def test_two_geometry_columns(self):
         path = f"{tempfile.mkdtemp(dir=self.room)}/t.csv"
         write(path, '_WKTone,_WKTtwo,nr\nPOINT(1 1),"LINESTRING(0 0,1 1)",1\n"POLYGON((0 0,4 4,4 0,0 4,0 0))",POINT(2 2),2\n'
-                    'POINT(3 3),POINT Z (1 2 3),3\n,,4\n')
+                    'POINT(3 3),"GEOMETRYCOLLECTION(POINT(1 2),LINESTRING(1 2,3 4))",3\n,,4\n')
         folder, said = self.imported(path)
         head, *rows = self.table(folder)
         self.assertEqual([it[-2:] for it in rows], [["POINT(1 1)", "LINESTRING(0 0,1 1)"], ["", ""]])
         self.assertEqual([self.columns(folder)[it] for it in head[-2:]], ["POINT", "LINESTRING"])
         one, two = (it[2] for it in self.left_out(folder))
         self.assertRegex(one, r"^\w+one: V3 0: ")
-        self.assertRegex(two, r"^\w+two: W1 at 6: POINT Z$")
+        self.assertRegex(two, r"^\w+two: W1 at 0: GEOMETRYCOLLECTION$")
         self.assertIn("1 left out: V3: this ring", said)
 
     @unittest.skipUnless(not postgresql_server.lacks() and postgresql_server.has_extension("postgis"), "needs the package postgresql-15-postgis-3")
@@ -596,12 +636,12 @@ class Imports(WithImports):
         self.assertEqual((errors, status), ("", 0))
         source = f"PG:host={server.data} user=postgres dbname=postgres password=s3cret"
         folder, said = self.imported(source, "--origin", "500000,0", "--layer", "well", "other.area", grid="0.01")
-        self.assertEqual(self.table(folder, "well"), [["nr", "depth", "geom"], ["7", "3.25", "POINT(13 100)"], ["3", "", ""], ["5", "12", "POINT EMPTY"]])
+        self.assertEqual(self.table(folder, "well"), [["nr", "depth", "geom"], ["7", "325", "POINT(13 100)"], ["3", "", ""], ["5", "1200", "POINT EMPTY"]])
         self.assertEqual(self.column(folder, table="other_area"), [])
         self.assertNotIn("s3cret", read(f"{folder}/grid.json"))
         folder, _ = self.imported(source, "--layer", "other.area", grid="0.01")
-        self.assertEqual(self.table(folder, "other_area")[1:], [["0", "a", "POLYGON((0 0,100 0,100 100,0 0))"]])
-        self.assertEqual([it[2] for it in self.left_out(folder)], ["W1 at 6: POINT Z"])
+        self.assertEqual(self.table(folder, "other_area")[1:], [["0", "a", "POLYGON((0 0,100 0,100 100,0 0))"], ["1", "b", "POINT(100 200)"]])
+        self.assertEqual(self.left_out(folder), [])
 
     def test_many_columns_and_long_texts(self):
         many = {f"c{it}": it for it in range(40)}
@@ -610,6 +650,11 @@ class Imports(WithImports):
         listed = re.findall(r"^  (\w+) (\w+)", read(f"{folder}/schema.sql"), re.M)
         self.assertEqual((len(listed), listed[0], listed[30], listed[31]), (32, ("fid", "INTEGER"), ("c29", "INTEGER"), ("geom", "POINT")))
         self.assertEqual(len(self.table(folder)[0]), 42)
+        folder, said = self.imported([feature(("Point", [1, 2]), **many)], "--columns", "c39", "c3")
+        self.assertEqual(self.table(folder), [["fid", "c3", "c39", "geom"], ["0", "3", "39", "POINT(1 2)"]])
+        self.assertNotIn("columns", said)
+        ran = self.command("sfq-import", self.source([feature(None, a=1)]), "--grid", "1", "--out", "none", "--columns", "b")
+        self.assertEqual((ran.returncode, ran.stderr), (2, "sfq-import: --columns: no layer has a column b\n"))
         folder, said = self.imported([feature(None, a="x" * 1_048_577), feature(None, a="y" * 1_048_576), feature(None, a='"' * 524_288)])
         self.assertIn("sfq-import: t: 2 left out: L11: a has more than 1,048,576 bytes", said)
         self.assertEqual([it[2] for it in self.left_out(folder)], ["L11: a has more than 1,048,576 bytes"] * 2)
@@ -625,14 +670,11 @@ class Imports(WithImports):
     @needs_build
     def test_the_program_gives_the_reasons_of_the_library(self):
         path = self.source([feature(("Polygon", it)) for it in REFUSED.values()] + [feature(("Polygon", square(0, 0)))])
-        one, other = (self.imported(path, *words)[0] for words in ((), ("--sfq", repository.PROGRAM)))
+        one, other = self.imported(path, "--anyway")[0], f"{self.room}/by_program"
+        ran = subprocess.run([*over_program(PYTHON, repository.PROGRAM, "sfq-import"), path, "--grid", "1", "--out", other, "--anyway"], capture_output=True, text=True)
+        self.assertEqual((ran.returncode, ran.stdout), (0, ""), ran.stderr)
         for it in sorted(os.listdir(one)):
             self.assertEqual(read(f"{one}/{it}"), read(f"{other}/{it}"), it)
-
-    def test_neither_library_nor_program(self):
-        ran = self.command("sfq-import", self.source([]), "--grid", "1", "--out", "x", SFQ_LIBRARY="/nowhere", PATH="/nowhere")
-        self.assertEqual(ran.returncode, 1)
-        self.assertRegex(ran.stderr, r"^sfq-import: no libsfq.so.0: .*and no program sfq is beside this command or on the path, which would do too")
 
     def test_rows_come_back_with_true_coordinates(self):
         features = [feature(("Point", [563_000.123, 5_934_000.456]), a="x"), feature(None, a=""), feature(("Polygon", square(563_000, 5_934_000.004)), a="y")]
@@ -657,7 +699,7 @@ class Imports(WithImports):
         self.assertEqual((ran.returncode, ran.stderr), (0, ""))
         again, said = self.imported(f"{self.room}/t.geojson", "--origin", "-3,7.5", grid="0.001")
         self.assertEqual(self.column(again), self.column(folder))
-        self.assertIn("moved by at most 0, 0 in the mean", said)
+        self.assertIn("300 of 300 records in t.csv; nothing moved, 0 merged\n", said)
 
     def test_longitude_and_latitude(self):
         folder, _ = self.imported(f"{self.survey()}", "--layer", "well", "--origin", "564000,5935000", grid="0.01")
@@ -718,6 +760,31 @@ class Imports(WithImports):
         with open(f"{out}/points.csv", encoding="utf-8") as file:
             self.assertEqual(sum(1 for _ in file), 1_000_001)
         shutil.rmtree(out)
+
+
+@over_library
+@unittest.skipUnless(PYTHON, "needs the package python3-gdal")
+class OverTheProgram(unittest.TestCase):
+    """Imports where no library is made: the program checks the geometries in its place, proved or not."""
+
+    ASKS_PROGRAM = True
+
+    def test_what_is_kept_and_what_is_left_out(self):
+        features = [feature(("Polygon", it)) for it in REFUSED.values()] + [feature(("Polygon", square(0, 0)), a="x"), feature(("Point", [1.26, 2, 3]))]
+        with tempfile.TemporaryDirectory(prefix="sfq-import-") as room:
+            collection(f"{room}/t.geojson", features)
+            words = [*over_program(PYTHON, repository.PROGRAM if repository.is_built() else f"{ROOT}/sfq", "sfq-import"), f"{room}/t.geojson", "--out", f"{room}/out"]
+            words += ["--grid", "1", "--anyway", "--invalid", "leave-out"]
+            ran = subprocess.run(words, env={**os.environ, "SFQ_QUIET": "1"}, capture_output=True, text=True)
+            self.assertEqual((ran.returncode, ran.stdout), (0, ""), ran.stderr)
+            with open(f"{room}/out/t.csv", newline="", encoding="utf-8") as file:
+                rows = list(csv.reader(file))[1:]
+            self.assertEqual(rows, [["7", "x", "POLYGON((0 0,4 0,4 4,0 4,0 0))"], ["8", "", "POINT(1 2)"]])
+            with open(f"{room}/out/left-out.csv", newline="", encoding="utf-8") as file:
+                reasons = [it["reason"] for it in csv.DictReader(file)]
+        self.assertEqual(len(reasons), len(REFUSED))
+        for reason, it in zip(reasons, REFUSED):
+            self.assertTrue(reason.startswith(it), (reason, it))
 
 
 class Documents(engine_rows.WithLibrary):

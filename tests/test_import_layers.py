@@ -11,15 +11,15 @@ from import_calls import WithGeos
 
 R, GEOPANDAS = "/usr/lib/R/site-library", "/usr/lib/python3/dist-packages/geopandas/datasets"
 # Each with its package, the options, how many records are kept, and of how many.
-NC = ("r-cran-sf", f"{R}/sf/shape/nc.shp", (), 98, 100)
+NC = ("r-cran-sf", f"{R}/sf/shape/nc.shp", (), 100, 100)
 OLINDA = ("r-cran-sf", f"{R}/sf/shape/olinda1.shp", (), 470, 470)
 STORMS = ("r-cran-sf", f"{R}/sf/shape/storms_xyz_feature.shp", ("--flat",), 71, 71)
 BUILDINGS = ("r-cran-sf", f"{R}/sf/gpkg/buildings.gpkg", (), 158, 158)
-WORLD = ("r-cran-spdata", f"{R}/spData/shapes/world.gpkg", (), 174, 177)
+WORLD = ("r-cran-spdata", f"{R}/spData/shapes/world.gpkg", (), 177, 177)
 BOSTON = ("r-cran-spdata", f"{R}/spData/shapes/boston_tracts.shp", (), 506, 506)
 NEW_YORK = ("r-cran-spdata", f"{R}/spData/shapes/NY8_utm18.shp", (), 276, 281)
 WHEAT = ("r-cran-spdata", f"{R}/spData/shapes/wheat.shp", (), 500, 500)
-EARTH = ("python3-geopandas", f"{GEOPANDAS}/naturalearth_lowres/naturalearth_lowres.shp", (), 174, 177)
+EARTH = ("python3-geopandas", f"{GEOPANDAS}/naturalearth_lowres/naturalearth_lowres.shp", (), 177, 177)
 BOROUGHS = ("python3-geopandas", f"{GEOPANDAS}/nybb_16a.zip", ("--part",), 5, 5)
 CYCLES = ("r-cran-spdata", f"{R}/spData/misc/cycle_hire_xy.csv", ("--xy", "X,Y"), 742, 742)
 
@@ -51,7 +51,8 @@ class WithLayers(WithGeos):
         _, _, words, kept, records = layer
         folder, _ = self.imported(self.path(layer), *words, grid="auto")
         (found,) = json.loads(read(f"{folder}/grid.json"))["layers"]
-        self.assertEqual((found["records"] - found["left_out"], found["records"], len(self.left_out(folder))), (kept, records, records - kept))
+        left = sum(it[3] == "left out" for it in self.left_out(folder))
+        self.assertEqual((found["records"] - found["left_out"], found["records"], left), (kept, records, records - kept))
         self.relate_alike(folder, found["table"], found["key"], found["table"], found["key"])
 
 

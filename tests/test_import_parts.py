@@ -102,12 +102,13 @@ class Parts(WithGeos):
         ring = coast(12_000, 90_000)
         features = [feature(("Polygon", [ring]), name="coast"), feature(("Polygon", square(1, 1)), name="small"), feature(None, name="none")]
         source, folder, said, layer = self.parted(features, "--origin", "45000,45000")
-        self.assertEqual(self.table(folder)[0], ["part", "whole", "name", "geom"])
+        self.assertEqual(self.table(folder)[0], ["part", "whole", "fid", "name", "geom"])
         found, _ = self.geos("wholes", source, folder, "t")
         self.assertGreaterEqual(found["parts"], 2)
         self.is_whole(found, layer)
-        self.assertEqual([it[:3] for it in self.table(folder)[1:]], [
-            *([str(it + 1), "0", "coast"] for it in range(found["parts"])), [str(found["parts"] + 1), "1", "small"], [str(found["parts"] + 2), "2", "none"]])
+        self.assertEqual([it[:4] for it in self.table(folder)[1:]], [
+            *([str(it + 1), "0", "0", "coast"] for it in range(found["parts"])), [str(found["parts"] + 1), "1", "1", "small"],
+            [str(found["parts"] + 2), "2", "2", "none"]])
         self.assertEqual({it: layer["parted"][it] for it in ("part", "whole", "records", "rows", "predicates")}, {
             "part": "part", "whole": "whole", "records": 1, "rows": found["parts"], "predicates": {"ST_Intersects": "any", "ST_Disjoint": "all"}})
         self.assertEqual((layer["key"], layer["records"], layer["rows"], layer["left_out"]), ("part", 3, found["parts"] + 2, 0))
@@ -192,8 +193,8 @@ class Parts(WithGeos):
         features = [feature(many, nr=7, whole="a", part="b"), feature(("Point", [1, 2]), nr=3, whole="c", part="d")]
         folder, said = self.imported(features, "--part", "--key", "nr")
         self.assertEqual([it[:-1] for it in self.table(folder)], [
-            ["part", "whole", "whole_2", "part_2"], ["1", "7", "a", "b"], ["2", "7", "a", "b"], ["3", "3", "c", "d"]])
-        self.assertIn("nr is whole, whole is whole_2, part is part_2", said)
+            ["part", "whole", "nr", "whole_2", "part_2"], ["1", "7", "7", "a", "b"], ["2", "7", "7", "a", "b"], ["3", "3", "3", "c", "d"]])
+        self.assertIn("whole is whole_2, part is part_2", said)
 
     def test_one_that_cannot_be_parted(self):
         """A ring that crosses itself is left out with all its parts, and mended where that is asked and can be done."""

@@ -17,8 +17,10 @@ from unittest import mock
 
 from support import ROOT, python_command, read, write
 
+import engine_rows
 import library
-from import_calls import PYTHON, WithImports, feature
+import test_databases_python as databases
+from import_calls import MIXED, PYTHON, WithImports, feature
 from sfq.commands import endings, folders, imports
 from sfq.geometry import grids
 from sfq.layers import columns, proposing, systems
@@ -49,20 +51,58 @@ def contents(folder):
     return found
 
 
-class Proposals(unittest.TestCase):
+class Proposals(engine_rows.WithLibrary):
     """Which grid is proposed, which needs no GDAL."""
 
+    @classmethod
+    def setUpClass(cls):
+        super().setUpClass()
+        os.environ["SFQ_LIBRARY"] = library.SHARED
+
     def proposed(self, extent, length=METRES, *given):
+        """Returns the grid of an extent whose other coordinates are no decimal numbers of a grid."""
         system = None if length == "none" else System(length)
         return proposing.proposed(proposing.Extent(*extent), systems.metres(system), *given).spelled
+
+    def of_positions(self, *numbers, length=METRES, origin=""):
+        """Returns the grid of positions, and whether each is on it exactly."""
+        decimals = proposing.Decimals()
+        for at in range(0, len(numbers), 2):
+            decimals.add(numbers[at:at + 2])
+        (x, y), system = (numbers[::2], numbers[1::2]), None if length == "none" else System(length)
+        extent = proposing.Extent(min(x), max(x), min(y), max(y))
+        found = proposing.proposal(extent, systems.metres(system), "", origin, decimals)
+        shift = grids.Shift()
+        found.grid.rounded(numbers, shift)
+        self.assertEqual(shift.moved == 0, found.is_exact, numbers)
+        return found.grid.spelled, found.is_exact
+
+    def test_a_step_on_which_all_lie(self):
+        for numbers, length, wanted in (
+            # Centimetres; a millionth of a degree, of a town and of a country; whole metres of a town and of a country.
+            ((563000.25, 5934000.5, 565000.01, 5936000.75), METRES, ("0.01", ("564000", "5935000"))),
+            ((10.123456, 53.5, 10.2, 53.654321), DEGREES, ("0.0000001", ("10.16", "53.58"))),
+            ((10.123456, 53.5, 18.2, 47.654321), DEGREES, ("0.000001", ("14.2", "50.6"))),
+            ((1.0, 2.0, 300.0, 5.0), METRES, ("0.01", ("0", "0"))), ((0.0, 0.0, 900000.0, 5.0), METRES, ("0.1", ("0", "0"))),
+            ((0.001, 0.002, 300.0, 5.0), METRES, ("0.001", ("0", "0"))), ((1.0, 1.0, 9.0, 9.0), "none", ("0.000001", ("0", "0"))),
+            # Where a power of ten doesn't reach all, a step that divides the distances does: multiples of 0.05, halves between whole numbers.
+            ((0.0, 0.0, 300000.05, 0.0), METRES, ("0.05", ("150000", "0"))), ((0.5, 0.0, 20000000.5, 1.0), METRES, ("1", ("10000000.5", "0"))),
+        ):
+            self.assertEqual(self.of_positions(*numbers, length=length), (wanted, True))
+
+    def test_where_no_step_has_all(self):
+        """The last bit of a double is a decimal too; and 0.01 doesn't reach over 300 km."""
+        self.assertEqual(self.of_positions(3.7649999999999997, 67.35000000000001, 1.0, 2.0), (("0.000005", ("2.5", "34.5")), False))
+        self.assertEqual(self.of_positions(0.0, 0.0, 300000.01, 0.07), (("0.02", ("150000", "0")), False))
+        self.assertEqual(self.of_positions(0.25, 0.0, 9.0, 1.0, origin="0.001,0"), (("0.000001", ("0.001", "0")), True))
 
     def test_each_unit(self):
         for length, extent, wanted in (
             (DEGREES, (-180, 180, -90, 83.6), ("0.00002", ("0", "0"))), (DEGREES, (-84.32, -75.46, 33.88, 36.59), ("0.0000005", ("-79.9", "35.25"))),
-            (DEGREES, (0.1, 0.9, 0.2, 0.3), ("0.0000001", ("0", "0"))), (METRES, (563_000, 565_000, 5_934_000, 5_936_000), ("0.01", ("564000", "5935000"))),
+            (DEGREES, (0.1, 0.9, 0.2, 0.3), ("0.00000005", ("0.5", "0.25"))), (METRES, (563_000, 565_000, 5_934_000, 5_936_000), ("0.0001", ("564000", "5935000"))),
             (METRES, (0, 99_999, -99_999, 5), ("0.01", ("0", "0"))), (METRES, (-2e7, 2e7, -2e7, 2e7), ("2", ("0", "0"))),
-            (FEET, (900_000, 1_060_000, 120_000, 270_000), ("0.01", ("980000", "195000"))), (KILOMETRES, (563, 565, 5_934, 5_936), ("0.00001", ("564", "5935"))),
-            ("none", (-0.05, 0.3, 51.3, 51.6), ("0.0000001", ("0.12", "51.45"))), ("none", (0, 300, 0, 5), ("0.01", ("0", "0"))),
+            (FEET, (900_000, 1_060_000, 120_000, 270_000), ("0.01", ("980000", "195000"))), (KILOMETRES, (563, 565, 5_934, 5_936), ("0.0000001", ("564", "5935"))),
+            ("none", (-0.05, 0.3, 51.3, 51.6), ("0.00000002", ("0.124", "51.45"))), ("none", (0, 300, 0, 5), ("0.00002", ("150", "2"))),
         ):
             self.assertEqual(self.proposed(extent, length), wanted)
 
@@ -74,7 +114,7 @@ class Proposals(unittest.TestCase):
 
     def test_documents_have_the_rule(self):
         rule = " ".join(proposing.__doc__.partition("\n\n")[2].split())
-        self.assertRegex(rule, r"^The step is the finest .* The origin is 0,0 if .* as metres\.$")
+        self.assertRegex(rule, r"^If every coordinate is .* The origin is 0,0 if .* as metres\.$")
         for it in ("docs/DATA.md", "docs/PYTHON.md", "packaging/man/sfq-import.1", "bindings/qgis/sfq_qgis/basis.py"):
             self.assertEqual(" ".join(read(f"{ROOT}/{it}").split()).count(rule), 1, it)
 
@@ -91,8 +131,8 @@ class Proposals(unittest.TestCase):
             grid = proposing.proposed(extent, metres)
             for it in ((extent.left, extent.low), (extent.right, extent.high)):
                 self.assertTrue(all(-10_000_000 <= n <= 10_000_000 for n in grid.rounded(it, grids.Shift())[0]), (extent, grid.spelled))
-            step, first = Decimal(grid.spelled[0]), proposing.finest(metres, extent)
-            before = [it for it in _until(step, proposing.steps(first))]
+            step, first = Decimal(grid.spelled[0]), proposing.finest(extent)
+            before = [it for it in _until(step, proposing.steps(first)) if it >= proposing.least(extent)]
             for it in before:
                 for origin in ((Decimal(0), Decimal(0)), proposing.middle(extent, it)):
                     self.assertFalse(proposing.fits(extent, grids.Grid(str(it), list(map(str, origin)))))
@@ -117,12 +157,8 @@ class Names(unittest.TestCase):
             self.assertEqual(columns.seeming(names), wanted)
 
 
-class Folders(unittest.TestCase):
-    """Folders that change in one step, and schemas that get tables, which need no GDAL."""
-
-    def setUp(self):
-        self.room = tempfile.mkdtemp(prefix="sfq-folders-")
-        self.addCleanup(shutil.rmtree, self.room)
+class Schemas(databases.WithTables):
+    """Schemas that lose tables and get others, which needs no GDAL."""
 
     def test_a_schema_without_a_table(self):
         first, second = "CREATE TABLE a (\n  id INTEGER -- the key; of a\n    PRIMARY KEY\n)", "create table B(id int primary key)"
@@ -136,6 +172,14 @@ class Folders(unittest.TestCase):
             self.assertEqual([it.name.lower() for it in statements.tables(found)], ["b" if name == "a" else "a"])
         self.assertEqual([folders.ended(it) for it in ("", "-- a;\n", f"{second};\n", f"{second}\n", f"{second}\n-- b\n")],
                          ["", "-- a;\n", f"{second};\n", f"{second};\n", f"{second};\n-- b\n"])
+
+
+class Folders(unittest.TestCase):
+    """Folders that change in one step, which needs no GDAL."""
+
+    def setUp(self):
+        self.room = tempfile.mkdtemp(prefix="sfq-folders-")
+        self.addCleanup(shutil.rmtree, self.room)
 
     def test_folders_change_places(self):
         """By one step of the system, and by three where it has none."""
@@ -179,7 +223,7 @@ class Sources(WithImports):
     def test_two_sources_have_one_grid(self):
         one, other = self.points("one", (9.5, 53.25), (10, 54)), self.points("other", (11.5, 53), note="x")
         folder, said = self.folder("two", one, other, words=())
-        self.assertIn("sfq-import: --grid 0.0000001 --origin 10.5,53.5 takes all (steps of 0.0000001 degree)\n", said)
+        self.assertIn("sfq-import: --grid 0.0000001 --origin 10.5,53.5 takes all exactly (steps of 0.0000001 degree)\n", said)
         self.assertEqual(self.column(folder, table="one"), ["POINT(-10000000 -2500000)", "POINT(-5000000 5000000)"])
         self.assertEqual(self.column(folder, table="other"), ["POINT(10000000 -5000000)"])
         found = json.loads(read(f"{folder}/grid.json"))
@@ -188,7 +232,7 @@ class Sources(WithImports):
         self.assertEqual(contents(folder), contents(again))
 
     def test_more_tables_into_a_folder(self):
-        one, other = self.points("one", (1.25, 2)), self.source([feature(("Point", [3.75, 4])), feature(("Point", [1, 2, 3]))], "other")
+        one, other = self.points("one", (1.25, 2)), self.source([feature(("Point", [3.75, 4])), MIXED], "other")
         folder, _ = self.folder("more", one, words=("--grid", "0.5", "--origin", "1,0"))
         write(f"{folder}/schema.sql", read(f"{folder}/schema.sql").replace("geom POINT", "geom GEOMETRY -- any"))
         write(f"{folder}/notes/mine.txt", "mine")
@@ -198,7 +242,7 @@ class Sources(WithImports):
         self.assertEqual((self.column(folder, table="one"), self.column(folder, table="other")), (["POINT(1 4)"], ["POINT(6 8)"]))
         self.assertIn("geom GEOMETRY -- any", read(f"{folder}/schema.sql"))
         self.assertEqual([it.name for it in statements.tables(read(f"{folder}/schema.sql"))], ["one", "other"])
-        self.assertEqual(self.left_out(folder), [("other", "2", "W1 at 6: POINT Z", "left out")])
+        self.assertEqual(self.left_out(folder), [("other", "2", "W1 at 0: GEOMETRYCOLLECTION", "left out")])
         self.assertEqual({it: text for it, text in contents_of(folder).items() if it in ("one.csv", "notes/mine.txt")},
                          {it: before[it] for it in ("one.csv", "notes/mine.txt")})
         whole, _ = self.folder("whole", one, other, words=("--grid", "0.5", "--origin", "1,0"))
@@ -213,7 +257,7 @@ class Sources(WithImports):
         self.assertIn("there has a table WELL already: --replace makes it anew", self.ran(2, other, "--out", "there"))
         self.assertEqual(contents(folder), before)
         self.folder("there", other, words=("--replace",))
-        self.assertEqual(sorted(os.listdir(folder)), ["WELL.csv", "grid.json", "left-out.csv", "other.csv", "schema.sql"])
+        self.assertEqual(sorted(os.listdir(folder)), ["WELL.csv", "changed-relations.csv", "grid.json", "left-out.csv", "other.csv", "schema.sql"])
         self.assertEqual((self.column(folder, table="WELL"), self.left_out(folder)), (["POINT(5 5)"], []))
         self.assertEqual([it.name for it in statements.tables(read(f"{folder}/schema.sql"))], ["other", "WELL"])
         self.assertEqual([it["table"] for it in json.loads(read(f"{folder}/grid.json"))["layers"]], ["other", "WELL"])
@@ -274,10 +318,10 @@ class Sources(WithImports):
         said = self.ran(2, metres, degrees, "--out", "mixed")
         self.assertIn(f"{metres} is in EPSG:25832, and {degrees} in EPSG:4326: --to EPSG:N moves all to one system", said)
         folder, said = self.folder("moved", metres, degrees, words=("--to", "EPSG:25832"))
-        self.assertIn("--grid 0.01 --origin 500000,5539000 takes all (steps of 0.01 metre)", said)
+        self.assertIn("--grid 0.000001 --origin 500000,5538630.7 takes all (steps of 0.000001 metre)", said)
         (x,), (y, empty) = (self.column(folder, table=it) for it in "ab")
-        self.assertEqual((x, empty), ("POINT(0 -36930)", "POINT EMPTY"))
-        self.assertRegex(y, r"POINT\(0 -369\d\d\)")
+        self.assertEqual((x, empty), ("POINT(0 0)", "POINT EMPTY"))
+        self.assertRegex(y, r"POINT\(0 \d{4}\)")
         self.assertEqual({it["coordinate_system"]["authority"] for it in json.loads(read(f"{folder}/grid.json"))["layers"]}, {"EPSG:25832"})
         said = self.ran(2, self.in_system("c", 4326, "POINT(9 50)"), "--out", "moved")
         self.assertIn("moved is in EPSG:25832, and ", said)
@@ -326,10 +370,9 @@ class Sources(WithImports):
         rows = 'geometry,nr\n"POLYGON((0 0,4 0,4 4,0 0))",1\npoint empty,2\n,3\nPOINT(1,4\nnothing,5\nPOINT(1 2) x,6\n"LINESTRING(0 0,1 1.5)",7\nPOINT Z (1 2 3),8\n'
         folder, said = self.folder("texts", self.written("g", rows), words=("--grid", "0.5", "--wkt", "geometry"))
         self.assertEqual(self.table(folder, "g"), [
-            ["fid", "nr", "geometry"], ["1", "1", "POLYGON((0 0,8 0,8 8,0 0))"], ["2", "2", "POINT EMPTY"], ["3", "3", ""], ["7", "7", "LINESTRING(0 0,2 3)"]])
+            ["fid", "nr", "geometry"], ["1", "1", "POLYGON((0 0,8 0,8 8,0 0))"], ["2", "2", "POINT EMPTY"], ["3", "3", ""], ["7", "7", "LINESTRING(0 0,2 3)"], ["8", "8", "POINT(2 4)"]])
         self.assertEqual([it[1:3] for it in self.left_out(folder)], [
-            *((number, f"W1: geometry isn't well-known text: '{it}'") for number, it in (("4", "POINT(1"), ("5", "nothing"), ("6", "POINT(1 2) x"))),
-            ("8", "W1 at 6: POINT Z")])
+            (number, f"W1: geometry isn't well-known text: '{it}'") for number, it in (("4", "POINT(1"), ("5", "nothing"), ("6", "POINT(1 2) x"))])
         self.assertIn("g: 3 left out: W1: geometry isn't well-known text\n", said)
 
     def test_columns_of_one_source_and_not_of_another(self):
@@ -355,10 +398,10 @@ class Sources(WithImports):
         self.assertNotIn("it has no geometry", said)
 
     def test_strict(self):
-        path = self.source([feature(("Point", [1, 2])), feature(("Point", [1, 2, 3]))])
+        spike = [[[0, 0], [6, 0], [6, 6], [3, 6], [3, 9], [3, 6], [0, 6], [0, 0]]]
+        path = self.source([feature(("Point", [1, 2])), feature(("Polygon", spike))])
         self.assertTrue(self.ran(4, path, "--out", "strict", "--strict").endswith("1 record was left out: strict/left-out.csv says why\n"))
         self.assertTrue(os.path.isfile(f"{self.room}/strict/t.csv"))
-        self.ran(0, path, "--out", "flat", "--strict", "--flat")
         self.ran(0, path, "--out", "mended", "--strict", "--invalid", "mend")
 
     # ---- what ends an import ----
@@ -371,7 +414,7 @@ class Sources(WithImports):
 
     def test_a_record_that_stops_leaves_a_folder_as_it_was(self):
         folder, _ = self.folder("kept", self.points("a", (1, 2)))
-        before, bad = contents_of(folder), self.source([feature(("Point", [1, 2])), feature(("Point", [1, 2, 3]))], "b")
+        before, bad = contents_of(folder), self.source([feature(("Point", [1, 2])), MIXED], "b")
         self.ran(4, bad, "--out", "kept", "--invalid", "stop")
         self.is_as_it_was(folder, before)
 
@@ -404,7 +447,10 @@ class Sources(WithImports):
                 takes = time.monotonic() - begun
             except subprocess.TimeoutExpired:
                 child.send_signal(signal.SIGINT)
-            said = child.communicate()[1]
+            try:
+                said = child.communicate(timeout=120)[1]
+            finally:
+                child.kill()
             statuses.append(child.returncode)
             if child.returncode == 0:
                 self.assertEqual(contents_of(folder), after)
@@ -471,14 +517,15 @@ class Sources(WithImports):
 
     def test_a_folder_of_a_version_before_gets_tables_too(self):
         """Its left-out.csv says no tables, and its grid.json the one source above the layers."""
-        folder, _ = self.folder("older", self.source([feature(("Point", [1, 2, 3])), feature(("Point", [1, 2]))], "a.b"))
-        lines = [it.rpartition(",")[0] for it in read(f"{folder}/left-out.csv").splitlines()]
+        folder, _ = self.folder("older", self.source([MIXED, feature(("Point", [1, 2]))], "a.b"))
+        lines = [",".join(it.split(",")[:5]) for it in read(f"{folder}/left-out.csv").splitlines()]
         write(f"{folder}/left-out.csv", "".join(f"{it}\n" for it in lines))
         found = json.loads(read(f"{folder}/grid.json"))
         del found["layers"][0]["source"]
         write(f"{folder}/grid.json", json.dumps({**found, "source": "a.geojson", "invalid": "leave-out"}))
         self.folder("older", self.points("b", (1, 2)), words=())
-        self.assertEqual(read(f"{folder}/left-out.csv"), "layer,record,fid,reason,done,table\na.b,1,0,W1 at 6: POINT Z,left out,a_b\n")
+        self.assertEqual(read(f"{folder}/left-out.csv"), "layer,record,fid,reason,done,table,positions,x,y,least_x,least_y,greatest_x,greatest_y\n"
+                         "a.b,1,0,W1 at 0: GEOMETRYCOLLECTION,left out,a_b,,,,,,,\n")
 
 
 def contents_of(folder):
@@ -503,7 +550,7 @@ class Calls(WithImports):
         paths = [self.source([feature(("Point", [1, 2]))], it) for it in ("a", "b")]
         known = {**os.environ, "PYTHONPATH": f"{ROOT}/bindings/python", "SFQ_LIBRARY": library.SHARED}
         ran = subprocess.run([PYTHON, "-B", "-c", script, f"{self.room}/called", *paths], env=known, capture_output=True, text=True)
-        self.assertEqual((ran.stdout, ran.stderr), ("('0.5', ('0', '0')) ['a', 'b'] 2 0 2\n", ""))
+        self.assertEqual((ran.stdout, ran.stderr), ("('0.5', ('0', '0')) ['a', 'b'] 2 0 3\n", ""))
 
     def test_options_that_are_wrong(self):
         for options, wanted in (

@@ -3,6 +3,7 @@ import base64
 import functools
 import itertools
 import json
+import math
 import os
 import random
 import re
@@ -11,6 +12,7 @@ import subprocess
 import tarfile
 import tempfile
 import unittest
+from fractions import Fraction
 from unittest import mock
 
 from support import ROOT, examples, needs, needs_build, read, write_all
@@ -19,6 +21,7 @@ import answers
 import browsers
 import javascript_package
 import language
+import wkb_model
 from browsers import PATIENCE, databases_of, limited, printed_of, random_pairs, rows_of_scripts, rows_that_ask, rows_that_relate, with_answers
 from sfq.geometry import grids
 from test_web import carried, needs_page, relations
@@ -201,7 +204,7 @@ class SharedTrials(Trials):
         return {
             "pairs": {"pairs": [pair for pair, _ in wanted]}, "whys": {"pairs": valid},
             "queries": {"databases": databases_given(self.databases) + faulty()[0]}, "many": {"calls": 5_000},
-            "shortOfMemory": {"modules": modules_of(PAGES)}, "heap": {"modules": modules_of([16])}, "onGrids": {"shapes": []},
+            "shortOfMemory": {"modules": modules_of(PAGES)}, "heap": {"modules": modules_of([16])}, "onGrids": {"shapes": []}, "binaries": {"values": []},
         }
 
     def lines(self, given):
@@ -284,7 +287,7 @@ class InNode(SharedTrials, unittest.TestCase):
             "freed": "Error: sfq: the geometry is freed", "text": "Error: sfq: the geometry is freed",
             "valid": "Error: sfq: the geometry is freed",
             "noDatabase": "Error: sfq: the module that was loaded has no databases: await loadDatabases()",
-            "made": "TypeError: sfq: a geometry is made by Geometry.read, fromPositions or fromGeoJSON",
+            "made": "TypeError: sfq: a geometry is made by Geometry.read, fromPositions, fromBinary or fromGeoJSON",
             "located": "RangeError: sfq: 0.5 1 isn't a position of whole coordinates on the grid",
             "past": f"RangeError: sfq: the position 10000001 1 is past {limit}",
             "pastMany": f"RangeError: sfq: position 1 is past {limit}",
@@ -349,12 +352,33 @@ class InNode(SharedTrials, unittest.TestCase):
                 (float(origin[at % 2]) + chance.randint(-5000, 5000) * float(step) / 2) if chance.random() < 0.5 else chance.uniform(-900, 900)
                 for at in range(8)
             ]
-            positions = grid.rounded(numbers, grids.Shift(), merges=False)
+            steps = [math.floor((Fraction(it) - axis.origin) / axis.step + Fraction(1, 2)) for it, axis in zip(numbers, [grid.x, grid.y] * 4)]
+            positions = list(zip(steps[::2], steps[1::2]))
             given.append({"shape": {"type": "MultiPoint", "coordinates": list(zip(numbers[::2], numbers[1::2]))}, "step": step, "origin": origin})
             back = [[float(axis.text(it)) for axis, it in zip((grid.x, grid.y), position)] for position in positions]
             wanted.append(["MULTIPOINT(" + ",".join("(%d %d)" % it for it in positions) + ")", back, [list(it) for it in positions]])
         found = tried("onGrids", {"shapes": given})
         self.assertEqual([[text, on["coordinates"], whole["coordinates"]] for text, on, whole in found], wanted)
+
+    @needs_page
+    def test_well_known_binary(self):
+        """What is read on a grid is what the model of the definition reads, and is written again."""
+        values = [it for it in wkb_model.drawn(11, 600) if 0 < len(it) < 1_000]
+        for grid, options in ((None, {}), ((1, 3, -7, 100), {"step": "0.01", "origin": ["0.03", "-0.07"]})):
+            found, read = tried("binaries", {"values": [{"hex": it.hex(), **options} for it in values]}), 0
+            for value, by_module in zip(values, found, strict=True):
+                by_model = wkb_model.said(value, grid)
+                with self.subTest(value=value.hex(), grid=grid):
+                    if isinstance(by_module, str):
+                        self.assertEqual(by_model[:2] == "0 ", by_module.startswith("sfq: V"))
+                        continue
+                    text, again, written = by_module
+                    self.assertEqual((text, again), (by_model.split(" ", 4)[4], text))
+                    self.assertEqual(wkb_model.said(bytes.fromhex(written), None).split(" ", 4)[4], text)
+                    read += 1
+            self.assertGreater(read, 50)
+        self.assertEqual(tried("binaries", {"values": [{"hex": it} for it in ("", "0107000000", "01020000000100000000000000000000400000000000000840")]}),
+                         ["sfq: W1 at 0", "sfq: W1", "sfq: V1 0"])
 
 
 class InBrowsers(SharedTrials, unittest.TestCase):

@@ -64,7 +64,7 @@ class Folders(unittest.TestCase):
     def test_an_interrupted_run_ends_what_it_started(self):
         started = []
 
-        def interrupted(child):
+        def interrupted(child, timeout=None):
             started.append(child)
             raise KeyboardInterrupt
 

@@ -338,9 +338,13 @@ class Border(unittest.TestCase):
         "KeptConnection": "struct kept", "&mut ConnectionSlot": "struct kept *", "&mut TablesFault": "sfq_tables_fault *",
         "KeptIndex": "struct kept", "&mut IndexSlot": "struct kept *", "&[Bounds]": "const struct bounds *, size_t",
         "&Bounds": "const struct bounds *", "&mut [usize]": "size_t *, size_t",
+        "&mut [TextPart]": "sfq_text_part *, size_t", "&mut ColumnForm": "sfq_form *", "&mut Origin": "sfq_origin *",
+        "&GridNumbers": "const struct grid_numbers *", "&mut Notes": "struct notes *",
         "&mut Fault": "sfq_fault *", "&mut bool": "bool *", "&mut u32": "uint32_t *", "&mut u64": "uint64_t *", "&mut i64": "int64_t *", "&mut usize": "size_t *",
         "&mut [u8; 9]": "uint8_t *", "&mut [bool; 11]": "bool *", "&mut [i32; 4]": "int32_t *", "&[u8]": "const uint8_t *, size_t",
         "&mut [u8]": "uint8_t *, size_t", "&[usize]": "const size_t *, size_t", "&[Coordinates]": "const struct position *, size_t",
+        "&[Pair]": "const struct pair *, size_t", "&mut [Pair]": "struct pair *, size_t", "&mut [Coordinates]": "struct position *, size_t",
+        "&mut Counts": "struct counts *", "&mut Extent": "struct extent *",
     }
 
     def exports(self, crate):

@@ -123,6 +123,20 @@ class Refused(unittest.TestCase):
         self.refused("tools/one.py", "#!/usr/bin/env python3\n", 1, "chmod +x")
         self.assertEqual(self.found("tools/one.py", "ONE = 1\n"), (0, []))
 
+    def test_a_reader_of_sql(self):
+        for token in ("[A-Za-z_][A-Za-z0-9_]*", r"--[^\n]*", "'(?:[^']|'')*'"):
+            self.refused("bindings/one.py", f'ONE = r"{token}"\n', 1, "ask sfq_text_parts")
+            self.assertEqual(self.found("tests/one.py", f'ONE = r"{token}"\n'), (0, []))
+
+    def test_code_that_rounds_or_takes_a_binary_form_apart(self):
+        for code, instead in (
+            ("math.floor(x / step + 0.5)", "sfq_round"), ("math.floor(x + Fraction(1, 2))", "sfq_round"), ("Math.round(x)", "sfq_round"),
+            ("struct.unpack_from(form, it, 1)", "sfq_take_apart"), ("it.frombytes(part)", "sfq_take_apart"), ("view.getFloat64(5)", "sfq_take_apart"),
+        ):
+            for path in ("bindings/one.py", "tools/one.js"):
+                self.refused(path, f'ONE = "{code}"\n', 1, f"call {instead}")
+            self.assertEqual(self.found("tests/one.py", f'ONE = "{code}"\n'), (0, []))
+
     @support.needs("pyflakes3", "pyflakes3")
     def test_an_import_that_nothing_uses_and_a_name_that_is_not_there(self):
         self.refused("tools/one.py", "import os\nimport support\n", 1, "'os' imported but unused")

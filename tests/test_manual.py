@@ -259,7 +259,7 @@ class Completions(unittest.TestCase):
         for line, wanted in (
             ("sfq r", ["relate", "run"]), ("sfq relate ", GEOMETRIES), ("sfq why P", ["POINT(", "POLYGON("]), ("sfq fault ", codes()),
             ("sfq fault W", ["W1", "W2", "W3", "W4"]), ("sfq pairs --w", ["--why"]), ("sfq help wh", ["why"]), ("sfq-tiles --r", ["--rows"]), ("sfq-scale ru", ["run"]), ("sfq-scale run --se", ["--send"]),
-            ("sfq-import --invalid ", ["leave-out", "mend", "stop"]), ("sfq-export --w", ["--wgs84"]), ("sfq-schema --v", ["--version"]), ("sfq-shell --mode j", ["json"]), ("sfq-ask --out s", ["svg"]),
+            ("sfq-import --invalid ", ["snap", "mend", "leave-out", "stop"]), ("sfq-export --w", ["--wgs84"]), ("sfq-schema --v", ["--version"]), ("sfq-shell --mode j", ["json"]), ("sfq-ask --out s", ["svg"]),
             ("sfq-audit run --format h", ["html"]), ("sfq-audit write --format j", ["jts-xml"]), ("sfq-audit w", ["write"]),
         ):
             script = f"source '{ROOT}/packaging/completions/{line.partition(' ')[0]}.fish'; complete -C '{line}'"

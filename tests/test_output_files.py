@@ -8,6 +8,7 @@ import sys
 import tempfile
 import unittest
 
+from made_libraries import over_library
 from support import ROOT, python_command, write
 
 import surroundings
@@ -110,6 +111,7 @@ class OneFile(unittest.TestCase):
         self.assertEqual((contents(self.path), os.listdir(self.room)), ("old\nnew", ["out"]))
 
 
+@over_library
 class Commands(surroundings.Room):
     """Each command that writes a file."""
 
@@ -141,7 +143,7 @@ class Commands(surroundings.Room):
     def test_tables_that_sfq_ask_makes(self):
         if not surroundings.GDAL:
             self.skipTest("needs the package python3-gdal")
-        words = [*python_command(surroundings.GDAL, "sfq-ask"), f"{self.room}/source.geojson", "SELECT fid FROM source", "--sfq", f"{self.room}/sfq"]
+        words = [*surroundings.command(surroundings.GDAL, self.room, "sfq-ask"), f"{self.room}/source.geojson", "SELECT fid FROM source"]
         for number, (said, wanted) in SIGNALS.items():
             with self.subTest(signal=number):
                 child = self.waiting(words)

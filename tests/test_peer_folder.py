@@ -71,6 +71,7 @@ class PeerFolder(unittest.TestCase):
                 with mock.patch.object(peer_folder, "make", lambda *them: made.append(them) or 0):
                     self.assertEqual(peer_folder.main(), 0)
         self.assertEqual(made, 2 * [("X", "trixie", peer_folder.MIRROR, [*peer_folder.PACKAGES, "gcc", "jq"])])
+        self.assertEqual(peer_folder.packages_of("sid"), (*peer_folder.PACKAGES, "duckdb"))
         for words in (["make", "X", "--suit"], ["add", "X", "gcc", "--new"]):
             with mock.patch.object(sys, "argv", ["peer_folder.py", *words]):
                 self.assertEqual(self.refused(peer_folder.main), "2")

@@ -77,6 +77,14 @@ class Postgresql(engine_rows.WithLibrary):
             self.skipTest("needs the package postgresql-15-postgis-3")
         self.regress("sfq_postgis")
 
+    def test_only_what_the_server_looks_for_can_be_seen(self):
+        module = f"{self.server.room}{bindings.of_postgresql()[0]}"
+        ran = subprocess.run(["nm", "-D", "--defined-only", module], capture_output=True, text=True, check=True)
+        names = {it.split()[-1] for it in ran.stdout.splitlines()}
+        called = {it for it in names if it.startswith("sql_sfq_")}
+        self.assertGreater(len(called), 20)
+        self.assertEqual(names, {"Pg_magic_func", "_PG_init", *called, *(f"pg_finfo_{it}" for it in called)})
+
     def check_queries(self, queries):
         for it in queries:
             # Rows come in the order of the key in sfq, and here in any order.

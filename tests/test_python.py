@@ -505,7 +505,7 @@ class Installation(unittest.TestCase):
         return subprocess.run([sys.executable, "-c", text], env=known, capture_output=True, text=True).stdout
 
     def test_a_missing_library_is_a_clear_error(self):
-        self.assertRegex(self.loading("/nowhere/libsfq.so.0"), r"^sfq: no libsfq.so.0: install it by .*SFQ_LIBRARY.*/nowhere/libsfq.so.0")
+        self.assertRegex(self.loading("/nowhere/libsfq.so.0"), rf"^sfq: no libsfq.so.0: build it by `{re.escape(ROOT)}/build --library`.*SFQ_LIBRARY.*/nowhere/libsfq.so.0")
         self.assertRegex(self.loading("libc.so.6"), r"libc.so.6 isn't the library that this package needs: .*sfq_read")
 
     @needs("gcc", "cc")
@@ -516,14 +516,14 @@ class Installation(unittest.TestCase):
         calls = "".join(f"    show('{it[0]}', {it[1:]});\n" for it in [*codes, "W0", "W5", "V9", "X1"])
         with tempfile.TemporaryDirectory(prefix="sfq-python-") as room:
             write(f"{room}/words.c", (
-                '#include "faults.h"\n'
+                '#include "faults.h"\n#include <stdio.h>\n'
                 "static void show(uint8_t letter, uint8_t number)\n{\n"
                 "    sfq_fault fault = { letter, number, 3, 5 };\n    char place[FAULT_PLACE];\n    fault_place(&fault, place);\n"
                 '    printf("%s: %s\\n", place, fault_meaning(&fault));\n}\n'
                 f"int main(void)\n{{\n{calls}    return 0;\n}}\n"
             ))
-            words = ["cc", "-std=c99", "-Wall", "-Wextra", "-Werror", f"-I{ROOT}/bindings/c", f"{room}/words.c", "-o", f"{room}/words"]
-            subprocess.run(words, check=True)
+            words = ["cc", "-std=c99", "-Wall", "-Wextra", "-Werror", f"-I{ROOT}/bindings/c", f"{room}/words.c", f"{ROOT}/bindings/c/faults.c"]
+            subprocess.run([*words, "-o", f"{room}/words"], check=True)
             shown = subprocess.run([f"{room}/words"], capture_output=True, text=True, check=True).stdout.splitlines()
         self.assertEqual(shown[:len(codes)], [str(faults.Fault(it, 3, 5)) for it in codes])
         self.assertEqual([it.partition(": ")[2] for it in shown[len(codes):]], ["an unknown fault"] * 4)

@@ -70,8 +70,8 @@ class Grids(unittest.TestCase):
         self.assertEqual(self.chosen((0, 4, 0, 4), "0.25", " 1, -2 "), ("0.25", ("1", "-2")))
         self.assertEqual(self.chosen((564_000, 564_020, 5_935_000, 5_935_020), "1"), ("1", ("0", "0")))
         self.assertEqual(self.chosen((564_000, 564_020, 5_935_000, 5_935_020), "", "0,0"), ("1", ("0", "0")))
-        self.assertEqual(self.chosen((564_000, 564_020, 5_935_000, 5_935_020)), ("0.01", ("564000", "5935000")))
-        self.assertEqual(self.chosen((9.5, 10.5, 53, 54), metres=0.0), ("0.0000001", ("10", "53.5")))
+        self.assertEqual(self.chosen((564_000, 564_020, 5_935_000, 5_935_020)), ("0.000001", ("564010", "5935010")))
+        self.assertEqual(self.chosen((9.5, 10.5, 53, 54), metres=0.0), ("0.00000005", ("10", "53.5")))
         self.assertEqual(self.chosen(None), ("0.01", ("0", "0")))
 
     def test_what_does_not_fit_is_refused_with_what_does(self):

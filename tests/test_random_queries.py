@@ -95,7 +95,7 @@ def by_connection(kept, query, values=()):
 def by_shell(room, schema, query):
     """Returns what sfq-shell writes, all tables being loaded."""
     text = io.StringIO()
-    asker = asking.ByLibrary("sfq-shell", [f"{room}/s", f"{room}/d"], schema)
+    asker = asking.Asker("sfq-shell", [f"{room}/s", f"{room}/d"], schema)
     try:
         showing.show(asker.ask(query), "csv", showing.Place(text, None, room))
     except asking.Refused as error:

@@ -6,7 +6,8 @@ import subprocess
 import threading
 import unittest
 
-from support import ROOT, python_command, read, write
+from made_libraries import over_library
+from support import ROOT, read, write
 
 import surroundings
 from sfq.layers import systems
@@ -57,6 +58,7 @@ class Counting(http.server.BaseHTTPRequestHandler):
         pass
 
 
+@over_library
 @unittest.skipUnless(surroundings.GDAL, "needs the package python3-gdal")
 class Systems(surroundings.Room):
     """What a file says of a reference system."""
@@ -120,13 +122,13 @@ class Systems(surroundings.Room):
             self.grid_json(text)
             for name, words in (
                 ("sfq-export", [f"{self.room}/rows.csv", "--like", f"{self.room}/tables", "--to", f"{self.place}/o.json", "--wgs84"]),
-                ("sfq-ask", [f"{self.room}/tables", surroundings.QUERY, "--sfq", f"{self.room}/sfq", "--output", f"{self.place}/o.gpkg"]),
-                ("sfq-import", [f"{self.room}/source.geojson", "--out", f"{self.room}/tables", "--sfq", f"{self.room}/sfq"]),
+                ("sfq-ask", [f"{self.room}/tables", surroundings.QUERY, "--output", f"{self.place}/o.gpkg"]),
+                ("sfq-import", [f"{self.room}/source.geojson", "--out", f"{self.room}/tables"]),
             ):
                 if text != self.url and name != "sfq-export":
                     # Nothing is moved, so no grid would be opened.
                     continue
-                status, out, err = self.run_words([*python_command(surroundings.GDAL, name), *words], env=self.environment(no_proxy="*"))
+                status, out, err = self.run_words([*surroundings.command(surroundings.GDAL, self.room, name), *words], env=self.environment(no_proxy="*"))
                 with self.subTest(name=name, text=text):
                     self.assertEqual((status, out, len(err.splitlines())), (4, "", 1), err)
                     self.assertIn("grid.json isn't one that sfq-import made", err)

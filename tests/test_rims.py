@@ -7,6 +7,7 @@ import sys
 import tempfile
 import unittest
 
+from made_libraries import over_library
 from support import ROOT, needs
 
 import bindings
@@ -49,7 +50,8 @@ class Warnings(unittest.TestCase):
 
     @needs("gcc", "cc")
     def test_each_header_by_itself(self):
-        for path in sorted(glob.glob(f"{library.FOLDER}/*.h")):
+        folders = [library.FOLDER, *([f"{ROOT}/bindings/sqlite"] if bindings.has_sqlite() else [])]
+        for path in sorted(it for folder in folders for it in glob.glob(f"{folder}/*.h")):
             # What a header has that this file doesn't use is no fault of it.
             self.check(path, "-std=c99", "-x", "c", "-Wno-unused-function", "-include", "sys/types.h", f"-I{library.FOLDER}", compilers=["gcc"])
 
@@ -80,18 +82,6 @@ class Warnings(unittest.TestCase):
         self.assertEqual(found, {*FOLDERS, "bindings/postgresql", "bindings/javascript"})
 
 
-class Binary(unittest.TestCase):
-    """The C that takes well-known binary apart, without the library."""
-
-    @needs("gcc", "cc")
-    def test_a_value_that_ends_too_soon_reads_nothing_unset(self):
-        with tempfile.TemporaryDirectory(prefix="sfq-shorts-") as room:
-            flags = ["-std=c99", *c_programs.STRICT, *c_programs.watched(), f"-I{library.FOLDER}"]
-            subprocess.run(["cc", *flags, f"{ROOT}/tests/library/shorts.c", "-o", f"{room}/shorts"], check=True)
-            ran = subprocess.run([f"{room}/shorts"], capture_output=True, text=True)
-        self.assertEqual((ran.returncode, ran.stderr), (0, ""))
-
-
 @needs("gcc", "cc")
 class Rims(engine_rows.WithLibrary):
     """Random texts, binaries, tables and queries, and joins in SQLite."""
@@ -103,6 +93,7 @@ class Rims(engine_rows.WithLibrary):
         self.assertGreaterEqual(ran.stdout.count(": well"), 3)
 
 
+@over_library
 @unittest.skipUnless(surroundings.GDAL, "needs the package python3-gdal")
 class GeoPackages(unittest.TestCase):
     """GeoPackages with changed bytes and cells, which sfq-import reads."""

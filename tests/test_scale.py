@@ -17,11 +17,13 @@ import unittest
 
 from support import ROOT, read, write
 
+import library
 import postgresql_server
 import repository
 import scale_cluster
 import scale_programs
 import scale_tables
+import test_databases_python as databases
 from fuzz import joins
 from scale_programs import SFQ, TILES
 from sfq_scale import merging, query, schema, words
@@ -31,11 +33,11 @@ SCALE = f"{ROOT}/bindings/python/bin/sfq-scale"
 
 
 def needs_program(test):
-    """Skips a test where a program isn't there, or Dask, if the test's parts run in a cluster."""
+    """Skips a test where a program or the library isn't there, or Dask, if the test's parts run in a cluster."""
 
     @functools.wraps(test)
     def run(self):
-        lacks = scale_programs.lacks()
+        lacks = scale_programs.lacks() or (None if library.are_made() else "./build --library")
         if lacks:
             self.skipTest(f"needs {lacks}")
         package = None if self.is_here else scale_cluster.lacks()
@@ -567,19 +569,19 @@ class Documents(WithCluster):
             self.assertRegex(page, rf"(?m)^\.B {it}$")
 
 
-class Reading(unittest.TestCase):
+class Reading(databases.WithTables):
     """How queries and schemas are read and written again. No program is asked."""
 
-    TABLES = schema.read("CREATE TABLE t (id INT PRIMARY KEY, w INT, g POINT NOT NULL); -- x\ncreate table U (ID INT NOT NULL PRIMARY KEY, h Polygon);")
+    TEXT = "CREATE TABLE t (id INT PRIMARY KEY, w INT, g POINT NOT NULL); -- x\ncreate table U (ID INT NOT NULL PRIMARY KEY, h Polygon);"
 
     def read(self, text):
-        return query.read(text, self.TABLES)
+        return query.read(text, schema.read(self.TEXT))
 
     def test_schemas(self):
-        t, u = self.TABLES
-        self.assertEqual((t.key, u.key, [it.kind for it in t.columns]), ("id", "ID", ["INT", "INT", "POINT"]))
+        t, u = schema.read(self.TEXT)
+        self.assertEqual((t.key, u.key, [it.kind for it in t.columns]), ("id", "ID", ["INTEGER", "INTEGER", "POINT"]))
         self.assertEqual(schema.marks(t.columns), ["w_", "s"])
-        self.assertEqual(schema.marked(u).text, "CREATE TABLE U (ID INT PRIMARY KEY NOT NULL, h Polygon, w INTEGER NOT NULL, s INTEGER NOT NULL);\n")
+        self.assertEqual(schema.marked(u).text, "CREATE TABLE U (ID INTEGER PRIMARY KEY NOT NULL, h POLYGON, w INTEGER NOT NULL, s INTEGER NOT NULL);\n")
         self.assertEqual(schema.read(schema.marked(t).text)[0], schema.marked(t))
 
     def test_texts_of_parts(self):

@@ -1,5 +1,5 @@
 """sfq-shell: where queries end, how answers are written, what commands do, through a pipe and in a pseudo-terminal; over a stand-in for
-the program, over one for the library, and over both themselves where they are made."""
+the library, a program whose answers are known, over one in Python, and over the library itself where it is made."""
 import contextlib
 import io
 import json
@@ -14,16 +14,14 @@ import time
 import unittest
 from unittest import mock
 
-import support
+from made_libraries import over_library
 from support import ROOT, python_command, read, write
 
 import engine_rows
 import library
-import repository
 import tables_stand_in
 import test_databases_python as databases
 from shell_sessions import FOLDER, SCHEMA, Program, Terminal, shown
-from sfq import LibraryError
 from sfq.commands import asking, endings, prompt, shell, showing
 from sfq.tables import databases as border, errors, statements
 
@@ -32,14 +30,11 @@ ORDERED_FAULT = (
     f"sfq: Q2 at 30\n  1 | {ORDERED}\n    |                               ^\n"
     "sfq: ORDER BY isn't there: rows come in the order of the key; sort the output\n"
 )
-NOTED = "SELECT id FROM owner WHERE since = NULL"
-NOTE = f"  1 | {NOTED}\n    |                            ^\nsfq: note: a comparison with NULL never holds: write IS NULL\n"
 FIRST = "SELECT id, ST_AsText(geom) FROM parcel LIMIT 4"
 ODD = "SELECT * FROM odd"
 KNOWN = {
     **shown(),
     ORDERED: ("", ORDERED_FAULT, 5),
-    NOTED: ("id\n", NOTE, 0),
     "SELECT since FROM owner": ('since\n1962\n2004\n1988\n2011\n""\n', "", 0),
     "SELECT COUNT(*) FROM parcel": ("COUNT(*)\n13\n", "", 0),
     "SELECT COUNT(*) FROM owner": ("COUNT(*)\n5\n", "", 0),
@@ -60,6 +55,9 @@ def statements_of(*lines):
 
 
 class Statements(unittest.TestCase):
+    def setUp(self):
+        tables_stand_in.Calls().use(self)
+
     def test_where_queries_end(self):
         for lines, wanted in (
             (["a;"], ([("a", 1)], None)),
@@ -77,30 +75,49 @@ class Statements(unittest.TestCase):
         ):
             self.assertEqual(statements_of(*lines), wanted, lines)
 
+    def test_plans(self):
+        self.assertTrue(statements.is_plan("-- x\n explain SELECT"))
+        self.assertFalse(statements.is_plan("SELECT 'EXPLAIN'"))
+
+
+class Named(databases.WithTables):
+    """What a schema and a query name."""
+
     def test_tables_of_a_schema(self):
         found = statements.tables(read(SCHEMA))
         self.assertEqual([it.name for it in found], ["owner", "parcel", "building", "water", "path", "well"])
         self.assertEqual(found[0].columns, [("id", "INTEGER"), ("name", "TEXT"), ("since", "INTEGER")])
-        text = "-- CREATE TABLE no (x INT)\ncreate table A (b BIGINT primary key, -- )\n c POINT not null);CREATE TABLE z (y"
-        self.assertEqual([tuple(it)[:2] for it in statements.tables(text)], [("A", [("b", "INTEGER"), ("c", "POINT")])])
-        for it in ("", "CREATE", "CREATE TABLE", "CREATE TABLE ()", "\ufeff';"):
+        text = "-- CREATE TABLE no (x INT)\ncreate table A (b BIGINT primary key, -- )\n c POINT not null);CREATE TABLE z (y INT PRIMARY KEY)"
+        self.assertEqual([tuple(it) for it in statements.tables(text)], [
+            ("A", [("b", "INTEGER"), ("c", "POINT")], "create table A (b BIGINT primary key, -- )\n c POINT not null);\n"),
+            ("z", [("y", "INTEGER")], "CREATE TABLE z (y INT PRIMARY KEY);\n"),
+        ])
+        for it in ("", "CREATE", "CREATE TABLE", "CREATE TABLE ()", "\ufeff';", f"{text}; CREATE"):
             self.assertEqual(statements.tables(it), [], it)
 
-    def test_types_by_headers(self):
+    def test_types_of_answers(self):
         known = statements.tables(read(SCHEMA))
-        for query, headers, wanted in (
-            ("SELECT * FROM owner", ["id", "name", "since"], ["INTEGER", "TEXT", "INTEGER"]),
-            ("select x from Parcel AS p, building where 1", ["p.name", "building.geom", "p.geom"], ["TEXT", "POLYGON", "GEOMETRY"]),
-            ("SELECT a.id FROM path a INNER JOIN well b ON x", ["a.geom", "ST_AsText(b.geom)"], ["LINESTRING", "POINT"]),
-            ("SELECT COUNT(*) FROM owner", ["COUNT(*)"], ["INTEGER"]),
-            ("SELECT .. FROM well", ["ST_Dimension(geom)", "ST_IsEmpty(geom)", "ST_AsText(geom)"], ["INTEGER", "INTEGER", "POINT"]),
-            ("SELECT nothing", ["x", "a.b"], ["TEXT", "TEXT"]),
+        for query, wanted in (
+            ("SELECT * FROM owner", ["INTEGER", "TEXT", "INTEGER"]),
+            ("select p.name, building.geom, p.geom from Parcel AS p, building where 1 = p.id", ["TEXT", "POLYGON", "GEOMETRY"]),
+            ("SELECT a.geom, ST_AsText(b.geom) FROM path a INNER JOIN well b ON a.id = b.id", ["LINESTRING", "POINT"]),
+            ("SELECT COUNT(*) FROM owner", ["INTEGER"]),
+            ("SELECT ST_Dimension(geom), ST_IsEmpty(geom), ST_AsText(geom) FROM well", ["INTEGER", "INTEGER", "POINT"]),
+            ("EXPLAIN SELECT geom FROM well", ["TEXT"]),
         ):
-            self.assertEqual(statements.types(headers, query, known), wanted, query)
+            self.assertEqual(statements.types(wanted, query, known), wanted, query)
+        self.assertEqual(statements.types(["x", "a.b"], "SELECT nothing", known), ["TEXT", "TEXT"])
+        self.assertEqual(statements.columns("SELECT nothing", known), [])
 
-    def test_plans(self):
-        self.assertTrue(statements.is_plan("-- x\n explain SELECT"))
-        self.assertFalse(statements.is_plan("SELECT 'EXPLAIN'"))
+    def test_tables_of_a_query(self):
+        """Those of a query that is refused are the ones behind FROM and JOIN."""
+        known = statements.tables(read(SCHEMA))
+        for query, wanted in (
+            ("SELECT 'x' -- FROM well\n", {}), ("SELECT id FROM Well -- , owner", {"well": "well"}),
+            ("SELECT id FROM path, well B ORDER BY id", {"path": "path", "b": "well"}), ("SELECT owner FROM path JOIN water AS", {"path": "path", "water": "water"}),
+            ("SELECT a.id FROM path A, well B", {"a": "path", "b": "well"}), ("SELECT a.id FROM well a CROSS JOIN well", {"a": "well", "well": "well"}),
+        ):
+            self.assertEqual({alias: it.name for alias, it in statements.references(query, known).items()}, wanted, query)
 
 
 class Written(unittest.TestCase):
@@ -172,7 +189,7 @@ class Written(unittest.TestCase):
             self.assertEqual(self.text(mode, ["plan"], ["TEXT"], [["cost 5"], ["outer t scan"]], is_plan=True), "cost 5\nouter t scan\n")
 
 
-class Completing(unittest.TestCase):
+class Completing(databases.WithTables):
     def setUp(self):
         self.completer = prompt.Completer(statements.tables(read(SCHEMA)), [it.name for it in shell.COMMANDS])
 
@@ -222,12 +239,13 @@ class WithProgram(unittest.TestCase):
         self.assertEqual(self.program.run(text, *more), (out, err, status), text)
 
 
+@over_library
 class Piped(WithProgram):
     """Through a pipe: no prompt, what `sfq run` writes, and the status of the first fault."""
 
     def test_csv_is_what_run_writes(self):
         several = {it: out for it, (out, _, status) in KNOWN.items() if not status}
-        self.wanted(";\n\n".join(several), "".join(several.values()), NOTE)
+        self.wanted(";\n\n".join(several), "".join(several.values()))
 
     def test_the_first_fault_ends_it(self):
         text = f"-- neighbours\n\nSELECT since FROM owner;\n{ORDERED[:23]}\n{ORDERED[23:]};\nSELECT since FROM owner;\n"
@@ -235,9 +253,6 @@ class Piped(WithProgram):
         self.assertEqual((out, status), (KNOWN["SELECT since FROM owner"][0], 5))
         self.assertEqual(err, ORDERED_FAULT + "sfq-shell: standard input line 4: here the query begins\n")
         self.wanted("\n.nothing\nSELECT since FROM owner;\n", "", "sfq-shell: standard input line 2: there is no .nothing: .help lists the commands\n", 2)
-
-    def test_a_note_follows_the_answer(self):
-        self.wanted(f"{NOTED};", "id\n", NOTE)
 
     def test_options(self):
         since = KNOWN["SELECT since FROM owner"][0]
@@ -341,8 +356,10 @@ class Piped(WithProgram):
     def test_files_that_are_not_there(self):
         out, err, status = self.program.run("", schema=f"{self.program.room}/none.sql")
         self.assertEqual((out, err, status), ("", f"sfq-shell: {self.program.room}/none.sql: No such file or directory\n", 6))
-        ran = subprocess.run([*python_command(sys.executable, "sfq-shell"), "--sfq", "/nothing/sfq", SCHEMA, FOLDER], capture_output=True, text=True, input="")
-        self.assertEqual((ran.stdout, ran.stderr, ran.returncode), ("", "sfq-shell: no program /nothing/sfq\n", 1))
+        known = {**os.environ, "SFQ_LIBRARY": "/nowhere/libsfq.so.0"}
+        ran = subprocess.run([*python_command(sys.executable, "sfq-shell"), SCHEMA, FOLDER], capture_output=True, text=True, input="", env=known)
+        self.assertEqual((ran.stdout, ran.returncode, ran.stderr.count("\n")), ("", 1, 1))
+        self.assertIn(f"sfq-shell: no libsfq_tables.so.0: build it by `{ROOT}/build --library`, or set SFQ_LIBRARY", ran.stderr)
 
     def test_all_tables_are_loaded_at_once(self):
         self.program.remove()
@@ -352,6 +369,7 @@ class Piped(WithProgram):
         self.assertEqual(len(self.program.asked()), 6)
 
 
+@over_library
 class Prompted(WithProgram):
     """In a pseudo-terminal."""
 
@@ -450,11 +468,10 @@ class Library(unittest.TestCase):
         self.schema = "CREATE TABLE t (id INTEGER, name TEXT);\nCREATE TABLE u (id INTEGER, name TEXT)"
 
     def asker(self):
-        return asking.asker("sfq-shell", "", [f"{self.room}/schema.sql", self.room], self.schema)
+        return asking.Asker("sfq-shell", [f"{self.room}/schema.sql", self.room], self.schema)
 
     def test_rows(self):
         asker = self.asker()
-        self.assertIsInstance(asker, asking.ByLibrary)
         answer = asker.ask("SELECT name, id FROM t")
         self.assertEqual((answer.headers, answer.types, answer.is_plan), (["name", "id"], ["TEXT", "INTEGER"], False))
         self.assertEqual(list(answer.rows), [["a", "1"], ["", "2"], ["b,c", "3"]])
@@ -476,19 +493,15 @@ class Library(unittest.TestCase):
             self.asker()
         self.assertEqual((met.exception.code, met.exception.status), ("S1", 3))
 
-    def test_a_missing_library(self):
-        """The program is asked then."""
-        program = Program(KNOWN)
-        self.addCleanup(program.remove)
-        missing = mock.patch.object(border, "library", side_effect=LibraryError("sfq: no library"))
-        missing.start()
-        self.addCleanup(missing.stop)
-        with only(program.room):
-            asker = self.asker()
-        self.assertEqual((type(asker), asker.program), (asking.ByProgram, f"{program.room}/sfq"))
-        with only("/nothing"), self.assertRaises(LibraryError) as met:
-            self.asker()
-        self.assertIn("and no program sfq is beside this command or on the path", str(met.exception))
+    def test_the_script_of_a_checkout_is_not_run(self):
+        """It may have to build the program first, and an installed package runs nothing of a checkout."""
+        os.mkdir(f"{self.room}/tools")
+        write(f"{self.room}/tools/current.sh", f"touch {self.room}/run\n")
+        write(f"{self.room}/sfq", f"#!/bin/sh\ntouch {self.room}/run\n", 0o755)
+        with only(f"{self.room}:/usr/bin:/bin"):
+            self.assertIsNone(asking.beside())
+            self.assertEqual(asking.page("Q3"), f"Q3: {errors.MEANINGS['Q3']}\n")
+        self.assertFalse(os.path.exists(f"{self.room}/run"))
 
     def test_why(self):
         """The program's words for the same query, where it is there."""
@@ -534,14 +547,6 @@ def session(case, *more, **environment):
     case.assertEqual((ran.stdout, ran.stderr.splitlines()[:3], ran.returncode), ("", ORDERED_FAULT.splitlines()[:3], 5))
 
 
-class ByTheProgram(unittest.TestCase):
-    ASKS_PROGRAM = True
-
-    @support.needs_build
-    def test_a_session(self):
-        session(self, "--sfq", repository.PROGRAM)
-
-
 class ByTheLibrary(databases.WithTables):
     def test_a_session(self):
         session(self, SFQ_LIBRARY=library.SHARED)
@@ -553,7 +558,7 @@ class ByTheLibrary(databases.WithTables):
                 file.write(text)
         text = io.StringIO()
         try:
-            asker = asking.ByLibrary("sfq-shell", [f"{room}/schema.sql", room], row.files["schema"])
+            asker = asking.Asker("sfq-shell", [f"{room}/schema.sql", room], row.files["schema"])
             for it in asker.tables:
                 list(asker.ask(f"SELECT COUNT(*) FROM {it.name}").rows)
             showing.show(asker.ask(row.command), "csv", showing.Place(text, None, room))
@@ -573,6 +578,7 @@ class ByTheLibrary(databases.WithTables):
         self.assertGreaterEqual(count, 200)
 
 
+@over_library
 class Document(WithProgram):
     """The session that docs/PYTHON.md shows."""
 

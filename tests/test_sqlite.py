@@ -9,6 +9,7 @@ from support import examples, needs
 
 import engine_rows
 import sqlite_sessions
+import wkb_model
 
 # What a fault calls the two texts.
 NAMES = ("first", "second")
@@ -96,11 +97,28 @@ class Sqlite(sqlite_sessions.WithExtension):
                 quoted = "'" + text.replace("'", "''") + "'"
                 self.assertEqual(self.value(f"quote({name}({quoted}))"), f"'{canonical}'", text)
 
+    def test_well_known_binary(self):
+        """By the model: texts become bytes and texts again, and bytes by chance become their text or an error."""
+        for text in ("POINT(1 -2)", "POINT EMPTY", "MULTIPOINT((3 4),(3 4))", "LINESTRING EMPTY", "LINESTRING(0 0,4 0,-1 7)",
+                     "POLYGON((0 0,8 0,8 8,0 8,0 0),(2 2,6 2,6 6,2 6,2 2))", "MULTILINESTRING((0 0,1 1),(5 5,5 6))",
+                     "MULTIPOLYGON(((0 0,9 0,9 9,0 0)),((20 0,21 0,21 1,20 0)))"):
+            written = self.value(f"hex(ST_AsBinary('{text}'))")
+            self.assertEqual(wkb_model.said(bytes.fromhex(written)).split(" ", 4)[4], text)
+            self.assertEqual(self.value(f"ST_GeomFromWKB(x'{written}')"), text)
+        for value in wkb_model.drawn(8, 60):
+            found, wanted = self.value(f"ST_GeomFromWKB(x'{value.hex()}')"), wkb_model.said(value)
+            if wanted[0] == "W":
+                self.assertTrue(found.startswith(f"first {wanted.replace(' ', ' at ')}: "), (value.hex(), found, wanted))
+            elif wanted == "4":
+                self.assertIn("a type that sfq doesn't have", found)
+            elif not found.startswith("first V"):
+                self.assertEqual(found, wanted.split(" ", 4)[4])
+
     def test_null_in_null_out(self):
         for call in ("ST_Touches(NULL, 'POINT(1 1)')", "ST_Touches('POINT(1.5 1)', NULL)", "ST_Relate(NULL, NULL)",
                      "ST_Relate('POINT(1 1)', 'POINT(1 1)', NULL)", "ST_IsValid(NULL)", "ST_IsValidReason(NULL)",
                      "ST_Why(NULL)", "ST_Why('POINT(1 1)', NULL)", "ST_Dimension(NULL)", "ST_IsEmpty(NULL)", "ST_XMin(NULL)",
-                     "ST_GeomFromText(NULL)", "ST_AsText(NULL)"):
+                     "ST_GeomFromText(NULL)", "ST_AsText(NULL)", "ST_GeomFromWKB(NULL)", "ST_AsBinary(NULL)"):
             self.assertEqual(self.value(f"{call} IS NULL"), "1", call)
 
     def test_faults_are_errors_and_values(self):
@@ -121,6 +139,12 @@ class Sqlite(sqlite_sessions.WithExtension):
             ("ST_GeomFromText('POINT(1.5 2)')", "first W2 at 6: "),
             ("ST_GeomFromText(x'00')", "first isn't a text"),
             ("ST_AsText('POLYGON((0 0,4 4,4 0,0 4,0 0))')", "first V3 0: "),
+            ("ST_AsBinary('POINT(1.5 2)')", "first W2 at 6: "),
+            ("ST_AsBinary(x'00')", "first isn't a text"),
+            ("ST_GeomFromWKB('POINT(1 2)')", "first isn't a blob"),
+            ("ST_GeomFromWKB(x'')", "first W1 at 0: from this byte on it isn't well-known binary"),
+            ("ST_GeomFromWKB(x'0101000000000000000000F83F0000000000000040')", "first W2 at 0: the position with this number isn't at whole"),
+            ("ST_GeomFromWKB(x'0107000000')", "first has a type that sfq doesn't have"),
             ("ST_IsValid('POINT(1.5 2)')", "0"),
             ("ST_IsValid('POINT(1 2)')", "1"),
             ("ST_IsValidReason('POINT(1.5 2)')", "W2 at 6: the number at this byte isn't whole: scale"),
@@ -146,7 +170,8 @@ class Sqlite(sqlite_sessions.WithExtension):
                   "ST_Touches('POINT(1 1)', 'POINT(1.5 1)')", "ST_IsValid('POINT(1 1)')", "ST_IsValidReason('LINESTRING(1 1,1 1)')",
                   "ST_Why('LINESTRING(0 0,3 1)', 'LINESTRING(0 1,2 0)')", "ST_Why('POLYGON((0 0,4 4,4 0,0 4,0 0))')",
                   "ST_Dimension('POINT(2 1)')", "ST_IsEmpty('POINT(3 1)')", "ST_XMin('POINT(4 1)')", "ST_YMax('POINT EMPTY')",
-                  "ST_GeomFromText('POINT (5 1)')", f"ST_AsText('LINESTRING({','.join(f'{it} {it}' for it in range(400))})')"]
+                  "ST_GeomFromText('POINT (5 1)')", "hex(ST_AsBinary('POINT (5 2)'))",
+                  "ST_GeomFromWKB(x'0101000000000000000000F03F0000000000000040')", f"ST_AsText('LINESTRING({','.join(f'{it} {it}' for it in range(400))})')"]
         lines = "".join(f"SELECT {it};\n" for it in calls)
         ran = subprocess.run([self.program("refusing"), f"{self.room.name}/sfq0"], input=lines, capture_output=True, text=True)
         self.assertEqual((ran.returncode, ran.stderr), (0, ""), ran.stdout)

@@ -187,6 +187,15 @@ class WithoutProof(RunsTests):
         self.assertEqual((status, last), (1, "11 passed, 2 failed, 3 skipped"), lines)
         self.assertIn("The tests of this file ended with status 3.", lines)
 
+    def test_a_test_file_that_waits_for_ever_is_ended_and_says_where(self):
+        root = self.checkout.root
+        write(f"{root}/tools/testing.py", read(f"{root}/tools/testing.py").replace("MOST_SECONDS = 2_700.0", "MOST_SECONDS = 3.0"))
+        write(f"{root}/tests/test_small.py", SMALL.replace("self.assertTrue({passes})", "import subprocess; subprocess.run(['sleep', '1000'])"))
+        status, last, lines = self.run_tests("test_small")
+        self.assertEqual((status, last), (1, "2 passed, 1 failed, 1 skipped"), lines)
+        self.assertIn("It was ended after 3 s.", lines)
+        self.has(lines, r'test_small.py", line \d+, in test_one')
+
     def test_tests_run_on_the_main_thread(self):
         """A handler of a signal can be set on no other."""
         write(

@@ -1,4 +1,4 @@
-"""The Python of bindings/ and tools/ has types, which mypy checks, and one file says where modules are looked for."""
+"""The Python of bindings/, tools/, bench/ and part of tests/ has types, which mypy checks, and one file says where modules are looked for."""
 import ast
 import configparser
 import os
@@ -11,7 +11,7 @@ import unittest
 from support import ROOT, needs, read
 
 # What each folder has of a file of modules that mypy has to check.
-CHECKED = ("tools", "bindings")
+CHECKED = ("tools", "bindings", "bench")
 
 
 def sources(*folders):
@@ -24,23 +24,32 @@ def sources(*folders):
     return sorted(found)
 
 
+def checked_tests():
+    """Returns the files of tests that mypy checks, which its options name one by one."""
+    options = configparser.ConfigParser()
+    options.read(f"{ROOT}/tools/mypy.ini")
+    return [it for it in options["mypy"]["files"].split(", ") if it.startswith("tests/")]
+
+
 class Types(unittest.TestCase):
     @needs("mypy", "mypy")
     def test_mypy_finds_nothing(self):
         ran = subprocess.run(["mypy", "--config-file", "tools/mypy.ini"], cwd=ROOT, capture_output=True, text=True)
         self.assertEqual((ran.returncode, ran.stderr), (0, ""), ran.stdout)
-        checked = [it for it in sources(*CHECKED) if it.endswith(".py")]
+        checked = [it for it in sources(*CHECKED) if it.endswith(".py")] + checked_tests()
         self.assertIn(f" {len(checked)} source files", ran.stdout)
 
     @needs("mypy", "mypy")
     def test_a_type_that_is_missing_or_wrong_is_found(self):
         """In a copy, one mistake at a time."""
         with tempfile.TemporaryDirectory(prefix="sfq-types-") as room:
-            for it in CHECKED:
+            # The modules of bench use some of tests.
+            for it in (*CHECKED, "tests"):
                 shutil.copytree(f"{ROOT}/{it}", f"{room}/{it}", ignore=shutil.ignore_patterns("out", "build", "__pycache__"))
             for path, old, new, said in (
                 ("tools/tiles.py", "def stamp() -> None:", "def stamp():", "no-untyped-def"),
                 ("bindings/python/sfq_scale/words.py", "return one.lower() == other.lower()", "return one.lower()", "return-value"),
+                ("bench/machine.py", "def day() -> str:", "def day():", "no-untyped-def"),
                 ("bindings/web/web_page.py", "import base64\n", "import base64\nimport nothing_of_this_name\n", "import"),
             ):
                 text = read(f"{room}/{path}")
@@ -59,13 +68,15 @@ class Types(unittest.TestCase):
         known.read(f"{ROOT}/tools/mypy.ini")
         own, others = known.sections()
         self.assertEqual((own, known[own]["strict"], dict(known[others])), ("mypy", "True", {"ignore_missing_imports": "True"}))
-        for path in sources(*CHECKED):
+        for path in [*sources(*CHECKED), *checked_tests()]:
             self.assertIsNone(re.search(r"#\s*(type: ignore|mypy:)", read(f"{ROOT}/{path}")), path)
 
 
 # What catches each exception and goes on, with why: the file and the function.
 CATCHES_ALL = {
     ("bindings/python/sfq/commands/child.py", "of_child"): "what a child raises is never its parent's: it is printed, and the child ends",
+    ("bindings/python/sfq/layers/relating.py", "holds"): "GDAL and each version of shapely have exceptions of their own; where GEOS fails, the relation is computed exactly",
+    ("bindings/python/sfq/layers/relating.py", "is_valid"): "GEOS may fail at what is no valid geometry, and then it is asked nothing else about it",
     ("bindings/python/sfq_scale/cluster.py", "submit"): "Dask raises Exception itself where its connection is closed; others are raised again",
 }
 

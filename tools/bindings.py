@@ -19,6 +19,8 @@ PACKAGES = f"lib/python{sys.version_info[0]}.{sys.version_info[1]}/site-packages
 # The commands of the package, which are installed without it too.
 COMMANDS = ("sfq-import", "sfq-export", "sfq-schema", "sfq-shell", "sfq-ask", "sfq-audit")
 SQLITE = "lib/sfq0.so"
+# What the extensions of SQLite and PostgreSQL share.
+SHARED = ("faults.c", "keeping.c")
 # What is copied: where it lies in the repository, where under the prefix, and its mode.
 File = tuple[str, str, int]
 
@@ -45,11 +47,27 @@ def has_sqlite() -> bool:
     return bool(shutil.which("cc")) and subprocess.run(words, input=text, text=True, capture_output=True).returncode == 0
 
 
+def of_sqlite() -> list[str]:
+    """Returns the files of C that the extension is made of."""
+    return sorted(glob.glob(f"{repository.ROOT}/bindings/sqlite/*.c")) + [f"{library.FOLDER}/{it}" for it in SHARED]
+
+
 def make_sqlite(path: str) -> None:
     """Compiles the extension. Both libraries are within it, and only the entry that SQLite looks for can be seen from outside."""
     flags = [*library.FLAGS, "-fvisibility=hidden", "-shared", f"-I{library.FOLDER}"]
-    made = [f"{repository.ROOT}/bindings/sqlite/sfq0.c", *(it.archive for it in library.ALL)]
+    made = [*of_sqlite(), *(it.archive for it in library.ALL)]
     calls.run(["cc", *flags, *made, "-Wl,--exclude-libs,ALL", "-Wl,-z,defs", "-o", path])
+
+
+def make_module() -> int:
+    """Makes the extension beside the libraries, where sfq-ask of a checkout looks for it; a line says where it can't be made. Returns 0."""
+    path = f"{library.OUT}/{os.path.basename(SQLITE)}"
+    if has_sqlite():
+        make_sqlite(f"{path}.new")
+        os.replace(f"{path}.new", path)
+    else:
+        print("not made: the extension of SQLite, which needs cc and sqlite3ext.h of libsqlite3-dev")
+    return 0
 
 
 # ---- PostgreSQL ----

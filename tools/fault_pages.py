@@ -212,7 +212,7 @@ def source_of_words(rows: list[Row]) -> str:
     ]
     return (
         "/*\n * What each fault means and what to do, of a geometry by FAULT, of a schema, a table or a query by TABLE_FAULT. C takes the lines by\n"
-        " * these macros (faults.h, and files.h of bindings/sqlite), and Python reads them (faults.py). tools/fault_pages.py writes them from\n"
+        " * these macros (faults.c, and files.c of bindings/sqlite), and Python reads them (faults.py). tools/fault_pages.py writes them from\n"
         " * the tables of docs/FAULTS.md.\n */\n" + "".join(lines)
     )
 

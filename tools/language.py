@@ -131,7 +131,7 @@ LISTS = [
     Place("bindings/python/sfq/commands/prompt.py", r"^FUNCTIONS = ", r'"(ST_\w+)"', FUNCTIONS, r"\)\n", True),
     Place("bindings/python/sfq/tables/rules.py", r"^RESERVED = ", r'"(\w+)"', [it.lower() for it in RESERVED], r"\}\n"),
     Place(
-        "bindings/sqlite/functions.h", r'^ +\{ "ST_Equals"', r'"(\w+)", 2, relation, (\w+)',
+        "bindings/sqlite/functions.c", r'^ +\{ "ST_Equals"', r'"(\w+)", 2, relation, (\w+)',
         list(zip(SQL_RELATIONS, CONSTANTS)), r"\n\};",
     ),
     Place(

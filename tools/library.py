@@ -40,7 +40,7 @@ class Library(NamedTuple):
         return f"{OUT}/lib{self.name}.a"
 
 
-SHAPES = Library("sfq", calls.CRATE, ("sfq.h", "binary.h"))
+SHAPES = Library("sfq", calls.CRATE, ("sfq.h",))
 TABLES = Library("sfq_tables", "sfq_tables", ("sfq_tables.h", "sfq.h"))
 ALL = (SHAPES, TABLES)
 NAME = SHAPES.soname

@@ -93,21 +93,38 @@ class Counts:
         return 1 if self.failures else 0
 
 
-def run(words: Sequence[str], folder: str = repository.ROOT, given: Union[int, IO[bytes]] = subprocess.DEVNULL) -> tuple[int, str, str]:
-    """Runs a command, and returns its status and its two streams. Where it is interrupted, ends the command with what that started."""
+def run(
+    words: Sequence[str], folder: str = repository.ROOT, given: Union[int, IO[bytes]] = subprocess.DEVNULL, most: Optional[float] = None,
+) -> tuple[int, str, str]:
+    """Runs a command, and returns its status and its two streams. Where it is interrupted, ends the command with what that started.
+
+    A command that takes more than `most` seconds is ended too. By its traceback it says where it was.
+    """
     pipe = subprocess.PIPE
     with subprocess.Popen(
         words, cwd=folder, stdin=given, stdout=pipe, stderr=pipe, text=True, errors="replace", start_new_session=True
     ) as child:
         CHILDREN.add(child)
         try:
-            out, err = child.communicate()
+            out, err = child.communicate(timeout=most)
+        except subprocess.TimeoutExpired:
+            proving.end_groups([child], lambda it: it.poll() is not None)
+            out, err = rest_of(child)
+            err += f"It was ended after {proving.span(most or 0)}.\n"
         except BaseException:
             proving.end_groups([child], lambda it: it.poll() is not None)
             raise
         finally:
             CHILDREN.discard(child)
     return child.returncode, out, err
+
+
+def rest_of(child: "subprocess.Popen[str]") -> tuple[str, str]:
+    """Returns the streams of a command that was ended: nothing where something that it started still has them."""
+    try:
+        return child.communicate(timeout=10)
+    except subprocess.TimeoutExpired:
+        return "", ""
 
 
 def end_all() -> None:

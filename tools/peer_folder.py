@@ -5,8 +5,8 @@ usage: peer_folder.py make DIR [--suite bookworm|trixie|sid] [--bare] [--mirror 
        peer_folder.py add DIR PACKAGE ..
        peer_folder.py run DIR COMMAND ..
 
-`make` takes some minutes and 2 GB. The folder gets GEOS, shapely, SpatiaLite, sqlite3, JTS with Java, gcc, Python and valgrind, and the
-packages that you name; with `--bare` it gets only these and the base system. Debian's archive keyring has to confirm the suite, and
+`make` takes some minutes and 3 GB. The folder gets GEOS, JTS with Java, PostGIS, SpatiaLite, sqlite3, shapely, GeoPandas, GDAL, gcc, Python
+and valgrind, in sid DuckDB too, and the packages that you name; with `--bare` it gets only these and the base system. Debian's archive keyring has to confirm the suite, and
 apt confirms each package. `add` installs more packages.
 `run` runs a command in the folder, with this repository under its own path, and returns the command's status. What is mounted for that
 is gone when the command ends, so the folder can be removed at any time.
@@ -27,9 +27,11 @@ DEBIANS = ("bookworm", *SUITES)
 MIRROR = "http://deb.debian.org/debian"
 KEYRING = "/usr/share/keyrings/debian-archive-keyring.gpg"
 PACKAGES = (
-    "libgeos-dev", "gcc", "libc6-dev", "python3", "python3-shapely", "sqlite3", "libsqlite3-mod-spatialite", "valgrind", "libjts-java",
-    "default-jdk-headless",
+    "libgeos-dev", "gcc", "libc6-dev", "python3", "python3-shapely", "python3-geopandas", "python3-gdal", "sqlite3", "libsqlite3-dev",
+    "libsqlite3-mod-spatialite", "postgresql-postgis", "valgrind", "libjts-java", "default-jdk-headless",
 )  # fmt: skip
+# What one suite alone has besides.
+MORE_OF = {"sid": ("duckdb",)}
 # Says to the packages of servers that none is started when they are installed.
 POLICY = "usr/sbin/policy-rc.d"
 # Mounts what a program wants in the folder $1, and the repository $2, and runs the rest of the words there, in $3.
@@ -44,6 +46,11 @@ exec chroot "$folder" env -C "$here" "$@"
 """
 # The variable that names the folder to a command in it.
 INSIDE = "SFQ_IN_PEER_FOLDER"
+
+
+def packages_of(suite: str) -> tuple[str, ...]:
+    """Returns the packages that a suite's folder gets without `--bare`."""
+    return PACKAGES + MORE_OF.get(suite, ())
 
 
 def fail(text: str) -> NoReturn:
@@ -123,7 +130,7 @@ def main() -> int:
     if options.command == "make":
         if os.geteuid() != 0:
             fail("needs root, which mounts and changes the root folder")
-        return make(options.folder, options.suite, options.mirror, [*(() if options.bare else PACKAGES), *options.words, *left])
+        return make(options.folder, options.suite, options.mirror, [*(() if options.bare else packages_of(options.suite)), *options.words, *left])
     if missing := lacking_to_run(options.folder):
         fail(missing)
     if options.command == "add":

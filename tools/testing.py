@@ -25,6 +25,8 @@ from parts import Beat, Counts, Failure, Part, Report, Skipped, read, room, run,
 ROOT = repository.ROOT
 # For how many seconds a program may run without proof. With run-time checks the scripts take a minute where nothing else runs.
 PLAYING = "600"
+# After so many seconds a file of tests is ended, unless long tests are asked for.
+MOST_SECONDS = 2_700.0
 # The name of the part that builds the program without proof, for which the files of tests wait that ask it.
 PROGRAM = "the unproved program"
 LIBRARIES = "the C libraries, the package for JavaScript and the web page"
@@ -77,7 +79,7 @@ def run_file(name: str, choice: str) -> Report:
     """Runs the tests of a file of tests/ that a choice of tools/system_tests.py takes."""
     with room() as folder:
         results = f"{folder}/results"
-        status, out, err = run([sys.executable, "-B", f"{ROOT}/tools/system_tests.py", name, choice, results])
+        status, out, err = run([sys.executable, "-B", f"{ROOT}/tools/system_tests.py", name, choice, results], most=None if choice == "all" else MOST_SECONDS)
         rows = [json.loads(it) for it in read(results).splitlines()]
     command = f"./test {'--long ' if choice == 'all' else ''}{name}"
     failures = [Failure(it["name"], it["text"], command) for it in rows if it["what"] == "failed"]

@@ -7,10 +7,8 @@
 
 #include <string.h>
 
-/* JavaScript asks for no well-known binary and for no joins of many. */
+/* JavaScript asks for nothing of many values or geometries. */
 #ifndef __wasm__
-#include "binary.h"
-
 #include <stdlib.h>
 #endif
 
@@ -31,6 +29,37 @@ struct bounds {
     int32_t least_x, greatest_x, least_y, greatest_y;
 };
 
+/* A grid, and whether positions are moved to it. */
+struct grid_numbers {
+    uint64_t step;
+    int64_t origin_x, origin_y;
+    uint64_t parts;
+    bool moves;
+};
+
+/* Two doubles, by their bits. An array of them is one of doubles, x and y in turn. */
+struct pair {
+    uint64_t x, y;
+};
+
+/* The type of well-known binary by its number, and how much it has. */
+struct counts {
+    uint32_t code;
+    size_t positions, lines, elements;
+};
+
+/* An extent of doubles, by their bits. */
+struct extent {
+    uint64_t least_x, greatest_x, least_y, greatest_y;
+};
+
+/* What goes with a geometry that was read from well-known binary. */
+struct notes {
+    uint32_t system;
+    size_t positions, moved, merged;
+    uint64_t greatest_high, greatest_low;
+};
+
 uint32_t sfq_proved_fault(const uint8_t *text, size_t length, sfq_fault *fault);
 uint32_t sfq_proved_relate_texts(const uint8_t *first, size_t first_length, const uint8_t *second, size_t second_length,
                                  uint8_t *matrix, sfq_fault *fault);
@@ -40,6 +69,16 @@ uint32_t sfq_proved_read(const uint8_t *text, size_t length, struct kept *slot, 
 uint32_t sfq_proved_read_positions(uint32_t type, const struct position *positions, size_t count, const size_t *lines,
                                    size_t line_count, const size_t *polygons, size_t polygon_count, struct kept *slot,
                                    sfq_fault *fault);
+uint32_t sfq_proved_check_grid(const struct grid_numbers *grid);
+uint32_t sfq_proved_read_binary(const uint8_t *bytes, size_t length, const struct grid_numbers *grid, struct kept *slot,
+                                struct notes *notes, sfq_fault *fault);
+uint32_t sfq_proved_write_binary(struct kept kept, const struct grid_numbers *grid, uint8_t *room, size_t size, size_t *length,
+                                 struct kept *back);
+uint32_t sfq_proved_round(const struct grid_numbers *grid, const struct pair *positions, size_t count, struct position *room,
+                          size_t size, size_t *position);
+uint32_t sfq_proved_take_apart(const uint8_t *bytes, size_t length, struct pair *positions, size_t most_positions, size_t *lines,
+                               size_t most_lines, size_t *elements, size_t most_elements, struct counts *counts, sfq_fault *fault);
+uint32_t sfq_proved_widen_extent(const uint8_t *bytes, size_t length, bool *is_there, struct extent *extent);
 void sfq_proved_free(struct kept kept);
 uint32_t sfq_proved_relate(struct kept first, struct kept second, uint8_t *matrix, struct kept *first_back,
                            struct kept *second_back);
@@ -394,71 +433,125 @@ int sfq_locate_many(sfq_geometry *geometry, const int32_t *coordinates, size_t c
     return status;
 }
 
-/* ---- well-known binary ---- */
+/* ---- well-known binary and doubles ---- */
 
-#ifndef __wasm__
-
-/* Adds what rounding did to one geometry. */
-static void add_shift(sfq_shift *all, const sfq_shift *one)
+/* Whole numbers, of which no position is moved, where the caller has no grid. */
+static struct grid_numbers numbers_of(const sfq_grid *grid)
 {
+    struct grid_numbers found = { 1, 0, 0, 1, false };
+    if (grid != NULL) {
+        found.step = (uint64_t)grid->step;
+        found.origin_x = grid->origin_x;
+        found.origin_y = grid->origin_y;
+        found.parts = (uint64_t)grid->parts;
+        found.moves = true;
+    }
+    return found;
+}
+
+/* Adds what rounding did to one geometry. A tick is a part divided by 2 to the power of 20. */
+static void add_shift(sfq_shift *all, const struct notes *one, uint64_t parts)
+{
+    double ticks = (double)one->greatest_high * 18446744073709551616.0 + (double)one->greatest_low;
+    double greatest = ticks / 1048576.0 / (double)parts;
     if (all != NULL) {
         all->positions += one->positions;
         all->moved += one->moved;
         all->merged += one->merged;
-        all->greatest = one->greatest > all->greatest ? one->greatest : all->greatest;
-        all->total += one->total;
+        all->greatest = greatest > all->greatest ? greatest : all->greatest;
     }
-}
-
-/* Reads one value, by axes and room that are there. */
-static int read_taken(struct binary *it, const void *binary, size_t length, sfq_geometry *geometry, sfq_shift *shift, sfq_fault *fault)
-{
-    uint32_t type;
-    int status;
-    if (geometry->kept != NULL) {
-        return SFQ_NO_GEOMETRY;
-    }
-    type = take_apart(it, binary, count_of(binary, length));
-    if (it->status == SFQ_REFUSED && fault != NULL) {
-        *fault = it->fault;
-    }
-    if (it->status != SFQ_OK) {
-        return it->status;
-    }
-    status = sfq_read_positions(type, it->coordinates, it->count, it->lines, it->line_count, it->polygons, it->polygon_count, geometry, fault);
-    if (status == SFQ_OK) {
-        add_shift(shift, &it->shift);
-    }
-    return status;
 }
 
 int sfq_read_binary(const sfq_grid *grid, const void *binary, size_t length, sfq_geometry *geometry, int32_t *system,
                     sfq_shift *shift, sfq_fault *fault)
 {
-    struct binary *it = malloc(sizeof *it);
-    int status = SFQ_UNKNOWN;
-    if (it == NULL) {
-        return SFQ_OUT_OF_MEMORY;
+    const struct grid_numbers numbers = numbers_of(grid);
+    struct kept slot = empty_slot;
+    struct notes notes = { 0, 0, 0, 0, 0, 0 };
+    sfq_fault other = { 0, 0, 0, 0 };
+    uint32_t status;
+    if (geometry->kept != NULL) {
+        return SFQ_NO_GEOMETRY;
     }
-    if (make_axes(it, grid)) {
-        status = read_taken(it, binary, length, geometry, shift, fault);
+    status = sfq_proved_read_binary(bytes_of(binary), count_of(binary, length), &numbers, &slot, &notes, written(fault, &other));
+    if (status == SFQ_OK) {
+        geometry->kept = slot.at;
+        add_shift(shift, &notes, numbers.parts);
+        if (system != NULL) {
+            *system = (int32_t)notes.system;
+        }
     }
-    if (status == SFQ_OK && system != NULL) {
-        *system = it->system;
-    }
-    free(it);
-    return status;
+    return (int)status;
 }
+
+int sfq_write_binary(sfq_geometry *geometry, const sfq_grid *grid, void *room, size_t size, size_t *length)
+{
+    const struct grid_numbers numbers = numbers_of(grid);
+    struct kept back = empty_slot;
+    uint8_t nothing = 0;
+    size_t other = 0;
+    uint32_t status;
+    if (!is_there(geometry)) {
+        return SFQ_NO_GEOMETRY;
+    }
+    status = sfq_proved_write_binary(taken(geometry), &numbers, room != NULL ? room : &nothing, count_of(room, size),
+                                     length != NULL ? length : &other, &back);
+    geometry->kept = back.at;
+    return (int)status;
+}
+
+/* Sizes to write to as a pointer that isn't null. */
+static size_t *room_of(size_t *sizes, size_t *none)
+{
+    return sizes != NULL ? sizes : none;
+}
+
+int sfq_round(const sfq_grid *grid, const double *coordinates, size_t positions, int32_t *steps, size_t *position)
+{
+    static const struct pair none = { 0, 0 };
+    const struct grid_numbers numbers = numbers_of(grid);
+    const size_t count = count_of(coordinates, positions);
+    struct position nothing = { 0, 0 };
+    size_t other = 0;
+    return (int)sfq_proved_round(&numbers, coordinates != NULL ? (const struct pair *)(const void *)coordinates : &none, count,
+                                 steps != NULL ? (struct position *)(void *)steps : &nothing, count_of(steps, count),
+                                 position != NULL ? position : &other);
+}
+
+int sfq_take_apart(const sfq_grid *grid, const void *binary, size_t length, sfq_pieces *pieces, sfq_fault *fault)
+{
+    struct pair none = { 0, 0 }, *positions = pieces->coordinates != NULL ? (struct pair *)(void *)pieces->coordinates : &none;
+    struct counts counts = { 0, 0, 0, 0 };
+    size_t nothing = 0, no_more = 0;
+    sfq_fault other = { 0, 0, 0, 0 };
+    uint32_t status = sfq_proved_take_apart(
+        bytes_of(binary), count_of(binary, length), positions, count_of(pieces->coordinates, pieces->most_positions),
+        room_of(pieces->lines, &nothing), count_of(pieces->lines, pieces->most_lines), room_of(pieces->elements, &no_more),
+        count_of(pieces->elements, pieces->most_elements), &counts, written(fault, &other));
+    if (status == SFQ_OK && pieces->coordinates != NULL && pieces->steps != NULL) {
+        status = (uint32_t)sfq_round(grid, pieces->coordinates, counts.positions, pieces->steps, NULL);
+        status = status == SFQ_REFUSED ? SFQ_NONE : status;
+    }
+    if (status != SFQ_REFUSED && status != SFQ_OUT_OF_MEMORY) {
+        pieces->positions = counts.positions;
+        pieces->line_count = counts.lines;
+        pieces->element_count = counts.elements;
+        pieces->type = counts.code;
+    }
+    return (int)status;
+}
+
+#ifndef __wasm__
 
 int sfq_read_binaries(const sfq_grid *grid, const void *binaries, const size_t *lengths, size_t count, sfq_geometry *geometries,
                       uint32_t *statuses, sfq_fault *faults, sfq_shift *shift, size_t *done)
 {
-    struct binary *it = malloc(sizeof *it);
     const unsigned char *at = binaries;
-    int status = it == NULL ? SFQ_OUT_OF_MEMORY : make_axes(it, grid) ? SFQ_OK : SFQ_UNKNOWN;
+    const struct grid_numbers numbers = numbers_of(grid);
+    int status = (int)sfq_proved_check_grid(&numbers);
     size_t i;
     for (i = 0; status == SFQ_OK && i < count; i++) {
-        int found = lengths[i] == 0 ? SFQ_NONE : read_taken(it, at, lengths[i], &geometries[i], shift, &faults[i]);
+        int found = lengths[i] == 0 ? SFQ_NONE : sfq_read_binary(grid, at, lengths[i], &geometries[i], NULL, shift, &faults[i]);
         if (found == SFQ_OUT_OF_MEMORY) {
             status = found;
             break;
@@ -467,33 +560,24 @@ int sfq_read_binaries(const sfq_grid *grid, const void *binaries, const size_t *
         at += lengths[i];
     }
     *done = i;
-    free(it);
     return status;
 }
 
 int sfq_binaries_extent(const void *binaries, const size_t *lengths, size_t count, double extent[4])
 {
-    struct binary *it = malloc(sizeof *it);
     const unsigned char *at = binaries;
-    bool begins = true;
+    struct extent found = { 0, 0, 0, 0 };
+    bool is_there = false;
+    int status = SFQ_OK;
     size_t i;
-    int end;
-    if (it == NULL) {
-        return SFQ_OUT_OF_MEMORY;
-    }
-    it->measures = true;
-    for (i = 0; i < count; i++) {
-        take_apart(it, at, lengths[i]);
+    for (i = 0; status == SFQ_OK && i < count; i++) {
+        status = (int)sfq_proved_widen_extent(bytes_of((const char *)at), lengths[i], &is_there, &found);
         at += lengths[i];
-        if (it->status == SFQ_OK && it->positions > 0) {
-            for (end = 0; end < 4; end++) {
-                widen(extent + end / 2 * 2, it->extent[end], begins && end % 2 == 0);
-            }
-            begins = false;
-        }
     }
-    free(it);
-    return begins ? SFQ_NONE : SFQ_OK;
+    if (status == SFQ_OK && is_there) {
+        memcpy(extent, &found, sizeof found);
+    }
+    return status == SFQ_OK && !is_there ? SFQ_NONE : status;
 }
 
 #endif

@@ -3,7 +3,7 @@
  *
  * Geometries are points, lines and areas on a grid of whole coordinates, each from -10,000,000 to 10,000,000, with at most
  * 10,000 positions and 1,000 rings or elements. The proof ends at the calls of the crate sfq_c, by which bindings/c/sfq.c makes
- * those of this header: sfq.c itself is tested, not proved, and so is binary.h, which takes well-known binary apart.
+ * those of this header: sfq.c itself is tested, not proved.
  *
  * Statuses. Each call returns one of the statuses below. Unless it is SFQ_OK, what the call would have written is as it was
  * before; what differs from that is said at the call.
@@ -92,7 +92,7 @@ typedef struct sfq_index {
 /*
  * A grid for the coordinates of a source: x becomes the whole number that is nearest to (x - origin) / step, and of two that are as
  * near the greater one. Step and origin count parts of the source's unit: 1, 56400000, 0 and 100 are a step of 0.01 and the origin
- * 564000 0. The step and the parts are from 1 to 10^15, and the origin is at most 10^14 steps away from 0.
+ * 564000 0. The step and the parts are from 1 to 10^15.
  */
 typedef struct sfq_grid {
     int64_t step;
@@ -101,13 +101,29 @@ typedef struct sfq_grid {
     int64_t parts;
 } sfq_grid;
 
-/* What rounding did. Distances are in the source's unit; what is below the error of a double counts as 0. */
+/* A coordinate that sfq_round writes for one past the limit, and that no geometry has. */
+#define SFQ_PAST_LIMIT 10000001
+
+/*
+ * What a value of well-known binary has, and the rooms for it. Each room may be null, and then has none. A geometry that isn't of a
+ * MULTI type is its one element. A point has one line of one position. An empty point or line has no line.
+ */
+typedef struct sfq_pieces {
+    double *coordinates;   /* an x and a y for each position, as they are */
+    size_t *lines;         /* how many positions each line or ring has */
+    size_t *elements;      /* how many lines or rings each element has */
+    size_t most_positions, most_lines, most_elements; /* how many there is room for */
+    size_t positions, line_count, element_count;      /* how many there are */
+    uint32_t type;         /* an `sfq_type`, or the number of another type where the status is SFQ_UNKNOWN */
+    int32_t *steps;        /* as many as `coordinates`: where sfq_round puts the positions, if they are wanted */
+} sfq_pieces;
+
+/* What rounding did. A distance below 2^-20 parts of the source's unit counts as 0. */
 typedef struct sfq_shift {
     size_t positions; /* how many there were */
     size_t moved;     /* how many of them aren't on the grid */
     size_t merged;    /* how many became the same as the one before them on a line or ring, and were left out */
-    double greatest;  /* by how much one moved at most */
-    double total;     /* by how much all of them moved together */
+    double greatest;  /* by how much a coordinate moved at most, in the source's unit */
 } sfq_shift;
 
 /* The relations of two geometries (06-103r4, 6.1.15.3). The last three are patterns that engines besides have. */
@@ -268,10 +284,38 @@ int sfq_read_binaries(const sfq_grid *grid, const void *binaries, const size_t *
                       uint32_t *statuses, sfq_fault *faults, sfq_shift *shift, size_t *done);
 
 /*
- * The least x, the greatest x, the least y and the greatest y of `count` such values, as they are. A value that can't be taken apart
- * is left out. SFQ_NONE where there is no position.
+ * Writes the well-known binary of a geometry at the front of the room, without a 0 behind it, and its length: the least byte of each
+ * number first, no number of a reference system, and each coordinate as the double that is nearest to its place in the source. The
+ * grid is the one that the geometry was read on; where it is null the numbers are the coordinates. Read again on that grid, the bytes
+ * give the same geometry if the grid's origin is at most 10^14 steps away from 0. `length` is written where the status is SFQ_OK or
+ * SFQ_TOO_SMALL. To ask for the length first, pass a null room. SFQ_UNKNOWN for a grid that is none.
+ */
+int sfq_write_binary(sfq_geometry *geometry, const sfq_grid *grid, void *room, size_t size, size_t *length);
+
+/*
+ * Takes a value apart, without limits: what it has goes into the rooms of `pieces`. What sfq_read_binary refuses for a coordinate or an
+ * empty part is taken, and so are more positions and parts than a geometry may have. Where there are rooms for coordinates and for
+ * steps, the positions are also rounded to the grid, as sfq_round does; SFQ_NONE if one can't be, with all else written.
+ * SFQ_TOO_SMALL where a room is too small: then how many positions, lines and elements there are is written, and the type. SFQ_UNKNOWN
+ * for a type that isn't an `sfq_type` or has a Z or an M, with its number, and for a grid that is none. SFQ_REFUSED for bytes that are
+ * no such value, with W1 and the byte. On another status than SFQ_OK the rooms may be written.
+ */
+int sfq_take_apart(const sfq_grid *grid, const void *binary, size_t length, sfq_pieces *pieces, sfq_fault *fault);
+
+/*
+ * The least x, the greatest x, the least y and the greatest y of `count` such values, as they are. A value that can't be taken apart,
+ * or has a coordinate that is infinite or no number, is left out. SFQ_NONE where there is no position.
  */
 int sfq_binaries_extent(const void *binaries, const size_t *lengths, size_t count, double extent[4]);
+
+/* ---- doubles ---- */
+
+/*
+ * Rounds positions to a grid, or to whole numbers where that is null: `steps` gets an x and a y for each, of which one past the limit is
+ * SFQ_PAST_LIMIT. SFQ_REFUSED where a coordinate is infinite or no number, with the number of the first such position, from 0, in
+ * `position`, which may be null; SFQ_UNKNOWN for a grid that is none.
+ */
+int sfq_round(const sfq_grid *grid, const double *coordinates, size_t positions, int32_t *steps, size_t *position);
 
 /* ---- indexes of envelopes ---- */
 

@@ -35,6 +35,11 @@ uint32_t sfq_proved_table_columns(struct kept kept, size_t table, size_t *count,
 uint32_t sfq_proved_table_column(struct kept kept, size_t table, size_t column, uint8_t *room, size_t size, size_t *length,
                                  uint32_t *type, struct kept *back);
 uint32_t sfq_proved_is_loaded(struct kept kept, size_t table, bool *loaded, struct kept *back);
+uint32_t sfq_proved_text_parts(const uint8_t *text, size_t length, sfq_text_part *parts, size_t size, size_t *count);
+uint32_t sfq_proved_column_form(struct kept kept, size_t table, size_t column, sfq_form *form, struct kept *back);
+uint32_t sfq_proved_reference(struct kept kept, size_t statement, size_t reference, uint8_t *room, size_t size, size_t *length,
+                              size_t *table, struct kept *back);
+uint32_t sfq_proved_column_origin(struct kept kept, size_t statement, size_t column, sfq_origin *origin, struct kept *back);
 uint32_t sfq_proved_prepare(struct kept kept, const uint8_t *text, size_t length, size_t *statement, sfq_tables_fault *fault,
                             struct kept *back);
 uint32_t sfq_proved_step(struct kept kept, size_t statement, uint64_t most, struct kept *back);
@@ -123,6 +128,12 @@ static const sfq_tables_fault no_fault = { 0, 0, 0, { 0, 0, 0, 0 } };
     status = (call);                                  \
     return with(database, back, status)
 
+int sfq_text_parts(const char *text, size_t length, sfq_text_part *parts, size_t size, size_t *count)
+{
+    static sfq_text_part nothing;
+    return (int)sfq_proved_text_parts(bytes_of(text), count_of(text, length), parts != NULL ? parts : &nothing, count_of(parts, size), count);
+}
+
 int sfq_open(const char *schema, size_t length, sfq_database *database, sfq_tables_fault *fault)
 {
     struct kept slot = empty_slot;
@@ -168,6 +179,21 @@ int sfq_table_column(sfq_database *database, size_t table, size_t column, char *
 int sfq_is_loaded(sfq_database *database, size_t table, bool *loaded)
 {
     OVER(database, sfq_proved_is_loaded(kept, table, loaded, &back));
+}
+
+int sfq_column_form(sfq_database *database, size_t table, size_t column, sfq_form *form)
+{
+    OVER(database, sfq_proved_column_form(kept, table, column, form, &back));
+}
+
+int sfq_reference(sfq_database *database, size_t statement, size_t reference, char *room, size_t size, size_t *length, size_t *table)
+{
+    OVER(database, sfq_proved_reference(kept, statement, reference, room_of(room), count_of(room, size), length, table, &back));
+}
+
+int sfq_column_origin(sfq_database *database, size_t statement, size_t column, sfq_origin *origin)
+{
+    OVER(database, sfq_proved_column_origin(kept, statement, column, origin, &back));
 }
 
 int sfq_load(sfq_database *database, size_t table, const char *bytes, size_t length, sfq_tables_fault *fault)

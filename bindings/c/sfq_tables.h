@@ -110,6 +110,45 @@ enum sfq_column_type {
     SFQ_NULL = 3
 };
 
+/*
+ * Texts. The parts of a text are the tokens of a schema or a query, and what begins no token. SFQ_END is behind the last. A semicolon ends
+ * a query or a table. A parameter isn't part of the language: a program that offers parameters writes a constant in its place.
+ */
+enum sfq_part_kind {
+    SFQ_WORD = 0,
+    SFQ_RESERVED = 1, /* a word that is never a name */
+    SFQ_DIGITS = 2,
+    SFQ_STRING = 3, /* with its quotes */
+    SFQ_SYMBOL = 4,
+    SFQ_SEMICOLON = 5,
+    SFQ_PARAMETER = 6,       /* `?`, which begins no token */
+    SFQ_NAMED_PARAMETER = 7, /* `:` and a name right behind it */
+    SFQ_OPEN_STRING = 8,     /* from the quote of a string that isn't closed to the end of the text */
+    SFQ_NO_TOKEN = 9,        /* another byte that begins no token */
+    SFQ_END = 10
+};
+
+/* What no constant has as its type. */
+#define SFQ_NO_CONSTANT 4
+
+/*
+ * A part: what it is; the `sfq_column_type` of the constant that it is in a query, or SFQ_NO_CONSTANT; its first byte, from 0; and how many
+ * bytes it has. The constants of a query that is taken are numbered by their order. What begins no token has the type that a string
+ * would have in its place: SFQ_GEOMETRY in ST_GeomFromText.
+ */
+typedef struct sfq_text_part {
+    uint32_t kind;
+    uint32_t constant;
+    size_t at;
+    size_t size;
+} sfq_text_part;
+
+/*
+ * Writes how many parts a text has, and the parts, if the room is for at least so many. They end with SFQ_END, or before it with the first
+ * one that is no token: for more, ask for the text behind that. Any bytes are a text, of any length. A null room has room for none.
+ */
+int sfq_text_parts(const char *text, size_t length, sfq_text_part *parts, size_t size, size_t *count);
+
 /* Opens a database of the schema that a text spells, in `database`, which has to be empty. No table is loaded. */
 int sfq_open(const char *schema, size_t length, sfq_database *database, sfq_tables_fault *fault);
 
@@ -130,6 +169,18 @@ int sfq_table_columns(sfq_database *database, size_t table, size_t *count);
 
 /* The name of a column, as the schema spells it, and its `sfq_column_type`, which is written where `length` is. */
 int sfq_table_column(sfq_database *database, size_t table, size_t column, char *room, size_t size, size_t *length, uint32_t *type);
+
+/*
+ * How the schema writes a column: `geometry` is the `sfq_type` of its geometries, or 0 where it is of GEOMETRY, which takes them all, or
+ * of no geometries; `is_key` whether it is the PRIMARY KEY, `is_required` whether NOT NULL is written.
+ */
+typedef struct sfq_form {
+    uint32_t geometry;
+    bool is_key;
+    bool is_required;
+} sfq_form;
+
+int sfq_column_form(sfq_database *database, size_t table, size_t column, sfq_form *form);
 
 /* Whether a table is loaded. */
 int sfq_is_loaded(sfq_database *database, size_t table, bool *loaded);
@@ -183,6 +234,24 @@ int sfq_column_name(sfq_database *database, size_t statement, size_t column, cha
 
 /* The `sfq_column_type` of a column. That of ST_AsText is SFQ_TEXT, that of ST_Dimension and ST_IsEmpty SFQ_INTEGER. */
 int sfq_column_type(sfq_database *database, size_t statement, size_t column, uint32_t *type);
+
+/*
+ * The table that the query names as its `reference`-th, from 0, in the order of FROM: its number, which is written where `length` is,
+ * and the name by which the query knows it, the alias or the name of the table. SFQ_UNKNOWN where there is no such reference.
+ */
+int sfq_reference(sfq_database *database, size_t statement, size_t reference, char *room, size_t size, size_t *length, size_t *table);
+
+/*
+ * Where a column comes from: which reference, which column of its table, and by which function: 0 for none, 1 for ST_AsText, 2 for
+ * ST_Dimension, 3 for ST_IsEmpty. SFQ_UNKNOWN also where it comes from none: COUNT(*), and the lines of EXPLAIN.
+ */
+typedef struct sfq_origin {
+    size_t reference;
+    size_t column;
+    uint32_t function;
+} sfq_origin;
+
+int sfq_column_origin(sfq_database *database, size_t statement, size_t column, sfq_origin *origin);
 
 /* The header as the program sfq writes it, a record of CSV with its line end. EXPLAIN has none: its text is empty. */
 int sfq_header_text(sfq_database *database, size_t statement, char *room, size_t size, size_t *length);

@@ -1,6 +1,6 @@
 // A module of WebAssembly that was started, with texts and numbers in and out of its memory. bindings/c/sfq.h and sfq_tables.h say
 // what its calls do: an address or a count is a number, and what is of 64 bits in memory has its high half 0.
-import { FaultError, OutOfMemoryError, geometryFault, tableFault } from "./faults.js";
+import { FaultError, OutOfMemoryError, binaryFault, geometryFault, tableFault } from "./faults.js";
 
 export const OK = 0, REFUSED = 1, SECOND_REFUSED = 2, OUT_OF_MEMORY = 3, UNKNOWN = 4, TOO_SMALL = 5, NONE = 6, BUSY = 8, NOT_LOADED = 9;
 export const OPEN = 10, NO_ROW = 12;
@@ -160,6 +160,11 @@ export class Engine {
   // The fault of a geometry that was written.
   geometryFault(isOfPositions = false, behind = 0) {
     return geometryFault(this.#code(behind), [this.number(behind + 8), this.number(behind + 16)], isOfPositions);
+  }
+
+  // The fault of well-known binary that was written.
+  binaryFault() {
+    return binaryFault(this.#code(0), [this.number(8), this.number(16)]);
   }
 
   // The fault of a schema, a table or a query that was written.

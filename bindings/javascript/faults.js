@@ -14,6 +14,13 @@ export function geometryFault(code, found, isOfPositions = false) {
   return Object.freeze({ code, numbers: Object.freeze(numbers), place: [code, ...at, ...numbers].join(" "), sentence });
 }
 
+// Returns the first fault of well-known binary: at a byte, or at a position.
+export function binaryFault(code, found) {
+  if (code !== "W1") return geometryFault(code, found, code === "W2" || code === "W3");
+  const numbers = Object.freeze(found.slice(0, 1)), sentence = "this is no well-known binary from this byte on";
+  return Object.freeze({ code, numbers, place: `W1 at ${found[0]}`, sentence });
+}
+
 // Returns the fault of what GeoJSON has and a text can't have, at a position or nowhere.
 export function shapeFault(code, sentence, position) {
   const numbers = position === undefined ? [] : [position];

@@ -1,6 +1,6 @@
 // GeoJSON (RFC 7946) to positions with their parts, and canonical texts to GeoJSON.
 import { FaultError, shapeFault } from "./faults.js";
-import { Grid } from "./grid.js";
+import { gridOf } from "./grid.js";
 
 // How deep a position is in the coordinates of each type.
 const DEPTHS = { Point: 0, MultiPoint: 1, LineString: 1, MultiLineString: 2, Polygon: 2, MultiPolygon: 3 };
@@ -15,27 +15,27 @@ function needList(it) {
   return it;
 }
 
-// Returns a position on the grid, or as it is where there is none.
+// Returns a position as it is, whose numbers have to be whole where there is no grid.
 function positionOf(it, place, grid) {
   if (needList(it).length !== 2) throw refused("W1", "a position is an x and a y: geometries here are flat", place);
   if (!it.every((number) => typeof number === "number" && Number.isFinite(number))) {
     throw refused("W1", "a coordinate of this position is infinite or no number", place);
   }
-  const found = grid ? grid.nearest(it) : it;
-  if (!found.every(Number.isInteger)) {
+  if (grid) return it;
+  if (!it.every(Number.isInteger)) {
     throw refused("W2", "a coordinate of this position isn't whole: say how large a step of the grid is", place);
   }
-  return found.map((number) => Math.max(-PAST, Math.min(PAST, number)));
+  return it.map((number) => Math.max(-PAST, Math.min(PAST, number)));
 }
 
 // Whether a part has no position, or a polygon no ring.
 const isNothing = (part) => part === 0 || (Array.isArray(part) && (part.length === 0 || part.some(isNothing)));
 
 // Returns the type, the positions and the parts of a geometry of GeoJSON, or of a Feature's geometry.
-export function fromGeoJSON(object, { step, origin }) {
+export function fromGeoJSON(object, options) {
   const shape = object?.type === "Feature" ? object.geometry : object;
   if (typeof shape?.type !== "string") throw new TypeError("sfq: this is no geometry of GeoJSON");
-  const depth = DEPTHS[shape.type], grid = step === undefined && origin === undefined ? null : new Grid(step ?? 1, origin);
+  const depth = DEPTHS[shape.type], grid = gridOf(options);
   if (depth === undefined) throw refused("W1", `a geometry is one of ${Object.keys(DEPTHS).join(", ")}, not a ${shape.type}`);
   const all = needList(shape.coordinates), numbers = [];
   const add = (it) => numbers.push(...positionOf(it, numbers.length / 2, grid));
@@ -45,14 +45,14 @@ export function fromGeoJSON(object, { step, origin }) {
   const parts = all.length === 0 ? [] : depth === 0 ? (add(all), []) : nested(all, depth);
   const listed = Array.isArray(parts) ? parts : [];
   if (listed.some(isNothing)) throw refused("W1", "a line or a ring has no position");
-  return [shape.type, Int32Array.from(numbers), listed];
+  return [shape.type, grid ? grid.nearest(numbers) : Int32Array.from(numbers), listed];
 }
 
 // Returns a canonical text as a geometry of GeoJSON, by the numbers of a grid where there is one.
-export function toGeoJSON(text, { step, origin }) {
+export function toGeoJSON(text, options) {
   const [word, rest] = text.match(/^(\w+) ?(.*)$/).slice(1), type = OF_WORD[word];
   if (rest === "EMPTY") return { type, coordinates: [] };
-  const grid = step === undefined && origin === undefined ? null : new Grid(step ?? 1, origin);
+  const grid = gridOf(options);
   const spelled = (_, x, y) => JSON.stringify(grid ? grid.numbers([Number(x), Number(y)]) : [Number(x), Number(y)]);
   const nested = JSON.parse(rest.replace(/(-?\d+) (-?\d+)/g, spelled).replaceAll("(", "[").replaceAll(")", "]"));
   if (type === "Point") return { type, coordinates: nested[0] };

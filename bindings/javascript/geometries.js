@@ -1,7 +1,8 @@
 // Geometries that a module keeps, and indexes of envelopes.
 import { MADE, NONE, OK, REFUSED, SECOND_REFUSED, TOO_SMALL, UNKNOWN, engine, freeLater, isFreed } from "./engine.js";
-import { FaultError } from "./faults.js";
+import { FaultError, shapeFault } from "./faults.js";
 import { fromGeoJSON, toGeoJSON } from "./geojson.js";
+import { gridOf } from "./grid.js";
 
 // The types and the relations, by the numbers that the calls have for them.
 const TYPES = ["Point", "LineString", "Polygon", "MultiPoint", "MultiLineString", "MultiPolygon"];
@@ -65,6 +66,23 @@ function readPositions(type, positions, parts) {
   return [it, slot];
 }
 
+// Reads well-known binary, on a grid where there is one. Returns the engine and where the geometry is kept.
+function readBinary(bytes, grid) {
+  if (!(bytes instanceof Uint8Array)) throw new TypeError("sfq: well-known binary is a Uint8Array");
+  const it = engine(), slot = emptySlot(it);
+  try {
+    const length = it.put(bytes), status = it.calls.read_binary(grid ? grid.put(it) : 0, it.room, length, slot, 0, 0, it.found);
+    if (status === UNKNOWN) throw new FaultError(shapeFault("W1", `a geometry is one of ${TYPES.join(", ")}, flat and without empty parts`));
+    it.needUnlessRefused(status, () => it.binaryFault());
+  } catch (error) {
+    it.calls.give(slot);
+    throw error;
+  } finally {
+    it.shrink();
+  }
+  return [it, slot];
+}
+
 // Room for a geometry or an index, which is empty.
 function emptySlot(it) {
   const slot = it.take(8);
@@ -84,7 +102,7 @@ export class Geometry {
   #spelled;
 
   constructor(made, it, slot, fault, spelled) {
-    if (made !== MADE) throw new TypeError("sfq: a geometry is made by Geometry.read, fromPositions or fromGeoJSON");
+    if (made !== MADE) throw new TypeError("sfq: a geometry is made by Geometry.read, fromPositions, fromBinary or fromGeoJSON");
     [this.#engine, this.#slot, this.#fault, this.#spelled] = [it, slot, fault, spelled];
     if (slot) freeLater(this, freeGeometry, it, slot);
   }
@@ -105,6 +123,16 @@ export class Geometry {
 
   static fromPositions(type, positions, parts = []) {
     return new Geometry(MADE, ...readPositions(type, positions, parts), null, null);
+  }
+
+  static fromBinary(bytes, grid = {}) {
+    return new Geometry(MADE, ...readBinary(bytes, gridOf(grid)), null, null);
+  }
+
+  toBinary(grid = {}) {
+    const it = this.#engine, slot = this.#need(), made = gridOf(grid);
+    it.need(it.fill((...room) => it.calls.write_binary(slot, made ? made.put(it) : 0, ...room)));
+    return it.bytes.slice(it.room, it.room + it.number());
   }
 
   static fromGeoJSON(object, grid = {}) {

@@ -1,15 +1,15 @@
-// The grid: how numbers become whole coordinates, exactly, and how these are written as numbers again.
-//
-// A coordinate x becomes the whole number n that is nearest to (x - origin) / step. Of two that are as near it is the greater one. Step
-// and origin are decimal numbers, and x is the exact value of a double: what a quick quotient of doubles leaves open is computed by
-// whole numbers of any size.
+// The grid: how large a step is and where its 0 0 is, in decimal numbers, and whole coordinates as numbers of the source. The module
+// rounds.
+import { engine } from "./engine.js";
 
-// Quotients up to here are taken by doubles.
-const QUICK = 11_000_000;
 // A decimal number, in the parts that count: its sign, its digits before and after the point, and its exponent.
 const NUMBER = /^([+-]?)(\d*)(?:\.(\d*))?(?:[eE]([+-]?\d{1,3}))?$/;
-// The smallest and the greatest exponent that a grid can have.
+// The smallest and the greatest exponent that a number can have here.
 const MOST_EXPONENT = 60;
+// The most parts of a step or a unit, and of an origin.
+const MOST_PARTS = 10n ** 15n, FARTHEST = 2n ** 63n - 1n;
+// Where a grid is behind what a call finds.
+const BEHIND = 32;
 
 // Reads a decimal number as digits with so many of them after the point.
 function decimal(text) {
@@ -20,61 +20,45 @@ function decimal(text) {
   return { digits: sign === "-" ? -digits : digits, places };
 }
 
-// The exact value of a double: a whole number times a power of 2.
-function exact(value) {
-  const view = new DataView(new ArrayBuffer(8));
-  view.setFloat64(0, value);
-  const bits = view.getBigUint64(0), power = Number((bits >> 52n) & 2047n), part = bits & ((1n << 52n) - 1n);
-  const whole = power ? part | (1n << 52n) : part;
-  return { whole: bits >> 63n ? -whole : whole, power: Math.max(power, 1) - 1075 };
-}
-
-const floored = (n, d) => (n >= 0n || n % d === 0n ? n / d : n / d - 1n);
-
-class Axis {
-  constructor(step, origin) {
-    const [one, other] = [decimal(step), decimal(origin)];
-    // Step and origin counted in the last digit after the point that either has.
-    this.places = Math.max(0, one.places, other.places);
-    [this.step, this.origin] = [one, other].map((it) => it.digits * 10n ** BigInt(this.places - it.places));
-    [this.quickStep, this.quickOrigin] = [Number(step), Number(origin)];
-    // A quotient of doubles is off by less than half of this.
-    this.doubt = (Math.abs(this.quickOrigin) / this.quickStep + QUICK) / 2 ** 49;
-  }
-
-  // The nearest coordinate of a double that is finite.
-  nearest(value) {
-    const quotient = (value - this.quickOrigin) / this.quickStep, found = Math.floor(quotient + 0.5), past = quotient - found;
-    const isSure = this.doubt - 0.5 < past && past < 0.5 - this.doubt && -QUICK < found && found < QUICK;
-    return isSure ? found : this.#exactly(value);
-  }
-
-  #exactly(value) {
-    const { whole, power } = exact(value), scaled = whole * 10n ** BigInt(this.places), shift = BigInt(Math.abs(power));
-    const [n, d] = power < 0 ? [scaled - (this.origin << shift), this.step << shift] : [(scaled << shift) - this.origin, this.step];
-    return Number(floored(2n * n + d, 2n * d));
-  }
-
-  // The number of the source at a coordinate: the double that is nearest to it.
-  number(whole) {
-    return Number(`${this.origin + BigInt(whole) * this.step}e-${this.places}`);
-  }
-}
-
 // A grid: the size of a step, and where its 0 0 is.
 export class Grid {
   constructor(step, [x, y] = [0, 0]) {
-    [this.x, this.y] = [x, y].map((origin) => new Axis(String(step), String(origin)));
-    if (this.x.step <= 0n) throw new RangeError(`sfq: the step ${step} isn't greater than 0`);
+    const all = [step, x, y].map((it) => decimal(String(it)));
+    // Step and origin counted in the last digit after the point that any of them has.
+    this.places = Math.max(0, ...all.map((it) => it.places));
+    [this.step, this.x, this.y] = all.map((it) => it.digits * 10n ** BigInt(this.places - it.places));
+    if (this.step <= 0n) throw new RangeError(`sfq: the step ${step} isn't greater than 0`);
+    const parts = 10n ** BigInt(this.places), far = [this.x, this.y].some((it) => it > FARTHEST || it < -FARTHEST);
+    if (this.step > MOST_PARTS || parts > MOST_PARTS || far) throw new RangeError("sfq: the step or the origin has too many digits");
+    this.fields = BigInt64Array.of(this.step, this.x, this.y, parts);
   }
 
-  // Returns the whole coordinates that are nearest to those of a position.
-  nearest([x, y]) {
-    return [this.x.nearest(x), this.y.nearest(y)];
+  // Writes it where a call of a module finds it. Returns its address.
+  put(it) {
+    new BigInt64Array(it.bytes.buffer, it.found + BEHIND, 4).set(this.fields);
+    return it.found + BEHIND;
   }
 
-  // Returns the numbers of the source at whole coordinates.
-  numbers([x, y]) {
-    return [this.x.number(x), this.y.number(y)];
+  // Returns the whole coordinates that are nearest to numbers, an x and a y in turn, all of them finite.
+  nearest(numbers) {
+    const it = engine(), count = numbers.length / 2, size = 8 * numbers.length;
+    try {
+      it.grow(size + 4 * numbers.length);
+      new Float64Array(it.bytes.buffer, it.room, numbers.length).set(numbers);
+      it.need(it.calls.round(this.put(it), it.room, count, it.room + size, it.found));
+      return new Int32Array(it.bytes.buffer, it.room + size, numbers.length).slice();
+    } finally {
+      it.shrink();
+    }
   }
+
+  // Returns the numbers of the source at whole coordinates: the doubles that are nearest to them.
+  numbers(position) {
+    return position.map((whole, place) => Number(`${[this.x, this.y][place] + BigInt(whole) * this.step}e-${this.places}`));
+  }
+}
+
+// The grid of options, or null where they have none.
+export function gridOf({ step, origin }) {
+  return step === undefined && origin === undefined ? null : new Grid(step ?? 1, origin);
 }

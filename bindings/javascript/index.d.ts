@@ -94,7 +94,10 @@ export interface Cell {
   witness: Witness | null;
 }
 
-/** The grid: how large a step is, and where its 0 0 is, in decimal numbers of the source. */
+/**
+ * The grid: how large a step is, and where its 0 0 is, in decimal numbers of the source, with at most 15 digits behind the point. RangeError
+ * where they have too many digits, or the step isn't greater than 0.
+ */
 export interface GridOptions {
   step?: number | string;
   origin?: [number | string, number | string];
@@ -127,6 +130,16 @@ export class Geometry {
 
   /** Makes a geometry of positions, an x and a y each. FaultError where it isn't valid, RangeError where the parts don't fit. */
   static fromPositions(type: TypeName, positions: Int32Array, parts?: Parts): Geometry;
+
+  /**
+   * Reads well-known binary (06-103r4, 8.2), in either order of bytes. A coordinate becomes the nearest whole number of steps from the
+   * origin, of two the greater one; without a grid each has to be whole. FaultError where it isn't valid: a W1 is at a byte, a W2 or a W3 at a
+   * position, and a type that isn't one of the six, has a Z or an M, or has an empty part is a W1 without a place.
+   */
+  static fromBinary(bytes: Uint8Array, grid?: GridOptions): Geometry;
+
+  /** The well-known binary of the geometry, by the coordinates of the grid, or by the numbers of the source, the least byte first. */
+  toBinary(grid?: GridOptions): Uint8Array;
 
   /**
    * Makes a geometry of one of GeoJSON, or of a Feature's. A coordinate becomes the nearest whole number of steps from the origin, of two the

@@ -14,8 +14,9 @@ export const SCHEMA = 0, TABLE = 1, QUERY = 2, GEOMETRY = 3, PAIRS = 4;
 
 // What the module's call returns.
 const DONE = 0, MISUSED = 1, OUT_OF_MEMORY = 3, TOO_SMALL = 5, MISSING = 6;
-// How many bytes a list of texts takes, what is handed in, and what is said of what is handed out: each number has eight.
-const LIST_BYTES = 32, GIVEN_BYTES = 3 * LIST_BYTES + 5 * 8, SAID_BYTES = 32;
+// How many bytes a list of texts takes, what is handed in, and what is said of what is handed out: each number has eight. What is handed in
+// has three lists, two texts, and then a byte for what was found at standard input, and one for whether the caller asks why.
+const LIST_BYTES = 32, FLAGS_AT = 3 * LIST_BYTES + 2 * 16, GIVEN_BYTES = FLAGS_AT + 8, SAID_BYTES = 32;
 // The room for what is written, at first.
 const FIRST_ROOM = 1 << 20;
 
@@ -90,8 +91,9 @@ class Loans {
 function handIn(calls, loans, words, asks, files, input) {
   const given = loans.take(GIVEN_BYTES), said = loans.take(SAID_BYTES);
   const lists = [words, files.map((it) => it.path), files.map((it) => it.bytes)].flatMap((it) => loans.texts(it));
-  const [found] = loans.bytes([Uint8Array.from(files, (it) => it.found)]);
-  loans.put(given, [...lists, found, ...loans.bytes([input.bytes]), input.found, asks ? 1 : 0]);
+  const found = Uint8Array.from(files, (it) => it.found);
+  loans.put(given, [...lists, ...loans.bytes([found]), ...loans.bytes([input.bytes])]);
+  new Uint8Array(loans.memory).set([input.found, asks ? 1 : 0], given + FLAGS_AT);
   for (let size = FIRST_ROOM; ; ) {
     const room = loans.take(size), status = calls.serve(given, room, size, said) >>> 0, view = new DataView(loans.memory);
     const [bytes, out, err] = [0, 8, 16].map((at) => Number(view.getBigUint64(said + at, true)));

@@ -1,24 +1,16 @@
 /*
  * The functions of the extension sfq of PostgreSQL, over texts. The functions over PostGIS's geometries are SQL over these.
  *
- * The proof ends at the calls of the crate sfq_c. Not proved are bindings/c/sfq.c over them, asking.h, this file, which turns what
+ * The proof ends at the calls of the crate sfq_c. Not proved are bindings/c/sfq.c over them, asking.c, this file, which turns what
  * the library returns into PostgreSQL's values and errors, and PostgreSQL, which finds the rows. All functions are STRICT: NULL in,
  * NULL out.
  * A text that is refused is an error with the fault, but for ST_IsValid and ST_IsValidReason.
  */
-#include "postgres.h"
-
-#if PG_VERSION_NUM < 150000
-#error "sfq needs PostgreSQL 15 or later"
-#endif
-
-#include "fmgr.h"
+#include "postgresql.h"
 #include "utils/builtins.h"
-#if PG_VERSION_NUM >= 160000
-#include "varatt.h"
-#endif
 
 #include "asking.h"
+#include "faults.h"
 #include "server_memory.h"
 
 PG_MODULE_MAGIC;

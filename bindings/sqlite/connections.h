@@ -8,6 +8,7 @@
 #ifndef SFQ_CONNECTIONS_H
 #define SFQ_CONNECTIONS_H
 
+#include "extension.h"
 #include "keeping.h"
 #include "rows.h"
 
@@ -51,77 +52,21 @@ struct connection {
 };
 
 /* Makes what a connection with this number of functions has, for one user. Null where memory is refused. */
-static struct connection *new_connection(sqlite3 *sqlite, size_t count)
-{
-    size_t at, size = sizeof(struct connection) + count * sizeof(struct function);
-    struct connection *connection = sqlite3_malloc64(size);
-    if (connection == NULL) {
-        return NULL;
-    }
-    memset(connection, 0, size);
-    connection->sqlite = sqlite;
-    connection->users = 1;
-    connection->count = count;
-    for (at = 0; at < count; at++) {
-        connection->functions[at].connection = connection;
-    }
-    return connection;
-}
+struct connection *new_connection(sqlite3 *sqlite, size_t count);
 
 /* One user less. */
-static void leave_connection(void *given)
-{
-    struct connection *connection = given;
-    size_t at;
-    if (--connection->users > 0) {
-        return;
-    }
-    for (at = 0; at < connection->count; at++) {
-        forget(&connection->functions[at].kept[0]);
-        forget(&connection->functions[at].kept[1]);
-    }
-    sqlite3_free(connection);
-}
+void leave_connection(void *given);
 
-/* The same, by the data of one of its functions. */
-static void leave_function(void *given)
-{
-    struct function *function = given;
-    leave_connection(function->connection);
-}
+/* One user less, by the data of one of the connection's functions. */
+void leave_function(void *given);
 
 /* Adds rows to those whose geometries are known by their texts. */
-static void list_rows(struct connection *connection, struct listed *listed)
-{
-    listed->next = connection->tables;
-    connection->tables = listed;
-}
+void list_rows(struct connection *connection, struct listed *listed);
 
-/* Takes rows away from them, if they are among them. */
-static void unlist_rows(struct connection *connection, const struct listed *listed)
-{
-    struct listed **at = &connection->tables;
-    while (*at != NULL && *at != listed) {
-        at = &(*at)->next;
-    }
-    if (*at != NULL) {
-        *at = listed->next;
-    }
-}
+/* Takes rows away from those whose geometries are known, if they are among them. */
+void unlist_rows(struct connection *connection, const struct listed *listed);
 
 /* The geometry of a table's row that a value is the text of; null where it is another text. */
-static sfq_geometry *geometry_of(const struct connection *connection, sqlite3_value *value)
-{
-    const struct listed *listed = connection->tables;
-    const char *bytes = listed == NULL ? NULL : sqlite3_value_blob(value);
-    while (listed != NULL && bytes != NULL) {
-        struct text *text = text_at(&listed->rows, bytes);
-        if (text != NULL) {
-            return text->length == (size_t)sqlite3_value_bytes(value) ? &text->geometry : NULL;
-        }
-        listed = listed->next;
-    }
-    return NULL;
-}
+sfq_geometry *geometry_of(const struct connection *connection, sqlite3_value *value);
 
 #endif

@@ -3,17 +3,16 @@
  * CSV files, which have an index.
  *
  * The proof ends at the calls of the crates sfq_c and sfq_tables. Not proved are bindings/c over them, what is here, and SQLite, which
- * finds the rows: asking.h asks the library, functions.h makes SQLite's values of it, rows.h, options.h and files.h load tables,
- * statements.h says when the index may be asked, and tables.h hands out their rows. Each connection has a state of its own
- * (connections.h), so connections may be in any threads.
+ * finds the rows: asking.c asks the library, functions.c makes SQLite's values of it, rows.c, options.c and files.c load tables,
+ * statements.c says when the index may be asked, and tables.c hands out their rows. Each connection has a state of its own
+ * (connections.c), so connections may be in any threads.
  */
-#define _POSIX_C_SOURCE 200809L
-
-#include <sqlite3ext.h>
-SQLITE_EXTENSION_INIT1
-
+#include "connections.h"
+#include "files.h"
 #include "functions.h"
 #include "tables.h"
+
+SQLITE_EXTENSION_INIT1
 
 /* The first SQLite that lets a module say that no view or trigger may use its tables. */
 #define LEAST_VERSION 3031000

@@ -3,7 +3,7 @@
 the land register of examples/parcels, from its CSV files; and cells of a grid that is split.
 
 Run it in this folder without arguments. It writes one SVG for each entry of PICTURES and for each pair of ../WRONG-ELSEWHERE.md,
-parcels.svg and cells.svg, the same bytes each time. The matrices are those of the worked rows and of that page; the script
+parcels.svg, cells.svg and, from the table of ../DATA.md, steps.svg, the same bytes each time. The matrices are those of the worked rows and of that page; the script
 computes none.
 """
 
@@ -219,6 +219,42 @@ def draw_cells():
         )
 
 
+# A row of the table of steps: the step, the records refused and all, the greatest shift, and the relations changed.
+STEP = re.compile(r"^ *(0\.0*[15]) +([\d,]+) of ([\d,]+) +\S+ +([\d,]+)$", re.M)
+STEPS_WIDTH, STEPS_HEIGHT, STEPS_LEFT, STEPS_TOP = 560, 260, 50, 30
+CURVES = ((1, FIRST, "records refused"), (3, SECOND, "relations changed"))
+
+
+def draw_steps():
+    with open("../DATA.md", encoding="utf-8") as file:
+        rows = [(step, *(int(it.replace(",", "")) for it in more)) for step, *more in STEP.findall(file.read())]
+    most = max(max(row[1], row[3]) for row in rows)
+    wide, high = STEPS_WIDTH - 2 * STEPS_LEFT, STEPS_HEIGHT - 2 * STEPS_TOP
+
+    def at(place, count):
+        return STEPS_LEFT + wide * place / (len(rows) - 1), STEPS_TOP + high * (1 - count / most)
+
+    lines = []
+    for count in (0, most):
+        x, y = at(0, count)
+        lines.append(f'<path d="M{x:g} {y:g}h{wide:g}" stroke="#ccc" fill="none"/><text x="{x - 8:g}" y="{y + 4:g}" text-anchor="end">{count}</text>')
+    for place, row in enumerate(rows):
+        lines.append(f'<text x="{at(place, 0)[0]:g}" y="{STEPS_HEIGHT - 10}" text-anchor="middle">{row[0]}</text>')
+    for number, (column, colour, name) in enumerate(CURVES):
+        points = [at(place, row[column]) for place, row in enumerate(rows)]
+        lines.append(f'<polyline points="{" ".join(f"{x:g},{y:g}" for x, y in points)}" fill="none" stroke="{colour}" stroke-width="2"/>')
+        lines += [f'<circle cx="{x:g}" cy="{y:g}" r="4" fill="{colour}"/>' for x, y in points]
+        lines.append(f'<text x="{STEPS_LEFT + 20}" y="{STEPS_TOP + 20 + 18 * number}" style="fill:{colour}">{name}</text>')
+    body = "\n".join(lines)
+    with open("steps.svg", "w", encoding="utf-8") as file:
+        file.write(
+            f'<svg xmlns="http://www.w3.org/2000/svg" viewBox="0 0 {STEPS_WIDTH} {STEPS_HEIGHT}" width="{STEPS_WIDTH}" height="{STEPS_HEIGHT}">\n'
+            f"<title>Records refused and relations changed of {rows[0][2]} tracts, over the step</title>\n"
+            "<style>text{font:12px sans-serif;fill:#333}</style>\n"
+            f'<rect width="100%" height="100%" fill="#fff"/>\n{body}\n</svg>\n'
+        )
+
+
 def draw_pairs():
     with open("../WRONG-ELSEWHERE.md", encoding="utf-8") as file:
         for number, *rows in PAIR.findall(file.read()):
@@ -230,3 +266,4 @@ for picture, rows in PICTURES.items():
 draw_pairs()
 draw_register()
 draw_cells()
+draw_steps()

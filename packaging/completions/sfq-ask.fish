@@ -1,6 +1,7 @@
 # Completion of sfq-ask for fish.
 complete -c sfq-ask -l out -x -a 'csv table json geojson gpkg svg' -d 'How the answer is written'
 complete -c sfq-ask -l output -r -d 'Write the answer into a file'
+complete -c sfq-ask -l coverage -x -d 'List what keeps a layer from being a coverage'
 complete -c sfq-ask -l no-cache -d 'Keep no tables'
 complete -c sfq-ask -l grid -x -a auto -d 'The size of a step, in units of the sources'
 complete -c sfq-ask -l origin -x -a auto -d "Where the grid's 0 0 is in the sources: X,Y"
@@ -9,13 +10,15 @@ complete -c sfq-ask -l from -x -d 'The reference system of sources that say none
 complete -c sfq-ask -l layer -x -d 'A layer to take'
 complete -c sfq-ask -l key -x -d 'The column that is the key'
 complete -c sfq-ask -l scale -x -d 'Make whole numbers of a column: COLUMN=STEP'
+complete -c sfq-ask -l columns -x -d 'The columns that tables get'
 complete -c sfq-ask -l xy -x -d 'Make points of two columns of a CSV file: X,Y'
 complete -c sfq-ask -l wkt -x -d 'Make geometries of a column of a CSV file'
-complete -c sfq-ask -l invalid -x -a 'leave-out mend stop' -d 'What becomes of records that sfq refuses'
-complete -c sfq-ask -l flat -d 'Take geometries without Z and M'
+complete -c sfq-ask -l invalid -x -a 'snap mend leave-out stop' -d 'What becomes of records that sfq refuses'
 complete -c sfq-ask -l part -d 'Make several rows of a record with many positions'
+complete -c sfq-ask -l anyway -d 'Import also with a step that breaks more than 1% of the records'
+complete -c sfq-ask -l no-relations -d "Don't compare relations before and after rounding"
 complete -c sfq-ask -l strict -d 'End with status 4 where a record is left out'
+complete -c sfq-ask -l lenient -d 'Run a join though records are left out that meet it'
 complete -c sfq-ask -l allow-empty -d 'Ask also where no record is kept'
-complete -c sfq-ask -l sfq -r -d 'Check and ask by this program'
 complete -c sfq-ask -s h -l help -d 'Print help'
 complete -c sfq-ask -l version -d 'Print the version'

@@ -11,19 +11,14 @@ _sfq_shell() {
         mapfile -t COMPREPLY < <(compgen -W 'SELECT EXPLAIN' -- "$word")
         return
         ;;
-    --sfq)
-        compopt -o filenames
-        mapfile -t COMPREPLY < <(compgen -f -- "$word")
-        return
-        ;;
     esac
     if [[ $word == -* ]]; then
-        mapfile -t COMPREPLY < <(compgen -W '-c --command --mode --all --no-history --sfq -h --help --version' -- "$word")
+        mapfile -t COMPREPLY < <(compgen -W '-c --command --mode --all --no-history -h --help --version' -- "$word")
         return
     fi
     for ((at = 1; at < COMP_CWORD; at++)); do
         case ${COMP_WORDS[at]} in
-        -c | --command | --mode | --sfq) ((at++)) ;;
+        -c | --command | --mode) ((at++)) ;;
         -*) ;;
         *) ((place++)) ;;
         esac

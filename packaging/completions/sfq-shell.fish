@@ -3,6 +3,5 @@ complete -c sfq-shell -s c -l command -x -a 'SELECT EXPLAIN' -d 'Ask this query 
 complete -c sfq-shell -l mode -x -a 'csv table json geojson' -d 'How answers are written'
 complete -c sfq-shell -l all -d 'Load all tables at the start'
 complete -c sfq-shell -l no-history -d 'Keep no file of what was typed'
-complete -c sfq-shell -l sfq -r -d 'Ask by runs of this program'
 complete -c sfq-shell -s h -l help -d 'Print help'
 complete -c sfq-shell -l version -d 'Print the version'

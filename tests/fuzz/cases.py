@@ -4,7 +4,7 @@ import glob
 import os
 import random
 import re
-from typing import NamedTuple
+from typing import NamedTuple, Union
 
 import repository
 import required_rows
@@ -28,23 +28,23 @@ class Case(NamedTuple):
     the parts `geometry 0`, `geometry 1` ..
     """
 
-    parts: dict
+    parts: dict[str, bytes]
     seed: str
 
-    def texts(self, kind):
+    def texts(self, kind: str) -> list[bytes]:
         """Returns the parts of a kind, in order."""
         return [text for name, text in self.parts.items() if name.startswith(f"{kind} ")]
 
-    def is_of_geometries(self):
+    def is_of_geometries(self) -> bool:
         return bool(self.texts("geometry"))
 
-    def with_part(self, name, text):
+    def with_part(self, name: str, text: bytes) -> "Case":
         return self._replace(parts={**self.parts, name: text})
 
-    def without(self, name):
+    def without(self, name: str) -> "Case":
         return self._replace(parts={part: text for part, text in self.parts.items() if part != name})
 
-    def write(self, folder):
+    def write(self, folder: str) -> None:
         """Writes the files: s and d/NAME.csv, as for a script."""
         os.makedirs(f"{folder}/d")
         for name, text in self.parts.items():
@@ -53,11 +53,11 @@ class Case(NamedTuple):
                 with open(f"{folder}/{path}", "wb") as file:
                     file.write(text)
 
-    def shown(self):
+    def shown(self) -> str:
         return "".join(f"  {name}: {text!r}\n" for name, text in self.parts.items())
 
 
-def words_of(command):
+def words_of(command: str) -> list[str]:
     """Returns the words of a script's command."""
     if command == "sfq" or command.startswith("sfq | "):
         return command.split(" | ")[1:]
@@ -69,7 +69,7 @@ def words_of(command):
 
 
 @functools.lru_cache(maxsize=None)
-def rows():
+def rows() -> list[dict[str, bytes]]:
     """Returns the parts of each row of the scripts whose files are small. Every character is a byte."""
     found = []
     for path in sorted(glob.glob(SCRIPTS)):
@@ -84,9 +84,9 @@ def rows():
 
 
 @functools.lru_cache(maxsize=None)
-def geometries():
+def geometries() -> list[list[bytes]]:
     """Returns the texts of geometries that the scripts have, each once, in lists by their types."""
-    found = {}
+    found: dict[bytes, set[bytes]] = {}
     for text in {text for row in rows() for text in row.values()}:
         for head in HEAD_OF_GEOMETRY.finditer(text):
             whole = head[0] + in_parentheses(text[head.end() :])
@@ -95,7 +95,7 @@ def geometries():
     return [sorted(found[word]) for word in sorted(found)]
 
 
-def in_parentheses(text):
+def in_parentheses(text: bytes) -> bytes:
     """Returns what a text begins with in parentheses, up to the one that closes the first; nothing where it has none."""
     depth = 0
     for at, byte in enumerate(text):
@@ -105,9 +105,9 @@ def in_parentheses(text):
     return text
 
 
-def drawn_geometries(numbers):
+def drawn_geometries(numbers: random.Random) -> dict[str, bytes]:
     """Returns some geometries, at times two that are much alike. Most changes leave them valid."""
-    found = []
+    found: list[bytes] = []
     for _ in range(numbers.randint(2, GEOMETRIES)):
         text = numbers.choice(found) if found and numbers.random() < 0.3 else numbers.choice(numbers.choice(geometries()))
         for _ in range(numbers.choice((0, 0, 1, 2, 4))):
@@ -118,7 +118,7 @@ def drawn_geometries(numbers):
     return {f"geometry {at}": cut("geometry ", text) for at, text in enumerate(found)}
 
 
-def other_texts(kind):
+def other_texts(kind: str) -> list[bytes]:
     """Returns what a part of a kind may be mixed with: the same part of other rows."""
     if kind == "geometry":
         return [it for texts in geometries() for it in texts]
@@ -126,28 +126,28 @@ def other_texts(kind):
 
 
 @functools.lru_cache(maxsize=None)
-def others_of_rows():
-    found = {}
+def others_of_rows() -> dict[str, list[bytes]]:
+    found: dict[str, set[bytes]] = {}
     for row in rows():
         for name, text in row.items():
             found.setdefault(name.split()[0], set()).add(text)
     return {kind: sorted(texts) for kind, texts in found.items()}
 
 
-def kind_of(name, text):
+def kind_of(name: str, text: bytes) -> str:
     """Returns the kind of a part, which says how it is changed: a word that looks like a geometry is changed as one."""
     kind = name.split()[0]
     return "geometry" if kind == "word" and HEAD_OF_GEOMETRY.match(text) else kind
 
 
-def weight(name, text):
+def weight(name: str, text: bytes) -> int:
     """Returns how often a part is changed: short words, such as `run`, rarely."""
     if name == "schema":
         return 8
     return 1 if name.startswith("word ") and len(text) < 8 else 30
 
 
-def changed(parts, numbers, count):
+def changed(parts: dict[str, bytes], numbers: random.Random, count: int) -> dict[str, bytes]:
     """Returns parts after so many changes of one of them each, at times with other words."""
     parts = with_other_words(parts, numbers) if count and numbers.random() < 0.04 else dict(parts)
     # The only word may be the one that was dropped.
@@ -158,7 +158,7 @@ def changed(parts, numbers, count):
     return {name: cut(name, text) for name, text in parts.items()}
 
 
-def with_other_words(parts, numbers):
+def with_other_words(parts: dict[str, bytes], numbers: random.Random) -> dict[str, bytes]:
     """Returns parts with a word dropped, doubled, swapped, replaced or added."""
     words = [text for name, text in parts.items() if name.startswith("word ")]
     words = changes.pieces_changed(words, numbers.choice(changes.COMMAND).encode(), numbers)
@@ -166,12 +166,12 @@ def with_other_words(parts, numbers):
     return {**files, **{f"word {at}": it for at, it in enumerate(words)}}
 
 
-def cut(name, text):
+def cut(name: str, text: bytes) -> bytes:
     """Returns what can be given: a word has no byte 0, and has to be shorter than the system allows."""
     return text.replace(b"\0", b"")[:WORD_BYTES] if name.startswith(("word ", "geometry ")) else text
 
 
-def case(seed, number):
+def case(seed: Union[int, str], number: int) -> Case:
     """Returns the case of this number: the same one for the same seed and scripts."""
     numbers = random.Random(f"{seed} {number}")
     again = f"{seed} {number} asked"

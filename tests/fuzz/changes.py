@@ -1,5 +1,7 @@
 """Changes of a text: its bytes, tokens and records are swapped, cut, doubled, or replaced by words of the grammar."""
+import random
 import re
+from typing import Sequence
 
 TOKEN = re.compile(rb"\w+|\s+|'[^']*'|\"[^\"]*\"|[<>!]=|<>|.", re.S)
 NUMBER = re.compile(rb"[-+]?\d+")
@@ -25,7 +27,7 @@ NUMBERS = (
 BYTES = [b"\0", b"\n", b"\r", b"\t", b"\x0b", b" ", b'"', b"'", b",", b"(", b")", b";", b"-", b".", b"\x7f", b"\x80", b"\xc3", b"\xff", b"\xef\xbb\xbf"]
 
 
-def change(text, others, kind, numbers):
+def change(text: bytes, others: Sequence[bytes], kind: str, numbers: random.Random) -> bytes:
     """Returns a text after one change. `others` are texts of its kind, of which it may get a part."""
     ways = [bytes_changed, token_changed, token_changed, number_changed, number_changed, mixed]
     ways += [record_changed] * 4 if kind == "table" else []
@@ -33,7 +35,7 @@ def change(text, others, kind, numbers):
     return numbers.choice(ways)(text, others, kind, numbers)
 
 
-def bytes_changed(text, others, kind, numbers):
+def bytes_changed(text: bytes, others: Sequence[bytes], kind: str, numbers: random.Random) -> bytes:
     """Drops, doubles, replaces or adds some bytes, or ends the text here."""
     first = numbers.randint(0, len(text))
     last = min(len(text), first + numbers.choice((0, 1, 1, 2, 5)))
@@ -41,7 +43,7 @@ def bytes_changed(text, others, kind, numbers):
     return text[:first] + new + (b"" if numbers.random() < 0.1 else text[last:])
 
 
-def pieces_changed(pieces, new, numbers):
+def pieces_changed(pieces: Sequence[bytes], new: bytes, numbers: random.Random) -> list[bytes]:
     """Drops, doubles, replaces or swaps pieces of a text, or moves one."""
     if not pieces:
         return [new]
@@ -63,13 +65,13 @@ def pieces_changed(pieces, new, numbers):
     return pieces
 
 
-def token_changed(text, others, kind, numbers):
+def token_changed(text: bytes, others: Sequence[bytes], kind: str, numbers: random.Random) -> bytes:
     word = numbers.choice(WORDS[kind]).encode()
     new = b" " + word + b" " if numbers.random() < 0.3 else word
     return b"".join(pieces_changed(TOKEN.findall(text), new, numbers))
 
 
-def number_changed(text, others, kind, numbers):
+def number_changed(text: bytes, others: Sequence[bytes], kind: str, numbers: random.Random) -> bytes:
     """Replaces a number by one at a limit or by one more or less."""
     found = list(NUMBER.finditer(text))
     if not found:
@@ -79,7 +81,7 @@ def number_changed(text, others, kind, numbers):
     return text[: at.start()] + new.encode() + text[at.end() :]
 
 
-def number_moved(text, others, kind, numbers):
+def number_moved(text: bytes, others: Sequence[bytes], kind: str, numbers: random.Random) -> bytes:
     """Replaces each number that is equal to one of the text by a small one, so that rings stay closed."""
     found = NUMBER.findall(text)
     if not found:
@@ -88,7 +90,7 @@ def number_moved(text, others, kind, numbers):
     return NUMBER.sub(lambda at: new if at[0] == old else at[0], text)
 
 
-def record_changed(text, others, kind, numbers):
+def record_changed(text: bytes, others: Sequence[bytes], kind: str, numbers: random.Random) -> bytes:
     """Changes records or the fields of one; fields aren't told apart by quotes."""
     records = text.splitlines(keepends=True)
     other = numbers.choice(others).splitlines(keepends=True) or [b"\n"]
@@ -99,7 +101,7 @@ def record_changed(text, others, kind, numbers):
     return b"".join([*records[:at], b",".join(fields), *records[at + 1 :]])
 
 
-def mixed(text, others, kind, numbers):
+def mixed(text: bytes, others: Sequence[bytes], kind: str, numbers: random.Random) -> bytes:
     """Returns the beginning of the text and the end of another, or the text with a stretch of tokens of another."""
     own, other = TOKEN.findall(text), TOKEN.findall(numbers.choice(others))
     first, last = sorted((numbers.randint(0, len(own)), numbers.randint(0, len(own))))

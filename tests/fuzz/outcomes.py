@@ -1,6 +1,6 @@
 """What the program may write, as docs/FAULTS.md and the README say, and whether predicates hold, named as in SQL."""
 import re
-from typing import NamedTuple
+from typing import NamedTuple, Optional, Sequence
 
 from sfq_audit import predicates
 
@@ -9,16 +9,16 @@ MATRIX = re.compile(rb"[F012]{8}2\n")
 REASON = r"(?:W[123] at \d+|W4|V[1235] \d+|V[4678] \d+ \d+)"
 NAME = r"[A-Za-z_]\w*"
 # The lines of faults by their statuses. Nothing fails here, so `write failed` and `out of memory` aren't among them.
-LINES = {
+WORDS = {
     2: r"unknown code: there are S1 to S6, L1 to L11, Q1 to Q12, W1 to W4 and V1 to V8",
     3: r"S[1-5] at \d+|S6",
     4: rf"{NAME} (?:L[12]|L[345789] record \d+|L6 record \d+ {REASON}|L10)",
     5: rf"Q(?:[1-79]|1[02]) at \d+|Q8 at \d+ {REASON}|Q11|(?:first|second) {REASON}",
     6: rf"schema unreadable|{NAME} (?:L11|unreadable)",
 }
-LINES = {status: re.compile(f"sfq: (?:{lines})\n".encode()) for status, lines in LINES.items()}
+LINES = {status: re.compile(f"sfq: (?:{lines})\n".encode()) for status, lines in WORDS.items()}
 # The line that `--why` adds of a table, by the code of the first, and that of a file that is empty.
-REASONS = {
+SENTENCES = {
     "L1": rf"column {NAME} isn't in the header",
     "L2": rf"column {NAME} is in the header more than once",
     "L3": r"the record has \d+ fields, the header \d+",
@@ -29,7 +29,7 @@ REASONS = {
     "L8": rf"column {NAME} is empty",
     "L9": r"record \d+ has the key -?\d+",
 }
-REASONS = {code: re.compile(f"sfq: (?:{text})\n".encode(), re.DOTALL) for code, text in REASONS.items()}
+REASONS = {code: re.compile(f"sfq: (?:{text})\n".encode(), re.DOTALL) for code, text in SENTENCES.items()}
 EMPTY = b"sfq: the file is empty: its first line names the columns\n"
 # The lines that show a place: the line of a text, and a caret below it.
 PLACE = r" *\d+ \|[^\n]*\n *\| *\^\n"
@@ -63,23 +63,23 @@ class Ran(NamedTuple):
     err: bytes
     status: int
 
-    def line(self):
+    def line(self) -> str:
         """Returns the fault's line without the program's name and line feed."""
         return self.err.decode("latin-1").removeprefix("sfq: ").removesuffix("\n")
 
 
-def fault_status(line):
+def fault_status(line: bytes) -> Optional[int]:
     """Returns the status of a line of standard error, or None where no fault has such a line."""
     return next((status for status, form in LINES.items() if form.fullmatch(line)), None)
 
 
-def is_explanation(text):
+def is_explanation(text: bytes) -> bool:
     """Whether the text is what `--why` may add to the line of a fault: few lines, none of them long."""
     lines = text.decode("utf-8", "replace").splitlines()
     return EXPLANATION.fullmatch(text) is not None and len(lines) <= MOST_LINES and all(len(it) <= MOST_COLUMNS for it in lines)
 
 
-def without_reason(err, words):
+def without_reason(err: bytes, words: Sequence[bytes]) -> bytes:
     """Returns standard error without what `--why` may add: lines behind that of a fault, or notes of tables that load or on a query."""
     if not err or b"--why" not in words:
         return err
@@ -91,13 +91,13 @@ def without_reason(err, words):
     return first + b"\n" if is_explanation(rest) and has_reason(rest, code[1].decode() if code else "") else err
 
 
-def has_reason(text, code):
+def has_reason(text: bytes, code: str) -> bool:
     """Whether what `--why` adds has the line of a table's fault with this code, if such a fault has one."""
     reason = REASONS.get(code)
     return reason is None or text == EMPTY or any(reason.fullmatch(it) for it in text.splitlines(keepends=True))
 
 
-def wrong_outcome(ran, words):
+def wrong_outcome(ran: Ran, words: Sequence[bytes]) -> Optional[str]:
     """Returns what is wrong with the status and the two streams of a run of sfq with these words, or None."""
     ran = ran._replace(err=without_reason(ran.err, words))
     if ran.status is None:
@@ -117,7 +117,7 @@ def wrong_outcome(ran, words):
     return None
 
 
-def wrong_answer(ran, words):
+def wrong_answer(ran: Ran, words: Sequence[bytes]) -> Optional[str]:
     """Returns what is wrong with the two streams of a run without a fault, or None. Help may have any form."""
     if ran.err:
         return "standard error isn't empty, and the status is 0"
@@ -129,10 +129,10 @@ def wrong_answer(ran, words):
     return None if form is None or form.fullmatch(ran.out) else "the output has another form"
 
 
-def transposed(matrix):
+def transposed(matrix: str) -> str:
     return "".join(matrix[it] for it in (0, 3, 6, 1, 4, 7, 2, 5, 8))
 
 
-def holds(predicate, matrix, dimensions):
+def holds(predicate: str, matrix: str, dimensions: tuple[int, int]) -> bool:
     """Whether a predicate holds of two geometries. One that isn't named is the pattern of an ST_Relate."""
     return predicates.holds(predicate[3:].lower(), matrix, dimensions) if predicate in PREDICATES else predicates.matches(predicate, matrix)

@@ -11,6 +11,7 @@ import subprocess
 import sys
 import tempfile
 from concurrent.futures import ThreadPoolExecutor
+from typing import Sequence
 
 ROOT = os.path.dirname(os.path.dirname(os.path.dirname(os.path.realpath(__file__))))
 runpy.run_path(f"{ROOT}/tools/paths.py")
@@ -27,23 +28,23 @@ PROGRAMS = {
 SOURCES = {"texts": "library/fuzz.c", "binaries": "library/fuzz_binaries.c", "tables": "library/fuzz_tables.c", "sqlite": "sqlite/fuzz_joins.c"}
 
 
-def names():
+def names() -> list[str]:
     """Returns the names of the programs that can be made here."""
     return [it for it in PROGRAMS if it != "sqlite" or bindings.has_sqlite()]
 
 
-def made(name, folder):
+def made(name: str, folder: str) -> str:
     """Compiles a program into a folder, and returns its path."""
     flags = ["-std=c99", *c_programs.STRICT, *c_programs.watched(), f"-I{library.FOLDER}"]
     sources, libraries = [f"{ROOT}/tests/{SOURCES[name]}"], [it.archive for it in library.ALL]
     if name == "sqlite":
         # The extension is a part of the program, so that it is watched too.
-        sources, libraries = ["-DSQLITE_CORE", *sources, f"{ROOT}/bindings/sqlite/sfq0.c"], [*libraries, "-lsqlite3"]
+        sources, libraries = ["-DSQLITE_CORE", *sources, *bindings.of_sqlite()], [*libraries, "-lsqlite3"]
     subprocess.run(["cc", *flags, *sources, *libraries, "-o", f"{folder}/{name}"], check=True)
     return f"{folder}/{name}"
 
 
-def ran(name, seed, seconds):
+def ran(name: str, seed: int, seconds: int) -> tuple[bool, str]:
     """Runs a program, and returns whether it found nothing wrong, and what it printed."""
     with tempfile.TemporaryDirectory(prefix=f"sfq-{name}-") as folder:
         program = made(name, folder)
@@ -52,7 +53,7 @@ def ran(name, seed, seconds):
     return done.returncode == 0 and not done.stderr, done.stdout + done.stderr
 
 
-def options_of(words):
+def options_of(words: Sequence[str]) -> argparse.Namespace:
     parser = argparse.ArgumentParser(description=__doc__.splitlines()[0])
     listed = "; ".join(f"{name}: {what}" for name, what in PROGRAMS.items())
     parser.add_argument("names", nargs="*", metavar="NAME", help=f"what is handed in (all of it). {listed}")
@@ -66,7 +67,7 @@ def options_of(words):
     return options
 
 
-def main(words):
+def main(words: Sequence[str]) -> int:
     options = options_of(words)
     if not library.are_made():
         sys.exit("rims.py: the libraries aren't there: run ./build --library")

@@ -282,3 +282,18 @@ export async function onGrids({ shapes }) {
     return found;
   }));
 }
+
+/**
+ * Well-known binary, and what is written of it.
+ * @param {{ values: { hex: string, step?: string, origin?: [string, string] }[] }} given
+ */
+export async function binaries({ values }) {
+  await sfq.load();
+  return values.map(({ hex, ...grid }) => orFault(() => {
+    const bytes = Uint8Array.from({ length: hex.length / 2 }, (_, at) => parseInt(hex.slice(2 * at, 2 * at + 2), 16));
+    const it = sfq.Geometry.fromBinary(bytes, grid), again = sfq.Geometry.fromBinary(it.toBinary(grid), grid);
+    const found = [it.text, again.text, [...it.toBinary()].map((byte) => byte.toString(16).padStart(2, "0")).join("")];
+    for (const one of [it, again]) one.free();
+    return found;
+  }));
+}

@@ -8,6 +8,7 @@ export async function uses(): Promise<void> {
   const square: Geometry = Geometry.read("POLYGON((0 0,4 0,4 4,0 4,0 0))");
   const polygons = Geometry.fromPositions("MultiPolygon", new Int32Array(16), [[4], [4]]);
   const town = Geometry.fromGeoJSON({ type: "Point", coordinates: [1.5, 2] }, { step: "0.01", origin: [0, "0.5"] });
+  const bytes: Uint8Array = Geometry.fromBinary(new Uint8Array(), { step: "0.01" }).toBinary();
   const matrix: string = square.relate(town), touches: boolean = square.touches("POINT(4 4)");
   const place: Place = square.locate(4, 1), isBoundary: boolean = place === BOUNDARY;
   const bounds: Envelope = polygons.envelope, near: number[] = new Index([bounds, null]).search([0, 0, 1, 1]);
@@ -22,7 +23,7 @@ export async function uses(): Promise<void> {
   } catch (error) {
     if (error instanceof FaultError) console.log(error.code, error.fault.table, error.fault.geometry?.place);
   }
-  console.log(matrix, touches, isBoundary, near, all, within, rows);
+  console.log(matrix, touches, isBoundary, near, all, within, rows, bytes);
 }
 
 export function misuses(square: Geometry): void {

@@ -3,6 +3,8 @@
  *
  *     binary GRID HEX          prints the status; then the fault, or the number of the system, what rounding did and the canonical text
  *     extent HEX,HEX           prints the status, and where the coordinates of both values go from and to
+ *     apart GRID HEX           prints the status; then the fault, or the type, the positions, the sizes of lines and of elements, and the steps
+ *     round GRID HEX           prints the status; then the steps of the doubles whose bytes HEX has, or which position has none
  *     join RELATION A;.. B;..  prints the status, and the pairs of the texts of A and of B, by their places
  *
  * GRID has the four numbers of an sfq_grid with blanks between, or is empty. HEX has the bytes. Among the texts an empty one is a
@@ -10,6 +12,7 @@
  */
 #include "kept.h"
 
+#include <stdarg.h>
 #include <stdio.h>
 #include <stdlib.h>
 #include <string.h>
@@ -95,8 +98,30 @@ static void print_read(struct one_call *it, sfq_geometry *geometry, int32_t syst
     size_t length = 0;
     if (again(it, sfq_text(geometry, text, sizeof text, &length)))
         sfq_text(geometry, text, sizeof text, &length);
-    snprintf(it->out.text, sizeof it->out.text, "0 %ld %zu %zu %zu %.6g %.6g %.*s", (long)system, shift->positions, shift->moved,
-             shift->merged, shift->greatest, shift->total, (int)length, text);
+    snprintf(it->out.text, sizeof it->out.text, "0 %ld %zu %zu %zu %.6g %.*s", (long)system, shift->positions, shift->moved,
+             shift->merged, shift->greatest, (int)length, text);
+}
+
+/* What is written of a geometry is read again, on the same grid, as the same. */
+static void compare_written(struct one_call *it, const sfq_grid *grid, sfq_geometry *geometry)
+{
+    unsigned char bytes[2 * BYTES];
+    sfq_geometry other = SFQ_EMPTY;
+    size_t length = 0, wanted = 0;
+    bool same = false;
+    if (again(it, sfq_write_binary(geometry, grid, NULL, 0, &wanted)) && sfq_write_binary(geometry, grid, NULL, 0, &wanted) != SFQ_TOO_SMALL)
+        it->wrong = "no length of bytes";
+    if (again(it, sfq_write_binary(geometry, grid, bytes, sizeof bytes, &length)))
+        sfq_write_binary(geometry, grid, bytes, sizeof bytes, &length);
+    if (length != wanted)
+        it->wrong = "another length of bytes";
+    if (again(it, sfq_read_binary(grid, bytes, length, &other, NULL, NULL, NULL)))
+        sfq_read_binary(grid, bytes, length, &other, NULL, NULL, NULL);
+    if (other.kept != NULL && again(it, sfq_holds(SFQ_EQUALS, geometry, &other, &same)))
+        sfq_holds(SFQ_EQUALS, geometry, &other, &same);
+    if (!same)
+        it->wrong = "another geometry is read of the bytes";
+    sfq_free(&other);
 }
 
 static void run_one_binary(struct one_call *it, const char *of_grid, const char *hex)
@@ -106,7 +131,7 @@ static void run_one_binary(struct one_call *it, const char *of_grid, const char 
     const sfq_grid *used = read_grid(of_grid, &grid);
     size_t length = read_bytes(hex, bytes);
     sfq_geometry geometry = SFQ_EMPTY;
-    sfq_shift shift = { 0, 0, 0, 0, 0 };
+    sfq_shift shift = { 0, 0, 0, 0 };
     sfq_fault fault = { '-', 9, 7, 8 };
     int32_t system = 12345;
     int status = sfq_read_binary(used, bytes, length, &geometry, &system, &shift, &fault);
@@ -117,6 +142,7 @@ static void run_one_binary(struct one_call *it, const char *of_grid, const char 
         it->wrong = "another status than what was written";
     if (status == SFQ_OK) {
         print_read(it, &geometry, system, &shift);
+        compare_written(it, used, &geometry);
         if (sfq_read_binary(used, bytes, length, &geometry, NULL, NULL, NULL) == SFQ_OK)
             it->wrong = "a geometry was read into one that is there";
     } else if (status == SFQ_REFUSED) {
@@ -145,6 +171,89 @@ static void run_extent(struct one_call *it, const char *hex)
     snprintf(it->out.text, sizeof it->out.text, "%d", status);
     if (status == SFQ_OK)
         snprintf(it->out.text, sizeof it->out.text, "0 %.9g %.9g %.9g %.9g", extent[0], extent[1], extent[2], extent[3]);
+}
+
+/* Adds words to what is printed. */
+static void add(struct one_call *it, const char *format, ...)
+{
+    size_t used = strlen(it->out.text);
+    va_list words;
+    va_start(words, format);
+    vsnprintf(it->out.text + used, sizeof it->out.text - used, format, words);
+    va_end(words);
+}
+
+static void print_apart(struct one_call *it, const sfq_pieces *pieces, int status)
+{
+    size_t i;
+    add(it, "%d %lu;", status, (unsigned long)pieces->type);
+    for (i = 0; i < 2 * pieces->positions; i++)
+        add(it, " %.9g", pieces->coordinates[i]);
+    add(it, ";");
+    for (i = 0; i < pieces->line_count; i++)
+        add(it, " %zu", pieces->lines[i]);
+    add(it, ";");
+    for (i = 0; i < pieces->element_count; i++)
+        add(it, " %zu", pieces->elements[i]);
+    add(it, ";");
+    for (i = 0; status == SFQ_OK && i < 2 * pieces->positions; i++)
+        add(it, " %ld", (long)pieces->steps[i]);
+}
+
+/* Takes a value apart without rooms first, to learn how large they have to be. */
+static void run_apart(struct one_call *it, const char *of_grid, const char *hex)
+{
+    unsigned char bytes[BYTES];
+    double coordinates[2 * SIDE];
+    int32_t steps[2 * SIDE];
+    size_t lines[SIDE], elements[SIDE], length = read_bytes(hex, bytes);
+    sfq_pieces none = { NULL, NULL, NULL, 0, 0, 0, 99, 99, 99, 99, NULL };
+    sfq_pieces pieces = { coordinates, lines, elements, SIDE, SIDE, SIDE, 99, 99, 99, 99, steps };
+    sfq_fault fault = { '-', 9, 7, 8 };
+    sfq_grid grid;
+    const sfq_grid *used = read_grid(of_grid, &grid);
+    int without = sfq_take_apart(used, bytes, length, &none, NULL), status;
+    if (again(it, without))
+        without = sfq_take_apart(used, bytes, length, &none, NULL);
+    status = sfq_take_apart(used, bytes, length, &pieces, &fault);
+    if (again(it, status)) {
+        if (pieces.type != 99)
+            it->wrong = "pieces were written";
+        status = sfq_take_apart(used, bytes, length, &pieces, &fault);
+    }
+    if (without == SFQ_TOO_SMALL ? none.positions != pieces.positions || none.line_count != pieces.line_count
+                                       || none.element_count != pieces.element_count || none.type != pieces.type
+                                 : without != status && without != SFQ_OK)
+        it->wrong = "other sizes without rooms";
+    if (status == SFQ_REFUSED)
+        print_fault(&it->out, status, &fault);
+    else if (status == SFQ_UNKNOWN)
+        add(it, "%d %lu", status, (unsigned long)pieces.type);
+    else
+        print_apart(it, &pieces, status);
+}
+
+static void run_round(struct one_call *it, const char *of_grid, const char *hex)
+{
+    double coordinates[2 * SIDE];
+    unsigned char bytes[BYTES];
+    int32_t steps[2 * SIDE];
+    sfq_grid grid;
+    const sfq_grid *used = read_grid(of_grid, &grid);
+    size_t count = read_bytes(hex, bytes) / 16, position = 99, i;
+    int status;
+    memcpy(coordinates, bytes, 16 * count);
+    memset(steps, 0x55, sizeof steps);
+    status = sfq_round(used, coordinates, count, steps, &position);
+    if (again(it, status))
+        status = sfq_round(used, coordinates, count, steps, &position);
+    if ((status != SFQ_OK && steps[0] != 0x55555555) || (status != SFQ_REFUSED && position != 99))
+        it->wrong = "steps or a position were written";
+    add(it, "%d", status);
+    if (status == SFQ_REFUSED)
+        add(it, " %zu", position);
+    for (i = 0; status == SFQ_OK && i < 2 * count; i++)
+        add(it, " %ld", (long)steps[i]);
 }
 
 /* ---- joins ---- */
@@ -206,7 +315,8 @@ static void run_one_join(struct one_call *it, char *const words[WORDS])
 
 bool is_binary_call(char *const words[WORDS])
 {
-    return strcmp(words[0], "binary") == 0 || strcmp(words[0], "extent") == 0 || strcmp(words[0], "join") == 0;
+    return strcmp(words[0], "binary") == 0 || strcmp(words[0], "extent") == 0 || strcmp(words[0], "apart") == 0
+           || strcmp(words[0], "round") == 0 || strcmp(words[0], "join") == 0;
 }
 
 struct printed run_binary(char *const words[WORDS])
@@ -216,6 +326,10 @@ struct printed run_binary(char *const words[WORDS])
         run_one_join(&it, words);
     else if (strcmp(words[0], "extent") == 0)
         run_extent(&it, words[1]);
+    else if (strcmp(words[0], "apart") == 0)
+        run_apart(&it, words[1], words[2]);
+    else if (strcmp(words[0], "round") == 0)
+        run_round(&it, words[1], words[2]);
     else
         run_one_binary(&it, words[1], words[2]);
     return printed_of(it.wrong, it.was_refused, &it.out);

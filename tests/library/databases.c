@@ -9,6 +9,10 @@
  *                                 another one. It prints the status or the fault; how many rows each of the two gives, which are
  *                                 stepped in turns; how many the first gives once it began anew, by steps of one look; `busy`, if a
  *                                 step that may look at nothing is busy; and its work
+ *     parts TEXT                  prints the status, and each part of the text by its numbers: kind.constant@at+size
+ *     described SCHEMA CSV QUERY  loads the first table from the text and opens a statement. It prints of each column of each table the
+ *                                 number of its geometries, `k` for the key and `n` for NOT NULL; of each reference its table and name;
+ *                                 and of each column of the rows its reference, its column and its function, or `-`
  *     closed                      makes each call of an empty database, and prints the statuses
  *     numbers SCHEMA              makes each call with numbers that nothing has, and prints the statuses
  *
@@ -231,6 +235,88 @@ static struct printed run_query(char *const words[WORDS])
     return out;
 }
 
+/* ---- what is in a text ---- */
+
+static struct printed run_parts(char *const words[WORDS])
+{
+    struct printed out = { "" };
+    sfq_text_part room[40], few[1] = { { 7, 7, 7, 7 } };
+    size_t length = 0, count = 7, all = 7, i;
+    char *text = lines_of(words[1], &length), said[100];
+    int status;
+    while (again(status = sfq_text_parts(text, length, NULL, 1, &count)))
+        ;
+    while (again(sfq_text_parts(text, length, few, 0, &count)))
+        ;
+    if (status != SFQ_TOO_SMALL || few[0].kind != 7 || count > sizeof room / sizeof room[0])
+        add(&out, "no count");
+    while (again(status = sfq_text_parts(text, length, room, count, &all)))
+        ;
+    snprintf(said, sizeof said, "%d", status);
+    add(&out, said);
+    for (i = 0; status == SFQ_OK && i < all; i++) {
+        snprintf(said, sizeof said, "%u.%u@%zu+%zu", (unsigned)room[i].kind, (unsigned)room[i].constant, room[i].at, room[i].size);
+        add(&out, said);
+    }
+    if (all != count)
+        add(&out, "another count");
+    return out;
+}
+
+static void add_forms(struct printed *out, sfq_database *database)
+{
+    size_t tables = 0, table, column;
+    sfq_table_count(database, &tables);
+    for (table = 0; table < tables; table++) {
+        sfq_form form;
+        for (column = 0; sfq_column_form(database, table, column, &form) == SFQ_OK; column++) {
+            char said[40];
+            snprintf(said, sizeof said, "%u%s%s", (unsigned)form.geometry, form.is_key ? "k" : "", form.is_required ? "n" : "");
+            add(out, said);
+        }
+    }
+}
+
+static void add_named(struct printed *out, sfq_database *database, size_t statement)
+{
+    size_t columns = 0, length = 7, table = 7, i;
+    char name[100], said[200];
+    sfq_origin origin;
+    for (i = 0; sfq_reference(database, statement, i, NULL, 0, &length, &table) == SFQ_TOO_SMALL; i++) {
+        int status = sfq_reference(database, statement, i, name, sizeof name, &length, &table);
+        snprintf(said, sizeof said, "%d:%zu=%.*s", status, table, (int)length, name);
+        add(out, said);
+    }
+    sfq_columns(database, statement, &columns);
+    for (i = 0; i < columns; i++) {
+        if (sfq_column_origin(database, statement, i, &origin) == SFQ_OK)
+            snprintf(said, sizeof said, "%zu/%zu/%u", origin.reference, origin.column, (unsigned)origin.function);
+        else
+            snprintf(said, sizeof said, "-");
+        add(out, said);
+    }
+}
+
+static struct printed run_described(char *const words[WORDS])
+{
+    struct printed out = { "" };
+    sfq_database database = SFQ_EMPTY;
+    size_t length = 0, statement = 7;
+    char *text = lines_of(words[1], &length);
+    while (again(sfq_open(text, length, &database, NULL)))
+        ;
+    add_forms(&out, &database);
+    text = lines_of(words[2], &length);
+    while (again(sfq_load(&database, 0, text, length, NULL)))
+        ;
+    while (again(sfq_prepare(&database, words[3], strlen(words[3]), &statement, NULL)))
+        ;
+    add_named(&out, &database, statement);
+    if (sfq_finalize(&database, statement) != SFQ_OK || sfq_close(&database) != SFQ_OK)
+        add(&out, "not closed");
+    return out;
+}
+
 /* Each call of a database, with this number of a table and of a column. */
 static void add_each(struct printed *out, sfq_database *database, size_t number)
 {
@@ -239,7 +325,9 @@ static void add_each(struct printed *out, sfq_database *database, size_t number)
     uint32_t type = 7;
     bool loaded = true;
     sfq_tables_fault fault = unwritten;
-    int all[26];
+    int all[29];
+    sfq_form form = { 7, false, false };
+    sfq_origin origin = { 7, 7, 7 };
     uint64_t work = 7;
     int64_t value = 7;
     all[0] = sfq_find_table(database, "nothing", 7, &table);
@@ -270,11 +358,14 @@ static void add_each(struct printed *out, sfq_database *database, size_t number)
     while (again(all[24] = sfq_bind_geometry(database, number, 0, "POINT(1 2)", 10, &fault)))
         ;
     all[25] = sfq_bind_null(database, number, 0);
+    all[26] = sfq_column_form(database, number, 0, &form);
+    all[27] = sfq_reference(database, number, 0, room, sizeof room, &length, &table);
+    all[28] = sfq_column_origin(database, number, 0, &origin);
     for (size_t i = 0; i < sizeof all / sizeof all[0]; i++) {
         snprintf(words, sizeof words, "%d", all[i]);
         add(out, words);
     }
-    if (strcmp(room, "before") != 0 || count + table + length + type + work != 35 || value != 7 || !loaded || fault.letter != '-')
+    if (strcmp(room, "before") != 0 || count + table + length + type + work != 35 || value != 7 || form.geometry != 7 || origin.reference != 7 || !loaded || fault.letter != '-')
         add(out, "but something was written");
 }
 
@@ -302,7 +393,7 @@ static struct printed run_numbers(char *const words[WORDS])
 
 bool is_database_call(char *const words[WORDS])
 {
-    static const char *const known[] = { "database", "file", "query", "closed", "numbers" };
+    static const char *const known[] = { "database", "file", "query", "parts", "described", "closed", "numbers" };
     size_t i;
     for (i = 0; i < sizeof known / sizeof known[0]; i++)
         if (strcmp(words[0], known[i]) == 0)
@@ -316,6 +407,10 @@ struct printed run_database(char *const words[WORDS])
     ran_out = false;
     if (strcmp(words[0], "query") == 0)
         out = run_query(words);
+    else if (strcmp(words[0], "parts") == 0)
+        out = run_parts(words);
+    else if (strcmp(words[0], "described") == 0)
+        out = run_described(words);
     else
         out = strcmp(words[0], "database") == 0 || strcmp(words[0], "file") == 0 ? run_opened(words) : run_numbers(words);
     if (!ran_out)

@@ -9,8 +9,11 @@
  * join what a look at each pair finds. Prints what isn't so, and ends with status 1 then.
  */
 #define _GNU_SOURCE
-#include "../../bindings/c/binary.h"
+#include "../../bindings/c/sfq.h"
 #include "chance.h"
+
+/* The flag of a type behind which the number of a reference system comes. */
+#define HAS_SYSTEM 0x20000000u
 
 #define MOST 2000
 
@@ -135,18 +138,13 @@ static void draw(struct drawn *to)
     }
 }
 
-/* Reads a value by the library and by the code that it is made of, which have to say the same. */
+/* Reads a value: what is written goes with the status. */
 static int read_value(struct room *room, const struct drawn *it, sfq_geometry *geometry, sfq_shift *shift, sfq_fault *fault)
 {
-    static struct binary apart;
     const sfq_grid *grid = it->rounds ? &it->grid : NULL;
     const void *value = put(room, it->bytes, it->length);
     int32_t system = 12345;
     int status = sfq_read_binary(grid, value, it->length, geometry, &system, shift, fault);
-    need(make_axes(&apart, grid), "no axes", "", 0);
-    take_apart(&apart, value, it->length);
-    need(apart.status == SFQ_OK || apart.status == status, "another status than that of the parts", "", 0);
-    need(status != SFQ_OK || system == apart.system, "another system", "", 0);
     need(status == SFQ_OK || system == 12345, "a system was written", "", 0);
     need(status == SFQ_OK || shift->positions == 0, "a shift was written", "", 0);
     need((status == SFQ_OK) == (geometry->kept != NULL), "a geometry", "", 0);
@@ -176,12 +174,40 @@ static void try_extent(struct room *room, const struct drawn *it)
     }
 }
 
+/* Takes a value apart: what it has fits into its bytes. Returns the status. */
+static int take_apart(struct room *room, const struct drawn *it, sfq_pieces *pieces, sfq_fault *fault)
+{
+    static double coordinates[MOST / 4];
+    static int32_t steps[MOST / 4];
+    static size_t lines[MOST], elements[MOST];
+    const sfq_pieces rooms = { coordinates, lines, elements, MOST / 8, MOST, MOST, 0, 0, 0, 0, steps };
+    int status;
+    *pieces = rooms;
+    status = sfq_take_apart(it->rounds ? &it->grid : NULL, put(room, it->bytes, it->length), it->length, pieces, fault);
+    need(status == SFQ_OK || status == SFQ_REFUSED || status == SFQ_UNKNOWN || status == SFQ_NONE, "another status of pieces", "", 0);
+    need(16 * pieces->positions <= it->length && 4 * pieces->element_count <= it->length, "more than there is", "", 0);
+    return status;
+}
+
+/* Takes a value apart that isn't changed: its steps are the numbers. */
+static void try_apart(struct room *room, const struct drawn *it)
+{
+    sfq_pieces pieces;
+    size_t i;
+    need(take_apart(room, it, &pieces, NULL) == SFQ_OK && pieces.type == it->type && pieces.positions == it->count, "other pieces", "", 0);
+    for (i = 0; i < 2 * it->count; i++)
+        need(pieces.steps[i] == it->numbers[i], "another step", "", 0);
+    for (i = 0; it->line_count > 0 && i < pieces.line_count; i++)
+        need(pieces.line_count == it->line_count && pieces.lines[i] == it->lines[i], "another line", "", 0);
+    need(pieces.element_count == (it->type <= SFQ_POLYGON ? 1 : it->type == SFQ_MULTIPOINT ? it->count : it->line_count), "elements", "", 0);
+}
+
 /* Reads a value that isn't changed: it is what the numbers are. */
 static void try_value(struct room *room, const struct drawn *it)
 {
     sfq_geometry read = SFQ_EMPTY, wanted = SFQ_EMPTY;
     sfq_fault fault = { 'x', 0, 0, 0 }, other = { 'x', 0, 0, 0 };
-    sfq_shift shift = { 0, 0, 0, 0, 0 };
+    sfq_shift shift = { 0, 0, 0, 0 };
     int status = read_value(room, it, &read, &shift, &fault);
     size_t polygons = it->type == SFQ_MULTIPOLYGON ? it->line_count : 0;
     int from = sfq_read_positions(it->type, it->numbers, it->count, it->lines, it->line_count, it->polygons, polygons, &wanted, &other);
@@ -236,11 +262,13 @@ static void try_changed(struct room *room, struct drawn *it)
 {
     sfq_geometry read = SFQ_EMPTY, many[2] = { SFQ_EMPTY, SFQ_EMPTY };
     sfq_fault fault = { 'x', 0, 0, 0 }, faults[2] = { { 'x', 0, 0, 0 }, { 'x', 0, 0, 0 } };
-    sfq_shift shift = { 0, 0, 0, 0, 0 };
+    sfq_shift shift = { 0, 0, 0, 0 };
     uint32_t statuses[2] = { 99, 99 };
     size_t lengths[2], done = 99;
     double extent[4];
-    int status;
+    sfq_pieces pieces;
+    sfq_fault other = { 'x', 0, 0, 0 };
+    int status, apart;
     change(it);
     lengths[0] = it->length;
     lengths[1] = 0;
@@ -249,6 +277,9 @@ static void try_changed(struct room *room, struct drawn *it)
     need(fault.letter != 'W' || fault.number != 1 || fault.first <= it->length, "a place past the end", "", 0);
     if (status == SFQ_OK)
         compare(&read);
+    apart = take_apart(room, it, &pieces, &other);
+    need(status != SFQ_OK || apart == SFQ_OK, "a geometry without pieces", "", 0);
+    need(apart != SFQ_REFUSED || (other.letter == 'W' && other.number == 1 && other.first <= it->length), "a fault of pieces", "", 0);
     need(sfq_read_binaries(it->rounds ? &it->grid : NULL, put(room, it->bytes, it->length), lengths, 2, many, statuses, faults, NULL, &done)
              == SFQ_OK && done == 2,
          "many", "", 0);
@@ -346,6 +377,7 @@ int main(int number, char **words)
         write_value(&it, chance(3) == 0);
         try_value(&room, &it);
         try_extent(&room, &it);
+        try_apart(&room, &it);
         try_changed(&room, &it);
         if (turns % 8 == 0)
             try_join();

@@ -7,11 +7,13 @@ It needs Debian's packages chromium, chromium-driver and python3-selenium, and o
 """
 import base64
 import os
+import shutil
 import sys
 import time
 import traceback
 
 from selenium import webdriver
+from selenium.webdriver.chrome.service import Service
 from selenium.webdriver.common.action_chains import ActionChains
 from selenium.webdriver.common.by import By
 from selenium.webdriver.common.keys import Keys
@@ -61,7 +63,9 @@ class Page:
         for word in [*words, "--force-device-scale-factor=1", "--window-size=1280,900"]:
             options.add_argument(word)
         options.set_capability("goog:loggingPrefs", {"browser": "ALL"})
-        self.driver = webdriver.Chrome(options=options)
+        # The paths are given, since later versions of Selenium would otherwise look for a browser to fetch.
+        options.binary_location = shutil.which("chromium") or ""
+        self.driver = webdriver.Chrome(options=options, service=Service(shutil.which("chromedriver") or "chromedriver"))
 
     def open(self, words="", size=(1280, 900), scheme="light", file="index.html"):
         """Opens the page anew, at a size and in light or dark mode."""

@@ -1,6 +1,6 @@
 /*
  * What each fault means and what to do, of a geometry by FAULT, of a schema, a table or a query by TABLE_FAULT. C takes the lines by
- * these macros (faults.h, and files.h of bindings/sqlite), and Python reads them (faults.py). tools/fault_pages.py writes them from
+ * these macros (faults.c, and files.c of bindings/sqlite), and Python reads them (faults.py). tools/fault_pages.py writes them from
  * the tables of docs/FAULTS.md.
  */
 FAULT('W', 1, "the text can't go on like this at this byte, or ends too soon")

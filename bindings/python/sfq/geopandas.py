@@ -25,12 +25,13 @@ from shapely.geometry.base import BaseGeometry
 
 from .geometry import library
 from .geometry.shapes import Cell
+from .layers import relating
 from .layers.frames import (
-    AUTO, Column, LeftOutWarning, Options, Origin, RefusedError, RoundingWarning, Step, in_source, need_one_system, refuse, report, taken,
+    AUTO, UNITS, Column, LeftOutWarning, Options, Origin, RefusedError, RoundingWarning, Step, in_source, need_one_system, refuse, report, taken,
 )
 
 __all__ = [
-    "LeftOutWarning", "RefusedError", "RoundingWarning", "contains", "contains_properly", "covered_by", "covers", "crosses", "disjoint",
+    "LeftOutWarning", "RefusedError", "RoundingWarning", "changed", "contains", "contains_properly", "covered_by", "covers", "crosses", "disjoint",
     "equals", "intersects", "is_valid", "is_valid_reason", "overlaps", "relate", "sjoin", "touches", "why", "within",
 ]
 # How many pairs are asked at once, so that Ctrl-C need not wait for all.
@@ -85,9 +86,12 @@ def without_index(frame: Any) -> Any:
 
 def sjoin(
     left_df: Any, right_df: Any, how: str = "inner", predicate: str = "intersects", lsuffix: str = "left", rsuffix: str = "right", *,
-    step: Step = AUTO, origin: Origin = None, flat: bool = False, on_invalid: str = "raise", **words: Any,
+    step: Step = AUTO, origin: Origin = None, flat: bool = False, on_invalid: str = "raise", relations: bool = False, **words: Any,
 ) -> Any:
     """Returns the spatial join of two GeoDataFrames as geopandas.sjoin does, with the predicates of sfq.
+
+    With `relations` the result's `attrs["sfq"]["relations"]` says which pairs of rows have another relation on the grid than in the
+    source, as `changed` does: a sentence, and the number of pairs that meet and of those that changed.
 
     `predicate` is one of GeoPandas' or `equals` or `disjoint`. The result has GeoPandas' columns, index and order of rows, those of
     one row of the frame that is gone through ascending by the other's. A missing geometry is in no pair. An empty one is equal to
@@ -109,7 +113,43 @@ def sjoin(
         predicate=predicate, lsuffix=lsuffix, rsuffix=rsuffix, **words,
     ))
     found.attrs["sfq"] = said
+    if relations:
+        of_pairs = compared(left, right)
+        said["relations"] = {"pairs": of_pairs.meeting, "changed": len(of_pairs.changes), "said": relating.line(of_pairs)}
     return found
+
+
+def compared(left: Column, right: Column) -> relating.Found:
+    """Returns which pairs of rows have another relation on the grid than in the source."""
+
+    def ask(pairs: list[tuple[int, int]]) -> list[str]:
+        firsts, seconds = (numpy.array(each, dtype=numpy.uintp) for each in zip(*pairs))
+        return library.relate_addresses(firsts.ctypes.data, seconds.ctypes.data, len(pairs))
+
+    comparison = relating.Comparison(left.grid or UNITS, relating.of_shapely(), ask, lambda _done, _total: None)
+    return comparison.run(left.members(), *([] if left is right else [right.members()]))
+
+
+def changed(
+    left_df: Any, right_df: Any = None, *, step: Step = AUTO, origin: Origin = None, flat: bool = False, on_invalid: str = "raise",
+) -> Any:
+    """Returns the pairs of rows that rounding relates otherwise than the source does, as a GeoDataFrame; of one frame each pair once.
+
+    Its columns are the labels of both rows, the exact relation `before` and the one `after` rounding, and `geometry`, a point of the
+    source that shows the greater one of them. `attrs["sfq"]["relations"]` is as that of `sjoin`.
+    """
+    options, series = Options(step, origin, flat, on_invalid), left_df.geometry
+    other = series if right_df is None or right_df is left_df else right_df.geometry
+    need_one_system(series, other)
+    sides = taken({"left": series, "right": other}, options)
+    refuse(sides, options, 3)
+    said, found = report(sides, options, 3), compared(sides["left"], sides["right"])
+    rows = [(it.key, it.other, it.before, it.after) for it in found.changes]
+    places = geopandas.points_from_xy([it.x for it in found.changes], [it.y for it in found.changes])
+    frame = geopandas.GeoDataFrame(pandas.DataFrame(rows, columns=["left", "right", "before", "after"]), geometry=places, crs=series.crs)
+    said["relations"] = {"pairs": found.meeting, "changed": len(found.changes), "said": relating.line(found)}
+    frame.attrs["sfq"] = said
+    return frame
 
 
 # ---- pairs of rows ----

@@ -10,12 +10,11 @@ import subprocess
 import sys
 import tempfile
 import time
-from typing import Any, NamedTuple, Optional, Sequence
+from typing import IO, Any, NamedTuple, Optional, Sequence, Union
 
-from sfq.commands import checking
 from sfq.commands.endings import Stopped
-from sfq.geometry.faults import LibraryError
 
+from . import proved
 from .engines import AT_ONCE, ENGINES, JTS, JTS_NG, Lacking, Two, jts_words, listed
 
 # The status where sfq or an engine isn't there, or fails.
@@ -235,23 +234,31 @@ class Sfq:
 
     def __init__(self, program: str = "") -> None:
         """Stopped where it isn't there, or isn't proved."""
-        found = shutil.which(program) if program else checking.beside()
+        found = shutil.which(program) if program else proved.beside()
         if not found:
             raise Stopped(f"no program {program}" if program else "no program sfq is beside this command or on the path; --sfq names one", LACKING)
-        try:
-            self.run = checking.by_program(os.path.abspath(found)).run
-        except LibraryError as error:
-            raise failed(error) from None
+        self.program = os.path.abspath(found)
+        reason = proved.unproved(self.program)
+        if reason:
+            raise Stopped(reason, LACKING)
+
+    def run(self, *words: str, given: Union[int, IO[Any]] = subprocess.DEVNULL) -> subprocess.CompletedProcess[str]:
+        """Runs the program to its end. MemoryError where it is out of memory, Stopped where it fails otherwise."""
+        # A group of its own: Ctrl-C reaches the command alone, which ends the program.
+        ran = subprocess.run([self.program, *words], stdin=given, stdout=subprocess.PIPE, stderr=subprocess.PIPE, text=True, start_new_session=True)
+        if ran.returncode == 7:
+            raise MemoryError("sfq: out of memory")
+        if ran.returncode not in (0, 5):
+            said = ran.stderr.strip().splitlines()[-1:]
+            raise Stopped(": ".join([f"{self.program} {words[0]} ended with status {ran.returncode}", *said]), LACKING)
+        return ran
 
     def lines(self, pairs: Sequence[Two]) -> list[str]:
         """Returns the matrix of each pair, of one that is refused the reason, such as `first V3 0`. Stopped where sfq fails."""
         with tempfile.TemporaryFile() as file:
             file.write(records(pairs).encode())
             file.seek(0)
-            try:
-                found = self.run("pairs", "-", given=file).stdout.splitlines()
-            except LibraryError as error:
-                raise failed(error) from None
+            found = self.run("pairs", "-", given=file).stdout.splitlines()
         if len(found) != len(pairs):
             raise Stopped(f"sfq pairs printed {len(found)} lines for {len(pairs)} pairs", LACKING)
         return found
@@ -262,14 +269,7 @@ class Sfq:
 
     def why(self, *texts: str) -> list[str]:
         """Returns the lines of `sfq why`: of each cell, or why a geometry isn't valid. Stopped where sfq fails."""
-        try:
-            return self.run("why", "--", *texts).stdout.splitlines()
-        except LibraryError as error:
-            raise failed(error) from None
-
-
-def failed(error: LibraryError) -> Stopped:
-    return Stopped(str(error).removeprefix("sfq: "), LACKING)
+        return self.run("why", "--", *texts).stdout.splitlines()
 
 
 def records(pairs: Sequence[Two]) -> str:

@@ -116,7 +116,7 @@ def pairs_of(options: argparse.Namespace) -> tuple[str, Iterable[Pair], Optional
     if options.layers is not None:
         if not options.grid:
             raise Stopped("--layers needs --grid, the size of a step", USAGE)
-        return f"of {' and '.join(options.layers)}, grid {options.grid}", sources.of_layers(options.layers, options.grid, options.sfq), None
+        return f"of {' and '.join(options.layers)}, grid {options.grid}", sources.of_layers(options.layers, options.grid), None
     names = options.family or list(families.FAMILIES)
     scale = "" if options.scale is None else f", scale {options.scale}"
     source = f"made: {options.random} of {', '.join(names)}, seed {options.seed}{scale}"

@@ -88,9 +88,9 @@ def of_server(database: str, query: str) -> Iterator[Pair]:
 Placed = tuple[int, int, int, int, str]
 
 
-def of_layers(sources: Iterable[str], grid: str, program: str) -> Iterator[Pair]:
+def of_layers(sources: Iterable[str], grid: str) -> Iterator[Pair]:
     """Yields each pair of a geometry of one source and one of another whose envelopes meet, on the grid of sfq-import."""
-    first, second = (placed(it, grid, program) for it in sources)
+    first, second = (placed(it, grid) for it in sources)
     number = 0
     active: list[tuple[int, Placed]] = []
     # Both are swept from left to right; a geometry stays for as long as one behind it can meet it.
@@ -103,11 +103,11 @@ def of_layers(sources: Iterable[str], grid: str, program: str) -> Iterator[Pair]
         active.append((which, it))
 
 
-def placed(source: str, grid: str, program: str) -> list[Placed]:
+def placed(source: str, grid: str) -> list[Placed]:
     """Returns the geometries of a source that sfq-import takes, but for empty ones. A line says what it leaves out. Stopped where it fails."""
     with tempfile.TemporaryDirectory(prefix="sfq-audit-") as room:
-        words = [sys.executable, "-B", "-m", "sfq.imports", source, f"--grid={grid}", "--flat", "--allow-empty", "--out", f"{room}/tables"]
-        words += ["--sfq", program] if program else []
+        words = [sys.executable, "-B", "-m", "sfq.imports", source, f"--grid={grid}", "--allow-empty", "--anyway", "--no-relations"]
+        words += ["--out", f"{room}/tables"]
         ran = subprocess.run(words, stdin=subprocess.DEVNULL, capture_output=True, text=True, env=environment())
         said = [it.removeprefix("sfq-import: ") for it in ran.stderr.splitlines()]
         if ran.returncode:
@@ -119,7 +119,7 @@ def placed(source: str, grid: str, program: str) -> list[Placed]:
         found: list[Placed] = []
         csv.field_size_limit(sys.maxsize)
         for name in sorted(os.listdir(f"{room}/tables")):
-            if name.endswith(".csv") and name != "left-out.csv":
+            if name.endswith(".csv") and name not in ("left-out.csv", "changed-relations.csv"):
                 with open(f"{room}/tables/{name}", encoding="utf-8", newline="") as file:
                     for row in csv.reader(file):
                         # The geometry is the last column.

@@ -9,6 +9,8 @@ import subprocess
 import sys
 from typing import Iterable, Optional
 
+from sfq.geometry.faults import LibraryError
+
 from . import query, schema
 from .faults import CLUSTER, FILES, MEMORY, MISUSE, TABLE, Ended, ended
 
@@ -73,7 +75,11 @@ class Programs:
         if status and not (status == 6 and err.endswith(b" unreadable\n") and err != b"sfq: schema unreadable\n"):
             raise Ended(status, err)
         with open(given, encoding="utf-8", errors="surrogateescape") as file:
-            return schema.read(file.read())
+            text = file.read()
+        try:
+            return schema.read(text)
+        except LibraryError as error:
+            raise ended(MISUSE, str(error).removeprefix("sfq: ")) from None
 
     def without_rows(self, name: str, tables: Iterable[schema.Table]) -> tuple[str, str]:
         """Makes a schema and tables without rows, and returns their paths."""

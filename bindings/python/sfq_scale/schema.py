@@ -1,7 +1,9 @@
 """Reads a schema that sfq has accepted, and writes the schemas of tiles."""
 from __future__ import annotations
 
-from typing import Iterable, NamedTuple, Optional
+from typing import Iterable, Iterator, NamedTuple, Optional
+
+from sfq.tables import databases
 
 from . import words
 
@@ -51,35 +53,14 @@ class Table(NamedTuple):
 
 def read(text: str) -> list[Table]:
     """Returns the tables of a schema."""
-    reading = words.Reading(words.tokens(text))
-    found: list[Table] = []
-    while reading.at < len(reading.tokens):
-        reading.want("create", "table")
-        name = reading.name()
-        columns: list[Column] = []
-        reading.want("(")
-        while not columns or reading.take(","):
-            columns.append(column(reading))
-        reading.want(")")
-        found.append(Table(name, tuple(columns)))
-        if not reading.take(";"):
-            break
-    reading.end()
-    return found
+    database = databases.Database(text.encode("utf-8", "surrogateescape"))
+    return [Table(name, tuple(columns_of(database, at))) for at, name in enumerate(database.tables)]
 
 
-def column(reading: words.Reading) -> Column:
-    """Reads a column with its marks."""
-    name, kind = reading.name(), reading.name()
-    is_key = is_required = False
-    while not reading.peek(",", ")"):
-        if reading.take("primary"):
-            reading.want("key")
-            is_key = True
-        else:
-            reading.want("not", "null")
-            is_required = True
-    return Column(name, kind, is_key, is_required)
+def columns_of(database: databases.Database, table: int) -> Iterator[Column]:
+    """Returns the columns of a table, as the schema writes them."""
+    for at, (name, _) in enumerate(database.columns[table]):
+        yield Column(name, *database.form(table, at))
 
 
 def marks(columns: Iterable[Column]) -> list[str]:

@@ -1,14 +1,10 @@
-"""The tokens of sfq's schemas and queries, as sfq itself has them. Only texts that sfq has accepted come here."""
-import re
+"""The tokens of sfq's queries, as the library has them. Only texts that sfq has accepted come here."""
 from typing import Iterable, NamedTuple, Optional
 
-from sfq.tables.rules import RESERVED
+from sfq.tables import parts
 
-# White space, a comment up to the end of its line, or a token. Words are of ASCII letters, so lower() is sfq's comparison.
-PATTERN = re.compile(
-    r"[ \t\n\r]+|--[^\n]*|(?P<word>[A-Za-z_][A-Za-z0-9_]*)|(?P<integer>[0-9]+)|(?P<string>'[^']*(?:''[^']*)*')"
-    r"|(?P<symbol><=|<>|>=|!=|[(),.;*+\-=<>])"
-)
+# What a token is called by what the library says of it.
+KINDS = {parts.WORD: "word", parts.RESERVED: "reserved", parts.DIGITS: "integer", parts.STRING: "string", parts.SYMBOL: "symbol", parts.SEMICOLON: "symbol"}
 
 
 class Unsure(Exception):
@@ -16,7 +12,7 @@ class Unsure(Exception):
 
 
 class Token(NamedTuple):
-    """A token: its kind, which is 'word', 'integer', 'string' or 'symbol', and its text, a string's with its quotes."""
+    """A token: its kind, which is one of KINDS, and its text, a string's with its quotes."""
 
     kind: str
     text: str
@@ -27,21 +23,16 @@ class Token(NamedTuple):
 
     @property
     def is_name(self) -> bool:
-        return self.kind == "word" and self.text.lower() not in RESERVED
+        return self.kind == "word"
 
 
 def tokens(text: str) -> list[Token]:
     """Returns the tokens of a text, without white space and comments."""
-    found: list[Token] = []
-    at = 0
-    while at < len(text):
-        match = PATTERN.match(text, at)
-        if not match:
-            raise Unsure(f"no token begins at character {at}")
-        if match.lastgroup:
-            found.append(Token(match.lastgroup, match[0]))
-        at = match.end()
-    return found
+    found = [it for it in parts.parts(text) if it.kind != parts.END]
+    strange = next((it.at for it in found if it.kind not in KINDS), None)
+    if strange is not None:
+        raise Unsure(f"no token begins at character {strange}")
+    return [Token(KINDS[it.kind], text[it.at : it.end]) for it in found]
 
 
 def same(one: str, other: str) -> bool:

@@ -17,18 +17,19 @@ from sfq.geometry.grids import Grid
 from sfq.layers import proposing
 
 from . import grids
-from .layers import Layer, Pair, Row, metres_of
+from .layers import Layer, Pair, Row, decimals_of, metres_of
 from .progress import Canceled, counted, watched
 
 GRID_HELP = """
 <h3>The grid</h3>
 <p>The engine takes whole coordinates up to 10,000,000 either way. So each position is moved to the nearest point of a grid, which is
-proposed. The step is the finest of 1, 2 and 5 times a power of ten at which every coordinate is within 10,000,000 steps of the origin,
-but not finer than about a centimetre: 0.0000001 of a degree, 0.01 of a metre or a foot. The origin is 0,0 if the step is the same with
-it, and otherwise the middle of everything to the nearest 100,000 steps. If no reference system gives the unit, coordinates within 180 and
-90 either way count as degrees, and others as metres. The log says which step and origin were taken, and by how much positions moved. Take
-the same step and origin in the next run to compare answers. A step and an origin that don't take all positions are refused, and the error
-names some that do.</p>
+proposed. If every coordinate is a decimal number of a grid that reaches them all, the step is the power of ten of their last decimal, and
+nothing moves. Coordinates with few decimals get a finer step if it reaches all of them, down to about a centimetre: 0.0000001 of a degree,
+0.01 of a metre or a foot. For other coordinates the step is the finest of 1, 2 and 5 times a power of ten at which every coordinate is
+within 10,000,000 steps of the origin. The origin is 0,0 if the step is the same with it, and otherwise the middle of everything to the
+nearest 100,000 steps. If no reference system gives the unit, coordinates within 180 and 90 either way count as degrees, and others as
+metres. The log says which step and origin were taken, and by how much positions moved. Take the same step and origin in the next run to
+compare answers. A step and an origin that don't take all positions are refused, and the error names some that do.</p>
 """
 LEFT_OUT_HELP = """
 <h3>What is left out</h3>
@@ -161,7 +162,7 @@ class Algorithm(QgsProcessingAlgorithm):
         extent = proposing.joined(it.extent for it in layers)
         try:
             step, origin = (self.text(parameters, it, context) for it in ("STEP", "ORIGIN"))
-            grid = grids.chosen(extent, metres_of(layers[0].system), step, origin)
+            grid = grids.chosen(extent, metres_of(layers[0].system), step, origin, decimals_of(layers))
         except ValueError as error:
             raise QgsProcessingException(str(error)) from None
         many.pushInfo(f"grid: step {grid.spelled[0]}, origin {','.join(grid.spelled[1])}")

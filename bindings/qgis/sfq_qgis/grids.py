@@ -26,13 +26,15 @@ def check(step: str, origin: str) -> None:
     grids.Grid(step.strip() or "1", parts_of(origin) or ("0", "0"))
 
 
-def chosen(extent: Optional[proposing.Extent], metres: Optional[float], step: str, origin: str) -> grids.Grid:
+def chosen(
+    extent: Optional[proposing.Extent], metres: Optional[float], step: str, origin: str, decimals: Optional[proposing.Decimals] = None,
+) -> grids.Grid:
     """Returns the grid of the step and the origin, each proposed where it is empty, in a unit of so many metres.
 
-    NoFit where it doesn't take all positions.
+    `decimals` are those of all coordinates. NoFit where it doesn't take all positions.
     """
     step, given = step.strip(), parts_of(origin)
-    grid = proposing.proposed(extent, metres, step, ",".join(given or ()))
+    grid = proposing.proposed(extent, metres, step, ",".join(given or ()), decimals)
     if extent is None or proposing.fits(extent, grid):
         return grid
     where = f"x goes from {extent.left:.10g} to {extent.right:.10g}, y from {extent.low:.10g} to {extent.high:.10g}"

@@ -6,7 +6,7 @@ from __future__ import annotations
 
 import math
 from collections import Counter
-from typing import Any, Iterator, Optional
+from typing import Any, Iterator, Optional, Sequence
 
 from qgis.core import QgsCoordinateTransform, QgsCsException, QgsFeatureRequest, QgsProcessingFeatureSource, QgsUnitTypes
 
@@ -16,6 +16,16 @@ from sfq.geometry import binary, grids
 from sfq.layers import proposing
 
 from .progress import counted
+
+
+def decimals_of(layers: Sequence[Layer]) -> proposing.Decimals:
+    """Returns the decimal numbers that all coordinates of some layers are."""
+    found = proposing.Decimals()
+    for row in (row for layer in layers for row in layer.rows):
+        for part in binary.shape(row.binary).parts if row.binary else ():
+            for numbers in part:
+                found.add(numbers)
+    return found
 
 
 def metres_of(system: Any) -> Optional[float]:
@@ -40,16 +50,16 @@ def sentence(reason: str) -> str:
 
 
 class Row:
-    """A feature, and what is kept of its shape: its numbers until they are rounded, then the geometry, or why it is refused.
+    """A feature, and what is kept of its shape: its well-known binary until that is rounded, then the geometry, or why it is refused.
 
     A feature without a geometry has neither.
     """
 
-    __slots__ = ("feature", "shape", "geometry", "reason")
+    __slots__ = ("feature", "binary", "geometry", "reason")
 
     def __init__(self, feature: Any) -> None:
         self.feature = feature
-        self.shape: Optional[binary.Shape] = None
+        self.binary: Optional[bytes] = None
         self.geometry: Optional[Geometry] = None
         self.reason = ""
 
@@ -96,7 +106,7 @@ class Layer:
                 self.take(row, feature.geometry())
 
     def take(self, row: Row, geometry: Any) -> None:
-        """Keeps the numbers of a row's shape, or why sfq has none for it."""
+        """Keeps a row's shape, or why sfq has none for it."""
         try:
             if self.transform is not None:
                 geometry.transform(self.transform)
@@ -104,36 +114,37 @@ class Layer:
                 geometry.get().dropZValue()
                 geometry.get().dropMValue()
                 self.flattened += 1
-            shape = binary.shape(bytes(geometry.asWkb()))
+            given = bytes(geometry.asWkb())
+            is_empty = not binary.shape(given).parts
         except QgsCsException:
             row.reason = "W1: a position can't be transformed to the reference system of the other layer"
         except binary.NoText as it:
             row.reason = reason_of_form(it.form)
         else:
-            self.reach(row, shape, geometry.boundingBox())
+            self.reach(row, given, None if is_empty else geometry.boundingBox())
 
-    def reach(self, row: Row, shape: binary.Shape, box: Any) -> None:
-        """Keeps a shape, and has the extent reach to the bounds of it."""
-        if shape.parts:
+    def reach(self, row: Row, given: bytes, box: Any) -> None:
+        """Keeps a shape, and has the extent reach to its bounds, if it has any."""
+        if box is not None:
             extent = proposing.Extent(box.xMinimum(), box.xMaximum(), box.yMinimum(), box.yMaximum())
             if not all(map(math.isfinite, extent)):
                 row.reason = "W1: a coordinate is infinite or no number"
                 return
             self.extent = proposing.joined((extent, self.extent))
-        row.shape = shape
+        row.binary = given
 
     def bring_to(self, grid: grids.Grid, feedback: Any) -> None:
         """Brings the shapes to a grid, and has the library check each."""
         for row in counted(self.rows, len(self.rows), feedback):
-            if row.shape is None:
+            if row.binary is None:
                 continue
             try:
-                made = Geometry(binary.text(row.shape, grid, self.shift))
+                made = Geometry(binary.text(row.binary, grid, self.shift))
             except grids.NotANumber as it:
                 row.reason = f"W1: {it}"
             else:
                 row.geometry, row.reason = (made, "") if made.is_valid else (None, made.reason)
-            row.shape = None
+            row.binary = None
 
     @property
     def taken(self) -> list[Row]:

@@ -1,4 +1,4 @@
-//! The commands of `sfq` with their words and help texts, for `clap`. `order` reads the words of a command line with them.
+//! The commands of `sfq` with their words and help texts, for `clap`. `order` uses them to read the words of a command line.
 
 ghost use Rattle.std.specs.Prelude.{◌≡◌, false, codes, IfOk, IsOkAnd};
 ghost use Rattle.clap.specs.Words.{app_of, rule_of, with_rule, AddsSubcommand};
@@ -10,7 +10,7 @@ use std::alloc::{AllocError, Global};
 /// What `--version` prints.
 pub const VERSION: &str = "0.2.0";
 
-/// The command line of `sfq`, which needs a subcommand. It fails only if memory runs out.
+/// Makes the command line of `sfq`, which needs a subcommand. It fails only if memory runs out.
 pub fn sfq_command<'a>(alloc: Global) -> Result<Command<'a>, AllocError>
     ensures { IfOk result (λ c. app_of c ≡ sfq) }
 {
@@ -22,7 +22,7 @@ pub fn sfq_command<'a>(alloc: Global) -> Result<Command<'a>, AllocError>
     with_command(with_pairs, fault_command(alloc))
 }
 
-/// The command with one more subcommand, if memory didn't run out.
+/// Adds a subcommand to a command, if memory didn't run out.
 fn with_command<'a>(
     command: Command<'a>,
     subcommand: Result<Command<'a>, AllocError>,
@@ -32,7 +32,7 @@ fn with_command<'a>(
     command.subcommand(subcommand?)
 }
 
-/// What the help of `sfq` shows below its commands.
+/// The text that the help of `sfq` prints below its commands.
 const MORE: &str = "\
 Example, in a checkout:
   sfq run examples/parcels/schema.sql examples/parcels 'SELECT id, name FROM parcel LIMIT 3'
@@ -42,7 +42,7 @@ Statuses: 0 done, 2 the command line, 3 the schema, 4 a table, 5 the query or a 
 
 The manual: man sfq, or man ./packaging/man/sfq.1 in a checkout. docs/FAULTS.md explains each fault.";
 
-/// `sfq` before it has its subcommands. Without any word it shows its help.
+/// Makes `sfq` without its subcommands. Called without words, it prints its help.
 fn bare_command<'a>(alloc: Global) -> Command<'a>
     ensures { app_of result ≡ bare_sfq }
 {
@@ -55,11 +55,11 @@ fn bare_command<'a>(alloc: Global) -> Command<'a>
         .after_help(MORE)
 }
 
-/// What the help of a command says of the flag that asks to say more of a fault.
+/// The help text of the flag that asks for an explanation of a fault.
 const WHY: &str =
     "Shows below the line of a fault where it is, and says what to do; so does SFQ_WHY=1 in the environment";
 
-/// The flag that asks to say more of a fault.
+/// Makes the flag that asks for an explanation of a fault.
 fn why_flag<'a>(alloc: Global) -> Arg<'a>
     ensures rule { rule_of result ≡ flag (codes "why") }
     ensures local { result.global ≡ false }
@@ -70,7 +70,7 @@ fn why_flag<'a>(alloc: Global) -> Arg<'a>
         .help(WHY)
 }
 
-/// The word that names the schema's file.
+/// Makes the word that names the schema's file.
 fn schema_word<'a>(alloc: Global) -> Arg<'a>
     ensures rule { rule_of result ≡ required_word (codes "schema") }
     ensures local { result.global ≡ false }
@@ -83,7 +83,7 @@ fn schema_word<'a>(alloc: Global) -> Arg<'a>
     )
 }
 
-/// The word that names the directory of the tables.
+/// Makes the word that names the directory of the tables.
 fn directory_word<'a>(alloc: Global) -> Arg<'a>
     ensures rule { rule_of result ≡ required_word (codes "directory") }
     ensures local { result.global ≡ false }
@@ -96,7 +96,7 @@ fn directory_word<'a>(alloc: Global) -> Arg<'a>
     )
 }
 
-/// What the help of `run` shows of a query.
+/// The examples of queries that the help of `run` prints.
 const EXAMPLES: &str = "\
 Examples of a QUERY:
   SELECT name FROM parcel WHERE ST_Touches(geom, ST_GeomFromText('POINT(4 4)'))
@@ -109,7 +109,7 @@ Example, in a checkout:
 Statuses: 0 done, 3 the schema, 4 a table, 5 the query, 6 a file or the output,
 7 out of memory. docs/FAULTS.md and man sfq explain each fault.";
 
-/// The command with the words that name the schema's file and the directory of the tables. It fails only if memory runs out.
+/// Adds the words that name the schema's file and the directory of the tables to a command. It fails only if memory runs out.
 pub fn with_places<'a>(alloc: Global, command: Command<'a>) -> Result<Command<'a>, AllocError>
     ensures { IfOk result (λ c. app_of c ≡ with_rule (with_rule (app_of command.entry)
         (required_word (codes "schema"))) (required_word (codes "directory"))) }
@@ -117,7 +117,7 @@ pub fn with_places<'a>(alloc: Global, command: Command<'a>) -> Result<Command<'a
     command.arg(schema_word(alloc))?.arg(directory_word(alloc))
 }
 
-/// The word that is the query.
+/// Makes the word that is the query.
 fn query_word<'a>(alloc: Global) -> Arg<'a>
     ensures rule { rule_of result ≡ required_word (codes "query") }
     ensures local { result.global ≡ false }
@@ -130,7 +130,7 @@ fn query_word<'a>(alloc: Global) -> Arg<'a>
     )
 }
 
-/// `run SCHEMA DIR QUERY`, with the flag `--why`
+/// Makes `run SCHEMA DIR QUERY`, with the flag `--why`.
 fn run_command<'a>(alloc: Global) -> Result<Command<'a>, AllocError>
     ensures { IfOk result (λ c. app_of c ≡ run) }
 {
@@ -141,7 +141,7 @@ fn run_command<'a>(alloc: Global) -> Result<Command<'a>, AllocError>
         .arg(why_flag(alloc))
 }
 
-/// What the help of `check` shows below its words.
+/// The text that the help of `check` prints below its words.
 const CHECKING: &str = "\
 Examples, in a checkout:
   sfq check examples/parcels/schema.sql examples/parcels
@@ -150,7 +150,7 @@ Examples, in a checkout:
 Statuses: 0 done, 3 the schema, 4 a table, 6 a file or the output, 7 out of memory.
 docs/FAULTS.md and man sfq explain each fault.";
 
-/// `check SCHEMA DIR`, with the flag `--why`
+/// Makes `check SCHEMA DIR`, with the flag `--why`.
 fn check_command<'a>(alloc: Global) -> Result<Command<'a>, AllocError>
     ensures { IfOk result (λ c. app_of c ≡ check) }
 {
@@ -159,7 +159,7 @@ fn check_command<'a>(alloc: Global) -> Result<Command<'a>, AllocError>
     with_places(alloc, check.after_help(CHECKING))?.arg(why_flag(alloc))
 }
 
-/// The word that is the first geometry.
+/// Makes the word that is the first geometry.
 fn first_word<'a>(alloc: Global) -> Arg<'a>
     ensures rule { rule_of result ≡ required_word (codes "first") }
     ensures local { result.global ≡ false }
@@ -172,7 +172,7 @@ fn first_word<'a>(alloc: Global) -> Arg<'a>
     )
 }
 
-/// The word that is the second geometry.
+/// Makes the word that is the second geometry.
 fn second_word<'a>(alloc: Global) -> Arg<'a>
     ensures rule { rule_of result ≡ required_word (codes "second") }
     ensures local { result.global ≡ false }
@@ -185,7 +185,7 @@ fn second_word<'a>(alloc: Global) -> Arg<'a>
     )
 }
 
-/// What the help of `relate` shows below its words.
+/// The text that the help of `relate` prints below its words.
 const RELATING: &str = "\
 Example:
   sfq relate 'LINESTRING(-2 2,2 -2)' 'POLYGON((0 0,4 0,4 4,0 4,0 0))'
@@ -193,7 +193,7 @@ Example:
 Statuses: 0 done, 5 a geometry, 6 a file or the output, 7 out of memory.
 docs/FAULTS.md and man sfq explain each fault.";
 
-/// `relate WKT WKT`, with the flag `--why`
+/// Makes `relate WKT WKT`, with the flag `--why`.
 fn relate_command<'a>(alloc: Global) -> Result<Command<'a>, AllocError>
     ensures { IfOk result (λ c. app_of c ≡ relate) }
 {
@@ -207,7 +207,7 @@ fn relate_command<'a>(alloc: Global) -> Result<Command<'a>, AllocError>
         .arg(why_flag(alloc))
 }
 
-/// The second geometry of a command that also takes one alone.
+/// Makes the word that is the second geometry of a command that can also be called with one.
 fn other_word<'a>(alloc: Global) -> Arg<'a>
     ensures rule { rule_of result ≡ optional_word (codes "second") }
     ensures local { result.global ≡ false }
@@ -217,7 +217,7 @@ fn other_word<'a>(alloc: Global) -> Arg<'a>
     )
 }
 
-/// What the help of `why` shows below its words.
+/// The text that the help of `why` prints below its words.
 const REASONS: &str = "\
 Examples:
   sfq why 'LINESTRING(0 0,3 1)' 'LINESTRING(0 1,2 0)'
@@ -226,7 +226,7 @@ Examples:
 Statuses: 0 done, 5 a geometry, 6 a file or the output, 7 out of memory.
 docs/FAULTS.md and man sfq explain each fault.";
 
-/// `why WKT [WKT]`, with the flag `--why`
+/// Makes `why WKT [WKT]`, with the flag `--why`.
 fn why_command<'a>(alloc: Global) -> Result<Command<'a>, AllocError>
     ensures { IfOk result (λ c. app_of c ≡ why) }
 {
@@ -237,7 +237,7 @@ fn why_command<'a>(alloc: Global) -> Result<Command<'a>, AllocError>
         .arg(why_flag(alloc))
 }
 
-/// What the help of `pairs` shows below its word.
+/// The text that the help of `pairs` prints below its word.
 const PAIRING: &str = "\
 Example, in a checkout:
   sfq pairs examples/pairs.csv
@@ -245,7 +245,7 @@ Example, in a checkout:
 Statuses: 0 done, 4 a record that hasn't two fields, 5 a geometry that was refused,
 6 a file or the output, 7 out of memory. docs/FAULTS.md and man sfq explain each fault.";
 
-/// The word that names the file of pairs.
+/// Makes the word that names the file of pairs.
 fn file_word<'a>(alloc: Global) -> Arg<'a>
     ensures rule { rule_of result ≡ required_word (codes "file") }
     ensures local { result.global ≡ false }
@@ -258,7 +258,7 @@ fn file_word<'a>(alloc: Global) -> Arg<'a>
     )
 }
 
-/// `pairs FILE`, with the flag `--why`
+/// Makes `pairs FILE`, with the flag `--why`.
 fn pairs_command<'a>(alloc: Global) -> Result<Command<'a>, AllocError>
     ensures { IfOk result (λ c. app_of c ≡ pairs) }
 {
@@ -270,7 +270,7 @@ fn pairs_command<'a>(alloc: Global) -> Result<Command<'a>, AllocError>
         .arg(why_flag(alloc))
 }
 
-/// What the help of `fault` shows below its word.
+/// The text that the help of `fault` prints below its word.
 const FAULTS: &str = "\
 Examples:
   sfq fault
@@ -279,7 +279,7 @@ Examples:
 
 Statuses: 0 done, 2 an unknown code, 6 the output, 7 out of memory.";
 
-/// The words that have the code of a fault.
+/// Makes the words that contain the code of a fault.
 fn code_word<'a>(alloc: Global) -> Arg<'a>
     ensures rule { rule_of result ≡ more_words (codes "code") }
     ensures local { result.global ≡ false }
@@ -292,7 +292,7 @@ fn code_word<'a>(alloc: Global) -> Arg<'a>
         )
 }
 
-/// `fault [CODE]..`
+/// Makes `fault [CODE]..`.
 fn fault_command<'a>(alloc: Global) -> Result<Command<'a>, AllocError>
     ensures { IfOk result (λ c. app_of c ≡ fault) }
 {
@@ -301,7 +301,7 @@ fn fault_command<'a>(alloc: Global) -> Result<Command<'a>, AllocError>
     fault.after_help(FAULTS).arg(code_word(alloc))
 }
 
-/// A required word in its place.
+/// Makes a required word, which is found by its position on the command line.
 pub fn word<'a>(alloc: Global, id: &'a str, name: &'a str, help: &'a str) -> Arg<'a>
     ensures rule { rule_of result ≡ required_word id.entry.now }
     ensures local { result.global ≡ false }

@@ -1,65 +1,65 @@
-//! What the command line can ask for.
+//! The commands that a command line can give.
 
 ghost use Rattle.std.specs.Prelude.{◌≡◌};
 ghost use Rattle.command_line.specs.Orders as spec;
 
-/// A command with its words, as texts of its own.
+/// A command with its words, which it owns.
 #[derive(Debug, Drop)]
 pub enum Order {
-    /// Run a query over the tables of a directory.
+    /// Runs a query over the tables of a directory.
     Run {
         /// The path of the schema.
         schema: String,
-        /// The path of the directory that holds one CSV file a table.
+        /// The path of the directory, which has one CSV file for each table.
         directory: String,
         /// The text of the SELECT, or `@` and the path of a file that has it.
         query: String,
-        /// Whether to say more of a fault.
+        /// Whether to explain a fault.
         why: bool,
     },
-    /// Load every table of a directory, and list how many rows each has.
+    /// Loads every table of a directory, and lists the number of rows of each.
     Check {
         /// The path of the schema.
         schema: String,
-        /// The path of the directory that holds one CSV file a table.
+        /// The path of the directory, which has one CSV file for each table.
         directory: String,
-        /// Whether to say what is wrong where a table has a fault.
+        /// Whether to explain a table's fault.
         why: bool,
     },
-    /// Relate two geometries by their DE-9IM matrix.
+    /// Relates two geometries by their DE-9IM matrix.
     Relate {
         /// The well-known text of the first geometry, or `@` and the path of a file that has it.
         first: String,
-        /// That of the second geometry, in the same way.
+        /// The well-known text of the second geometry, or `@` and the path of a file that has it.
         second: String,
-        /// Whether to say more of a fault.
+        /// Whether to explain a fault.
         why: bool,
     },
-    /// Show where two geometries meet, or why one isn't valid.
+    /// Shows where two geometries meet, or why one isn't valid.
     Why {
         /// The well-known text of the first geometry, or `@` and the path of a file that has it.
         first: String,
-        /// That of the second geometry, in the same way, where there is one.
+        /// The well-known text of the second geometry, or `@` and the path of a file that has it, if there is one.
         second: Option<String>,
-        /// Whether to say more of a fault.
+        /// Whether to explain a fault.
         why: bool,
     },
-    /// Relate the two geometries of each record of a file.
+    /// Relates the two geometries of each record of a file.
     Pairs {
         /// The path of the file, or `-` for standard input.
         file: String,
-        /// Whether to say more of a fault.
+        /// Whether to explain a fault.
         why: bool,
     },
-    /// Explain a fault, or list the codes of all.
+    /// Explains a fault, or lists the codes of all faults.
     Fault {
-        /// Words with the code of the fault, such as those of its line; none for the list.
+        /// Words that contain the code of the fault, such as those of its line. Without words, the codes are listed.
         words: Vec<String>,
     },
 }
 
 impl Order {
-    /// Whether more is to be said of a fault.
+    /// Whether a fault has to be explained.
     pub fn asks_why(&self) -> bool
         ensures { result ≡ spec.asks_why self.now }
     {
@@ -73,7 +73,7 @@ impl Order {
         }
     }
 
-    /// This order with `--why`, which asks for the reason of a fault.
+    /// The command with `--why`, which asks for the reason of a fault.
     pub fn with_why(self) -> Order
         ensures { result ≡ spec.with_why self }
     {

@@ -1,4 +1,4 @@
-//! The command line of `sfq`: what its words ask for, and what is wrong with them.
+//! The command line of `sfq`: the command that its words give, and what is wrong with them.
 #![tactic(auto)]
 
 mod command_words;

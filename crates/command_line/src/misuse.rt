@@ -1,15 +1,15 @@
-//! Why the words of the command line aren't an order.
+//! Why the words of the command line aren't a command.
 
 use clap::Error;
 use clap::error::ErrorKind;
 use std::alloc::{AllocError, AllocFailed};
 use std::{fmt, io};
 
-/// What `clap` returns in place of an order: a mistake in the words, the help that they ask for, or
-/// running out of memory. Its `Display` is `clap`'s text for the user.
+/// What `clap` returns instead of a command: a mistake in the words, the help that they ask for, or running out of
+/// memory. Its `Display` is `clap`'s text for the user.
 #[derive(Debug, Drop)]
 pub struct Misuse {
-    /// The answer of `clap`.
+    /// The error of `clap`.
     pub error: Error,
 }
 
@@ -18,7 +18,7 @@ impl Misuse {
     ghost use Rattle.clap.specs.Words.{kind_of};
     ghost use Rattle.command_line.specs.Misuses.{status_of};
 
-    /// The status to end with: 0 for help and for the version, 7 when memory ran out, else 2.
+    /// The exit status: 0 for help and for the version, 7 if memory ran out, else 2.
     pub fn status(&self) -> u8
         ensures { result ≡ status_of (kind_of self.now.error) }
     {
@@ -29,8 +29,8 @@ impl Misuse {
         }
     }
 
-    /// Prints `clap`'s text: help and version on standard output, all else on standard error. It returns the
-    /// error of the stream that it prints on.
+    /// Prints `clap`'s text: help and version on standard output, all else on standard error. It returns the error of
+    /// the stream on which it prints.
     pub fn print<R: Print + Eprint>(&self, rt: &R) -> io::Result<()> {
         self.error.print(rt)
     }

@@ -1,4 +1,4 @@
-//! How the words of `sfq` are read by its commands.
+//! Reads the words of `sfq` by its commands.
 
 ghost use Rattle.std.specs.Prelude.{◌≡◌, [], true, codes, IfOk, IfErr, IfSome, IfNone, OnOk, map, option_map};
 ghost use Rattle.std.specs.String.{string_bytes};
@@ -14,9 +14,9 @@ use clap::ArgMatches;
 use clap::error::ErrorKind;
 use std::alloc::{AllocError, Global};
 
-/// Reads the words of a command line, the program's name first, with `clap`. Ok has the command and its words, which no step
-/// of `clap` refuses. Err says that memory ran out, or has the kind of misuse that the step of `clap` names which refuses the
-/// words. So if no step refuses them, an error can only be that memory ran out.
+/// Reads the words of a command line, the program's name first, with `clap`. Ok is the command with its words, if no
+/// step of `clap` refuses them. Err says that memory ran out, or has the kind of misuse of the step of `clap` that
+/// refuses the words. So if no step refuses them, the only possible error is that memory ran out.
 pub fn order<'a>(alloc: Global, words: &'a [&'a str]) -> Result<Order, Misuse>
     ensures ok { IfOk result (Orders (texts words.entry.now)) }
     ensures accepted { OnOk result (fault_of sfq (texts words.entry.now) ≡ []) }
@@ -29,7 +29,7 @@ pub fn order<'a>(alloc: Global, words: &'a [&'a str]) -> Result<Order, Misuse>
     Ok(given_order(alloc, &matches)?)
 }
 
-/// The order of these matches. None of its words is missing in them, as `clap` refuses a line without one.
+/// The command of these matches. None of its words is missing there, since `clap` refuses a line without one.
 fn given_order(alloc: Global, matches: &ArgMatches<'_>) -> Result<Order, AllocError>
     requires { HasWords (subcommand_rows_of matches.now) }
     ensures { IfOk result (OrdersBy (subcommand_rows_of matches.now)) }
@@ -40,7 +40,7 @@ fn given_order(alloc: Global, matches: &ArgMatches<'_>) -> Result<Order, AllocEr
     }
 }
 
-/// The order that the subcommand and its words give, if they are there.
+/// The command that the subcommand and its words give, if all words are there.
 fn read_order(alloc: Global, matches: &ArgMatches<'_>) -> Result<Option<Order>, AllocError>
     ensures some { IfOk result (λ r. IfSome r (OrdersBy (subcommand_rows_of matches.now))) }
     ensures none { IfOk result (λ r. IfNone r (¬ HasWords (subcommand_rows_of matches.now))) }
@@ -66,7 +66,7 @@ fn read_order(alloc: Global, matches: &ArgMatches<'_>) -> Result<Option<Order>, 
     Ok(None)
 }
 
-/// The order that the three words and the flag of `run` give, if the words are there.
+/// The command that the three words and the flag of `run` give, if all words are there.
 fn read_run(alloc: Global, run: &ArgMatches<'_>) -> Result<Option<Order>, AllocError>
     ensures name { IfOk result (λ r. IfSome r (λ o. name_of o ≡ codes "run")) }
     ensures some { IfOk result (λ r. IfSome r (HasTextsOf (rows_of (found_of run.now)))) }
@@ -90,7 +90,7 @@ fn read_run(alloc: Global, run: &ArgMatches<'_>) -> Result<Option<Order>, AllocE
     }))
 }
 
-/// The order that the two words and the flag of `check` give, if the words are there.
+/// The command that the two words and the flag of `check` give, if both words are there.
 fn read_check(alloc: Global, check: &ArgMatches<'_>) -> Result<Option<Order>, AllocError>
     ensures name { IfOk result (λ r. IfSome r (λ o. name_of o ≡ codes "check")) }
     ensures some { IfOk result (λ r. IfSome r (HasTextsOf (rows_of (found_of check.now)))) }
@@ -110,7 +110,7 @@ fn read_check(alloc: Global, check: &ArgMatches<'_>) -> Result<Option<Order>, Al
     }))
 }
 
-/// The order that the two words and the flag of `relate` give, if the words are there.
+/// The command that the two words and the flag of `relate` give, if both words are there.
 fn read_relate(alloc: Global, relate: &ArgMatches<'_>) -> Result<Option<Order>, AllocError>
     ensures name { IfOk result (λ r. IfSome r (λ o. name_of o ≡ codes "relate")) }
     ensures some { IfOk result (λ r. IfSome r (HasTextsOf (rows_of (found_of relate.now)))) }
@@ -126,7 +126,7 @@ fn read_relate(alloc: Global, relate: &ArgMatches<'_>) -> Result<Option<Order>, 
     Ok(Some(Order::Relate { first, second, why }))
 }
 
-/// The order that the words and the flag of `why` give, if the first word is there.
+/// The command that the words and the flag of `why` give, if the first word is there.
 fn read_why(alloc: Global, matches: &ArgMatches<'_>) -> Result<Option<Order>, AllocError>
     ensures name { IfOk result (λ r. IfSome r (λ o. name_of o ≡ codes "why")) }
     ensures some { IfOk result (λ r. IfSome r (HasTextsOf (rows_of (found_of matches.now)))) }
@@ -140,7 +140,7 @@ fn read_why(alloc: Global, matches: &ArgMatches<'_>) -> Result<Option<Order>, Al
     Ok(Some(Order::Why { first, second, why }))
 }
 
-/// The order that the word and the flag of `pairs` give, if the word is there.
+/// The command that the word and the flag of `pairs` give, if the word is there.
 fn read_pairs(alloc: Global, pairs: &ArgMatches<'_>) -> Result<Option<Order>, AllocError>
     ensures name { IfOk result (λ r. IfSome r (λ o. name_of o ≡ codes "pairs")) }
     ensures some { IfOk result (λ r. IfSome r (HasTextsOf (rows_of (found_of pairs.now)))) }
@@ -153,7 +153,7 @@ fn read_pairs(alloc: Global, pairs: &ArgMatches<'_>) -> Result<Option<Order>, Al
     Ok(Some(Order::Pairs { file, why }))
 }
 
-/// The order that the words of `fault` give.
+/// The command that the words of `fault` give.
 fn read_fault(alloc: Global, fault: &ArgMatches<'_>) -> Result<Option<Order>, AllocError>
     ensures name { IfOk result (λ r. IfSome r (λ o. name_of o ≡ codes "fault")) }
     ensures some { IfOk result (λ r. IfSome r (HasTextsOf (rows_of (found_of fault.now)))) }
@@ -163,7 +163,7 @@ fn read_fault(alloc: Global, fault: &ArgMatches<'_>) -> Result<Option<Order>, Al
     Ok(Some(Order::Fault { words }))
 }
 
-/// The words of this name, as texts of their own.
+/// Copies the words with this name.
 fn texts_of(alloc: Global, matches: &ArgMatches<'_>, id: &str) -> Result<Vec<String>, AllocError>
     ensures { IfOk result (λ texts. map string_bytes texts.items ≡ given_words id.now (rows_of (found_of matches.now))) }
 {
@@ -173,7 +173,7 @@ fn texts_of(alloc: Global, matches: &ArgMatches<'_>, id: &str) -> Result<Vec<Str
     }
 }
 
-/// Words as texts of their own.
+/// Copies words.
 fn own_texts(alloc: Global, words: &[&str]) -> Result<Vec<String>, AllocError>
     ensures { IfOk result (λ texts. map string_bytes texts.items ≡ map (λ word. word.now) words.now) }
 {
@@ -184,7 +184,7 @@ fn own_texts(alloc: Global, words: &[&str]) -> Result<Vec<String>, AllocError>
     Ok(texts)
 }
 
-/// The word of this name, as a text of its own.
+/// Copies the word with this name, if there is one.
 fn text_of(alloc: Global, matches: &ArgMatches<'_>, id: &str) -> Result<Option<String>, AllocError>
     ensures { IfOk result (λ o. option_map string_bytes o ≡ first_value (found_of matches.now) id.now) }
 {
@@ -194,7 +194,7 @@ fn text_of(alloc: Global, matches: &ArgMatches<'_>, id: &str) -> Result<Option<S
     }
 }
 
-/// Whether the flag of this name is there. Its word is then `true`.
+/// Whether the flag with this name is there. Its word is `true` then.
 fn flag_of(matches: &ArgMatches<'_>, id: &str) -> bool
     ensures { result ≡ is_set (first_value (found_of matches.now) id.now) }
 {

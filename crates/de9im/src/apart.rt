@@ -97,7 +97,7 @@ fn raise_edge_apart(
 
 /// The place, at least `from`, of an edge of the first geometry such that no edge from there to before `place` can raise a
 /// cell, and which starts in the same part of the second geometry as the edge at `place`. Once the matrix shows all that
-/// edges can show in that part, it is where the chain begins that leads to that edge.
+/// edges can show in that part, the chain that leads to that edge is skipped, of edges that share no point.
 fn left_of_chain(
     first: &Valid,
     second: &Valid,

@@ -1,6 +1,6 @@
-//! Whether a predicate holds of two geometries. For Crosses and Overlaps their kinds may settle it, and for most predicates
-//! envelopes of small geometries that don't meet. A first shared point settles Intersects and Disjoint, and a position of one in
-//! the other's exterior Within, Contains and Equals. For a point and an area, the part in which the point lies settles it.
+//! Whether a predicate holds of two geometries. For Crosses and Overlaps their kinds may settle it, and for all but some patterns
+//! small geometries' envelopes that don't meet. A first shared point settles Intersects and Disjoint, and a position of one in the
+//! other's exterior Within, Contains and Equals. For a point and an area, the part in which the point lies settles it.
 
 ghost use Rattle.std.specs.Prelude.{◌≡◌, ◌≢◌, ◌↔◌, All, IfOk, IsTrue, OnOk, OnErr, IfSome, Some, Contains, take, true, false};
 ghost use Rattle.basics.specs.Counts.{one_more};

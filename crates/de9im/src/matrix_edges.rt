@@ -36,7 +36,7 @@ use validity::Valid;
 /// Once an edge has met others this often, the others are merged, if that pays.
 const MANY_MEETINGS: usize = 64;
 
-/// Merging pays once all edges so far have met the others at least as often as a sixteenth of their number.
+/// Merging pays once all edges so far have met the others at least as often as a sixteenth of the number of these.
 const FAIR_PART: usize = 16;
 
 /// If a geometry has at most this many edges, each of them is looked at.

@@ -8,7 +8,7 @@ use crate::MatrixCells;
 use crate::matrix::Matrix;
 use geometry_model::{Dimension, Pattern, PatternCharacter};
 
-/// A pattern of the DE-9IM matrix, which matches matrices (06-103r4, 6.1.15.2). Only [`Pattern`] implements it.
+/// A pattern of the DE-9IM matrix, by the matrices that it matches (06-103r4, 6.1.15.2). Only [`Pattern`] implements it.
 pub trait MatrixPattern {
     /// The pattern that a value is.
     ghost pattern: { Self → Pattern };

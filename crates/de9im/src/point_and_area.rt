@@ -86,8 +86,8 @@ fn decide_of_area(predicate: Predicate, area: &Valid, point: &Valid) -> Option<b
     }
 }
 
-/// Whether a predicate holds of two geometries, if one is a point, the other an area, and the predicate isn't a pattern. It takes no
-/// memory.
+/// Whether a predicate holds of two geometries, if one is a point and the other an area, and the predicate isn't a pattern. It
+/// takes no memory.
 pub(crate) fn decide_by_part(predicate: Predicate, first: &Valid, second: &Valid) -> Option<bool>
     ensures { IfSome result (IsDecided predicate first.now second.now) }
 {

@@ -70,8 +70,8 @@ pub(crate) fn has_sides(valid: &Valid) -> bool
     }
 }
 
-/// The cells of points and an area that are known wherever the points lie: its interior has an area in common with their exterior,
-/// and its boundary a line (06-103r4, 6.1.15.2).
+/// The cells of points and an area that are known wherever the points lie: the area's interior shares an area with the points'
+/// exterior, and its boundary a line (06-103r4, 6.1.15.2).
 fn of_area() -> MatrixCells
     ensures { result ≡ of_area }
 {

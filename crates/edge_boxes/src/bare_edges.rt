@@ -1,4 +1,4 @@
-//! How a position of the grid lies relative to edges that no box is over. Most of them are left or right of it.
+//! How a position of the grid lies relative to edges without a box. Most of them are left or right of it.
 
 ghost use Rattle.std.specs.Prelude.{◌≡◌, [], ◌∷◌, ◌&&◌, ◌||◌, int_lt};
 ghost use Rattle.geometry_model.specs.Points.{point_at};

@@ -72,7 +72,7 @@ impl Bounds {
         }
     }
 
-    /// Whether the rectangles have a point in common, their sides counted.
+    /// Whether the rectangles have a point in common, sides included.
     pub fn overlap(&self, other: &Bounds) -> bool
         ensures { result ≡ spec.overlap self.now other.now }
     {

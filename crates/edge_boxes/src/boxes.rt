@@ -6,12 +6,12 @@
 //! above     [------------------------------------]          up to 4 boxes, over all that they cover
 //! ```
 //!
-//! Each box comes after those that it covers. A walk goes from the last box to the first. If a point is outside a box, the two
-//! ends of its run of edges decide for the whole run; else the walk goes on inside. A box over at most 128 edges also keeps a
-//! strip along its run, which decides more without a look inside. Edges without a box are asked singly.
+//! Each box comes after those that it covers. A search goes from the last box to the first. If a point is outside a box, the two
+//! ends of its run of edges decide for the whole run; else the search goes on inside it. A box over at most 128 edges also keeps
+//! a strip along its run, which decides more without a look inside. Edges without a box are tested one by one.
 //!
-//! Where neighbours in the list are far from one another, a copy of the edges in another order has boxes too. It is searched where
-//! the order of edges doesn't matter.
+//! If neighbours in the list are far from one another, a copy of the edges in another order has boxes too. It is searched if the
+//! order of edges doesn't matter.
 
 ghost use Rattle.std.specs.Prelude.{◌≡◌, ◌≤◌, ◌<◌, false, length, List, [], IfOk, OnErr, OnOk, IsPermutation, slice_range};
 ghost use Rattle.std.specs.List.{list_any};
@@ -54,12 +54,12 @@ pub(crate) struct EdgeBox {
     pub(crate) end: u32,
 }
 
-/// A flat list of boxes over consecutive edges, in postorder. It is about the edges it was built over, which it
-/// doesn't keep.
+/// A flat list of boxes over consecutive edges, in postorder. It doesn't keep the edges over which it was
+/// built.
 #[derive(Drop)]
 pub struct EdgeBoxes {
     boxes: Vec<EdgeBox>,
-    /// The chains that the edges are in.
+    /// The chains of the edges.
     parts: Parts,
 }
 
@@ -83,7 +83,7 @@ impl EdgeBoxes {
         self.parts.laid(self.boxes.as_slice(), edges)
     }
 
-    /// How a point lies to the edges. The boxes are those of the edges.
+    /// How a point lies relative to the edges. The boxes are those of the edges.
     pub fn crossings(&self, edges: &[Segment], point: &RatPoint) -> Crossings
         requires { BoxesOf self.now edges.now }
         ensures { AreCrossings result edges.now point.now }
@@ -117,8 +117,8 @@ impl EdgeBoxes {
     }
 
     /// Whether one of the edges shares a point with one of another list (06-103r4, 6.1.15: intersection of point sets). The
-    /// boxes are those of the edges, and the other boxes those of the others. It stops at the first shared point, passes over
-    /// boxes that are far from the other list's, and takes no memory.
+    /// boxes are those of the edges, and the other boxes those of the others. It stops at the first shared point, skips boxes
+    /// that are far from the other list's, and takes no memory.
     pub fn share_with(&self, edges: &[Segment], others: &[Segment], other_boxes: &EdgeBoxes) -> bool
         requires boxes { BoxesOf self.now edges.now }
         requires others { BoxesOf other_boxes.now others.now }
@@ -130,8 +130,8 @@ impl EdgeBoxes {
     }
 
     /// The place after the last edge, before a place, that is near an envelope: its bounds overlap it. It is 0 if there is none.
-    /// All edges from there to the place are outside the envelope (06-103r4, 6.1.2.2: Envelope). It passes over boxes that
-    /// are, and takes no memory.
+    /// All edges from there to the place are outside the envelope (06-103r4, 6.1.2.2: Envelope). It skips boxes that are outside
+    /// it, and takes no memory.
     pub fn last_near(&self, edges: &[Segment], around: &Envelope, end: usize) -> usize
         requires boxes { BoxesOf self.now edges.now }
         requires end { end ≤ length edges.now }
@@ -149,8 +149,8 @@ impl EdgeBoxes {
 
     /// The place after the last edge, before a place, that shares a point with one of another list (06-103r4, 6.1.15:
     /// intersection of point sets). It is 0 if there is none. No edge from there to the place shares a point with the others.
-    /// The boxes are those of the edges, and the other boxes those of the others. It passes over boxes that are far from the
-    /// other list's, and takes no memory.
+    /// The boxes are those of the edges, and the other boxes those of the others. It skips boxes that are far from the other
+    /// list's, and takes no memory.
     pub fn last_sharing(
         &self,
         edges: &[Segment],
@@ -171,8 +171,8 @@ impl EdgeBoxes {
 
     /// The place after the last edge, before a place, that is on one line with one of another list and shares more than a
     /// common end with it. It is 0 if there is none. No edge from there to the place shares a stretch with one of the others
-    /// (06-103r4, 6.1.15.2: intersection). The boxes are those of the edges, and the other boxes those of the others. It passes
-    /// over boxes that are far from the other list's, and takes no memory.
+    /// (06-103r4, 6.1.15.2: intersection). The boxes are those of the edges, and the other boxes those of the others. It skips
+    /// boxes that are far from the other list's, and takes no memory.
     pub fn last_overlapping(
         &self,
         edges: &[Segment],
@@ -191,8 +191,8 @@ impl EdgeBoxes {
         last_overlapping_among(self.boxes.as_slice(), edges, other.boxes, other.edges, end)
     }
 
-    /// The first place, from one on, from which on the edges up to that at another place are a chain: each starts where the one
-    /// before it ends. It is the place that was asked from, or one whose edge doesn't start where the one before it ends.
+    /// The first place, at least `from`, such that the edges from there up to the one at `place` are a chain: each starts where
+    /// the one before it ends. It is `from`, or a place whose edge doesn't start where the one before it ends.
     pub fn chain_start(&self, from: usize, place: usize) -> usize
         requires { from ≤ place }
         ensures from { from ≤ result }
@@ -203,8 +203,8 @@ impl EdgeBoxes {
         chain_start_among(self.parts.breaks(), from, place)
     }
 
-    /// Replaces what the vector holds by the places, from this one on, of the edges that share a point with an edge, ascending.
-    /// It passes over boxes that are far from the edge. It fails only when memory runs out, and then leaves the vector empty.
+    /// Replaces what the vector holds by the places, ascending and at least `from`, of the edges that share a point with an edge.
+    /// It skips boxes that are far from the edge. It fails only when memory runs out, and then leaves the vector empty.
     pub fn sharing(
         &self,
         edges: &[Segment],
@@ -231,7 +231,7 @@ impl EdgeBoxes {
     }
 }
 
-/// The place of the first edge that no box before this place is over.
+/// The place of the first edge that no box before this place covers.
 pub(crate) fn covered(boxes: &[EdgeBox], place: usize) -> usize
     requires { place ≤ length boxes.now }
     ensures { result ≡ covered boxes.now place }
@@ -252,7 +252,7 @@ pub(crate) fn run_of(edges: &[Segment], first: usize, end: usize) -> &[Segment]
     &edges[first..end]
 }
 
-/// How the point lies to the edges, from the last box to the first.
+/// How the point lies relative to the edges, from the last box to the first.
 fn crossings_among(boxes: &[EdgeBox], edges: &[Segment], point: &RatPoint) -> Crossings
     requires { AreBoxes boxes.now edges.now }
     ensures { AreCrossings result edges.now point.now }
@@ -290,7 +290,7 @@ fn is_held_among(boxes: &[EdgeBox], edges: &[Segment], point: &RatPoint) -> bool
     false
 }
 
-/// How the point lies to the edges between the place before this one that is looked at next and this one.
+/// The place before this one that is looked at next, and how the point lies relative to the edges between the two.
 #[inline(always)]
 fn step(
     boxes: &[EdgeBox],

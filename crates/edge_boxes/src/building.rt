@@ -1,5 +1,5 @@
-//! How a list of boxes is built: leaf by leaf; four subtrees are joined to one as soon as they are there. The boxes of a
-//! ring or element are joined before those of the next are added.
+//! How a list of boxes is built: leaf by leaf; four subtrees are joined to one as soon as they are complete. The boxes
+//! of a ring or element are joined before those of the next are added.
 
 ghost use Rattle.std.specs.Prelude.{◌≡◌, ◌≤◌, ◌<◌, ◌-◌, length, List, [], Some, slice_get, IfOk, OnOk, IfSome};
 ghost use Rattle.edge_boxes.specs.BoxLists.{AreBoxes, IsRun, covered};
@@ -19,8 +19,8 @@ const LEAST_LEAF: usize = 4;
 
 const GREATEST_LEAF: usize = 8;
 
-/// The most edges of a box whose strip is kept. A strip over more edges is wide and decides little, and finding it takes a walk
-/// along them.
+/// The most edges of a box whose strip is kept. A strip over more edges is wide and decides little, and all of them have to be
+/// visited to find it.
 const STRIP_EDGES: usize = 128;
 
 /// How many subtrees are joined to one.
@@ -39,7 +39,7 @@ pub(crate) fn boxes_over(alloc: Global, edges: &[Segment]) -> Result<Vec<EdgeBox
     Ok(boxes)
 }
 
-/// Adds their strips to the boxes that are over few edges.
+/// Adds its strip to each box that is over few edges.
 fn take_strips(boxes: &mut Vec<EdgeBox>, edges: &[Segment])
     requires { AreBoxes boxes.old.items edges.now }
     ensures { AreBoxes boxes.new.items edges.now }
@@ -114,14 +114,14 @@ fn leaf(edges: &[Segment], first: usize, is_within: bool) -> (Run, usize)
     (run, end)
 }
 
-/// Whether a leaf takes one edge more, up to 8. It takes an edge that goes on from the one before. It takes the first edge of
-/// a further line or ring only if it has fewer than 4 edges and didn't begin within a line or ring.
+/// Whether one more edge is added to a leaf, up to 8. An edge that goes on from the one before is added. The first edge of a
+/// further line or ring is added only if the leaf has fewer than 4 edges and didn't begin within a line or ring.
 fn takes_more(edges: &[Segment], first: usize, end: usize, is_within: bool) -> bool {
     let count = end.saturating_sub(first);
     count < GREATEST_LEAF && (goes_on(edges, end) || count < LEAST_LEAF && !is_within)
 }
 
-/// A leaf's box; none where its end is past 32 bits.
+/// A leaf's box; None if its end doesn't fit in 32 bits.
 fn leaf_box(run: Run, end: usize) -> Option<EdgeBox>
     ensures { IfSome result (λ b. b ≡ record { run = run; size = 0; end = end }) }
 {
@@ -154,7 +154,7 @@ fn push_leaf(
     }
 }
 
-/// Joins full groups of subtrees at the end of the list, where `count` subtrees have been added.
+/// Joins full groups of subtrees at the end of the list, once `count` subtrees have been added.
 fn join_full(boxes: &mut Vec<EdgeBox>, count: usize) -> Result<(), AllocError>
     ensures { OnOk result (KeepsBoxes boxes.old.items boxes.new.items) }
 {
@@ -193,7 +193,7 @@ fn join_last(boxes: &mut Vec<EdgeBox>, count: usize) -> Result<(), AllocError>
     Ok(())
 }
 
-/// The box over the last `count` subtrees; none if there are no boxes, or too many for 32 bits.
+/// The box over the last `count` subtrees; None if there are no boxes, or too many for 32 bits.
 fn box_over_last(boxes: &[EdgeBox], count: usize) -> Option<EdgeBox>
     ensures { IfSome result (IsNextBox boxes.now) }
 {

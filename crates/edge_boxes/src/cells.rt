@@ -8,7 +8,7 @@ ghost use Rattle.edge_boxes.specs.BoxCells.{IsCellOf, IsFloor, IsCeiling};
 
 use fraction::{GridPoint, RatPoint};
 
-/// The greatest number without its sign that is kept in 64 bits.
+/// The greatest absolute value that is kept in 64 bits.
 const SHORT: u128 = i64::MAX as u128;
 
 /// The floors and ceilings of a point's coordinates. With them positions and bounds are compared with the point without a
@@ -97,7 +97,7 @@ fn rounded_down(numerator: i128, denominator: i64) -> i128
     }
 }
 
-/// The least whole number from a quotient on, by the greatest one up to it.
+/// The least whole number that is at least a quotient, by its floor.
 fn ceiling(floor: i32, numerator: i128, denominator: i64) -> i32
     requires positive { pos 0 <ℤ denominator }
     requires floor { IsFloor numerator denominator floor }
@@ -111,7 +111,7 @@ fn ceiling(floor: i32, numerator: i128, denominator: i64) -> i32
     }
 }
 
-/// A whole number over a denominator.
+/// The numerator of a whole number over a denominator.
 fn multiple(number: i32, denominator: i64) -> i128
     ensures { result ≡ number *ℤ denominator }
 {

@@ -20,7 +20,7 @@ pub(crate) fn breaks_of(alloc: Global, edges: &[Segment]) -> Result<Vec<usize>, 
     Ok(breaks)
 }
 
-/// The first place, from one on, from which on the edges up to that at another place are a chain, by the places of breaks.
+/// The first place, at least `from`, such that the edges from there up to the one at `place` are a chain, by the places of breaks.
 pub(crate) fn chain_start_among(breaks: &[usize], from: usize, place: usize) -> usize
     requires { from ≤ place }
     ensures from { from ≤ result }

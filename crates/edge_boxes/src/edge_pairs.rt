@@ -15,7 +15,7 @@ fn are_opposite(a: i64, b: i64) -> bool
     a < 0 && 0 < b || 0 < a && b < 0
 }
 
-/// Whether an end of the second of two edges lies on the first, where the sides are known on which they lie.
+/// Whether an end of the second of two edges lies on the first; `start` and `end` say on which sides of it the two ends lie.
 fn meets_end(e: &Segment, f: &Segment, start: i64, end: i64) -> bool
     requires start { start ≡ spec_side e.now.start e.now.end (point_at f.now.start) }
     requires end { end ≡ spec_side e.now.start e.now.end (point_at f.now.end) }
@@ -38,8 +38,8 @@ fn are_beside(a: i64, b: i64) -> bool
     0 < a && 0 < b || a < 0 && b < 0
 }
 
-/// Whether two edges share a point, where the sides of the first are known on which the ends of the second lie. An end of one
-/// is on the other, or they cross.
+/// Whether two edges share a point: an end of one is on the other, or they cross. `start` and `end` say on which sides of the
+/// first edge the ends of the second lie.
 fn share_by_sides(e: &Segment, f: &Segment, start: i64, end: i64) -> bool
     requires start { start ≡ spec_side e.now.start e.now.end (point_at f.now.start) }
     requires end { end ≡ spec_side e.now.start e.now.end (point_at f.now.end) }
@@ -62,8 +62,7 @@ pub fn share_point(e: &Segment, f: &Segment) -> bool
     !are_beside(start, end) && share_by_sides(e, f, start, end)
 }
 
-/// Whether a position other than the common one is on the edge. Of two edges with a common end, two ends are the common one, of
-/// which no side is computed.
+/// Whether a position is on the edge and isn't the common end of two edges. For the common end no side is computed.
 fn other_on(common: GridPoint, segment: &Segment, at: GridPoint) -> bool
     ensures { result ≡ spec.other_on common segment.now at }
 {

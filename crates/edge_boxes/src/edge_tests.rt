@@ -15,7 +15,7 @@ pub(crate) trait EdgeTest {
     /// Which edges pass.
     ghost test: { Self → Edge → Bool };
 
-    /// What the test keeps is what its answers need.
+    /// That the test keeps what its functions need.
     ghost is_ready: { Self → Type 0 };
 
     /// Whether an edge passes.
@@ -63,7 +63,7 @@ pub(crate) fn is_any_among<T: EdgeTest>(boxes: &[EdgeBox], edges: &[Segment], te
     false
 }
 
-/// Whether an edge passes between the place that is looked at next, which is before this one, and this one.
+/// The place that is looked at next, which is before this one, and whether an edge between the two passes.
 fn test_step<T: EdgeTest>(
     boxes: &[EdgeBox],
     edges: &[Segment],

@@ -16,7 +16,7 @@ pub(crate) struct Ends {
     pub(crate) is_chain: bool,
 }
 
-/// The bounds and the ends of a run of edges, and a strip of them where one was taken.
+/// The bounds and the ends of a run of edges, and their strip, if it is kept.
 #[derive(Clone, Copy)]
 pub(crate) struct Run {
     pub(crate) bounds: Bounds,

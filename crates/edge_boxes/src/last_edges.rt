@@ -9,8 +9,7 @@ use crate::boxes::{EdgeBox, covered};
 use crate::edge_tests::EdgeTest;
 use orient::Segment;
 
-/// The place after the last edge between two places that passes; where none does, the first of the places or the second, if that
-/// is before it.
+/// The place after the last edge between two places that passes; if none does, the lesser of the two places.
 fn last_in_run<T: EdgeTest>(edges: &[Segment], first: usize, end: usize, test: &T) -> usize
     requires ready { T.is_ready test.now }
     requires end { end ≤ length edges.now }
@@ -52,7 +51,7 @@ pub(crate) fn last_passing_among<T: EdgeTest>(
     left
 }
 
-/// The place that is looked at next, which is before this one, and the place from which on no edge before the one given passes.
+/// The place that is looked at next, which is before this one, and the place such that no edge from there to before `left` passes.
 fn step_back<T: EdgeTest>(
     boxes: &[EdgeBox],
     edges: &[Segment],

@@ -1,6 +1,6 @@
 //! Tests of edges of rings and lines: whether two edges share a point or clash, whether a ring is closed or simple, whether a
-//! position is inside. By lists of boxes over consecutive edges, how a point lies relative to the edges, and which edges are
-//! near another or an envelope, is found without a look at each edge. A list of boxes is built in one pass.
+//! position is inside. A list of boxes over consecutive edges, built in one pass, serves to find how a point lies relative to
+//! the edges, and which edges are near another or an envelope, without a look at each edge.
 #![tactic(auto)]
 
 mod bare_edges;

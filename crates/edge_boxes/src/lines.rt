@@ -46,7 +46,7 @@ fn overlap_on_one_line(edge: &Segment, other: &Segment) -> bool
     meet_on_line && !touch(edge, other)
 }
 
-/// Whether an edge is far from a run, by the run's bounds or its strip. The bounds are the edge's.
+/// Whether an edge is far from a run, by the run's bounds or its strip. `bounds` are the edge's.
 pub(crate) fn is_far(run: &Run, edge: &Segment, bounds: &Bounds) -> bool
     requires { bounds.now ≡ box_of edge.now }
     ensures { result ≡ true → SharesNone run.now edge.now }
@@ -60,7 +60,7 @@ pub(crate) fn is_far(run: &Run, edge: &Segment, bounds: &Bounds) -> bool
     }
 }
 
-/// The test of edges that are on one line with this one and share more than a common end with it. The bounds are this one's.
+/// The test of edges that are on one line with this one and share more than a common end with it. The bounds are this edge's.
 #[derive(Drop)]
 struct OverlapOnLine {
     edge: Segment,

@@ -1,4 +1,4 @@
-//! Tests of rings that look only at edges near one another: a search of the boxes gives those that share a point with one.
+//! Tests of rings that look only at edges near one another: a search of the boxes finds those that share a point with a given one.
 
 ghost use Rattle.std.specs.Prelude.{◌≡◌, ◌+◌, ◌<◌, [], length, slice_get, Some, IfOk, OnErr};
 ghost use Rattle.std.specs.List.{list_any};
@@ -35,7 +35,7 @@ fn clashes_with(edges: &[Segment], i: usize, e: &Segment, from: usize, near: &[u
     false
 }
 
-/// Whether the i-th of the edges of a ring clashes with a later one. The next one shares a point with it, so it isn't searched.
+/// Whether the i-th of the edges of a ring clashes with a later one. The next one shares a point with it, so it isn't searched for.
 fn clashes_later(
     edges: &[Segment],
     boxes: &EdgeBoxes,

@@ -13,7 +13,7 @@ use crate::kept_runs::Run;
 use crate::last_edges::last_passing_among;
 use orient::Segment;
 
-/// The test of edges whose bounds overlap these.
+/// The test of edges whose bounds overlap these bounds.
 #[derive(Drop)]
 struct NearBounds {
     bounds: Bounds,

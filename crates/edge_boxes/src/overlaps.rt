@@ -13,7 +13,7 @@ use crate::lines::is_one_on_line_among;
 use crate::near_envelopes::last_near_among;
 use orient::Segment;
 
-/// The test of edges that overlap one of these. The boxes are those of these edges.
+/// The test of edges that overlap one of some others. The boxes are those of the others.
 #[derive(Drop)]
 struct OverlapOne<'a> {
     boxes: &'a [EdgeBox],

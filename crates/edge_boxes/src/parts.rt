@@ -1,4 +1,4 @@
-//! The chains that edges are in: where each begins, and the copy of the edges in another order.
+//! The chains of edges: where each begins, and the copy of the edges in another order.
 
 ghost use Rattle.std.specs.Prelude.{◌≡◌, IfOk, IsPermutation};
 ghost use Rattle.edge_boxes.specs.BoxLists.{AreBoxes, AreReordered, breaks_in};
@@ -10,16 +10,16 @@ use crate::reordering::{Reordered, reorder_scattered};
 use orient::Segment;
 use std::alloc::{AllocError, Global};
 
-/// What is kept of the chains that edges are in. It is small where they are one.
+/// What is kept of the chains of edges. It is small if there is only one chain.
 #[derive(Drop)]
 pub(crate) enum Parts {
-    /// Each edge starts where the one before it ends, or there are none.
+    /// Each edge starts where the one before it ends, or there are no edges.
     One,
-    /// They are several chains.
+    /// The edges are several chains.
     Several(Box<Several>),
 }
 
-/// Where the chains of edges begin, and the copy of the edges in another order where the chains are scattered.
+/// Where the chains of edges begin, and the copy of the edges in another order if the chains are scattered.
 #[derive(Drop)]
 pub(crate) struct Several {
     /// The places of the edges that don't start where the edge before them ends.
@@ -35,7 +35,7 @@ pub(crate) struct Laid<'a> {
 }
 
 impl Parts {
-    /// The chains that these edges are in. The boxes are those of the edges.
+    /// The chains of these edges. The boxes are those of the edges.
     pub(crate) fn of(
         alloc: Global,
         edges: &[Segment],

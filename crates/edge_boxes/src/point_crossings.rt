@@ -15,19 +15,19 @@ use crate::strips::Strip;
 use fraction::{GridPoint, RatPoint};
 use orient::{Crossing, Segment, crossing_at, crossing_at_position};
 
-/// How a point lies relative to edges (06-103r4, 6.1.11.1: inside). Of an edge's ends the left one counts and the right
-/// one doesn't; a vertical edge lies above no point.
+/// How a point lies relative to edges (06-103r4, 6.1.11.1: inside). The left end of an edge counts and its right end
+/// doesn't; a vertical edge lies above no point.
 #[derive(Clone, Copy, Debug, PartialEq)]
 pub struct Crossings {
-    /// Whether it lies on one of them.
+    /// Whether the point lies on one of the edges.
     pub on: bool,
-    /// Whether an odd number of them lie strictly above it.
+    /// Whether an odd number of the edges lie strictly above the point.
     pub odd_above: bool,
-    /// Whether an odd number of them lie above it or go through it.
+    /// Whether an odd number of the edges lie above the point or go through it.
     pub odd_at_or_above: bool,
 }
 
-/// A point that edges neither hold nor lie above.
+/// How a point lies that is on no edge and below none.
 const NONE: Crossings = Crossings {
     on: false,
     odd_above: false,
@@ -55,7 +55,7 @@ pub(crate) fn none() -> Crossings
     NONE
 }
 
-/// Edges off the point, of which an odd number or an even one lie above it.
+/// How a point lies that is on no edge, and below an odd number or an even number of them.
 fn above(is_odd: bool) -> Crossings
     ensures { result ≡ record { on = false; odd_above = is_odd; odd_at_or_above = is_odd } }
 {
@@ -89,7 +89,7 @@ fn is_over(bounds: &Bounds, cell: &Cell) -> bool
     cell.floor_y < bounds.least_y
 }
 
-/// How the point lies relative to a run of edges that it isn't on; none if the run's strip and ends don't show it.
+/// How the point lies relative to a run of edges that it isn't on; None if the run's strip and ends don't show it.
 fn shown_by_strip(strip: &Strip, ends: &Ends, cell: &Cell) -> Option<Crossings>
     ensures { IfSome result (IsShownByStrip strip.now ends.now cell.now) }
 {
@@ -102,7 +102,7 @@ fn shown_by_strip(strip: &Strip, ends: &Ends, cell: &Cell) -> Option<Crossings>
     }
 }
 
-/// How the point lies relative to a run of edges that it isn't on; none if neither the run's bounds nor its strip, with its
+/// How the point lies relative to a run of edges that it isn't on; None if neither the run's bounds nor its strip, with its
 /// ends, show it.
 pub(crate) fn said(run: &Run, cell: &Cell) -> Option<Crossings>
     ensures { IfSome result (IsShown run.now cell.now) }
@@ -134,7 +134,7 @@ fn of_crossing(found: Crossing) -> Crossings
     }
 }
 
-/// How the point lies relative to one edge. The edge's bounds are looked at first: a side takes multiplications of long numbers.
+/// How the point lies relative to one edge. The edge's bounds are looked at first: computing a side takes long multiplications.
 fn of_edge(edge: &Segment, point: &RatPoint, cell: &Cell) -> Crossings
     requires { IsCellOf cell.now point.now }
     ensures { AreCrossings result (edge.now ∷ []) point.now }

@@ -1,5 +1,5 @@
-//! The copy of edges in another order, where their runs are scattered: neighbours in the list are far from one another. Boxes
-//! over it are smaller, so a search skips more. Only how long a search takes depends on the order.
+//! The copy of edges in another order, made if their runs are scattered: neighbours in the list are far from one another.
+//! Boxes over it are smaller, so a search skips more. Only how long a search takes depends on the order.
 
 ghost use Rattle.std.specs.Prelude.{◌≡◌, ◌<◌, map, IfOk, IfSome, IsPermutation};
 ghost use Rattle.edge_boxes.specs.BoxLists.{IsReordered};
@@ -11,14 +11,14 @@ use fraction::GridPoint;
 use orient::Segment;
 use std::alloc::{AllocError, Global};
 
-/// The edges of fewer runs keep their order.
+/// If there are fewer runs than this, the edges keep their order.
 const FEW_RUNS: usize = 100;
 
-/// Runs are scattered where the square of the way from each to the next, in widths of all edges, is more than so many times
-/// their number. It is about once their number in rows of a grid, one after the other.
+/// Runs are scattered if the square of the way from each to the next, in widths of all edges, is more than this many times
+/// the number of runs. In rows of a grid, one after the other, it is about once that number.
 const SCATTERED: u64 = 6;
 
-/// A coordinate moved up by so much isn't negative: each is at most 10,000,000 either way.
+/// The sum of a coordinate and this number isn't negative: each is at most 10,000,000 either way.
 const MOVED_UP: i32 = 0x0100_0000;
 
 /// Edges in another order, and the boxes over them in this order.
@@ -110,14 +110,14 @@ fn along_curve(alloc: Global, edges: &[Segment]) -> Result<Vec<Segment>, AllocEr
     Ok(found)
 }
 
-/// The edges alone.
+/// The edges without their places along the curve.
 fn edges_of(alloc: Global, placed: &[Placed]) -> Result<Vec<Segment>, AllocError>
     ensures { IfOk result (λ edges. edges.items ≡ map (λ one. one.edge) placed.now) }
 {
     placed.iter().map(|one| one.edge).collect(alloc)
 }
 
-/// The edges, each with where its run begins along the curve.
+/// The edges, each with the place along the curve where its run begins.
 fn with_places(alloc: Global, edges: &[Segment]) -> Result<Vec<Placed>, AllocError>
     ensures { IfOk result (λ placed. map (λ one. one.edge) placed.items ≡ edges.now) }
 {
@@ -135,12 +135,12 @@ fn with_places(alloc: Global, edges: &[Segment]) -> Result<Vec<Placed>, AllocErr
     Ok(placed)
 }
 
-/// Where a position is along the curve that goes through quadrants in their order, and within each in the same way.
+/// The place of a position along the curve that goes through quadrants in their order, and within each in the same way.
 fn curve_place(at: GridPoint) -> u64 {
     (spread(at.y()) << 1) | spread(at.x())
 }
 
-/// The bits of a coordinate, moved up, each at twice its place.
+/// The bits of the sum of a coordinate and `MOVED_UP`, each at twice its place.
 fn spread(coordinate: i32) -> u64 {
     let bits = u64::from(coordinate.wrapping_add(MOVED_UP).cast_unsigned());
     let by_16 = (bits | (bits << 16)) & 0x0000_FFFF_0000_FFFF;

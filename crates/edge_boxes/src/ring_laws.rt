@@ -1,5 +1,5 @@
-//! What the tests of runs of edges say of rings and polygons. Nothing here runs: each function has an empty
-//! body, and its contract is a law.
+//! What the tests of runs of edges say about rings and polygons. Nothing here runs: each function has an
+//! empty body, and its contract is a law.
 
 ghost use Rattle.edge_boxes.specs.RunLaws.{
   RingsByTheirEdges,
@@ -8,18 +8,18 @@ ghost use Rattle.edge_boxes.specs.RunLaws.{
   SharingBoxesOverlap,
 };
 
-/// A ring is simple, and two rings share a point, by their edges (06-103r4, 6.1.7 and 6.1.11.1).
+/// The edges of rings decide whether a ring is simple, and whether two rings share a point (06-103r4, 6.1.7 and 6.1.11.1).
 pub fn rings_by_their_edges()
     ensures { RingsByTheirEdges }
 {}
 
-/// Two polygons share a point of their rings by all their edges (06-103r4, 6.1.14).
+/// All edges of two polygons decide whether their rings share a point (06-103r4, 6.1.14).
 pub fn polygons_by_their_edges()
     ensures { PolygonsByTheirEdges }
 {}
 
-/// A ring is inside another, and a polygon inside another, by its first position and the other's edges (06-103r4, 6.1.11.1 and
-/// 6.1.14).
+/// Whether a ring or a polygon is inside another one is decided by its first position and the other's edges (06-103r4,
+/// 6.1.11.1 and 6.1.14).
 pub fn inside_by_edges()
     ensures { InsideByEdges }
 {}

@@ -17,7 +17,7 @@ use crate::near_envelopes::last_near_among;
 use crate::share_point;
 use orient::Segment;
 
-/// Whether two edges share a point, where the bounds of the first are known. Of most that don't, the bounds are apart.
+/// Whether two edges share a point; `bounds` are those of the first. Most edges that share none have bounds that are apart.
 pub(crate) fn meets(edge: &Segment, bounds: &Bounds, other: &Segment) -> bool
     requires { bounds.now ≡ box_of edge.now }
     ensures { result ≡ spec.share_point edge.now other.now }
@@ -25,7 +25,7 @@ pub(crate) fn meets(edge: &Segment, bounds: &Bounds, other: &Segment) -> bool
     bounds.overlap(&Bounds::of(other)) && share_point(edge, other)
 }
 
-/// The test of edges that share a point with this one. The bounds are this one's.
+/// The test of edges that share a point with this one. The bounds are this edge's.
 #[derive(Drop)]
 struct ShareWithEdge {
     edge: Segment,

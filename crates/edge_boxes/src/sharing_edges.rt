@@ -12,7 +12,7 @@ use crate::shared_points::meets;
 use orient::Segment;
 use std::alloc::AllocError;
 
-/// What is asked for: the edges from a place on that share a point with this one. The bounds are this one's.
+/// What is asked for: those edges from a place on that share a point with this edge. The bounds are this edge's.
 #[derive(Clone, Copy)]
 pub(crate) struct Asked {
     pub(crate) edge: Segment,
@@ -40,7 +40,7 @@ pub(crate) fn push_asked(
     Ok(())
 }
 
-/// Adds the places asked for between the place that is looked at next, which is before this one, and this one.
+/// Adds the places that are asked for between this place and the one that is looked at next, which is before it.
 fn push_step(
     boxes: &[EdgeBox],
     edges: &[Segment],
@@ -72,7 +72,7 @@ fn push_step(
     Ok(place - 1)
 }
 
-/// Adds the places asked for of the edges from one place to before another.
+/// Adds the places of those edges from `first` to before `end` that are asked for.
 fn push_run(
     edges: &[Segment],
     first: usize,
@@ -102,7 +102,7 @@ fn is_asked(asked: &Asked, place: usize, edge: &Segment) -> bool
     asked.from <= place && meets(&asked.edge, &asked.bounds, edge)
 }
 
-/// Adds a place if it passes.
+/// Adds a place if `passes` is true.
 fn push_if(found: &mut Vec<usize>, passes: bool, place: usize) -> Result<(), AllocError>
     ensures { OnOk result (found.new.items ≡ found.old.items ++ cond passes (place ∷ []) []) }
 {

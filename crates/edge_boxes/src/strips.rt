@@ -9,7 +9,7 @@ use crate::cells::Cell;
 use fraction::GridPoint;
 use orient::Segment;
 
-/// A direction, to the right in the strips that are taken.
+/// A direction; those of strips lead to the right.
 #[derive(Clone, Copy)]
 pub(crate) struct Direction {
     pub(crate) dx: i32,
@@ -47,7 +47,7 @@ fn are_beside(one: i64, other: i64, least: i64, greatest: i64) -> bool
     (one < least) & (other < least) | (greatest < one) & (greatest < other)
 }
 
-/// The direction between two positions, to the right; none where one is above the other.
+/// The direction between two positions, to the right; None if one is above the other.
 fn direction_between(one: GridPoint, other: GridPoint) -> Option<Direction>
     ensures { IfSome result (λ direction. pos 0 <ℤ direction.dx) }
 {
@@ -95,7 +95,7 @@ impl Strip {
         Some(strip)
     }
 
-    /// The strip of a position alone.
+    /// The strip of one position.
     fn through(direction: Direction, position: GridPoint) -> Strip
         ensures { result.direction ≡ direction }
     {
@@ -107,7 +107,7 @@ impl Strip {
         }
     }
 
-    /// The strip that holds a position too.
+    /// This strip, made wider so that it also holds a position.
     fn widened(self, position: GridPoint) -> Strip
         ensures wider { IsWider self result }
         ensures holds { IsInStrip result position }

@@ -138,9 +138,10 @@ module _ {F G R : Type 0} (files : Opening G R) (paths : Opening F R) (remaining
       all = r.all;
     }
 
-    explains-load : {old new : E} {before : G} {definitions : SpatialSchema} {name : List ℕ} {fault : LoadFault}
-        → ExplainsLoad files remaining taken failures old new before directory definitions name fault
-        → ExplainsLoad paths remaining taken failures old new (under before) directory definitions name fault
+    explains-load : {old new : E} {before : G} {definitions : SpatialSchema} {header last : Record} {name : List ℕ}
+        {fault : LoadFault}
+        → ExplainsLoad files remaining taken failures old new before directory definitions header last name fault
+        → ExplainsLoad paths remaining taken failures old new (under before) directory definitions header last name fault
     explains-load l = record {
       explanation = l.explanation;
       explains = let e = l.explains in record {
@@ -174,10 +175,10 @@ module _ {F G R : Type 0} (files : Opening G R) (paths : Opening F R) (remaining
             inl (inr (by.0, called role.Table (λ lent. refl) before (table_path directory name) by.0 noted.0 by.1), none)
         note (inr n) = inr (n.0, reads-again n.1, n.2)
 
-    module _ (old new : E) (loaded : G) (definitions : SpatialSchema) where
+    module _ (old new : E) (loaded : G) (header last : Record) (definitions : SpatialSchema) where
       explains-run : (why : Bool) (query : List ℕ) (end : End)
-          → ExplainsRun files remaining taken failures old new loaded directory why query definitions end
-          → ExplainsRun paths remaining taken failures old new (under loaded) directory why query definitions end
+          → ExplainsRun files remaining taken failures old new loaded directory header last why query definitions end
+          → ExplainsRun paths remaining taken failures old new (under loaded) directory header last why query definitions end
       explains-run false query end nothing = nothing
       explains-run true query end (inl nothing) = inl nothing
       explains-run true query (Ok done) (inr said) = inr said
@@ -186,8 +187,8 @@ module _ {F G R : Type 0} (files : Opening G R) (paths : Opening F R) (remaining
       explains-run true query (Err _) (inr said) = absurd said
 
       explains-check : (why : Bool) (end : End)
-          → ExplainsCheck files remaining taken failures old new loaded directory why definitions end
-          → ExplainsCheck paths remaining taken failures old new (under loaded) directory why definitions end
+          → ExplainsCheck files remaining taken failures old new loaded directory header last why definitions end
+          → ExplainsCheck paths remaining taken failures old new (under loaded) directory header last why definitions end
       explains-check false end nothing = nothing
       explains-check true (Ok done) notes =
           (under notes.0, notes-tables (table_names definitions) loaded notes.0 old new notes.1)
@@ -211,12 +212,12 @@ module _ {F G R : Type 0} (files : Opening G R) (paths : Opening F R) (remaining
         → MayExplainTexts ntaken nfailures nold nnew first second end
     pairs : (known : Option (List ℕ)) (end : End) → MayNotePairs mtaken mfailures mold mnew known end
         → MayNotePairs ntaken nfailures nold nnew known end
-    run : (after : G) (directory : List ℕ) (definitions : SpatialSchema) (query : List ℕ) (end : End)
-        → ExplainsRun files remaining mtaken mfailures mold mnew after directory why query definitions end
-        → ExplainsRun paths remaining ntaken nfailures nold nnew (under after) directory why query definitions end
-    check : (after : G) (directory : List ℕ) (definitions : SpatialSchema) (end : End)
-        → ExplainsCheck files remaining mtaken mfailures mold mnew after directory why definitions end
-        → ExplainsCheck paths remaining ntaken nfailures nold nnew (under after) directory why definitions end
+    run : (after : G) (directory : List ℕ) (header last : Record) (definitions : SpatialSchema) (query : List ℕ) (end : End)
+        → ExplainsRun files remaining mtaken mfailures mold mnew after directory header last why query definitions end
+        → ExplainsRun paths remaining ntaken nfailures nold nnew (under after) directory header last why query definitions end
+    check : (after : G) (directory : List ℕ) (header last : Record) (definitions : SpatialSchema) (end : End)
+        → ExplainsCheck files remaining mtaken mfailures mold mnew after directory header last why definitions end
+        → ExplainsCheck paths remaining ntaken nfailures nold nnew (under after) directory header last why definitions end
 
   module _ {S M N : Type 0} (taken : S → Option (List ℕ)) (failures : S → ℕ) (old new : S)
       (mtaken : M → Option (List ℕ)) (mfailures : M → ℕ) (mold mnew : M) (ntaken : N → Option (List ℕ)) (nfailures : N → ℕ)
@@ -254,16 +255,20 @@ module _ {F G R : Type 0} (files : Opening G R) (paths : Opening F R) (remaining
         over-files runs ends-unread
         (λ loaded definitions ran. (
           under ran.0,
-          over-tables ran.1,
-          carries.run ran.0 (string_bytes directory) definitions text end ran.2,
+          ran.1,
+          ran.2,
+          over-tables ran.3,
+          carries.run ran.0 (string_bytes directory) ran.1 ran.2 definitions text end ran.4,
         ))))
     serves-order etaken efailures opener (orders.Check schema directory asks) status before after served =
         serves-more served (λ end checks.
         over-files checks ends-unread
         (λ loaded definitions checked. (
           under checked.0,
-          over-tables checked.1,
-          carries.check checked.0 (string_bytes directory) definitions end checked.2,
+          checked.1,
+          checked.2,
+          over-tables checked.3,
+          carries.check checked.0 (string_bytes directory) checked.1 checked.2 definitions end checked.4,
         )))
     serves-order etaken efailures opener (orders.Relate first second asks) status before after served =
         serves-more served (λ end texts.
@@ -305,10 +310,11 @@ by-paths {files = files} paths remaining etaken efailures taken failures old new
       text = λ text end said. said;
       texts = λ first second end said. said;
       pairs = λ known end said. said;
-      run = λ loaded directory definitions.
-          explains-run files paths remaining under called mtaken mfailures directory mold mnew loaded definitions why;
-      check = λ loaded directory definitions.
-          explains-check files paths remaining under called mtaken mfailures directory mold mnew loaded definitions why;
+      run = λ loaded directory header last definitions.
+          explains-run files paths remaining under called mtaken mfailures directory mold mnew loaded header last definitions why;
+      check = λ loaded directory header last definitions.
+          explains-check files paths remaining under called mtaken mfailures directory mold mnew loaded header last
+          definitions why;
     }) etaken efailures opener order status before after served
 
 -- and where no explanation is asked for
@@ -334,6 +340,6 @@ by-paths-alone {files = files} paths remaining etaken efailures taken failures o
       text = λ text end said. inl refl;
       texts = λ first second end said. inl (inl refl);
       pairs = λ known end said. inl refl;
-      run = λ loaded directory definitions query end said. refl;
-      check = λ loaded directory definitions end said. refl;
+      run = λ loaded directory header last definitions query end said. refl;
+      check = λ loaded directory header last definitions end said. refl;
     }) etaken efailures opener order status before after served

@@ -1,5 +1,5 @@
 -- What each command means: the texts of the outcomes, the files that are opened, and the ends that there may be.
-use Rattle.std.specs.Prelude.{◌≡◌, ◌++◌, ◌<◌, ◌⊎◌, ⊤, ℕ, Bool, true, false, List, [], ◌∷◌, codes, decimal, length, map, take, slice_get, IfSome, Option, Some, None, Result, Ok, Err}
+use Rattle.std.specs.Prelude.{◌≡◌, ◌++◌, ◌<◌, ◌⊎◌, ⊤, ℕ, Bool, true, false, List, [], ◌∷◌, codes, decimal, length, map, take, slice_get, IfErr, IfSome, Option, Some, None, Result, Ok, Err}
 use denote.Ref.{Bor}
 use Rattle.command_line.specs.declared.known_commands.Order.{Order}
 use Rattle.command_line.specs.declared.known_commands.Order.TheVariants as orders
@@ -14,7 +14,7 @@ use Rattle.explanations.specs.Notes.{AreNotes}
 use Rattle.explanations.specs.Tables.{IsTableExplanation, IsTableNote}
 use Rattle.std.specs.Io.KnownBytes.{Consumes}
 use Rattle.feature_table.specs.Tables.{EachRecordsOf, EarlierLoad}
-use Rattle.query_runs.specs.Runs.{Runs, RunsOver}
+use Rattle.query_runs.specs.Runs.{Runs, RunsOver, ShowsRun}
 use Rattle.record_reasons.specs.LineEnds.{FindsLineEnd}
 use Rattle.record_reasons.specs.NoteTexts.{note_line}
 use Rattle.record_reasons.specs.ReasonTexts.{reason_line}
@@ -162,27 +162,32 @@ pub record OverFiles {F R : Type 0} (opens : Opening F R) (remaining : R → Opt
   pub read : ReadsSchema remaining file schema
   pub rest : AfterSchema schema (λ definitions. Over next definitions end) end (Unread file)
 
--- a run over the tables' records may end like this
-pub record RunEnds (definitions : SpatialSchema) (query : List ℕ) (old new : Option (List ℕ)) (before after : ℕ) (records : List (List Record)) (end : End) : Type 0 where
-  pub runs : EndsAs definitions end (λ result. RunsOver result definitions records query old new)
+-- a run over the tables' records may end like this; where a table has a fault, these are its header and the record that shows it
+pub record RunEnds (definitions : SpatialSchema) (query : List ℕ) (header last : Record) (old new : Option (List ℕ)) (before after : ℕ)
+    (records : List (List Record)) (end : End) : Type 0 where
+  pub runs : EndsAs definitions end (λ result. RunsOver result definitions records query old new × IfErr result (ShowsRun records header last))
   pub failures : after ≡ failed_writes before end
 
--- counting the rows of the tables may end like this
-pub record CheckEnds (definitions : SpatialSchema) (old new : Option (List ℕ)) (before after : ℕ) (records : List (List Record)) (end : End) : Type 0 where
-  pub checks : EndsAs definitions end (λ result. Runs result (check_outcome definitions records) (IsLoadedTo definitions records) old new)
+-- counting the rows of the tables may end like this, and so are these those of a fault
+pub record CheckEnds (definitions : SpatialSchema) (header last : Record) (old new : Option (List ℕ)) (before after : ℕ)
+    (records : List (List Record)) (end : End) : Type 0 where
+  pub checks : EndsAs definitions end (λ result. Runs result (check_outcome definitions records) (IsLoadedTo definitions records) old new
+      × IfErr result (ShowsRun records header last))
   pub failures : after ≡ failed_writes before end
 
 -- the sink of the answer, before and after a command
 module _ {F R S : Type 0} (opens : Opening F R) (remaining : R → Option (List ℕ)) (taken : S → Option (List ℕ)) (failures : S → ℕ) (old new : S) where
-  -- a run over the files of the tables of a schema ends so, and leaves the opener in the state `after`
-  abbrev pub RunsTables : F → F → List ℕ → List ℕ → SpatialSchema → End → Type 0
-  RunsTables next after directory query definitions end =
-      OverTables opens remaining next after directory definitions (RunEnds definitions query (taken old) (taken new) (failures old) (failures new)) end (new ≡ old)
+  -- a run over the files of the tables of a schema ends so, and leaves the opener in the state `after`, and the header and record of a fault
+  abbrev pub RunsTables : F → F → List ℕ → List ℕ → SpatialSchema → Record → Record → End → Type 0
+  RunsTables next after directory query definitions header last end =
+      OverTables opens remaining next after directory definitions
+      (RunEnds definitions query header last (taken old) (taken new) (failures old) (failures new)) end (new ≡ old)
 
   -- and counting their rows
-  abbrev pub ChecksTables : F → F → List ℕ → SpatialSchema → End → Type 0
-  ChecksTables next after directory definitions end =
-      OverTables opens remaining next after directory definitions (CheckEnds definitions (taken old) (taken new) (failures old) (failures new)) end (new ≡ old)
+  abbrev pub ChecksTables : F → F → List ℕ → SpatialSchema → Record → Record → End → Type 0
+  ChecksTables next after directory definitions header last end =
+      OverTables opens remaining next after directory definitions
+      (CheckEnds definitions header last (taken old) (taken new) (failures old) (failures new)) end (new ≡ old)
 
 -- ---- reasons
 
@@ -223,9 +228,10 @@ module _ {M : Type 0} (taken : M → Option (List ℕ)) (failures : M → ℕ) (
 abbrev pub IsNamed : SpatialSchema → List ℕ → ℕ → Type 0
 IsNamed definitions name place = (table : TableDef ColumnShape) × (slice_get definitions place ≡ Some table) × (same_name table.name name ≡ true)
 
--- the line that says what is wrong in a text: that of the reason of a table's fault, or none
-abbrev pub SaysReason : List ℕ → TableDef ColumnShape → LoadFault → List ℕ → Type 0
-SaysReason text table fault line = (line ≡ []) ⊎ ((reason : Reason) × IsReasonOf (Some text) table fault reason × (line ≡ reason_line reason))
+-- the line that says what is wrong: that of the reason of a table's fault, in its text or in the header and the record that show it, or none
+abbrev pub SaysReason : List ℕ → TableDef ColumnShape → Record → Record → LoadFault → List ℕ → Type 0
+SaysReason text table header last fault line =
+    (line ≡ []) ⊎ ((reason : Reason) × IsReasonOf (Some text) table header last fault reason × (line ≡ reason_line reason))
 
 -- the file of the table of this name is opened again, in the state `before`, and read: this text is what was taken of it, and all of it, if it is whole
 pub record ReadsAgain {F R : Type 0} (opens : Opening F R) (remaining : R → Option (List ℕ)) (directory name : List ℕ) (before after : F)
@@ -236,10 +242,10 @@ pub record ReadsAgain {F R : Type 0} (opens : Opening F R) (remaining : R → Op
   pub front : Consumes (remaining reader) (remaining left) text
   pub all : whole ≡ true → IfSome (remaining reader) (λ bytes. text ≡ bytes)
 
--- what explains the fault of the table of this name: its file is opened again, in the state `before`, and its text has the reason, and the record
--- that the explanation shows; where reading had failed, a front of the text has it
+-- what explains the fault of the table of this name: its reason, and the place in its file, which is opened again, in the state `before`; where
+-- reading had failed, a front of the text has it
 pub record ExplainsTable {F R : Type 0} (opens : Opening F R) (remaining : R → Option (List ℕ)) (before : F) (directory : List ℕ)
-    (definitions : SpatialSchema) (name : List ℕ) (fault : LoadFault) (explanation : List ℕ) : Type 0 where
+    (definitions : SpatialSchema) (header last : Record) (name : List ℕ) (fault : LoadFault) (explanation : List ℕ) : Type 0 where
   pub place : ℕ
   pub named : IsNamed definitions name place
   pub table : TableDef ColumnShape
@@ -250,22 +256,23 @@ pub record ExplainsTable {F R : Type 0} (opens : Opening F R) (remaining : R →
   pub read : ReadsAgain opens remaining directory name before after text whole
   pub all : (whole ≡ true) ⊎ (fault ≡ loading.ReadFailed)
   pub line : List ℕ
-  pub says : SaysReason text table fault line
+  pub says : SaysReason text table header last fault line
   pub explains : IsTableExplanation text fault line explanation
 
 -- what explains a table's fault was written, or a beginning of it
 pub record ExplainsLoad {F R E : Type 0} (opens : Opening F R) (remaining : R → Option (List ℕ)) (taken : E → Option (List ℕ))
-    (failures : E → ℕ) (old new : E) (before : F) (directory : List ℕ) (definitions : SpatialSchema) (name : List ℕ) (fault : LoadFault) : Type 0 where
+    (failures : E → ℕ) (old new : E) (before : F) (directory : List ℕ) (definitions : SpatialSchema) (header last : Record) (name : List ℕ)
+    (fault : LoadFault) : Type 0 where
   pub explanation : List ℕ
-  pub explains : ExplainsTable opens remaining before directory definitions name fault explanation
+  pub explains : ExplainsTable opens remaining before directory definitions header last name fault explanation
   pub written : Writes (taken old) (taken new) (failures old) (failures new) explanation
 
 -- either what explains a table's fault was written, or a beginning of it; or nothing was, where the reason isn't found, the file can't be opened or
 -- read again, or memory ran out
 abbrev pub MayExplainLoad : {F R E : Type 0} → Opening F R → (R → Option (List ℕ)) → (E → Option (List ℕ)) → (E → ℕ) → E → E
-    → F → List ℕ → SpatialSchema → List ℕ → LoadFault → Type 0
-MayExplainLoad opens remaining taken failures old new before directory definitions name fault =
-    (new ≡ old) ⊎ ExplainsLoad opens remaining taken failures old new before directory definitions name fault
+    → F → List ℕ → SpatialSchema → Record → Record → List ℕ → LoadFault → Type 0
+MayExplainLoad opens remaining taken failures old new before directory definitions header last name fault =
+    (new ≡ old) ⊎ ExplainsLoad opens remaining taken failures old new before directory definitions header last name fault
 
 -- the file of the table of this name may have been opened
 abbrev pub MayOpen : {F R : Type 0} → Opening F R → List ℕ → List ℕ → F → F → Type 0
@@ -304,15 +311,15 @@ module _ {F R E : Type 0} (opens : Opening F R) (remaining : R → Option (List 
   NotesTables (name ∷ names) before after old new =
       (middle : F) × (next : E) × NotesTable name before middle old next × NotesTables names middle after next new
 
--- the sink of explanations, before and after a command that leaves the opener in this state
+-- the sink of explanations, before and after a command that leaves the opener in this state, and this header and record of a fault
 module _ {F R M : Type 0} (opens : Opening F R) (remaining : R → Option (List ℕ)) (taken : M → Option (List ℕ)) (failures : M → ℕ) (old new : M)
-    (loaded : F) (directory : List ℕ) where
+    (loaded : F) (directory : List ℕ) (header last : Record) where
   -- what explains the end of a run: notes on its query, if it is done; else the fault of its query or of a table
   abbrev pub SaysOfRun : List ℕ → SpatialSchema → End → Type 0
   SaysOfRun query definitions (Ok done) = NotesQuery taken failures old new query
   SaysOfRun query definitions (Err (f.Query fault)) = ExplainsAt taken failures old new query (query_place fault)
   SaysOfRun query definitions (Err (f.Load name fault)) =
-      ExplainsLoad opens remaining taken failures old new loaded directory definitions name.now fault
+      ExplainsLoad opens remaining taken failures old new loaded directory definitions header last name.now fault
   SaysOfRun query definitions (Err _) = ⊥
 
   -- what is written of a run that ends so: nothing, if that isn't asked for; else notes on its query, or what explains its failure, or nothing,
@@ -323,7 +330,8 @@ module _ {F R M : Type 0} (opens : Opening F R) (remaining : R → Option (List 
 
   -- what explains a failure of a check: the fault of a table
   abbrev pub SaysOfTables : SpatialSchema → Failure → Type 0
-  SaysOfTables definitions (f.Load name fault) = ExplainsLoad opens remaining taken failures old new loaded directory definitions name.now fault
+  SaysOfTables definitions (f.Load name fault) =
+      ExplainsLoad opens remaining taken failures old new loaded directory definitions header last name.now fault
   SaysOfTables definitions _ = ⊥
 
   -- what is written of a check that ends so, if that is asked for: all notes on its tables, if it is done; else what explains its failure, or nothing
@@ -350,8 +358,9 @@ module _ {F R S M : Type 0} (opens : Opening F R) (remaining : R → Option (Lis
   abbrev pub RunsFiles : F → List ℕ → List ℕ → List ℕ → End → Type 0
   RunsFiles opener schema directory query end =
       OverFiles opens remaining opener schema
-      (λ next definitions ending. (after : F) × RunsTables opens remaining taken failures old new next after directory query definitions ending
-      × ExplainsRun opens remaining mtaken mfailures mold mnew after directory why query definitions ending)
+      (λ next definitions ending. (after : F) × (header last : Record)
+      × RunsTables opens remaining taken failures old new next after directory query definitions header last ending
+      × ExplainsRun opens remaining mtaken mfailures mold mnew after directory header last why query definitions ending)
       end EndsUnread
 
   -- and running the query that a word gives, whose text is got first; where it isn't, perhaps its file is said not to be UTF-8
@@ -364,8 +373,9 @@ module _ {F R S M : Type 0} (opens : Opening F R) (remaining : R → Option (Lis
   abbrev pub ChecksFiles : F → List ℕ → List ℕ → End → Type 0
   ChecksFiles opener schema directory end =
       OverFiles opens remaining opener schema
-      (λ next definitions ending. (after : F) × ChecksTables opens remaining taken failures old new next after directory definitions ending
-      × ExplainsCheck opens remaining mtaken mfailures mold mnew after directory why definitions ending)
+      (λ next definitions ending. (after : F) × (header last : Record)
+      × ChecksTables opens remaining taken failures old new next after directory definitions header last ending
+      × ExplainsCheck opens remaining mtaken mfailures mold mnew after directory header last why definitions ending)
       end EndsUnread
 
 -- ---- orders

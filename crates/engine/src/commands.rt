@@ -2,6 +2,7 @@
 
 ghost use Rattle.std.specs.Prelude.{◌≡◌, ◌<◌, ◌⊎◌, [], false, true, length, take, Err, IfErr, IfNone, IfOk, IfSome, OnErr, OnOk};
 ghost use Rattle.command_line.specs.Orders.{asks_why};
+ghost use Rattle.csv.specs.Records.{fields_of};
 ghost use Rattle.std.specs.Fn.{CalledAt, TakesAt};
 ghost use Rattle.std.specs.String.{string_bytes};
 ghost use Rattle.std.specs.Io.KnownBytes.{Appends};
@@ -11,6 +12,7 @@ ghost use Rattle.explanations.specs.Faults.{query_place, schema_place};
 ghost use Rattle.explanations.specs.Tables.{IsTableExplanation};
 ghost use Rattle.query_runs.specs.Runs.{IsOfTables};
 ghost use Rattle.record_reasons.specs.ReasonTexts.{reason_line};
+ghost use Rattle.record_reasons.specs.Reasons.{IsKeyReason, IsReasonOf};
 ghost use Rattle.streams.specs.Sinks.{AppendsFront, CountsFailure};
 ghost use Rattle.table_model.specs.declared.faults.LoadFault.TheVariants as loading;
 ghost use Rattle.text_commands.specs.Ends.{Serves};
@@ -22,10 +24,12 @@ use explanations::{
     table_explained,
 };
 use failures::{Failure, Fault, ended, failed};
-use feature_table::{Database, Records, Schema};
+use feature_table::{Database, LastRecords, Records, Schema};
 use itoa::Buffer;
 use query_runs::{RowCounts, run_counted};
-use record_reasons::{LineEnd, Reason, first_line_end, put_line_end, put_record_reason, reason_of};
+use record_reasons::{
+    LineEnd, Reason, first_line_end, put_line_end, put_record_reason, reason_of, same_key,
+};
 use rtree::{CurveTree, EnvelopeIndex, RowTree};
 use sql_text::{TableDef, read_schema};
 use std::alloc::{AllocError, Global};
@@ -272,27 +276,33 @@ fn serve_run<
         Err(failure) => return failed(&failure, err),
     };
     let mut counts = RowCounts::new(paths.why);
+    let mut last = LastRecords::new(alloc);
     let end = run_over(
         alloc,
         &schema,
         paths.directory,
         query,
         &mut counts,
+        &mut last,
         &mut opener,
         out,
         observer,
     );
-    explain_run(alloc, paths, &schema, query, &counts, &end, opener, more);
+    explain_run(
+        alloc, paths, &schema, query, &counts, &last, &end, opener, more,
+    );
     ended(end, err)
 }
 
-/// Opens the files of all tables, and runs a query over them. It counts their rows if that is wanted.
+/// Opens the files of all tables, and runs a query over them. It counts their rows if that is wanted. If a table has a
+/// fault, `last` then holds its header and the record with the fault.
 fn run_over<'s, R: Read + Drop, F: FnMut(File<'_>) -> Option<R>, S: Sink, O: RowObserver>(
     alloc: Global,
     schema: &'s Schema,
     directory: &str,
     query: &str,
     counts: &mut RowCounts,
+    last: &mut LastRecords,
     opener: &mut F,
     out: &mut S,
     observer: &mut O,
@@ -300,11 +310,12 @@ fn run_over<'s, R: Read + Drop, F: FnMut(File<'_>) -> Option<R>, S: Sink, O: Row
     requires { F.IsAlwaysCallable opener.old }
     ensures callable { F.IsAlwaysCallable opener.new }
     ensures runs { RunsTables (OpensFile F.FnMut) R.remaining S.taken S.failures out.old out.new opener.old
-        opener.new directory.now query.now schema.entry.now result }
+        opener.new directory.now query.now schema.entry.now (fields_of last.new.header)
+        (fields_of last.new.record) result }
 {
     let readers = open_tables(alloc, schema, directory, opener)?;
     let ran = run_counted::<ColumnIndex, RowIndex, R, S, O>(
-        alloc, schema, readers, query, counts, out, observer,
+        alloc, schema, readers, query, counts, last, out, observer,
     );
     match ran {
         Ok(_) => Ok(()),
@@ -334,8 +345,9 @@ fn serve_check<R: Read + Drop, F: FnMut(File<'_>) -> Option<R>, S: Sink, E: Sink
         Ok(schema) => schema,
         Err(failure) => return failed(&failure, err),
     };
-    let end = check_over(alloc, &schema, paths.directory, &mut opener, out);
-    explain_check(alloc, paths, &schema, &end, opener, more);
+    let mut last = LastRecords::new(alloc);
+    let end = check_over(alloc, &schema, paths.directory, &mut last, &mut opener, out);
+    explain_check(alloc, paths, &schema, &last, &end, opener, more);
     ended(end, err)
 }
 
@@ -348,13 +360,15 @@ fn explain_run<R: Read + Drop, F: FnMut(File<'_>) -> Option<R>, M: Sink>(
     schema: &Schema,
     query: &str,
     counts: &RowCounts,
+    last: &LastRecords,
     end: &Result<(), Failure<'_>>,
     opener: F,
     more: &mut M,
 )
     requires { F.IsAlwaysCallable opener }
     ensures explains { ExplainsRun (OpensFile F.FnMut) R.remaining M.taken M.failures more.old more.new opener
-        paths.now.directory.now paths.now.why query.now schema.now end.now }
+        paths.now.directory.now (fields_of last.now.header) (fields_of last.now.record) paths.now.why
+        query.now schema.now end.now }
     ensures unasked { paths.now.why ≡ false → more.new ≡ more.old }
 {
     if !paths.why {
@@ -366,7 +380,16 @@ fn explain_run<R: Read + Drop, F: FnMut(File<'_>) -> Option<R>, M: Sink>(
             let _ = explain_query(alloc, schema, query, fault, more);
         }
         Err(Failure::Load(name, fault)) => {
-            explain_load(alloc, schema, paths.directory, name, fault, opener, more)
+            explain_load(
+                alloc,
+                schema,
+                paths.directory,
+                last,
+                name,
+                fault,
+                opener,
+                more,
+            )
         }
         _ => {}
     }
@@ -379,13 +402,15 @@ fn explain_check<R: Read + Drop, F: FnMut(File<'_>) -> Option<R>, M: Sink>(
     alloc: Global,
     paths: &Paths<'_>,
     schema: &Schema,
+    last: &LastRecords,
     end: &Result<(), Failure<'_>>,
     opener: F,
     more: &mut M,
 )
     requires { F.IsAlwaysCallable opener }
     ensures explains { ExplainsCheck (OpensFile F.FnMut) R.remaining M.taken M.failures more.old more.new opener
-        paths.now.directory.now paths.now.why schema.now end.now }
+        paths.now.directory.now (fields_of last.now.header) (fields_of last.now.record) paths.now.why
+        schema.now end.now }
     ensures unasked { paths.now.why ≡ false → more.new ≡ more.old }
 {
     if !paths.why {
@@ -394,7 +419,16 @@ fn explain_check<R: Read + Drop, F: FnMut(File<'_>) -> Option<R>, M: Sink>(
     match *end {
         Ok(()) => put_notes(alloc, schema, paths.directory, opener, more),
         Err(Failure::Load(name, fault)) => {
-            explain_load(alloc, schema, paths.directory, name, fault, opener, more)
+            explain_load(
+                alloc,
+                schema,
+                paths.directory,
+                last,
+                name,
+                fault,
+                opener,
+                more,
+            )
         }
         Err(_) => {}
     }
@@ -478,11 +512,13 @@ fn explain_schema_fault<M: Sink>(
     Ok(())
 }
 
-/// Writes the explanation of the fault of the table with this name, if its reason is found.
+/// Writes the explanation of the fault of the table with this name, if its reason is found. `last` holds the table's
+/// header and the record with the fault.
 fn explain_load<R: Read + Drop, F: FnMut(File<'_>) -> Option<R>, M: Sink>(
     alloc: Global,
     schema: &Schema,
     directory: &str,
+    last: &LastRecords,
     name: &str,
     fault: LoadFault,
     opener: F,
@@ -490,26 +526,29 @@ fn explain_load<R: Read + Drop, F: FnMut(File<'_>) -> Option<R>, M: Sink>(
 )
     requires { F.IsAlwaysCallable opener }
     ensures { MayExplainLoad (OpensFile F.FnMut) R.remaining M.taken M.failures more.old more.new opener directory.now
-        schema.now name.now fault }
+        schema.now (fields_of last.now.header) (fields_of last.now.record) name.now fault }
 {
-    if let Some(explanation) = fault_explained(alloc, schema, directory, name, fault, opener) {
+    if let Some(explanation) = fault_explained(
+        alloc, schema, directory, last, name, fault, opener,
+    ) {
         let _ = put_all(more, explanation.as_slice());
     }
 }
 
-/// The explanation of the fault of the table with this name, whose file is read again. None if nothing is found, if the
-/// file can't be read as it was, or if memory runs out.
+/// The explanation of the fault of the table with this name, whose file is read again for the line to show. None if
+/// nothing is found, if the file can't be read as it was, or if memory runs out.
 fn fault_explained<R: Read + Drop, F: FnMut(File<'_>) -> Option<R>>(
     alloc: Global,
     schema: &Schema,
     directory: &str,
+    last: &LastRecords,
     name: &str,
     fault: LoadFault,
     mut opener: F,
 ) -> Option<Vec<u8>>
     requires { F.IsAlwaysCallable opener }
     ensures { IfSome result (λ e. ExplainsTable (OpensFile F.FnMut) R.remaining opener directory.now schema.now
-        name.now fault e.items) }
+        (fields_of last.now.header) (fields_of last.now.record) name.now fault e.items) }
 {
     let place = table_named(schema, name)?;
     let table = schema.table(place);
@@ -518,7 +557,7 @@ fn fault_explained<R: Read + Drop, F: FnMut(File<'_>) -> Option<R>>(
         return None;
     }
     let text = read.text.as_slice();
-    let said = reason_said(alloc, table, text, fault)?;
+    let said = reason_said(alloc, table, text, last, fault)?;
     explanation_of(alloc, table, text, fault, &said)
 }
 
@@ -581,20 +620,18 @@ struct Said<'s> {
     record: Option<usize>,
 }
 
-/// What is known of the reason of a table's fault in a text, or of no reason. None if memory runs out.
+/// What is known of the reason of a table's fault, or of no reason. None if memory runs out.
 fn reason_said<'s>(
     alloc: Global,
     table: &'s TableDef,
     text: &[u8],
+    last: &LastRecords,
     fault: LoadFault,
 ) -> Option<Said<'s>>
-    ensures { IfSome result (λ said. SaysReason text.now table.entry.now fault said.line.items) }
+    ensures { IfSome result (λ said. SaysReason text.now table.entry.now (fields_of last.now.header)
+        (fields_of last.now.record) fault said.line.items) }
 {
-    if let LoadFault::ReadFailed = fault {
-        return Some(nothing_said(alloc));
-    }
-    let mut records = Records::new(alloc, text);
-    let Ok(found) = reason_of(alloc, table, &mut records, fault) else {
+    let Ok(found) = found_reason(alloc, table, text, last, fault) else {
         return None;
     };
     let Some(reason) = found else {
@@ -604,6 +641,40 @@ fn reason_said<'s>(
         return None;
     };
     Some(said)
+}
+
+/// The reason of a table's fault. A repeated key is looked for in the text; any other fault is in the header and the
+/// record in `last`. None for a text without a header.
+fn found_reason<'s>(
+    alloc: Global,
+    table: &'s TableDef,
+    text: &[u8],
+    last: &LastRecords,
+    fault: LoadFault,
+) -> Result<Option<Reason<'s>>, LoadFault>
+    ensures { IfOk result (λ found. IfSome found (IsReasonOf (Some text.now) table.entry.now
+        (fields_of last.now.header) (fields_of last.now.record) fault)) }
+{
+    if last.header.is_empty() {
+        return Ok(None);
+    }
+    match fault {
+        LoadFault::DoubleKey(number) => repeated_key_reason(alloc, table, text, number),
+        _ => reason_of(alloc, table, &last.header, &last.record, fault),
+    }
+}
+
+/// The reason of a key that the record of this number and an earlier one have, which is looked for in the text.
+fn repeated_key_reason(
+    alloc: Global,
+    table: &TableDef,
+    text: &[u8],
+    number: usize,
+) -> Result<Option<Reason<'static>>, LoadFault>
+    ensures { IfOk result (λ found. IfSome found (IsKeyReason (Some text.now) table.now number)) }
+{
+    let mut records = Records::new(alloc, text);
+    same_key(alloc, table, &mut records, number)
 }
 
 /// What is known without a reason: nothing.
@@ -783,21 +854,23 @@ fn put_open_quote<M: Sink>(alloc: Global, text: &[u8], at: LineEnd, more: &mut M
     }
 }
 
-/// Opens the files of all tables, loads the tables, and writes their lines.
+/// Opens the files of all tables, loads the tables, and writes their lines. The header and the record that show the fault of a table are
+/// left in `last`.
 fn check_over<'s, R: Read + Drop, F: FnMut(File<'_>) -> Option<R>, S: Sink>(
     alloc: Global,
     schema: &'s Schema,
     directory: &str,
+    last: &mut LastRecords,
     opener: &mut F,
     out: &mut S,
 ) -> Result<(), Failure<'s>>
     requires { F.IsAlwaysCallable opener.old }
     ensures callable { F.IsAlwaysCallable opener.new }
     ensures checks { ChecksTables (OpensFile F.FnMut) R.remaining S.taken S.failures out.old out.new opener.old
-        opener.new directory.now schema.entry.now result }
+        opener.new directory.now schema.entry.now (fields_of last.new.header) (fields_of last.new.record) result }
 {
     let readers = open_tables(alloc, schema, directory, opener)?;
-    let database: Database<'_, RowIndex> = match Database::load(alloc, schema, readers) {
+    let database: Database<'_, RowIndex> = match Database::load_into(alloc, schema, readers, last) {
         Ok(database) => database,
         Err(fault) => return Err(run_failure(schema, Fault::from(fault))),
     };

@@ -20,7 +20,7 @@ use std::alloc::{AllocError, Global};
 use table_model::faults::QueryFault;
 use table_model::tokens::{Token, TokenKind};
 
-/// The explanation of a fault of a query over the tables of a schema: the place of the fault, and a sentence. At Err memory ran out.
+/// The explanation of a fault of a query over the tables of a schema: the fault's place, and a sentence. At Err memory ran out.
 pub fn query_explained_over(
     alloc: Global,
     text: &[u8],

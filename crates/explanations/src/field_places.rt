@@ -8,7 +8,7 @@ ghost use Rattle.csv.specs.Reading.{default_config};
 ghost use Rattle.explanations.specs.Fields.{IsFieldPlace, IsRecordEnd, IsSpot};
 ghost use Rattle.explanations.specs.Fields as spec;
 
-use memchr::memchr;
+use memchr::{memchr, memchr3};
 
 /// Where the reading of a CSV text is.
 #[derive(Clone, Copy, Debug, PartialEq, Eq)]
@@ -261,18 +261,10 @@ fn before_end(bytes: &[u8]) -> usize
     ensures within { result ≤ length bytes.now }
     ensures none { (k : ℕ) → k < result → spec.ends_field (slice_index bytes.now k) ≡ false }
 {
-    let mut count = 0;
-    while count < bytes.len() && !ends_field(bytes[count]) {
-        count += 1;
+    match memchr3(b',', b'\r', b'\n', bytes) {
+        Some(place) => place,
+        None => bytes.len(),
     }
-    count
-}
-
-/// Whether a byte outside quotes ends a field.
-fn ends_field(byte: u8) -> bool
-    ensures { result ≡ spec.ends_field byte }
-{
-    byte == b',' || byte == b'\r' || byte == b'\n'
 }
 
 /// The bytes of a text from a place on.
@@ -315,6 +307,44 @@ impl Spot {
         Spot { place, cursor }
     }
 
+    /// The spot after the line that begins here, if a record may begin here and the line has a byte, no quote and no
+    /// carriage return. One record ends in that line.
+    #[inline(always)]
+    fn after_line(self, body: &[u8]) -> Option<Spot>
+        requires { IsSpot body.now self }
+        ensures spot { IfSome result (IsSpot body.now) }
+        ensures behind { IfSome result (λ spot. self.place < spot.place) }
+    {
+        let Reading::RecordStart = self.cursor.reading else {
+            return None;
+        };
+        let rest = from_place(body, self.place);
+        let end = memchr3(b'"', b'\r', b'\n', rest)?;
+        if end == 0 || rest[end] != b'\n' {
+            return None;
+        }
+        Some(Spot {
+            place: self.place + end + 1,
+            cursor: self.cursor.at_next_record(Reading::RecordStart),
+        })
+    }
+
+    /// Like `next`, but goes on by whole lines where the record of this number hasn't begun.
+    #[inline(always)]
+    fn toward(self, body: &[u8], number: usize) -> Spot
+        requires spot { IsSpot body.now self }
+        requires within { self.place < length body.now }
+        ensures spot { IsSpot body.now result }
+        ensures behind { self.place < result.place }
+    {
+        if self.cursor.records < number
+            && let Some(after) = self.after_line(body)
+        {
+            return after;
+        }
+        self.next(body)
+    }
+
     /// Whether it is in a field of a record, each counted from 0.
     #[inline(always)]
     fn is_in(self, number: usize, field: usize) -> bool
@@ -343,7 +373,7 @@ pub(crate) fn field_spot(body: &[u8], from: Spot, number: usize, field: usize) -
         if spot.is_in(number, field) && spot.cursor.begins(body[spot.place]) {
             return Some(spot);
         }
-        spot = spot.next(body);
+        spot = spot.toward(body, number);
     }
     if spot.is_in(number, field) && spot.cursor.is_field_start() {
         return Some(spot);
@@ -389,8 +419,8 @@ pub(crate) const RECORD_FIELDS: usize = 100_000;
 /// The most bytes of a record, with the blank lines before it.
 const RECORD_BYTES: usize = 33 << 20;
 
-/// The first field that is too long, or that is one too many in its record, or the first of a record that is too long: the number of its
-/// record, and its own in it.
+/// The first field that is too long, or that is one too many in its record, or the first of a record that is too long: the number
+/// of its record, and its own in the record.
 pub(crate) fn long_field(body: &[u8]) -> Option<(usize, usize)> {
     let mut cursor = Cursor::new();
     let mut field = 0;

@@ -1,5 +1,5 @@
-//! Explanations of faults of texts: the line of the place with a caret below it, and a sentence that says what is there and what to do.
-//! Each is a text of its own, which is written after the line of the fault.
+//! Explanations of faults of texts: the line of the place with a caret below it, and a sentence that says what is there and what to
+//! do. Each is a text of its own, which is written after the line of the fault.
 #![tactic(auto)]
 
 mod column_sentences;

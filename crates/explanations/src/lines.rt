@@ -1,6 +1,7 @@
 //! The line of a text that a place is in.
 
-ghost use Rattle.std.specs.Prelude.{◌≡◌, ◌≤◌, ◌<◌, ◌+◌, length};
+ghost use Rattle.std.specs.Prelude.{◌≡◌, ◌≤◌, ◌<◌, ◌+◌, drop, length, take};
+ghost use Rattle.std.specs.List.{count_by};
 ghost use Rattle.explanations.specs.Lines.{IsLine, IsWhite, line_number};
 ghost use Rattle.explanations.specs.Lines as spec;
 
@@ -39,12 +40,35 @@ fn line_number(text: &[u8], place: usize) -> usize
     ensures { result ≡ line_number text.now place }
 {
     let mut number = 1;
-    for at in 0..place {
-        if text[at] == b'\n' {
-            number += 1;
+    let mut at = 0;
+    while place - at > 255 {
+        number += usize::from(line_feeds(part(text, at, at + 255)));
+        at += 255;
+    }
+    number + usize::from(line_feeds(part(text, at, place)))
+}
+
+/// How many line feeds a few bytes have. A count of one byte lets the compiler look at many bytes at once.
+fn line_feeds(bytes: &[u8]) -> u8
+    requires { length bytes.now ≤ 255 }
+    ensures { result ≡ count_by spec.ends_line bytes.now }
+{
+    let mut count = 0;
+    for byte in bytes {
+        if *byte == b'\n' {
+            count += 1;
         }
     }
-    number
+    count
+}
+
+/// The bytes of a text from one place to another.
+pub(crate) fn part(text: &[u8], from: usize, to: usize) -> &[u8]
+    requires { (from ≤ to) × (to ≤ length text.now) }
+    ensures { result.now ≡ drop from (take to text.now) }
+{
+    let front = &text[..to];
+    &front[from..]
 }
 
 /// Whether a byte is white space.

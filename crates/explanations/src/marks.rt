@@ -7,7 +7,7 @@ ghost use Rattle.std.specs.Char.Escape.{escape_ascii};
 ghost use Rattle.explanations.specs.Marks.{IsMark, IsMarkAt, IsPath, IsShown, columns, dots, shown_lines};
 ghost use Rattle.explanations.specs.Marks as spec;
 
-use crate::lines::{line_of, trimmed_end};
+use crate::lines::{line_of, part, trimmed_end};
 use itoa::Buffer;
 use std::alloc::{AllocError, Global};
 
@@ -17,8 +17,8 @@ const COLUMNS_BEFORE: usize = 100;
 /// How many columns of a line are shown from the place on.
 const COLUMNS_AFTER: usize = 60;
 
-/// The end of a path, as it is shown: at most its last 100 columns, with two dots before them if it has more. Bytes are shown as in a line of
-/// a text. At Err memory ran out (the form: this project's choice).
+/// The end of a path, as it is shown: at most its last 100 columns, with two dots before them if it has more. Bytes are shown as in
+/// a line of a text. At Err memory ran out (the form: this project's choice).
 pub fn path_shown(alloc: Global, path: &[u8]) -> Result<Vec<u8>, AllocError>
     ensures { IfOk result (λ shown. IsPath path.now shown.items) }
 {
@@ -91,15 +91,6 @@ fn numbered(alloc: Global, number: usize) -> Result<Vec<u8>, AllocError>
     push_blanks(&mut text, 3usize.saturating_sub(digits.len()))?;
     text.extend_from_slice(digits.as_bytes())?;
     Ok(text)
-}
-
-/// The bytes of a text from one place to another.
-fn part(text: &[u8], from: usize, to: usize) -> &[u8]
-    requires { (from ≤ to) × (to ≤ length text.now) }
-    ensures { result.now ≡ drop from (take to text.now) }
-{
-    let front = &text[..to];
-    &front[from..]
 }
 
 /// What is shown before a place, with dots before it if the line is cut there.

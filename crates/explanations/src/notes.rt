@@ -54,7 +54,7 @@ fn with_note(alloc: Global, text: &[u8], before: Vec<u8>, note: Option<Note>) ->
     Ok(notes)
 }
 
-/// The lines of a note; none, if there is none.
+/// The lines of a note; empty if there is none.
 fn noted(alloc: Global, text: &[u8], note: Option<Note>) -> Said
     ensures { IfOk result (λ lines. IsNote text.now lines.items) }
 {

@@ -138,8 +138,8 @@ pub(crate) fn said_of_front(text: &[u8], rows: &[&'static str]) -> Option<&'stat
     None
 }
 
-/// A sentence with these parts in it: at each `{}` the next one as a sentence shows it, and at each `{=}` the next one as it is; a `{-}` leaves
-/// the next one out.
+/// A sentence with these parts in it: at each `{}` the next one as a sentence shows it, and at each `{=}` the next one as it is; a
+/// `{-}` leaves the next one out.
 pub(crate) fn say(alloc: Global, form: &str, parts: &[&[u8]]) -> Said {
     let mut text = Vec::new(alloc);
     let mut left = form.as_bytes();
@@ -177,8 +177,8 @@ pub(crate) fn push_names(sentence: &mut Vec<u8>, names: &[&[u8]]) -> Result<(), 
     Ok(())
 }
 
-/// Adds a part of a text as a sentence shows it: its first 40 bytes, in whole characters, and two dots if it has more. Bytes are shown as in
-/// the line of the place.
+/// Adds a part of a text as a sentence shows it: its first 40 bytes, in whole characters, and two dots if it has more. Bytes are
+/// shown as in the line of the place.
 fn push_part(text: &mut Vec<u8>, part: &[u8]) -> Result<(), AllocError> {
     let shown = cut(part);
     push_shown(text, shown, is_plain(shown))?;

@@ -38,7 +38,7 @@ impl Names<'_> {
     }
 }
 
-/// The explanation of a fault of a query's text, or of its names and types: the place of the fault, and a sentence. At Err memory ran out.
+/// The explanation of a fault of a query's text, or its names and types: the fault's place, and a sentence. At Err memory ran out.
 pub fn query_explained(
     alloc: Global,
     text: &[u8],

@@ -119,7 +119,7 @@ fn begin_of(body: &[u8], earlier: Option<Spot>, number: usize) -> Spot
     }
 }
 
-/// The lines that show the place of a fault in the text after its byte order mark; none, if it has none.
+/// The lines that show the place of a fault in the text after its byte order mark; empty if it has none.
 fn place_shown(
     alloc: Global,
     text: &[u8],

@@ -11,7 +11,7 @@ use streams::{Sink, StdSink, put_all};
 /// The status for words of the command line that aren't right.
 pub const MISUSE: u8 = 2;
 
-/// What is printed of words that aren't UTF-8, which `clap` never sees.
+/// What is printed for words that aren't UTF-8, which `clap` never sees.
 const NOT_UTF8: &[u8] = b"error: invalid UTF-8 was detected in one or more arguments\n";
 
 /// Writes the line of a failure, and returns its status. The status is the same if the line can't be written.
@@ -24,7 +24,7 @@ pub fn failed<E: Sink>(failure: &Failure<'_>, err: &mut E) -> u8
     status(failure)
 }
 
-/// Ends what is done or has failed: it writes the line of the failure, and returns the status.
+/// Ends a command that is done or has failed: it writes the line of the failure, and returns the status.
 pub fn ended<E: Sink>(end: Result<(), Failure<'_>>, err: &mut E) -> u8
     ensures status { result ≡ end_status end.entry }
     ensures line { Reports E.taken E.failures end.entry err.old err.new }
@@ -46,8 +46,8 @@ pub fn failed_words<E: Sink>(error: &io::Error, err: &mut E) -> u8
     MISUSE
 }
 
-/// Writes out what an output still holds back, and returns the status. If that fails where no line was written of a failure, the answer
-/// can't be written: where all was well, and where `pairs` ends with the status of a pair that is refused.
+/// Writes out what an output still buffers, and returns the status. If that fails, and no line of a failure was written, the answer
+/// can't be written: if all was well, or if `pairs` ends with the status of a pair that is refused.
 pub fn flushed<W: Write, E: Sink>(out: &mut StdSink<W>, code: u8, err: &mut E) -> u8
     ensures { (result ≡ code) ⊎ (IsAnswered code × (result ≡ failure_status Failure.WriteFailed)) }
 {
@@ -57,7 +57,7 @@ pub fn flushed<W: Write, E: Sink>(out: &mut StdSink<W>, code: u8, err: &mut E) -
     code
 }
 
-/// Whether an output may hold back an answer at a status. At that of refused pairs it may be a refused query's too, whose output is empty.
+/// Whether an output may buffer an answer at a status. That of refused pairs may be a refused query's too, whose output is empty.
 fn is_answered(code: u8) -> bool
     ensures { IsTrue result ↔ IsAnswered code }
 {

@@ -36,7 +36,7 @@ pub enum Failure<'a> {
     Query(QueryFault),
     /// The text of this geometry isn't well-known text, or its geometry isn't valid.
     Refused(GeometryWord, GeometryFault),
-    /// A geometry of at least one pair is refused. It has no line, as the answer has one for each refusal.
+    /// A geometry of at least one pair is refused. It has no line, because the answer has one for each refusal.
     PairsRefused,
     /// No fault has this code.
     UnknownCode,
@@ -50,7 +50,7 @@ pub enum Failure<'a> {
 const UNKNOWN_CODE: &str =
     "unknown code: there are S1 to S6, L1 to L11, Q1 to Q12, W1 to W4 and V1 to V8";
 
-/// The text of a geometry's fault in parts: words and a number where there is one, and the same again.
+/// The text of a geometry's fault in parts: words, a number if there is one, and both again.
 #[derive(Drop)]
 struct FaultWords<'a> {
     words: &'a str,
@@ -59,7 +59,7 @@ struct FaultWords<'a> {
     second: Option<usize>,
 }
 
-/// The text of a failure in parts: a table's name, words, a number where there is one, and a geometry's fault.
+/// The text of a failure in parts: a table's name, words, a number if there is one, and a geometry's fault.
 #[derive(Drop)]
 struct Words<'a> {
     table: &'a str,
@@ -68,8 +68,8 @@ struct Words<'a> {
     fault: FaultWords<'a>,
 }
 
-/// Writes the line of a failure: `sfq: `, its text and a line feed; nothing of `PairsRefused`. It takes no memory. At Err the sink failed, and
-/// a beginning of the line has been written.
+/// Writes the line of a failure: `sfq: `, its text and a line feed; nothing for `PairsRefused`. It takes no memory. At Err the sink
+/// failed, and a beginning of the line has been written.
 pub fn fault_line<S: Sink>(failure: &Failure<'_>, sink: &mut S) -> Result<(), SinkFault>
     ensures ok { OnOk result (Appends (S.taken sink.old) (S.taken sink.new) (failure_line failure.now)) }
     ensures front { OnErr result
@@ -118,7 +118,7 @@ fn put_named<S: Sink>(name: &str, failure: &Failure<'_>, sink: &mut S) -> Result
     put_line(sink, name, &words, number, first, second)
 }
 
-/// The digits of a number, and no byte of none.
+/// The digits of a number; empty for None.
 fn digits<'b>(number: Option<usize>, buffer: &'b mut Buffer) -> &'b str
     ensures { result.now ≡ digits_of number }
 {
@@ -129,7 +129,7 @@ fn digits<'b>(number: Option<usize>, buffer: &'b mut Buffer) -> &'b str
 }
 
 /// The status that the program ends with: 2 for an unknown code, 3 for the schema, 4 for a table, 5 for the query or a
-/// geometry, 6 where reading or writing failed, 7 when memory ran out.
+/// geometry, 6 if reading or writing failed, 7 if memory ran out.
 pub fn status(failure: &Failure<'_>) -> u8
     ensures { result ≡ failure_status failure.now }
 {
@@ -181,7 +181,7 @@ fn put_line<'l, S: Sink>(
 }
 
 impl<'a> FaultWords<'a> {
-    /// The words alone.
+    /// Only the words.
     fn plain(words: &'a str) -> FaultWords<'a>
         ensures { fault_text result ≡ words.entry.now }
     {
@@ -219,7 +219,7 @@ impl<'a> FaultWords<'a> {
 }
 
 impl<'a> Words<'a> {
-    /// The words alone, after a table's name or the empty one.
+    /// Only the words, after a table's name or the empty one.
     fn plain(table: &'a str, words: &'a str) -> Words<'a>
         ensures { words_text result ≡ table.entry.now ++ words.entry.now }
     {

@@ -120,7 +120,7 @@ pub fn integer_of(field: &[u8]) -> Option<i64>
     number_in(trimmed(field))
 }
 
-/// The value of a field in a column, where the number is that of the record. An empty field is null.
+/// The value of a field in a column; `number` is that of the record. An empty field is null.
 #[tactic(auto, unfolding(table_model::specs::Loading::value_of))]
 pub(crate) fn value_of(
     alloc: Global,

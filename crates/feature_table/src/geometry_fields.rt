@@ -26,8 +26,8 @@ fn takes_type(shape: ColumnShape, geometry_type: GeometryType) -> bool
     }
 }
 
-/// The geometry of a field in a column of this type, where the number is that of the record. Its text is read first,
-/// then its validity is tested, then its type.
+/// The geometry of a field in a column of this type; `number` is that of the record. Its text is read first, then its
+/// validity is tested, then its type.
 pub(crate) fn geometry_of(
     alloc: Global,
     number: usize,

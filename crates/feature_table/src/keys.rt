@@ -147,7 +147,7 @@ fn double_among(
     double_key(alloc, keys)
 }
 
-/// The places of keys, from 0, in the order of the keys. The fault is DoubleKey, with the record's number, or OutOfMemory.
+/// Sorts the places of keys, from 0, by their keys. The fault is DoubleKey, with the record's number, or OutOfMemory.
 pub fn order_by_key(alloc: Global, keys: &[i64]) -> Result<Vec<usize>, LoadFault>
     ensures each { IfOk result (λ order. IsPermutation (range_with_len 0 (length keys.now)) order.items) }
     ensures ascend { IfOk result (λ order. IsSortedByKey (key_at keys.now) int_cmp order.items) }
@@ -168,7 +168,7 @@ pub fn order_by_key(alloc: Global, keys: &[i64]) -> Result<Vec<usize>, LoadFault
     }
 }
 
-/// The rows that were read, by ascending key. The fault is DoubleKey, with the record's number, or OutOfMemory.
+/// Sorts the rows that were read by ascending key. The fault is DoubleKey, with the record's number, or OutOfMemory.
 pub(crate) fn rows_by_key(
     alloc: Global,
     mut read: ReadRows,

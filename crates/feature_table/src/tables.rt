@@ -97,7 +97,7 @@ impl<I: EnvelopeIndex + Drop> Table<I> {
         Table::load_into(alloc, table, &mut records, last)
     }
 
-    /// Loads the table of a lawful definition from records of which none was read yet. The result is that of
+    /// Loads the table of a lawful definition from records, none of which was read yet. The result is that of
     /// `Table::load`. It reads at most 100,002 records, with the header. It returns `ReadFailed` only if `csv` reported
     /// a failure of reading and no earlier record has a fault.
     pub fn load_from<R: Read + Drop>(

@@ -3,10 +3,10 @@
 ghost use Rattle.std.specs.Prelude.{◌≡◌, ◌<◌, ◌%◌, pos, ◌<ℤ◌, unsigned_abs, int_div};
 ghost use Rattle.geometry_model.specs.Points.{gcd};
 
-/// The greatest number without its sign that is kept in 64 bits.
+/// The greatest absolute value that is kept in 64 bits.
 const SHORT: u128 = i64::MAX as u128;
 
-/// The rest of a division by a number of at least 1. Most numbers are short, and then 64 bits are enough.
+/// The remainder of a division by a number of at least 1. Most numbers are short, and then 64 bits are enough.
 fn rest(number: u128, divisor: u128) -> u128
     requires { 0 < divisor }
     ensures { result ≡ number % divisor }
@@ -18,7 +18,7 @@ fn rest(number: u128, divisor: u128) -> u128
     }
 }
 
-/// The greatest number that divides both; the other where one is 0.
+/// The greatest number that divides both; if one of them is 0, the other.
 fn greatest_common_divisor(a: u128, b: u128) -> u128
     ensures { result ≡ gcd a b }
 {
@@ -41,7 +41,7 @@ pub fn common_divisor(number: i128, other: i128) -> i128
     greatest_common_divisor(number.unsigned_abs(), other.unsigned_abs()) as i128
 }
 
-/// The greatest number that divides all three, of which the last is at least 1.
+/// The greatest number that divides all three, the last of which is at least 1.
 pub(crate) fn divisor_of_three(x: i128, y: i128, w: i64) -> i64
     requires { pos 0 <ℤ w }
     ensures exact { result ≡ pos (gcd (gcd (unsigned_abs x) (unsigned_abs y)) (unsigned_abs w)) }

@@ -36,7 +36,7 @@ impl Model for GridPoint {
 }
 
 impl GridPoint {
-    /// The position (x, y); `None` exactly where a coordinate is past the limit (06-103r4, 6.1.4; the
+    /// The position (x, y); `None` exactly if a coordinate is past the limit (06-103r4, 6.1.4; the
     /// limit: this project's choice).
     pub fn new(x: i32, y: i32) -> Option<GridPoint>
         ensures taken { IsSome result ↔ IsOnGrid (record { x = x; y = y }) }

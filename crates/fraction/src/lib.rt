@@ -1,4 +1,4 @@
-//! Positions of the grid and rational points of the plane, with their exact order: numbers, no floats.
+//! Positions of the grid and rational points of the plane, with their exact order, without floats.
 //!
 //! A position has two whole coordinates within `COORDINATE_LIMIT` either way. A point is three whole numbers
 //! X, Y, W in least form that mean (X/W, Y/W). Nothing here takes memory.

@@ -83,7 +83,7 @@ impl RatPoint {
         )
     }
 
-    /// The position of the grid at which the point is; none exactly where its denominator isn't 1 (06-103r4, 6.1.4).
+    /// The position of the grid at which the point is; `None` exactly if its denominator isn't 1 (06-103r4, 6.1.4).
     pub fn position(&self) -> Option<GridPoint>
         ensures at { IfSome result (λ at. point_at at ≡ self.now) }
         ensures none { IsNone result ↔ self.now.W ≢ pos 1 }
@@ -202,7 +202,7 @@ impl PartialEq for RatPoint {
 
     ghost laws = { partial_equiv_from_equiv (eq_by_cmp_equiv point_order_total) };
 
-    /// Whether the two are one point. In least form a point has one triple, so the triples decide.
+    /// Whether the two are the same point. Each point has only one triple in least form, so the triples are compared.
     fn eq(&self, other: &RatPoint) -> bool
         ensures order { result ≡ eq_by_cmp point_order self.now other.now }
         ensures exact { result ≡ same_point self.now other.now }

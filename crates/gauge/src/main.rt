@@ -1,5 +1,5 @@
 //! The program `gauge`: it does one thing to well-known texts, as often as it is asked to, so that the measures in bench/ can
-//! compare it with others. Without words it writes the canonical text of a geometry.
+//! time it and compare it with others. Without words it writes the canonical text of a geometry.
 #![tactic(auto)]
 
 ghost use Rattle.std.specs.Prelude.{OnOk};

@@ -12,7 +12,7 @@ pub fn lines_dont_cover()
     ensures { LinesDontCover }
 {}
 
-/// Where some edge of a list is strictly above a point there is a first one: it is one of the list, no other meets the vertical
+/// If some edge of a list is strictly above a point, there is a first one: it is one of the list, no other meets the vertical
 /// line between, and at its point just those edges are at or above that are strictly above the point itself.
 pub fn first_is_above()
     ensures { FirstIsAbove }
@@ -30,7 +30,7 @@ pub fn sides_are_near()
     ensures { SidesAreNear }
 {}
 
-/// Straight below and straight above such a point, all points near enough lie where `below` and `above` say.
+/// Straight below and straight above a point on no vertical edge, all points near enough lie where `below` and `above` say.
 pub fn near_points_are_so()
     ensures { NearPointsAreSo }
 {}

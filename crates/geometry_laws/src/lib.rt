@@ -1,6 +1,6 @@
-//! The laws of the geometry: what the definitions of `geometry_model` promise together, of points, sides, parity, pieces and
-//! coverings, of the faults of geometries, and of what is straight above and below a face point. Nothing here runs: each function
-//! has an empty body, and its contract is a law.
+//! The laws of the geometry: what the definitions of `geometry_model` promise together about points, sides, parity, pieces and
+//! coverings, about the faults of geometries, and about what is straight above and below a face point. Nothing here runs: each
+//! function has an empty body, and its contract is a law.
 #![tactic(auto)]
 
 pub mod coverings;

@@ -8,13 +8,13 @@ ghost use Rattle.geometry_laws.specs.ValidPartLaws.{
   EnvelopeIsAbsentWhereEmpty,
 };
 
-/// A polygon is valid exactly where its rings make one: each closed and simple, of four positions or more, no two with
-/// a common point, the holes inside the outer ring and none inside another (06-103r4, 6.1.11.1).
+/// A polygon is valid exactly if its rings make one: each closed and simple, of four positions or more, no two with a
+/// common point, the holes inside the outer ring and none inside another (06-103r4, 6.1.11.1).
 pub fn polygon_is_valid()
     ensures { PolygonIsValid }
 {}
 
-/// A MultiPolygon is valid exactly where each of its polygons is valid, and they lie apart (06-103r4, 6.1.14).
+/// A MultiPolygon is valid exactly if each of its polygons is valid, and they lie apart (06-103r4, 6.1.14).
 pub fn multi_polygon_is_valid()
     ensures { MultiPolygonIsValid }
 {}
@@ -24,7 +24,7 @@ pub fn line_string_is_valid()
     ensures { LineStringIsValid }
 {}
 
-/// A MultiLineString is valid exactly where each element has two positions or more (06-103r4, 6.1.9).
+/// A MultiLineString is valid exactly if each element has two positions or more (06-103r4, 6.1.9).
 pub fn multi_line_string_is_valid()
     ensures { MultiLineStringIsValid }
 {}

@@ -1,5 +1,5 @@
-//! Laws of rational points: their equality, their order, the point between two, and that what is said of a point doesn't depend
-//! on the triple that is taken for it.
+//! Laws of rational points: their equality, their order, the point between two, and that what holds of a point doesn't depend
+//! on the triple that represents it.
 
 ghost use Rattle.geometry_laws.specs.PointLaws.{SameIsReflexive, SameIsSymmetric, SameIsTransitive, CompareIsReversed, EqualIsSame, LessIsTransitive, MediantIsBetween, CompareRespects, SideRespects, OnRespects, SpansRespects, StrictlyAboveRespects, AtOrAboveRespects, OddAboveRespects, OddAtOrAboveRespects, LocateRespects};
 
@@ -38,7 +38,7 @@ pub fn mediant_is_between()
     ensures { MediantIsBetween }
 {}
 
-/// The order doesn't depend on the triples that stand for the points.
+/// The order doesn't depend on the triples that represent the points.
 pub fn compare_respects()
     ensures { CompareRespects }
 {}

@@ -2,12 +2,12 @@
 
 ghost use Rattle.geometry_laws.specs.SharedPointLaws.{SharedPointIsDecided, OtherPointIsDecided};
 
-/// Two edges share a point exactly where an end of one is on the other, or where they cross.
+/// Two edges share a point exactly if an end of one is on the other, or if they cross.
 pub fn shared_point_is_decided()
     ensures { SharedPointIsDecided }
 {}
 
-/// Two edges with a common end share another point exactly where an end other than it is on both.
+/// Two edges with a common end share another point exactly if an end other than the common one is on both.
 pub fn other_point_is_decided()
     ensures { OtherPointIsDecided }
 {}

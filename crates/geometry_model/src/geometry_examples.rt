@@ -155,7 +155,7 @@ pub fn predicates_of_rows()
     ensures points_do_not_touch { is_held Touches (codes "POINT(1 1)") (codes "POINT(1 1)") ≡ Some false }
 {}
 
-/// Predicates and patterns that hold only where geometries share a point, so that their envelopes meet.
+/// Predicates and patterns that hold only if geometries share a point, so that their envelopes meet.
 pub fn meeting_is_forced()
     ensures disjoint { forces_meeting Disjoint ≡ false }
     ensures equals { forces_meeting Equals ≡ true }
@@ -165,7 +165,7 @@ pub fn meeting_is_forced()
     ensures exteriors_alone { forces (codes "FF2FF1212") ≡ Some false }
 {}
 
-/// Envelopes, and whether two meet: edges counted, and two absent ones do (06-103r4, 6.1.2.2).
+/// Envelopes, and whether two meet: their sides count, and two absent ones meet (06-103r4, 6.1.2.2).
 pub fn envelopes()
     ensures of_a_line { bounds (codes "LINESTRING(3 -1,0 5,7 2)")
         ≡ Some (Some record { least_x = pos 0; greatest_x = pos 7; least_y = negsuc 0; greatest_y = pos 5 }) }

@@ -7,7 +7,7 @@ use crate::validity_faults::ValidityFault;
 /// tested (06-103r4, 7.2 and 6.1; the order: this project's choice).
 #[derive(Clone, Copy, Debug, PartialEq, Eq)]
 pub enum GeometryFault {
-    /// W1 to W4: the bytes aren't well-known text that sfq takes.
+    /// W1 to W4: the bytes aren't well-known text that sfq accepts.
     Text(TextFault),
     /// V1 to V8: the geometry that they spell isn't valid.
     Invalid(ValidityFault),

@@ -73,8 +73,8 @@ pub fn matrices_of_areas()
         ≡ Some (codes "FF2F1F212") }
 {}
 
-/// A MULTIPOLYGON of two squares beside each other, with a line through both, with a point between them, and with one of them
-/// (06-103r4, 6.1.14 and 6.1.15.2).
+/// A MULTIPOLYGON of two squares next to each other, with a line through both, with a point between them, and with one of
+/// them (06-103r4, 6.1.14 and 6.1.15.2).
 pub fn matrices_of_two_squares()
     ensures line_through_both { relate (codes "LINESTRING(2 2,7 2)") two_squares ≡ Some (codes "1010FF212") }
     ensures line_through_both_turned_round { relate two_squares (codes "LINESTRING(2 2,7 2)")

@@ -1,6 +1,6 @@
 //! The types of geometry, and the kind of each.
 
-/// The types of geometry that sfq has (06-103r4, 6.1.4 to 6.1.14).
+/// The types of geometry that sfq supports (06-103r4, 6.1.4 to 6.1.14).
 #[derive(Clone, Copy, Debug, PartialEq, Eq)]
 pub enum GeometryType {
     Point,

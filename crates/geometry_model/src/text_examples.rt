@@ -106,8 +106,8 @@ pub fn counted_parts()
     ensures position_of_a_part { parts 2 2 (input (codes "(1 1,2 2),(3 3)")) ≡ Err TooLong }
 {}
 
-/// The counts of the rings and positions of all polygons, at limits of two rings or three positions: each polygon hands
-/// on what is left of both.
+/// The counts of the rings and positions of all polygons, at limits of two rings or three positions: each polygon
+/// passes on what is left of both.
 pub fn counted_polygons()
     ensures as_many { body (polygons 2 2 9) (input (codes "(((1 1)),((2 2)))"))
         ≡ Ok (

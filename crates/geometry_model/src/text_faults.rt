@@ -4,7 +4,7 @@
 /// bytes from 0.
 #[derive(Clone, Copy, Debug, PartialEq, Eq)]
 pub enum TextFault {
-    /// W1: no text of a geometry can have at this byte what is there, or the text ends here too soon.
+    /// W1: what begins at this byte can't be there in the text of a geometry, or the text ends here too soon.
     Syntax(usize),
     /// W2: the number that begins at this byte isn't whole.
     OffGrid(usize),

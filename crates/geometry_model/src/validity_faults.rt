@@ -1,10 +1,10 @@
 //! Why a geometry isn't valid.
 
-/// The first fault of a geometry that isn't valid (06-103r4, 6.1.7, 6.1.11 and 6.1.14; the order: this project's choice). Lines
-/// and elements are numbered from 0. So are rings, through all elements; the first ring of an element is its outer one.
+/// The first fault of a geometry that isn't valid (06-103r4, 6.1.7, 6.1.11 and 6.1.14; the order: this project's choice).
+/// Lines, elements and rings are numbered from 0, rings through all elements; the first ring of an element is its outer one.
 #[derive(Clone, Copy, Debug, PartialEq, Eq)]
 pub enum ValidityFault {
-    /// V1: the line with this number has a single position, or the ring has fewer than 4, its closing one counted.
+    /// V1: the line with this number has a single position, or the ring has fewer than 4, its closing one included.
     TooFewPoints(usize),
     /// V2: the ring's first position isn't its last.
     RingNotClosed(usize),

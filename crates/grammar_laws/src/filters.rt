@@ -1,5 +1,5 @@
-//! Laws of what is filtered, whatever a geometry is. Nothing here runs: each function has an empty body, and its
-//! contract is a law of the definitions.
+//! Laws of conjuncts and of the rows that they select, whatever a geometry is. Nothing here runs: each function has an
+//! empty body, and its contract is a law of the definitions.
 
 ghost use Rattle.grammar_laws.specs.FilterLaws.{
   ConjunctsByParts,
@@ -10,17 +10,17 @@ ghost use Rattle.grammar_laws.specs.FilterLaws.{
   MeaningByConjuncts,
 };
 
-/// The conjuncts of an AND are those of its parts, in order; any other condition is its only conjunct itself.
+/// The conjuncts of an AND are those of its parts, in order. Any other condition is its own only conjunct.
 pub fn conjuncts_by_parts<A>()
     ensures { ConjunctsByParts A }
 {}
 
-/// A query is bound to the conjuncts of its ON and its WHERE as they are written. The two ways to bind it have the same fault.
+/// A query is bound to the conjuncts of its ON and its WHERE as they are written. The two ways to bind it report the same fault.
 pub fn bound_of_statement<T, A, B, C, D>()
     ensures { BoundOfStatement T A B C D }
 {}
 
-/// The conjuncts that an AND is bound to are those of its parts, in order; any other condition is bound to one.
+/// The conjuncts to which an AND is bound are those of its parts, in order. Any other condition is bound to one conjunct.
 pub fn conjuncts_bound_by_parts<T, A, B, C, D>()
     ensures { ConjunctsBoundByParts T A B C D }
 {}

@@ -1,9 +1,8 @@
-//! Laws of queries. Nothing here runs: each function has an empty body,
-//! and its contract is a law of the definitions.
+//! Laws of queries. Nothing here runs: each function has an empty body, and its contract is a law of the definitions.
 
 ghost use Rattle.grammar_laws.specs.QueryLaws.{ReadIsQuery, QueryIsRead, OneTree, ReferencesAreFew, RefusalApplies, FirstIsRead};
 
-/// The query that a text is read as is its query by the grammar.
+/// The query as which a text is read is its query by the grammar.
 pub fn read_is_query()
     ensures { ReadIsQuery }
 {}
@@ -13,12 +12,12 @@ pub fn query_is_read()
     ensures { QueryIsRead }
 {}
 
-/// A text is at most one query.
+/// A text is at most one query by the grammar.
 pub fn one_tree()
     ensures { OneTree }
 {}
 
-/// A query has one reference or two: no text has a tree with none or with three.
+/// A query has one or two references: no text has a tree with none or with three.
 pub fn references_are_few()
     ensures { ReferencesAreFew }
 {}

@@ -1,29 +1,28 @@
-//! Laws of what a query is bound to. Nothing here runs: each function has an empty body, and its contract is a law of
-//! the definitions.
+//! Laws of binding. Nothing here runs: each function has an empty body, and its contract is a law of the definitions.
 
 ghost use Rattle.grammar_laws.specs.RuleLaws.{BindingsAgree, ColumnsAgree, ConditionsAgree, ReferencesAgree, StatementsAgree};
 
-/// What the tables of FROM are bound to, and where they are refused, is what the rules say, and nothing else.
+/// The tables of FROM are bound as the rules say, and refused exactly where the rules say.
 pub fn references_agree<T>()
     ensures { ReferencesAgree T }
 {}
 
-/// What a column is bound to, and where it is refused, is what the rules say, and nothing else.
+/// A column is bound as the rules say, and refused exactly where the rules say.
 pub fn columns_agree<T>()
     ensures { ColumnsAgree T }
 {}
 
-/// What a condition with geometries is bound to, and the fault that it is refused for, is what the rules say.
+/// A condition with geometries is bound as the rules say, or refused with the fault that the rules give.
 pub fn conditions_agree()
     ensures { ConditionsAgree }
 {}
 
-/// What a query with geometries is bound to as it is written, and the fault that it is refused for, is what the rules say.
+/// A query with geometries is bound as it is written, as the rules say, or refused with the fault that the rules give.
 pub fn statements_agree()
     ensures { StatementsAgree }
 {}
 
-/// What a query with geometries is bound to with its conjuncts, and the fault that it is refused for, is what the rules say.
+/// A query with geometries is bound with its conjuncts, as the rules say, or refused with the fault that the rules give.
 pub fn bindings_agree()
     ensures { BindingsAgree }
 {}

@@ -9,7 +9,7 @@ ghost use Rattle.grammar_laws.specs.SchemaLaws.{
   FirstSchemaFaultIsRead,
 };
 
-/// The tables that a text is read as are those of its schema by the grammar.
+/// The tables as which a text is read are those of its schema by the grammar.
 pub fn read_is_schema<T>()
     ensures { ReadIsSchema T }
 {}
@@ -19,7 +19,7 @@ pub fn schema_is_read<T>()
     ensures { SchemaIsRead T }
 {}
 
-/// A text is at most one schema.
+/// A text is at most one schema by the grammar.
 pub fn one_schema<T>()
     ensures { OneSchema T }
 {}

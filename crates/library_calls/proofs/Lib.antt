@@ -5,7 +5,7 @@ pub mod ArrayParts
 pub mod Tested
 pub mod WrittenFacts
 pub mod BoxWords
-pub mod ValidParts
-pub mod IndexParts
+pub mod PointerMoves
+pub mod BinaryFacts
 pub mod BoundsFacts
 pub mod CoverFacts

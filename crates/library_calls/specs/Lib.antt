@@ -1,9 +1,13 @@
+pub mod Apart
 pub mod Arrays
+pub mod Binaries
 pub mod Explained
+pub mod Extents
 pub mod Kept
 pub mod Numbers
 pub mod Refusals
 pub mod Relations
+pub mod Rounding
 pub mod Texts
 pub mod ArrayLaws
 pub mod Written

@@ -15,8 +15,8 @@ use std::alloc::Global;
 use text_laws::reading::read_is_spelled;
 use validity::Valid;
 
-/// The valid geometry of a type with these positions and parts, whose sizes fit the type: it is the one that each text with the same
-/// numbers spells (06-103r4, 6.1, 7.2 and 8.2).
+/// The valid geometry of a type with these positions and parts, whose sizes fit the type: it is the one that each text with the
+/// same numbers spells (06-103r4, 6.1, 7.2 and 8.2).
 pub fn read_positions(
     alloc: Global,
     geometry_type: GeometryType,

@@ -11,7 +11,7 @@ use std::alloc::{AllocError, AllocFailed, Global};
 use std::marker::Model;
 
 /// The least x, the greatest x, the least y and the greatest y of an envelope, in grid steps (06-103r4, 6.1.2.2: Envelope). An
-/// empty geometry's are 0, -1, 0 and -1; others whose least exceeds the greatest, or past the limit, are invalid.
+/// empty geometry's are 0, -1, 0 and -1; others are invalid if a least exceeds its greatest, or if one is past the limit.
 #[repr(C)]
 #[derive(Clone, Copy, Debug)]
 pub struct Bounds {
@@ -105,7 +105,7 @@ impl<T: Drop> From<AllocFailed<T>> for Unbuilt {
     }
 }
 
-/// The envelopes with these bounds; or the position of the first ones that are invalid.
+/// The envelopes with these bounds, or the position of the first ones that are invalid.
 pub(crate) fn envelopes_within(
     alloc: Global,
     bounds: &[Bounds],

@@ -9,7 +9,7 @@ use crate::explained::hand_out;
 use rtree::{CurveTree, EnvelopeIndex};
 use std::alloc::Global;
 
-/// The index of the envelopes with these bounds; or the position of the first ones that are invalid.
+/// The index of the envelopes with these bounds, or the position of the first ones that are invalid.
 pub fn build_index(alloc: Global, bounds: &[Bounds]) -> Result<CurveTree, Unbuilt>
     ensures built { IfOk result (λ index. index ≡ map bounded bounds.now) }
     ensures all { IfOk result (λ _. first_unbounded 0 bounds.now ≡ None) }

@@ -1,7 +1,10 @@
-//! A valid geometry that a caller in C keeps.
+//! A valid geometry that a caller in C keeps, and where a call writes one.
 
-ghost use Rattle.std.specs.Prelude.{◌≡◌};
-ghost use Rattle.library_calls.specs.Keeping.{Kept, kept_coded, kept_owns};
+ghost use Rattle.std.specs.Prelude.{◌≡◌, Option, Some};
+ghost use Rattle.std.specs.Coded.{coded_option};
+ghost use Rattle.geometry_model.specs.Geometries.{Geometry};
+ghost use Rattle.validity.specs.contracts.valid_geometry.Valid.{the_row as valid_row};
+ghost use Rattle.library_calls.specs.Keeping.{held_owns, slot_owns};
 
 use crate::parts::Parts;
 use std::alloc::Global;
@@ -14,11 +17,11 @@ use validity::Valid;
 pub struct KeptGeometry {
     at: *mut u8,
     alloc: Global,
-    pub ghost geometry: { Kept } by { kept_coded },
+    pub ghost geometry: { Geometry } by { valid_row.coded },
 }
 
 impl Model for KeptGeometry {
-    ghost also_owns = { λ k. kept_owns k.alloc k.at k.geometry };
+    ghost also_owns = { λ k. held_owns valid_row k.alloc k.at k.geometry };
 }
 
 impl KeptGeometry {
@@ -46,7 +49,7 @@ impl KeptGeometry {
         }
     }
 
-    pub(crate) fn into_parts(self) -> Parts<Valid, Global>
+    fn into_parts(self) -> Parts<Valid, Global>
         ensures { result.value ≡ self.geometry }
     {
         let KeptGeometry { at, alloc } = self;
@@ -64,3 +67,36 @@ impl Drop for KeptGeometry {
 }
 
 unsafe impl Send for KeptGeometry {}
+
+/// A kept geometry, or none. It has the form of a [`KeptGeometry`]: C takes the pointer out of it if a call has written one
+/// there. A slot that is overwritten forgets what it had, so C passes only empty ones.
+#[derive(Drop)]
+#[repr(C)]
+pub struct Slot {
+    at: *mut u8,
+    alloc: Global,
+    pub ghost geometry: { Option Geometry } by { coded_option valid_row.coded },
+}
+
+impl Model for Slot {
+    ghost also_owns = { λ s. slot_owns valid_row s.alloc s.at s.geometry };
+}
+
+impl Slot {
+    /// A slot with this geometry.
+    pub fn of(kept: KeptGeometry) -> Slot
+        ensures { result.geometry ≡ Some kept.geometry }
+    {
+        Slot::of_parts(kept.into_parts())
+    }
+
+    fn of_parts(parts: Parts<Valid, Global>) -> Slot
+        ensures { result.geometry ≡ Some parts.value }
+    {
+        let Parts { at, alloc } = parts;
+        Slot {
+            at: at as *mut u8,
+            alloc,
+        }
+    }
+}

@@ -1,7 +1,10 @@
 //! An index of envelopes that a caller in C keeps.
 
-ghost use Rattle.std.specs.Prelude.{◌≡◌, Option, Some};
-ghost use Rattle.library_calls.specs.Keeping.{Indexed, index_coded, index_owns, index_slot_coded, index_slot_owns};
+ghost use Rattle.std.specs.Prelude.{◌≡◌, List, Option, Some};
+ghost use Rattle.std.specs.Coded.{coded_option};
+ghost use Rattle.geometry_model.specs.Envelopes.{Envelope};
+ghost use Rattle.rtree.specs.contracts.curve_trees.CurveTree.{the_row as tree_row};
+ghost use Rattle.library_calls.specs.Keeping.{held_owns, slot_owns};
 
 use crate::parts::Parts;
 use rtree::CurveTree;
@@ -14,11 +17,11 @@ use std::marker::Model;
 pub struct KeptIndex {
     at: *mut u8,
     alloc: Global,
-    pub ghost envelopes: { Indexed } by { index_coded },
+    pub ghost envelopes: { List (Option Envelope) } by { tree_row.coded },
 }
 
 impl Model for KeptIndex {
-    ghost also_owns = { λ k. index_owns k.alloc k.at k.envelopes };
+    ghost also_owns = { λ k. held_owns tree_row k.alloc k.at k.envelopes };
 }
 
 impl KeptIndex {
@@ -71,11 +74,11 @@ unsafe impl Send for KeptIndex {}
 pub struct IndexSlot {
     at: *mut u8,
     alloc: Global,
-    pub ghost envelopes: { Option Indexed } by { index_slot_coded },
+    pub ghost envelopes: { Option (List (Option Envelope)) } by { coded_option tree_row.coded },
 }
 
 impl Model for IndexSlot {
-    ghost also_owns = { λ s. index_slot_owns s.alloc s.at s.envelopes };
+    ghost also_owns = { λ s. slot_owns tree_row s.alloc s.at s.envelopes };
 }
 
 impl IndexSlot {

@@ -5,7 +5,7 @@ use std::alloc::Global;
 use std::test::Fail;
 use streams::{MemorySink, put_all};
 use wkb::{Axis, BinaryFault, Grid, Refusal, Rounding, read};
-use wkt::print;
+use wkt::{Geometry, print};
 
 /// The text of the geometry that bytes become on the grid of whole numbers and the number of its reference system, or their fault.
 fn said(alloc: Global, bytes: &[u8]) -> Result<MemorySink, Fail> {
@@ -312,5 +312,110 @@ fn a_grid_moves_positions(rt: HostRuntime) -> Result<(), Fail> {
         greatest: 5 << 20,
     };
     assert!(rt; found.rounding == wanted);
+    Ok(())
+}
+
+/// The step, the origin and the parts of an axis, a coordinate, and the bits of the double that is nearest to it: exact ones; hundredths,
+/// none of which is a double; halves between two doubles, of which the even one is nearest; the widest and the finest axis.
+const PRINTED: [(u64, i64, u64, i32, u64); 13] = [
+    (1, 0, 1, 0, 0x0000_0000_0000_0000),
+    (1, 0, 1, -10_000_000, 0xC163_12D0_0000_0000),
+    (1, 56_400_050, 100, 1, 0x4121_3641_051E_B852),
+    (1, -56_400_050, 100, -7, 0xC121_3641_23D7_0A3D),
+    (1, 9_007_199_254_740_993, 1, 0, 0x4340_0000_0000_0000),
+    (1, 9_007_199_254_740_995, 1, 0, 0x4340_0000_0000_0002),
+    (1, -9_007_199_254_740_993, 1, 0, 0xC340_0000_0000_0000),
+    (
+        1_000_000_000_000_000,
+        i64::MIN,
+        1,
+        10_000_000,
+        0x4480_ECCF_064D_D592,
+    ),
+    (1, 0, 1_000_000_000_000_000, 1, 0x3CD2_03AF_9EE7_5616),
+    (1, 0, 3, 1, 0x3FD5_5555_5555_5555),
+    (1, 0, 3, -2, 0xBFE5_5555_5555_5555),
+    (1, 1, 1_024, 3, 0x3F70_0000_0000_0000),
+    (1, 9_007_199_254_740_991, 2, 0, 0x432F_FFFF_FFFF_FFFF),
+];
+
+/// The point with the same coordinate twice.
+fn twice(alloc: Global, coordinate: i32) -> Result<Geometry, Fail> {
+    let text = format!(in alloc; "POINT({coordinate} {coordinate})")?;
+    Ok(wkt::read(alloc, text.as_bytes())?)
+}
+
+#[test]
+fn printed_doubles(rt: HostRuntime) -> Result<(), Fail> {
+    for (step, origin, parts, coordinate, wanted) in &PRINTED {
+        let axis = Axis::new(*step, *origin, *parts).ok_or("an axis")?;
+        let grid = Grid {
+            x: axis,
+            y: axis,
+            moves: true,
+        };
+        let point = twice(rt.alloc(), *coordinate)?;
+        let bytes = wkb::print(rt.alloc(), &point, &grid)?;
+        let mut bits = Vec::new(rt.alloc());
+        bits.extend_from_slice(&[1, 1, 0, 0, 0])?;
+        bits.extend_from_slice(&wanted.to_le_bytes())?;
+        bits.extend_from_slice(&wanted.to_le_bytes())?;
+        assert!(rt; bytes.as_slice() == bits.as_slice(), "{wanted}");
+    }
+    Ok(())
+}
+
+/// Which of the known values `print` writes as they are: the least byte of each number comes first, no reference system is named, and
+/// no position is repeated.
+const PRINTED_AS_THEY_ARE: [usize; 6] = [0, 3, 4, 8, 9, 30];
+
+#[test]
+fn known_values_printed(rt: HostRuntime) -> Result<(), Fail> {
+    let grid = Grid::of_whole_numbers();
+    for (index, (bytes, wanted)) in KNOWN.iter().enumerate() {
+        if PRINTED_AS_THEY_ARE.contains(&index) {
+            let found = read(rt.alloc(), bytes, &grid)?;
+            let again = wkb::print(rt.alloc(), &found.geometry, &grid)?;
+            assert!(rt; again.as_slice() == *bytes, "{wanted}");
+        }
+    }
+    Ok(())
+}
+
+/// Texts of each type, whose binary is read again as the same.
+const TEXTS: [&str; 12] = [
+    "POINT EMPTY",
+    "POINT(-3 7)",
+    "MULTIPOINT EMPTY",
+    "MULTIPOINT((5 6),(5 6),(-10000000 10000000))",
+    "LINESTRING EMPTY",
+    "LINESTRING(1 2,3 4,1 2)",
+    "MULTILINESTRING EMPTY",
+    "MULTILINESTRING((0 0,1 1),(9 9,8 8,7 9))",
+    "POLYGON EMPTY",
+    "POLYGON((0 0,9 0,9 9,0 9,0 0),(1 1,2 1,2 2,1 1))",
+    "MULTIPOLYGON EMPTY",
+    "MULTIPOLYGON(((0 0,0 1,1 1,1 0,0 0)),((5 5,9 5,9 9,5 5),(6 6,7 6,7 7,6 6)))",
+];
+
+#[test]
+fn printed_and_read_again(rt: HostRuntime) -> Result<(), Fail> {
+    let axis = Axis::new(1, 56_400_050, 100).ok_or("an axis")?;
+    let hundredths = Grid {
+        x: axis,
+        y: axis,
+        moves: true,
+    };
+    for grid in &[Grid::of_whole_numbers(), hundredths] {
+        for text in &TEXTS {
+            let geometry = wkt::read(rt.alloc(), text.as_bytes())?;
+            let bytes = wkb::print(rt.alloc(), &geometry, grid)?;
+            let again = read(rt.alloc(), bytes.as_slice(), grid)?;
+            let mut sink = MemorySink::new(rt.alloc());
+            print(&again.geometry, &mut sink)?;
+            assert!(rt; sink.bytes() == text.as_bytes(), "{text}");
+            assert!(rt; again.rounding.moved == 0 && again.rounding.merged == 0);
+        }
+    }
     Ok(())
 }

@@ -35,7 +35,7 @@ pub fn holes_are_cut()
 {}
 
 /// In a valid area, at a point strictly within a ring edge that isn't vertical, exactly one of the two numbers of edges, strictly
-/// above and at or above, is odd: the rings part the interior from the exterior there (06-103r4, 6.1.11.1).
+/// above and at or above, is odd: the rings separate the interior from the exterior there (06-103r4, 6.1.11.1).
 pub fn rings_part()
     ensures { RingsPart }
 {}
@@ -47,7 +47,7 @@ pub fn sides_of_a_ring()
     ensures { SidesOfARing }
 {}
 
-/// Where the envelopes of two geometries don't meet, their matrix is empty in the cells of interior and boundary with interior
+/// If the envelopes of two geometries don't meet, their matrix is empty in the cells of interior and boundary with interior
 /// and boundary (06-103r4, 6.1.2.2 and 6.1.15.2).
 pub fn nothing_common()
     ensures { NothingCommon }

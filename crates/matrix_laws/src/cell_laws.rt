@@ -1,5 +1,5 @@
-//! Laws of what a matrix shows of two geometries: what is there may be shown, and what covers all edges and positions shows
-//! all.
+//! Laws of what a matrix shows about two geometries: what they have in common may be shown, and what covers all edges and
+//! positions shows all.
 
 ghost use Rattle.matrix_laws.specs.CellLaws.{
   PointIsThere,
@@ -22,7 +22,7 @@ pub fn piece_is_there()
     ensures { PieceIsThere }
 {}
 
-/// Where that edge isn't vertical, the parts below the point share an area, and so do those above it (06-103r4, 6.1.15.2).
+/// The parts below a point of an edge that isn't vertical share an area, as do those above, if it isn't a cut (06-103r4, 6.1.15.2).
 pub fn sides_are_there()
     ensures { SidesAreThere }
 {}
@@ -47,7 +47,7 @@ pub fn parts_are_ordered()
     ensures { PartsAreOrdered }
 {}
 
-/// Of two geometries in the other order, the transposed matrix covers the same and shows nothing else (06-103r4, 6.1.15.2).
+/// For two geometries in the other order, the transposed matrix covers as much and shows nothing else (06-103r4, 6.1.15.2).
 pub fn covers_turned()
     ensures { CoversTurned }
 {}

@@ -4,7 +4,7 @@
 
 ghost use Rattle.matrix_laws.specs.CoveringLaws.{GapIsThere, GapsCover, FullCovers, FullOffCovers, HeldCovers, HeldByCovered};
 
-/// What a gap of an edge shows of two valid geometries is there: the gap itself, and its sides where the edge isn't vertical
+/// What a gap of an edge shows about two valid geometries is true: the gap itself, and its sides if the edge isn't vertical
 /// (06-103r4, 6.1.15.2).
 pub fn gap_is_there()
     ensures { GapIsThere }
@@ -33,7 +33,7 @@ pub fn held_covers()
     ensures { HeldCovers }
 {}
 
-/// Or that the matrix covers the other geometry's edges (06-103r4, 6.1.15.2).
+/// If edges of the other geometry hold all of an edge, a matrix that covers that geometry's edges covers it (06-103r4, 6.1.15.2).
 pub fn held_by_covered()
     ensures { HeldByCovered }
 {}

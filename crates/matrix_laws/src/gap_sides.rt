@@ -18,7 +18,7 @@ pub fn sides_of_own_edge()
     ensures { SidesOfOwnEdge }
 {}
 
-/// Strictly between any two points of such an edge, too, one side is interior and the other exterior (06-103r4, 6.1.11.1).
+/// Strictly between points of a valid area's edge that isn't vertical, one side is interior, one exterior (06-103r4, 6.1.11.1).
 pub fn sides_within_own_edge()
     ensures { SidesWithinOwnEdge }
 {}

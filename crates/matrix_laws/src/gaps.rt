@@ -27,8 +27,8 @@ pub fn gap_is_alike()
     ensures { GapIsAlike }
 {}
 
-/// A point from the one end of a gap to the other, both counted, that no edge holds lies as the points strictly between the
-/// ends do, and then no edge holds those (06-103r4, 6.1.15.2).
+/// If no edge holds a point of a gap, ends included, the point lies where the points strictly between the ends lie, and no
+/// edge holds those (06-103r4, 6.1.15.2).
 pub fn gap_end_is_alike()
     ensures { GapEndIsAlike }
 {}

@@ -2,7 +2,7 @@
 
 ghost use Rattle.matrix_laws.specs.NestingLaws.{InnerIsWithinOuter, NothingIsOddOverBoth, NotEachIsInside};
 
-/// Of two closed rings that share no point, what is inside the inner one is inside the outer one (06-103r4, 6.1.11.1).
+/// If two closed rings share no point, what is inside the inner one is inside the outer one (06-103r4, 6.1.11.1).
 pub fn inner_is_within_outer()
     ensures { InnerIsWithinOuter }
 {}

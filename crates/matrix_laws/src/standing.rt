@@ -12,7 +12,7 @@ pub fn no_cut_is_mostly()
     ensures { NoCutIsMostly }
 {}
 
-/// On its own edges a geometry is mostly interior where it is of lines, and boundary where it is an area (06-103r4, 6.1.8.1 and
+/// On its own edges a geometry is mostly interior if it is lines, and mostly boundary if it is an area (06-103r4, 6.1.8.1 and
 /// 6.1.11.1).
 pub fn own_edges_are_mostly()
     ensures { OwnEdgesAreMostly }

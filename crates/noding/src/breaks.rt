@@ -26,7 +26,7 @@ fn push_if_on(breaks: &mut Breaks, segment: &Segment, position: GridPoint) -> Re
     Ok(())
 }
 
-/// Appends the listed positions on a segment. It looks only at those whose x lies in its range.
+/// Appends the listed positions on a segment. It looks only at those whose x lies in the segment's range.
 fn push_listed(
     breaks: &mut Breaks,
     segment: &Segment,

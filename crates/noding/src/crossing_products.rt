@@ -1,4 +1,4 @@
-//! The numbers that meeting points are made of. Each is bounded: denominators fit 64 bits, numerators 128.
+//! The numbers from which meeting points are computed. Denominators fit in 64 bits, numerators in 128.
 
 ghost use Rattle.std.specs.Prelude.{◌≡◌, ◌≢◌, IsTrue, ◌*◌, ◌≤◌, pos, ◌≤ℤ◌, ◌<ℤ◌, ◌+ℤ◌, ◌-ℤ◌, ◌*ℤ◌, unsigned_abs};
 ghost use Rattle.geometry_model.specs.Points.{IsLeast, point_at, same_point};
@@ -22,7 +22,7 @@ fn weighted_sum(a: i32, m: i64, b: i32, n: i64) -> i128
     i128::from(m) * i128::from(a) + i128::from(n) * i128::from(b)
 }
 
-/// The point between two positions by their weights m and n: (m a + n b) / (m + n). Where one weight is 0, it is a position,
+/// The point between two positions by their weights m and n: (m a + n b) / (m + n). If one weight is 0, it is a position,
 /// and nothing is divided.
 pub(crate) fn point_between(a: GridPoint, m: i64, b: GridPoint, n: i64) -> RatPoint
     requires first_weight { pos 0 ≤ℤ m }

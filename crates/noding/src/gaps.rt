@@ -70,7 +70,7 @@ impl Gaps {
         filled
     }
 
-    /// Fills the gaps of an edge among others. If memory runs out, some of them may be there.
+    /// Fills the gaps of an edge among others. If memory runs out, perhaps only some of them are filled.
     fn fill(
         &mut self,
         edge: &Segment,
@@ -97,13 +97,13 @@ impl Gaps {
         boxes.overlaps_on_line(others, edge)
     }
 
-    /// How often points that the edge shares with others were found, a point as often as others share it: a measure of the work
-    /// that the edge is, of which no contract speaks.
+    /// How often points that the edge shares with others were found; a point counts once for each edge that shares it. It
+    /// measures the work for the edge, and no contract says anything about it.
     pub fn named(&self) -> usize {
         self.named
     }
 
-    /// The sum of `named` over all edges for which it was filled.
+    /// The sum of `named` over all edges for which gaps were filled.
     pub fn all_named(&self) -> usize {
         self.all_named
     }

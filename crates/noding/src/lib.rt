@@ -1,9 +1,9 @@
-//! What segments of the grid have in common, exactly: of two of them the points, of many the nodes and the pieces between them,
-//! of one edge among others the points and the gaps between these; and edges merged along each line.
+//! What segments of the grid have in common, exactly: the points that two of them share, the nodes of many and the pieces between
+//! them, the points at which others meet an edge and the gaps between these; and edges merged along each line.
 //!
-//! A segment is cut at its break points: its ends, the listed positions on it (positions that are given beside the segments, as a
-//! MULTIPOINT's), and what it shares with other segments. Nodes are the break points of all segments and the listed positions. A
-//! piece is the stretch of a segment between neighbouring nodes on it.
+//! A segment is cut at its break points: its ends, the listed positions on it (positions that are given besides the segments,
+//! such as a MULTIPOINT's), and what it shares with other segments. Nodes are the break points of all segments and the listed
+//! positions. A piece is the stretch of a segment between neighbouring nodes on it.
 #![tactic(auto)]
 
 pub mod answers;

@@ -14,8 +14,8 @@ use std::alloc::{AllocError, Global};
 use std::cmp::Ordering;
 use std::marker::Model;
 
-/// Edges, of which those that are on one line and touch are merged, in the order of their lines. Each point of them is on some
-/// of the edges that they were made of (06-103r4, 6.1.7: Line; merging: this project's choice).
+/// Edges in the order of their lines; those that were on one line and touched are merged. Each point of them is on some of the
+/// edges from which they were made (06-103r4, 6.1.7: Line; merging: this project's choice).
 #[derive(Debug, Drop)]
 pub struct MergedEdges {
     stretches: Vec<Segment>,
@@ -107,14 +107,14 @@ impl MergedEdges {
         }
     }
 
-    /// Whether there are none.
+    /// Whether there are no edges.
     pub fn is_empty(&self) -> bool
         ensures { IsTrue result ↔ (self.now ≡ []) }
     {
         self.stretches.is_empty()
     }
 
-    /// Replaces what is there by these edges, merged. It fails only when memory runs out, and then there are none.
+    /// Replaces the merged edges by these, merged. It fails only when memory runs out, and then there are no edges.
     pub fn merge(&mut self, edges: &[Segment]) -> Result<(), AllocError>
         ensures merged { OnOk result (AreMerged edges.now self.new) }
         ensures all { OnOk result (AreMerged self.new edges.now) }
@@ -131,7 +131,7 @@ impl MergedEdges {
     }
 
     /// Whether one of the merged edges holds all of an edge, by a binary search. If it returns true, each point of the edge is on
-    /// some of the edges that were merged; if it returns false, that may be so as well. It takes no memory.
+    /// some of the edges that were merged; if it returns false, that may be true as well. It takes no memory.
     pub fn holds(&self, edge: &Segment) -> bool
         ensures { (es : List Edge) → AreMerged es self.now → result ≡ true → IsHeld es edge.now }
     {

@@ -26,7 +26,7 @@ impl Model for Noded {
 }
 
 impl Noded {
-    /// These points and stretches, and this many pairs tried.
+    /// These points as nodes and these stretches as pieces, with the number of pairs that were tried.
     pub(crate) fn new(
         points: Vec<RatPoint>,
         stretches: Vec<(RatPoint, RatPoint)>,
@@ -57,8 +57,8 @@ impl Noded {
         self.stretches.as_slice()
     }
 
-    /// The number of pairs of segments whose ranges of x share a number; it stays at the greatest u64. Other pairs aren't
-    /// tried.
+    /// The number of pairs of segments whose ranges of x share a number; it doesn't grow past the greatest u64. Other
+    /// pairs aren't tried.
     pub fn tests(&self) -> u64
         ensures { result ≡ self.now.tests }
     {

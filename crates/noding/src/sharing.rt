@@ -16,7 +16,7 @@ use orient::Segment;
 use smallvec::SmallVec;
 use std::alloc::AllocError;
 
-/// Up to this many edges are all looked at: they have no boxes, and no list of places is made.
+/// If there are at most this many edges, all are looked at: they have no boxes, and no list of places is made.
 const FEW_EDGES: usize = 16;
 
 /// Appends the points that a value of `Meet` names.
@@ -53,7 +53,7 @@ fn find_among_all(
     Ok(())
 }
 
-/// Replaces what the vector holds by the points that the edge shares with others, of which those at these places share one.
+/// Replaces what the vector holds by the points that the edge shares with others; those at these places share one.
 fn find_at(
     edge: &Segment,
     others: &[Segment],
@@ -70,8 +70,8 @@ fn find_at(
     Ok(())
 }
 
-/// Replaces what the second vector holds by the points that the edge shares with others, whose boxes are given. If there are
-/// few others, it looks at each; else at those that share a point with it, whose places the first vector takes.
+/// Replaces what the second vector holds by the points that the edge shares with others, whose boxes are given. If there are few
+/// others, it looks at each; else only at those that share a point with it, whose places it writes into the first vector.
 pub(crate) fn find_shared(
     edge: &Segment,
     others: &[Segment],

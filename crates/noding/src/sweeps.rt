@@ -43,7 +43,7 @@ pub(crate) fn all_own_breaks(
     Ok(breaks)
 }
 
-/// What two segments have in common whose ranges of x overlap; the pair is counted.
+/// What two segments whose ranges of x overlap have in common; the pair is counted.
 fn tried(first: &Segment, second: &Segment, tests: &mut u64) -> Meet
     ensures counted { tests.new ≡ min (tests.old + 1) (2 ^ 64 - 1) }
     ensures exact { IsMeeting first.now second.now result }

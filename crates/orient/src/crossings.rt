@@ -1,5 +1,5 @@
-//! Which segments lie above a point, on an upward ray from it: each covers its left end and not its right
-//! one.
+//! Which segments lie above a point, on an upward ray from it. The left end of a segment counts, and its
+//! right end doesn't.
 
 ghost use Rattle.std.specs.Prelude.{◌≡◌, ◌-ℤ◌, pos, if◌then◌else◌, int_le, int_lt};
 ghost use Rattle.geometry_model.specs.Points.{point_at};
@@ -12,19 +12,19 @@ use crate::segments::Segment;
 use crate::sides::{is_on, side_number, signed_side};
 use fraction::{GridPoint, RatPoint};
 
-/// How a point lies relative to a segment (06-103r4, 6.1.7 and 6.1.11.1). Of the segment's ends the left one counts and the
-/// right one doesn't; a vertical segment lies above no point.
+/// How a point lies relative to a segment (06-103r4, 6.1.7 and 6.1.11.1). The segment's left end counts and its right one
+/// doesn't; a vertical segment lies above no point.
 #[derive(Clone, Copy, Debug, PartialEq, Eq)]
 pub struct Crossing {
-    /// Whether it lies on the segment, ends counted.
+    /// Whether the point lies on the segment, ends included.
     pub on: bool,
-    /// Whether the segment lies strictly above it.
+    /// Whether the segment lies strictly above the point.
     pub strictly_above: bool,
-    /// Whether the segment lies above it or goes through it.
+    /// Whether the segment lies above the point or goes through it.
     pub at_or_above: bool,
 }
 
-/// Whether the position's x is at most the point's. At a position of the grid no multiplication is needed.
+/// Whether the position's x is at most the point's. If the point is a position of the grid, no multiplication is needed.
 fn reaches(a: GridPoint, p: &RatPoint) -> bool
     ensures { result ≡ spec.reaches a p.now }
 {
@@ -55,8 +55,8 @@ fn signed_side_rightward(segment: &Segment, p: &RatPoint) -> i128
     }
 }
 
-/// Whether the segment lies strictly above the point: an upward ray from it crosses the segment. Of the
-/// segment's ends the left one counts and the right one doesn't; a vertical segment is never crossed.
+/// Whether the segment lies strictly above the point: an upward ray from it crosses the segment. The
+/// segment's left end counts and its right one doesn't; a vertical segment is never crossed.
 pub fn crosses_up(segment: &Segment, p: &RatPoint) -> bool
     ensures { result ≡ spec.strictly_above segment.now p.now }
 {
@@ -144,7 +144,7 @@ fn crossing_at_point(segment: &Segment, p: &RatPoint) -> Crossing
     }
 }
 
-/// How the point lies relative to the segment. At a position of the grid it takes numbers of 64 bits alone.
+/// How the point lies relative to the segment. For a position of the grid, numbers of 64 bits suffice.
 pub fn crossing_at(segment: &Segment, p: &RatPoint) -> Crossing
     ensures on { result.on ≡ on segment.now p.now }
     ensures strictly_above { result.strictly_above ≡ spec.strictly_above segment.now p.now }

@@ -1,5 +1,5 @@
-//! Segments of the grid, and how a rational point lies relative to one: on which side, on it, below it. Nothing
-//! here takes memory.
+//! Segments of the grid, and how a rational point lies relative to one: on which side of it, on it or below it.
+//! Nothing here takes memory.
 #![tactic(auto)]
 
 mod crossings;

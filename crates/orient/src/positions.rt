@@ -29,8 +29,8 @@ fn is_within_ends(segment: &Segment, at: GridPoint) -> bool
     is_in_box(segment.start(), segment.end(), at)
 }
 
-/// Whether a position lies on the segment, ends counted, where the number is given whose sign is the side on which it lies
-/// (06-103r4, 6.1.7: Line).
+/// Whether a position lies on the segment, ends included (06-103r4, 6.1.7: Line). The sign of `side` says on which side it
+/// lies.
 pub fn position_on(segment: &Segment, at: GridPoint, side: i64) -> bool
     requires { side ≡ spec.side segment.now.start segment.now.end (point_at at) }
     ensures { result ≡ spec.on segment.now (point_at at) }

@@ -1,5 +1,5 @@
-//! The products that a side is computed from. At points with denominator 1 all numbers fit in 64 bits, at others in
-//! 128.
+//! The products from which a side is computed. For points with denominator 1 all numbers fit in 64 bits, for others
+//! in 128.
 
 ghost use Rattle.std.specs.Prelude.{◌≡◌, ◌*◌, ◌≤◌, ◌-ℤ◌, ◌*ℤ◌, unsigned_abs};
 ghost use Rattle.geometry_model.specs.WellKnownText.{coordinate_limit};
@@ -38,7 +38,7 @@ pub fn beyond(numerator: i128, denominator: i64, coordinate: i32) -> i128
     numerator - numerator_over(coordinate, denominator)
 }
 
-/// The vector product of a step and of what lies beyond its start.
+/// The vector product of a step and of the vector by which a point lies beyond its start.
 pub(crate) fn vector_product(dx: i64, dy: i64, ex: i128, ey: i128) -> i128
     requires dx_bound { unsigned_abs dx ≤ 2 * coordinate_limit }
     requires dy_bound { unsigned_abs dy ≤ 2 * coordinate_limit }

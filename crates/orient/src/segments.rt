@@ -27,7 +27,7 @@ impl Model for Segment {
 }
 
 impl Segment {
-    /// The segment from a to b; `None` exactly where they are the same position (06-103r4, 6.1.7: Line;
+    /// The segment from a to b; `None` exactly if they are the same position (06-103r4, 6.1.7: Line;
     /// `None`: this project's choice).
     pub fn new(a: GridPoint, b: GridPoint) -> Option<Segment>
         ensures none { IsNone result ↔ (a ≡ b) }

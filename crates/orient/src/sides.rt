@@ -37,8 +37,8 @@ pub fn side_of_point(from: GridPoint, to: GridPoint, p: &RatPoint) -> i128
     vector_product(dx, dy, ex, ey)
 }
 
-/// The number whose sign is the side of p, seen from `from` to `to`. At a position of the grid it is computed in 64
-/// bits.
+/// The number whose sign is the side of p, seen from `from` to `to`. For a position of the grid it is computed in
+/// 64 bits.
 pub(crate) fn signed_side(from: GridPoint, to: GridPoint, p: &RatPoint) -> i128
     ensures { result ≡ spec.side from to p.now }
 {
@@ -74,7 +74,7 @@ fn ascend(a: i128, b: i128, c: i128) -> bool
     a <= b && b <= c
 }
 
-/// Whether the coordinate n/w lies between s and t, ends counted.
+/// Whether the coordinate n/w lies between s and t, ends included.
 fn is_between(s: i32, t: i32, n: i128, w: i64) -> bool
     ensures { result ≡ spec.between s t n w }
 {
@@ -95,7 +95,7 @@ fn is_within_ends(segment: &Segment, p: &RatPoint) -> bool
         && is_between(start.y(), end.y(), p.numerator_y(), w)
 }
 
-/// Whether p, of this side, lies on the segment.
+/// Whether p lies on the segment; the sign of `side` says on which side of its line p is.
 pub(crate) fn is_on(side: i128, segment: &Segment, p: &RatPoint) -> bool
     requires { side ≡ spec.side segment.now.start segment.now.end p.now }
     ensures { result ≡ spec.on segment.now p.now }
@@ -103,7 +103,7 @@ pub(crate) fn is_on(side: i128, segment: &Segment, p: &RatPoint) -> bool
     side == 0 && is_within_ends(segment, p)
 }
 
-/// Whether p lies on the segment, ends counted (06-103r4, 6.1.7: Line).
+/// Whether p lies on the segment, ends included (06-103r4, 6.1.7: Line).
 pub fn on(segment: &Segment, p: &RatPoint) -> bool
     ensures { result ≡ spec.on segment.now p.now }
 {

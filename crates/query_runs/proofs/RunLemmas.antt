@@ -1,5 +1,5 @@
 -- What the exits of a run say.
-use Rattle.std.proofs.Common.{◌≡◌, ◌≢◌, ◌<◌, inl, inr, ℕ, Bool, true, false, List, ◌∷◌, [], ◌++◌, codes, length, map, Option, None, Some, Result, Ok, Err, IfErr, refl, sym, ◌∙◌, ap, subst, append-nil}
+use Rattle.std.proofs.Common.{◌≡◌, ◌≢◌, ◌<◌, arith, inl, inr, ℕ, Bool, true, false, List, ◌∷◌, [], ◌++◌, codes, length, map, Option, None, Some, Result, Ok, Err, IfErr, refl, sym, ◌∙◌, ap, subst, append-nil}
 use Rattle.std.specs.Prelude.{IsErrAnd, IsOk, zero, suc, decimal}
 use Rattle.std.specs.List.{concat}
 use Rattle.std.specs.Option.{option_map_or}
@@ -37,10 +37,11 @@ use Rattle.table_model.specs.declared.queries.Explain.{Explain}
 use Rattle.table_model.specs.declared.queries.Explain.TheVariants as explains
 use Rattle.table_model.specs.declared.queries.WrittenColumn.{WrittenColumn}
 use Rattle.table_model.specs.declared.queries.WrittenGeometry.{WrittenGeometry}
+use Rattle.feature_table.specs.LastRecords.{ShowsFault}
 use Rattle.feature_table.specs.Outcomes.{IsFailure, is_of_reading}
 use Rattle.feature_table.specs.Tables.{EarlierLoad}
 use Rattle.failures.specs.Faults.{load_wants_memory, memory_or, of_put, of_query, of_table, wants_memory}
-use Rattle.query_runs.specs.Runs.{Counts, IsOfTables, IsReached, RefusesTable, Runs, answer_work, bound_text, choice_text, count_text, loaded_work, none_reached, planned_text, planned_work, query_work, rows_of_choices, rows_text, work_outcome}
+use Rattle.query_runs.specs.Runs.{Counts, IsOfTables, IsReached, RefusesTable, Runs, ShowsRun, answer_work, bound_text, choice_text, count_text, loaded_work, none_reached, planned_text, planned_work, query_work, rows_of_choices, rows_text, work_outcome}
 use Rattle.query_runs.specs.RecordTexts.{record_text}
 use Rattle.failures.specs.declared.run_fault.Fault.{Fault}
 use Rattle.failures.specs.declared.run_fault.Fault.TheVariants as faults
@@ -81,10 +82,10 @@ pub at-fault : {A : Type 0} (r : Result A Fault) (f : Fault) (outcome : Result (
 at-fault (Ok a) f outcome reached old new is fact = absurd is
 at-fault {A = A} (Err e) f outcome reached old new is fact = subst (λ x. Runs {A = A} (Err x) outcome reached old new) (sym is) fact
 
--- a fault of a step that loads no table names none
-pub of-tables : {A : Type 0} (count : ℕ) (r : Result A Fault) (f : Fault) → IsErrAnd r (λ x. x ≡ f) → IsOfTables count f → IfErr r (IsOfTables count)
-of-tables count (Ok a) f is fact = absurd is
-of-tables count (Err e) f is fact = subst (IsOfTables count) (sym is) fact
+-- what holds of the fault that it is
+pub of-fault : {A : Type 0} (r : Result A Fault) (f : Fault) (Is : Fault → Type 0) → IsErrAnd r (λ x. x ≡ f) → Is f → IfErr r Is
+of-fault (Ok a) f Is is fact = absurd is
+of-fault (Err e) f Is is fact = subst Is (sym is) fact
 
 -- a fault of the query names no table
 pub query-of-tables : (count : ℕ) (e : QueryFault) → IsOfTables count (of_query e)
@@ -106,6 +107,22 @@ load-of-tables count f within = go (load_wants_memory f.fault)
     go : (memory : Bool) → IsOfTables count (memory_or memory (faults.Load f.table f.fault))
     go true = tt
     go false = within
+
+-- the records that show a fault of loading were read last
+pub load-shows : (records : List (List Record)) (header last : Record) (f : TableFault) → ShowsFault records header last f
+    → ShowsRun records header last (of_table f)
+load-shows records header last f shows = go (load_wants_memory f.fault)
+  where
+    go : (memory : Bool) → ShowsRun records header last (memory_or memory (faults.Load f.table f.fault))
+    go true = tt
+    go false = shows
+
+-- a fault that names no table is shown by none
+pub none-show : {A : Type 0} (r : Result A Fault) (records : List (List Record)) (header last : Record) → IfErr r (IsOfTables 0)
+    → IfErr r (ShowsRun records header last)
+none-show (Ok a) records header last names = tt
+none-show (Err (faults.Load table f)) records header last names = absurd (omega (arith, names))
+none-show (Err _) records header last names = tt
 
 -- ---- texts
 

@@ -1,8 +1,8 @@
 -- How many rows the tables of a run have.
-use Rattle.std.specs.Prelude.{◌≡◌, ◌⊎◌, ℕ, List, Ok, Option, Result, length, map}
+use Rattle.std.specs.Prelude.{◌≡◌, ◌⊎◌, ℕ, IfErr, List, Ok, Option, Result, length, map}
 use Rattle.failures.specs.declared.run_fault.Fault.{Fault}
 use Rattle.feature_table.specs.Tables.{EachRecordsOf}
-use Rattle.query_runs.specs.Runs.{RunsOver}
+use Rattle.query_runs.specs.Runs.{RunsOver, ShowsRun}
 use Rattle.query_runs.specs.declared.row_counts.RowCounts.{RowCounts}
 use Rattle.query_runs.specs.declared.row_counts.RowCounts.TheVariants as counts
 use Rattle.table_model.specs.Databases.{load_tables}
@@ -32,9 +32,12 @@ CountsLoaded definitions records old new =
 abbrev pub LeavesCounts : SpatialSchema → List (List Record) → RowCounts → RowCounts → Type 0
 LeavesCounts definitions records old new = (new ≡ old) ⊎ CountsLoaded definitions records old new
 
--- there are records of the readers over which the run is what it promises, and whose rows are those that it counts
-pub record RunsAndCounts (result : Result ℕ Fault) (definitions : SpatialSchema) (readers : List (Option (List ℕ))) (text : List ℕ) (old new : Option (List ℕ)) (before after : RowCounts) : Type 0 where
+-- there are records of the readers over which the run is what it promises, and whose rows are those that it counts; where one of them has a
+-- fault, it and its header were read last
+pub record RunsAndCounts (result : Result ℕ Fault) (definitions : SpatialSchema) (readers : List (Option (List ℕ))) (text : List ℕ) (old new : Option (List ℕ))
+    (before after : RowCounts) (header last : Record) : Type 0 where
   pub records : List (List Record)
   pub are_of : EachRecordsOf readers records
   pub runs : RunsOver result definitions records text old new
   pub counts : LeavesCounts definitions records before after
+  pub shows : IfErr result (ShowsRun records header last)

@@ -26,6 +26,7 @@ use Rattle.table_model.specs.declared.faults.TableFault.{TableFault}
 use Rattle.table_model.specs.declared.plans.Plan.{Plan}
 use Rattle.table_model.specs.declared.queries.Explain.{Explain}
 use Rattle.table_model.specs.declared.queries.Explain.TheVariants as explains
+use Rattle.feature_table.specs.LastRecords.{ShowsFault}
 use Rattle.feature_table.specs.Outcomes.{is_of_reading}
 use Rattle.feature_table.specs.Tables.{EachRecordsOf, EarlierLoad, records_in}
 use Rattle.query_runs.specs.RecordTexts.{record_text}
@@ -150,6 +151,13 @@ IsOfTables count (faults.Load table f) = table < count
 IsOfTables count (faults.Query f) = ⊤
 IsOfTables count faults.Sink = ⊤
 IsOfTables count faults.Memory = ⊤
+
+-- the header and the record of the table's fault in which a run ends
+abbrev pub ShowsRun : List (List Record) → Record → Record → Fault → Type 0
+ShowsRun records header last (faults.Load table f) = ShowsFault records header last (record { table = table; fault = f })
+ShowsRun records header last (faults.Query f) = ⊤
+ShowsRun records header last faults.Sink = ⊤
+ShowsRun records header last faults.Memory = ⊤
 
 -- a sink's count of failures after a run: one more where the sink failed
 abbrev pub count_after : {A : Type 0} → ℕ → Result A Fault → ℕ

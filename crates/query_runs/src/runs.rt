@@ -29,7 +29,7 @@ use csv::ByteRecord;
 use executor::{RowPair, Rows, Work};
 use explain::{analyze, explain};
 use failures::Fault;
-use feature_table::{Database, Schema};
+use feature_table::{Database, LastRecords, Schema};
 use itoa::Buffer;
 use planner::choose;
 use rtree::EnvelopeIndex;
@@ -79,13 +79,24 @@ pub fn run_observed<I: EnvelopeIndex + Drop, R: Read + Drop, S: Sink, O: RowObse
         (S.taken sink.old) (S.taken sink.new) (S.failures sink.old) (S.failures sink.new) }
 {
     let mut counts = RowCounts::Unasked;
-    run_counted::<I, I, R, S, O>(alloc, schema, readers, query, &mut counts, sink, observer)
+    let mut last = LastRecords::new(alloc);
+    run_counted::<I, I, R, S, O>(
+        alloc,
+        schema,
+        readers,
+        query,
+        &mut counts,
+        &mut last,
+        sink,
+        observer,
+    )
 }
 
 /// Like `run_observed`, but with a type of index for each kind of query: `I` for a query with two references, and `L`
 /// for one with a single reference, which searches an index at most once. Only the time depends on it. If the numbers
 /// of rows of the tables are wanted, it counts them once all tables have loaded, and they stay counted if it fails
-/// after that. If memory runs out for the counts alone, the run goes on and they stay wanted.
+/// after that. If memory runs out for the counts alone, the run goes on and they stay wanted. If a table has a fault,
+/// `last` then holds its header and the record with the fault (see `Database::load_into`).
 pub fn run_counted<
     I: EnvelopeIndex + Drop,
     L: EnvelopeIndex + Drop,
@@ -98,6 +109,7 @@ pub fn run_counted<
     readers: Vec<R>,
     query: &str,
     counts: &mut RowCounts,
+    last: &mut LastRecords,
     sink: &mut S,
     observer: &mut O,
 ) -> Result<Work, Fault>
@@ -107,16 +119,17 @@ pub fn run_counted<
     ensures counts { (texts : List (List ℕ)) → map R.remaining readers.items ≡ map Some texts
         → OnOk result (CountsLoaded schema.now (map records_in texts) counts.old counts.new) }
     ensures leaves { RunsAndCounts result schema.now (map R.remaining readers.items) query.now
-        (S.taken sink.old) (S.taken sink.new) counts.old counts.new }
+        (S.taken sink.old) (S.taken sink.new) counts.old counts.new
+        (fields_of last.new.header) (fields_of last.new.record) }
     ensures unasked { counts.old ≡ RowCounts.Unasked → counts.new ≡ RowCounts.Unasked }
 {
     let query = read_query(alloc, query)?;
     if query.references.as_slice().len() == 1 {
         return load_and_answer::<L, R, S, O>(
-            alloc, schema, readers, &query, counts, sink, observer,
+            alloc, schema, readers, &query, counts, last, sink, observer,
         );
     }
-    load_and_answer::<I, R, S, O>(alloc, schema, readers, &query, counts, sink, observer)
+    load_and_answer::<I, R, S, O>(alloc, schema, readers, &query, counts, last, sink, observer)
 }
 
 /// Loads all tables, counts their rows if that is wanted, and runs a query over them. Its promises hold for each text
@@ -128,6 +141,7 @@ fn load_and_answer<I: EnvelopeIndex + Drop, R: Read + Drop, S: Sink, O: RowObser
     readers: Vec<R>,
     query: &Query<'_>,
     counts: &mut RowCounts,
+    last: &mut LastRecords,
     sink: &mut S,
     observer: &mut O,
 ) -> Result<Work, Fault>
@@ -139,10 +153,11 @@ fn load_and_answer<I: EnvelopeIndex + Drop, R: Read + Drop, S: Sink, O: RowObser
         → OnOk result (CountsLoaded schema.now (map records_in texts) counts.old counts.new) }
     ensures leaves { (text : List ℕ) → query_of text ≡ Ok query.now
         → RunsAndCounts result schema.now (map R.remaining readers.items) text
-        (S.taken sink.old) (S.taken sink.new) counts.old counts.new }
+        (S.taken sink.old) (S.taken sink.new) counts.old counts.new
+        (fields_of last.new.header) (fields_of last.new.record) }
     ensures unasked { counts.old ≡ RowCounts.Unasked → counts.new ≡ RowCounts.Unasked }
 {
-    let database: Database<'_, I> = Database::load(alloc, schema, readers)?;
+    let database: Database<'_, I> = Database::load_into(alloc, schema, readers, last)?;
     count_rows(alloc, &database, counts);
     answer_query(alloc, query, &database, sink, observer)
 }

@@ -142,7 +142,7 @@ fn bounded(
     let mut busy: u64 = 0;
     let mut rows = Rows::new(alloc, database, bound, plan, Work::new());
     for _ in 0..1000u16 {
-        match rows.next_within(most, &mut Unobserved)? {
+        match rows.next_within(Some(most), &mut Unobserved)? {
             Step::Row(pair) => pairs.push(pair)?,
             Step::Busy => busy = busy.saturating_add(1),
             Step::End => return Ok((pairs, rows.work().count(), busy)),
@@ -165,7 +165,7 @@ fn counted(
     let mut count: u64 = 0;
     let mut rows = Rows::new(alloc, database, bound, plan, Work::new());
     for _ in 0..1000u16 {
-        match rows.count_within(most, &mut Unobserved)? {
+        match rows.count_within(Some(most), &mut Unobserved)? {
             CountStep::More(more) => count = count.saturating_add(more),
             CountStep::All(more) => {
                 return Ok((count.saturating_add(more) as usize, rows.work().count()));

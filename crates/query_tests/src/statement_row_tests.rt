@@ -239,7 +239,7 @@ fn put_answer(
             put_step(alloc, kept, statement, step, text)
         }
         Ask::StepWithin(most) => {
-            let step = statement.step_within(alloc, &kept.database(), most)?;
+            let step = statement.step_within(alloc, &kept.database(), Some(most))?;
             put_step(alloc, kept, statement, step, text)
         }
         Ask::Column(column) => {

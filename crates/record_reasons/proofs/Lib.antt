@@ -1,4 +1,3 @@
-mod AnyLemmas
 mod FieldLemmas
 mod KeyLemmas
 mod LineLemmas

@@ -14,12 +14,6 @@ last [] x (suc n) is = cc is
 last (y ∷ ys) x zero is = cc is
 last (y ∷ ys) x (suc n) is = let more : length ys ≡ n = omega (arith, is) in last ys x n more
 
--- an element before it
-pub earlier : {X : Type 0} (xs : List X) (x y : X) (n : ℕ) → slice_get xs n ≡ Some y → slice_get (xs ++ x ∷ []) n ≡ Some y
-earlier [] x y n is = cc is
-earlier (z ∷ zs) x y zero is = is
-earlier (z ∷ zs) x y (suc n) is = earlier zs x y n is
-
 -- one record more is read
 pub read-more : {R : Type 0} (remaining : R → Option (List ℕ)) (known : Option (List ℕ)) (old new : Records R) (read : List Record) (fields : Record)
     → HasRead remaining known old read → GivesNext remaining old new fields → HasRead remaining known new (read ++ fields ∷ [])

@@ -11,7 +11,7 @@ use Rattle.geometry_model.specs.declared.geometry_faults.GeometryFault.TheVarian
 use Rattle.geometry_model.specs.declared.shapes.GeometryType.{GeometryType}
 use Rattle.geometry_model.specs.declared.text_faults.TextFault.{TextFault}
 use Rattle.geometry_model.specs.declared.validity_faults.ValidityFault.{ValidityFault}
-use Rattle.record_reasons.specs.SeenRecords.{AreSeen, BeginWith}
+use Rattle.record_reasons.specs.SeenRecords.{BeginWith}
 use Rattle.record_reasons.specs.ShownTexts.{shown_text}
 use Rattle.record_reasons.specs.declared.reason.Reason.{Reason}
 use Rattle.record_reasons.specs.declared.reason.Reason.TheVariants as reasons
@@ -130,16 +130,6 @@ IsOfName Is table reason = IsFirst (λ place c. Is c) table reason
 
 -- ---- of a record
 
--- the number of the record that a fault has, and 0 of a fault of the header and any other
-abbrev pub record_number : LoadFault → ℕ
-record_number (fault.UnequalRecord number) = number
-record_number (fault.NullNotAllowed number) = number
-record_number (fault.BadInteger number) = number
-record_number (fault.NotUtf8 number) = number
-record_number (fault.BadGeometry number why) = number
-record_number (fault.WrongType number) = number
-record_number _ = 0
-
 -- the reason has the lengths of a record and of its header, which differ
 abbrev pub IsOfLengths : Record → Record → Reason → Type 0
 IsOfLengths header fields (reasons.Lengths found wanted) = (found ≡ length fields) × (wanted ≡ length header) × (found ≢ wanted)
@@ -161,13 +151,6 @@ HasReason table header fields fault.DoubleHeader reason = IsOfName (IsRepeatedNa
 HasReason table header fields (fault.UnequalRecord number) reason = IsOfLengths header fields reason
 HasReason table header fields (fault.NullNotAllowed number) reason = IsOfNull table header fields reason
 HasReason table header fields f reason = IsOfColumn table header fields f reason
-
--- the reason of the fault of a record, or of the header, of some bytes, if they are known; the header has number 0
-pub record IsRecordReason (known : Option (List ℕ)) (table : TableDef ColumnShape) (f : LoadFault) (reason : Reason) : Type 0 where
-  pub header : Record
-  pub fields : Record
-  pub seen : AreSeen known header (record_number f) fields
-  pub has : HasReason table header fields f reason
 
 -- ---- of a key
 
@@ -198,28 +181,14 @@ pub record IsKeyReason (known : Option (List ℕ)) (table : TableDef ColumnShape
   pub first : slice_get read 0 ≡ Some header
   pub has : IsOfKey table header read number reason
 
+-- if the bytes are known, no reason is one, unless the record's number is past the limit of rows and one more
+abbrev pub HasNoKeyReason : Option (List ℕ) → TableDef ColumnShape → ℕ → Type 0
+HasNoKeyReason known table number =
+    (text : List ℕ) → known ≡ Some text → number ≤ row_limit + 1 → (reason : Reason) → IsKeyReason (Some text) table number reason → ⊥
+
 -- ---- of any fault
 
--- the number of the record that a fault of loading has, and 0 of a fault without one
-abbrev pub fault_number : LoadFault → ℕ
-fault_number (fault.DoubleKey number) = number
-fault_number f = record_number f
-
--- the reason of a table's fault in some bytes, if they are known
-abbrev pub IsReasonOf : Option (List ℕ) → TableDef ColumnShape → LoadFault → Reason → Type 0
-IsReasonOf known table (fault.DoubleKey number) reason = IsKeyReason known table number reason
-IsReasonOf known table f reason = IsRecordReason known table f reason
-
--- if the bytes are known, no reason is one, unless the record's number is past the limit of rows and one more
-abbrev pub HasNone : Option (List ℕ) → ℕ → (Option (List ℕ) → Reason → Type 0) → Type 0
-HasNone known number Is = (text : List ℕ) → known ≡ Some text → number ≤ row_limit + 1 → (reason : Reason) → Is (Some text) reason → ⊥
-
--- no reason is one of a record's fault, of a key that two records have, and of any fault
-abbrev pub HasNoRecordReason : Option (List ℕ) → TableDef ColumnShape → LoadFault → Type 0
-HasNoRecordReason known table f = HasNone known (record_number f) (λ bytes. IsRecordReason bytes table f)
-
-abbrev pub HasNoKeyReason : Option (List ℕ) → TableDef ColumnShape → ℕ → Type 0
-HasNoKeyReason known table number = HasNone known number (λ bytes. IsKeyReason bytes table number)
-
-abbrev pub HasNoReason : Option (List ℕ) → TableDef ColumnShape → LoadFault → Type 0
-HasNoReason known table f = HasNone known (fault_number f) (λ bytes. IsReasonOf bytes table f)
+-- the reason of a table's fault: of a key that two records of some bytes have, and else of the header and the record that shows it
+abbrev pub IsReasonOf : Option (List ℕ) → TableDef ColumnShape → Record → Record → LoadFault → Reason → Type 0
+IsReasonOf known table header fields (fault.DoubleKey number) reason = IsKeyReason known table number reason
+IsReasonOf known table header fields f reason = HasReason table header fields f reason

@@ -8,13 +8,6 @@ use Rattle.table_model.specs.Loading.{Record}
 abbrev pub BeginWith : Option (List ℕ) → List Record → Type 0
 BeginWith known read = (text : List ℕ) → known ≡ Some text → (rest : List Record) × (records_in text ≡ read ++ rest)
 
--- some bytes, if they are known, begin with records of which this is the header, and this the one of a number
-pub record AreSeen (known : Option (List ℕ)) (header : Record) (number : ℕ) (fields : Record) : Type 0 where
-  pub read : List Record
-  pub begins : BeginWith known read
-  pub first : slice_get read 0 ≡ Some header
-  pub there : slice_get read number ≡ Some fields
-
 -- if the bytes are known, they have no record of this number; that of number 0 is the header
 abbrev pub IsAbsent : Option (List ℕ) → ℕ → Type 0
 IsAbsent known number = (text : List ℕ) → known ≡ Some text → slice_get (records_in text) number ≡ None

@@ -1,5 +1,5 @@
-//! Finds why a table has its fault: what is wrong in its header, or in which column of a record, by reading the table
-//! again; and writes the line that says so.
+//! Finds why a table has its fault: what is wrong in its header, in which column of the record with the fault, or which
+//! earlier record has the same key; and writes the line that says so.
 #![tactic(auto)]
 
 mod column_reasons;
@@ -18,3 +18,4 @@ pub use line_ends::{LineEnd, first_line_end};
 pub use note_lines::put_line_end;
 pub use reason::{Reason, reason_of};
 pub use reason_lines::put_record_reason;
+pub use same_keys::same_key;

@@ -1,26 +1,18 @@
 //! The reason of a fault of loading.
 
-ghost use Rattle.std.specs.Prelude.{◌≡◌, ℕ, IfErr, IfNone, IfOk, IfSome, List, Option, true};
+ghost use Rattle.std.specs.Prelude.{◌≡◌, IfErr, IfOk};
 ghost use Rattle.csv.specs.Records.{fields_of};
-ghost use Rattle.feature_table.specs.Outcomes.{IsFailure, is_of_reading};
-ghost use Rattle.feature_table.specs.Records.{IsReady, asked, read_failed};
-ghost use Rattle.record_reasons.specs.Reasons.{Finds, HasNoReason, HasNoRecordReason, HasReason, IsOfColumn, IsOfLengths, IsReasonOf, IsRecordReason};
-ghost use Rattle.record_reasons.specs.Reasons as spec;
-ghost use Rattle.record_reasons.specs.SeenRecords.{AreAllOf};
+ghost use Rattle.record_reasons.specs.Reasons.{Finds, HasReason, IsOfColumn, IsOfLengths};
 ghost use Rattle.table_model.specs.declared.faults.LoadFault.TheVariants as failure;
 
 use crate::column_reasons::reason_in_column;
 use crate::header_reasons::{missing, repeated};
 use crate::named_fields::field_named;
 use crate::null_reasons::null_field;
-use crate::same_keys::same_key;
-use crate::seen_records::{seen_header, seen_record};
 use csv::ByteRecord;
-use feature_table::{Records, TableDef};
+use feature_table::TableDef;
 use geometry_model::{GeometryType, TextFault, ValidityFault};
 use std::alloc::Global;
-use std::io::Read;
-use table_model::definitions::ROW_LIMIT;
 use table_model::faults::LoadFault;
 use witnesses::Place;
 
@@ -95,80 +87,11 @@ pub enum Reason<'s> {
     },
 }
 
-/// Finds the reason of a table's fault, other than TooManyRows, ReadFailed and OutOfMemory, by reading the header and records again
-/// from the first. It is that of the first column with this fault, or of the first record with a repeated key. None if the fault
-/// isn't found again, or the number is over 100,001. At most 100,002 records are read. The fault is ReadFailed only if `csv`
-/// reported that reading failed, or else OutOfMemory (06-104r4, feature tables; which reason: this project's choice).
-pub fn reason_of<'s, R: Read + Drop>(
-    alloc: Global,
-    table: &'s TableDef,
-    records: &mut Records<R>,
-    fault: LoadFault,
-) -> Result<Option<Reason<'s>>, LoadFault>
-    requires ready { IsReady records.old }
-    requires none { asked records.old ≡ 0 }
-    ensures reason { (known : Option (List ℕ)) → AreAllOf R.remaining known records.old
-        → IfOk result (λ found. IfSome found (IsReasonOf known table.entry.now fault)) }
-    ensures none { (known : Option (List ℕ)) → AreAllOf R.remaining known records.old
-        → IfOk result (λ found. IfNone found (HasNoReason known table.entry.now fault)) }
-    ensures fails { IfErr result IsFailure }
-    ensures read_failed { IfErr result (λ f. is_of_reading f ≡ true → read_failed records.new ≡ true) }
-{
-    match fault {
-        LoadFault::DoubleKey(number) => same_key(alloc, table, records, number),
-        _ => record_reason(alloc, table, records, fault),
-    }
-}
-
-/// Finds the reason of a fault that one record or the header shows.
-fn record_reason<'s, R: Read + Drop>(
-    alloc: Global,
-    table: &'s TableDef,
-    records: &mut Records<R>,
-    fault: LoadFault,
-) -> Result<Option<Reason<'s>>, LoadFault>
-    requires ready { IsReady records.old }
-    requires none { asked records.old ≡ 0 }
-    ensures reason { (known : Option (List ℕ)) → AreAllOf R.remaining known records.old
-        → IfOk result (λ found. IfSome found (IsRecordReason known table.entry.now fault)) }
-    ensures none { (known : Option (List ℕ)) → AreAllOf R.remaining known records.old
-        → IfOk result (λ found. IfNone found (HasNoRecordReason known table.entry.now fault)) }
-    ensures fails { IfErr result IsFailure }
-    ensures read_failed { IfErr result (λ f. is_of_reading f ≡ true → read_failed records.new ≡ true) }
-{
-    let number = record_number(fault);
-    if number > ROW_LIMIT + 1 {
-        return Ok(None);
-    }
-    if number == 0 {
-        let Some(header) = seen_header(alloc, records)? else {
-            return Ok(None);
-        };
-        return reason_in(alloc, table, &header, &header, fault);
-    }
-    let Some(seen) = seen_record(alloc, records, number)? else {
-        return Ok(None);
-    };
-    reason_in(alloc, table, &seen.header, &seen.record, fault)
-}
-
-/// The number of the record of a fault; 0 for a fault of the header, and for one that no record shows.
-fn record_number(fault: LoadFault) -> usize
-    ensures { result ≡ spec.record_number fault }
-{
-    match fault {
-        LoadFault::UnequalRecord(number) => number,
-        LoadFault::NullNotAllowed(number) => number,
-        LoadFault::BadInteger(number) => number,
-        LoadFault::NotUtf8(number) => number,
-        LoadFault::BadGeometry(number, _) => number,
-        LoadFault::WrongType(number) => number,
-        _ => 0,
-    }
-}
-
-/// The reason of a fault in a record that was read.
-fn reason_in<'s>(
+/// The reason of a table's fault in its header and in the record with the fault. It is that of the first column with this
+/// fault. None if they don't have the fault, and for a fault that no header and no record shows: a repeated key (see
+/// `same_key`), a row too many, reading that failed, and memory that ran out. The error is that memory ran out (06-104r4,
+/// feature tables; which reason: this project's choice).
+pub fn reason_of<'s>(
     alloc: Global,
     table: &'s TableDef,
     header: &ByteRecord,

@@ -20,9 +20,11 @@ use std::io::Read;
 use table_model::definitions::ROW_LIMIT;
 use table_model::faults::LoadFault;
 
-/// The first record with the key of the record of this number, if it comes before that one. None for a number over
-/// 100,001. The error is that reading failed or memory ran out.
-pub(crate) fn same_key<R: Read + Drop>(
+/// The reason of a repeated key: the first record with the key of the record of this number, if it comes before that one.
+/// It reads the text again from the first record. None for a number over 100,001, and if the text has no such record. At
+/// most 100,002 records are read. The fault is ReadFailed only if `csv` reported that reading failed, or else OutOfMemory
+/// (06-104r4, feature tables).
+pub fn same_key<R: Read + Drop>(
     alloc: Global,
     table: &TableDef,
     records: &mut Records<R>,

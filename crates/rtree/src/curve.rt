@@ -6,17 +6,17 @@ use crate::curve_steps::{STEP_BITS, STEPS};
 use crate::envelopes::Envelope;
 use std::alloc::AllocError;
 
-/// How many bits the sum of two coordinates takes, its sign among them: each is at most 10,000,000 either way. The middle of
-/// an envelope is two such sums, of its x and of its y. Each is a word of 32 bits.
+/// The number of bits of the sum of two coordinates, its sign included: each is at most 10,000,000 either way. The middle of
+/// an envelope is given by two such sums, of its x and of its y. Each is kept in a word of 32 bits.
 const SUM_BITS: u32 = 26;
 
-/// How many of the lower bits of a word are unused: a sum is moved up by so many.
+/// How many of the lower bits of a word are unused: a sum is shifted up by this number.
 const UNUSED_BITS: u32 = u32::BITS - SUM_BITS;
 
-/// The highest bit of a word, which is the sign of the sum. It is turned, so that words ascend as sums do.
+/// The highest bit of a word, which is the sign of the sum. It is inverted, so that words are in the order of the sums.
 const SIGN: u32 = 0x8000_0000;
 
-/// Sorts entries along the curve, by the middles of their envelopes. Those of one middle keep their order.
+/// Sorts entries along the curve, by the middles of their envelopes. Entries with the same middle keep their order.
 pub(crate) fn sort_along_curve(entries: &mut Vec<(usize, Envelope)>) -> Result<(), AllocError>
     ensures { IsPermutation entries.old.items entries.new.items }
 {
@@ -30,7 +30,7 @@ fn curve_place(envelope: &Envelope) -> u64 {
     place_of(across, up)
 }
 
-/// The sum of two coordinates at the top of a word, with its sign turned, so that words ascend as sums do.
+/// The sum of two coordinates in the upper bits of a word, its sign inverted, so that words are in the order of the sums.
 fn word(least: i32, greatest: i32) -> u32 {
     (least.wrapping_add(greatest).cast_unsigned() << UNUSED_BITS) ^ SIGN
 }
@@ -51,7 +51,7 @@ fn place_of(across: u32, up: u32) -> u64 {
     place
 }
 
-/// The bits of a word that the next step takes: the highest ones.
+/// The highest bits of a word, which the next step uses.
 fn first_bits(word: u32) -> u8 {
     (word >> (u32::BITS - STEP_BITS)) as u8
 }

@@ -1,12 +1,12 @@
 //! Steps along the Hilbert curve, three bits of each coordinate at a time. Only how long a search takes depends on them.
 
-/// How many bits of each coordinate a step takes.
+/// How many bits of each coordinate a step uses.
 pub(crate) const STEP_BITS: u32 = 3;
 
 /// Where a step leads. A square is cut into eight by eight cells. An index has two bits that say how the curve goes
 /// through the square, three bits of x and three of y; a value has six bits for the place of the cell along the curve
-/// and two that say how the curve goes through the cell. Of these two bits the higher one is set where x and y are
-/// exchanged, and the lower one where both run backwards.
+/// and two that say how the curve goes through the cell. The higher one of these two bits is set if x and y are
+/// exchanged, and the lower one if both run backwards.
 pub(crate) static STEPS: [u8; 256] = [
     0x02, 0x04, 0x39, 0x3e, 0x40, 0x4d, 0x52, 0x54, 0x0f, 0x08, 0x35, 0x33, 0x46, 0x4a, 0x5f, 0x58,
     0x10, 0x1d, 0x20, 0x2d, 0x7b, 0x77, 0x62, 0x64, 0x16, 0x1a, 0x26, 0x2a, 0x7c, 0x71, 0x6f, 0x68,

@@ -12,9 +12,9 @@ use crate::packing::parted;
 use std::alloc::{AllocError, Global};
 use std::marker::Model;
 
-/// A tree packed along the Hilbert curve. Its nodes are as those of `RTree`, but the envelopes are ordered by where
-/// their middles are along this curve. So those below one node are near one another both across and up, and a
-/// search is quick among bands and long lines too.
+/// A tree packed along the Hilbert curve. Its nodes are like those of `RTree`, but the envelopes are ordered by
+/// where their middles are along this curve. So the envelopes below a node are near one another in both x and y,
+/// and a search is quick among bands and long lines too.
 #[derive(Drop)]
 pub struct CurveTree {
     tree: PackedTree,

@@ -43,15 +43,15 @@ pub trait Enveloped {
     /// The geometry that a value is.
     ghost geometry: { Self → Geometry };
 
-    /// Its envelope, absent exactly where it is empty (06-103r4, 6.1.2.2: Envelope). It takes no memory.
+    /// Its envelope, absent exactly if it is empty (06-103r4, 6.1.2.2: Envelope). It takes no memory.
     fn envelope(&self) -> Option<Envelope>
         ensures value { result ≡ envelope (geometry self.now) }
         ensures absent { (result ≡ None) ↔ (is_empty (geometry self.now) ≡ true) };
 }
 
 impl Envelope {
-    /// The envelope of a geometry, absent exactly where it is empty (06-103r4, 6.1.2.2: Envelope). It takes
-    /// no memory.
+    /// The envelope of a geometry, absent exactly if it is empty (06-103r4, 6.1.2.2: Envelope). It takes no
+    /// memory.
     pub fn of<T: Enveloped>(shape: &T) -> Option<Envelope>
         ensures value { result ≡ envelope (T.geometry shape.now) }
         ensures absent { (result ≡ None) ↔ (is_empty (T.geometry shape.now) ≡ true) }
@@ -59,7 +59,7 @@ impl Envelope {
         shape.envelope()
     }
 
-    /// The envelope of some positions; absent where there are none (06-103r4, 6.1.2.2: Envelope).
+    /// The envelope of some positions; absent if there are none (06-103r4, 6.1.2.2: Envelope).
     pub fn of_positions(positions: &[GridPoint]) -> Option<Envelope>
         ensures { result ≡ envelope_of_positions positions.now }
     {
@@ -112,7 +112,7 @@ impl Envelope {
     }
 }
 
-/// The envelope of these bounds.
+/// The envelope with these bounds.
 fn bounded(least_x: i32, greatest_x: i32, least_y: i32, greatest_y: i32) -> Envelope
     requires across { least_x ≤ℤ greatest_x }
     requires up { least_y ≤ℤ greatest_y }
@@ -139,7 +139,7 @@ pub fn joined(one: Envelope, other: Envelope) -> Envelope
     )
 }
 
-/// Whether two rectangles share a point, be it on their sides.
+/// Whether two rectangles share a point, sides included.
 pub(crate) fn overlap(one: Envelope, other: Envelope) -> bool
     ensures { result ≡ overlap one other }
 {
@@ -150,7 +150,7 @@ pub(crate) fn overlap(one: Envelope, other: Envelope) -> bool
     both(both(both(right, left), above), below)
 }
 
-/// Whether two envelopes meet: both are absent, or both are there and share a point, be it on their sides.
+/// Whether two envelopes meet: both are absent, or both are present and share a point, sides included.
 pub fn meets(one: Option<Envelope>, other: Option<Envelope>) -> bool
     ensures { result ≡ meets one other }
 {

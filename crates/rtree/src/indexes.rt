@@ -7,10 +7,10 @@ ghost use Rattle.rtree.specs.Found.{meeting_places};
 use crate::envelopes::Envelope;
 use std::alloc::{AllocError, Global};
 
-/// An index of envelopes. It is built of a list of optional envelopes, and finds the positions in this list of those that
-/// meet one asked for. Contracts see it as that list.
+/// An index of envelopes. It is built from a list of optional envelopes, and finds the positions in this list of those
+/// that meet a given one. Contracts see it as that list.
 pub trait EnvelopeIndex {
-    /// The list of envelopes that an index was built of.
+    /// The list of envelopes from which an index was built.
     ghost indexed: { Self → List (Option Rectangle) };
 
     /// The index of a list of envelopes. It fails only when memory runs out.

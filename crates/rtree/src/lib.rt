@@ -1,7 +1,7 @@
-//! Envelopes, and indexes that find which envelopes of a list meet one asked for.
+//! Envelopes, and indexes that find which envelopes of a list meet a given one.
 //!
 //! The list has optional envelopes. An absent envelope is that of an empty geometry: it meets only another absent
-//! one. A program takes `CurveTree`, or `RowTree` where an index is searched once at most. `RTree` is packed in
+//! one. A program uses `CurveTree`, or `RowTree` if an index is searched once at most. `RTree` is packed in
 //! another order and counts the nodes that a search opens; `ListIndex` looks at each envelope, and is for tests.
 #![tactic(auto)]
 

@@ -48,7 +48,7 @@ fn push_meeting(
     Ok(())
 }
 
-/// Adds the position if it passes.
+/// Adds the position if `passes` is true.
 fn push_if(found: &mut Vec<usize>, passes: bool, place: usize) -> Result<(), AllocError>
     ensures { OnOk result (found.new.items ≡ found.old.items ++ cond passes (place ∷ []) []) }
 {

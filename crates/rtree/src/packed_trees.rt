@@ -13,8 +13,8 @@ use crate::envelopes::{Envelope, overlap};
 use crate::packing::{NODE_SIZE, envelopes_of, levels_over, places_of};
 use std::alloc::{AllocError, Global};
 
-/// A tree over the entries of a list of envelopes: each eight neighbours make a leaf, and each eight neighbours of a
-/// level a node of the next, up to one root. A node keeps the envelope of all below it.
+/// A tree over the entries of a list of envelopes: every eight neighbours make a leaf, and every eight neighbours of
+/// a level make a node of the next, up to one root. A node keeps the envelope of all below it.
 #[derive(Drop)]
 pub(crate) struct PackedTree {
     /// The positions of the absent envelopes, ascending.
@@ -68,7 +68,7 @@ impl PackedTree {
         searched
     }
 
-    /// Leaves the positions of the envelopes that meet the one asked for, ascending, in an empty vector.
+    /// Fills an empty vector with the positions, ascending, of the envelopes that meet the one asked for.
     fn push_meeting(&self, asked: &Envelope, found: &mut Vec<usize>) -> Result<(), AllocError>
         requires packs { Packs self.now (listed self.now) }
         requires empty { found.old.items ≡ [] }

@@ -129,7 +129,7 @@ fn level_over(alloc: Global, level: &[Envelope]) -> Result<Vec<Envelope>, AllocE
     Ok(over)
 }
 
-/// The smallest envelope that holds these, of which there is one at least.
+/// The smallest envelope that holds these; there has to be at least one.
 fn around(envelopes: &[Envelope]) -> Envelope
     requires { 0 < length envelopes.now }
     ensures { Some result ≡ joined_all envelopes.now }

@@ -11,8 +11,8 @@ use crate::packing::parted;
 use std::alloc::{AllocError, Global};
 use std::marker::Model;
 
-/// A tree packed in the order of its list. Its nodes are as those of `CurveTree`, but nothing is sorted: it is built
-/// quickly, and is for few searches.
+/// A tree packed in the order of its list. Its nodes are like those of `CurveTree`, but nothing is sorted: it is
+/// built quickly, and is meant for few searches.
 #[derive(Drop)]
 pub struct RowTree {
     tree: PackedTree,

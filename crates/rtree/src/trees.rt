@@ -12,9 +12,9 @@ use crate::packing::{parted, put_in_order};
 use std::alloc::{AllocError, Global};
 use std::marker::Model;
 
-/// A tree packed by sorted centres. The envelopes that are there are ordered by least x plus greatest x, then by
-/// least y plus greatest y, then by position; each eight neighbours make a leaf, and each eight neighbours of a
-/// level a node of the next, up to one root. A node keeps the envelope of all below it.
+/// A tree packed by sorted centres. The envelopes that aren't absent are ordered by least x plus greatest x,
+/// then by least y plus greatest y, then by position. Every eight neighbours make a leaf, and every eight
+/// neighbours of a level make a node of the next, up to one root. A node keeps the envelope of all below it.
 #[derive(Drop)]
 pub struct RTree {
     tree: PackedTree,
@@ -30,8 +30,8 @@ impl Model for RTree {
 }
 
 impl RTree {
-    /// How many nodes, leaves among them, have an envelope that meets the one asked for; none meets an absent
-    /// one. It counts nodes of the packing alone, and says nothing of what a search visits.
+    /// How many nodes, leaves included, have an envelope that meets the one asked for; none meets an absent
+    /// one. It counts only nodes of the packing, and says nothing about what a search visits.
     pub fn opened(&self, asked: Option<Envelope>) -> usize
         ensures { result ≡ opened self.now asked }
     {

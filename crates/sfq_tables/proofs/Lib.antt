@@ -1,4 +1,3 @@
-pub mod ConnectionParts
 pub mod ConstantLemmas
 pub mod HandedTexts
 pub mod Reports

@@ -52,7 +52,7 @@ row_first matrix database before after new (Err e) gives same is found = absurd 
 -- one that is busy leaves all that were to come
 all_left : (most : ℕ) (matrix : MatrixOf) (database : SpatialDatabase) (before after new : Statement)
     (result : Result StatementStep AllocError) → GivesMatrix matrix → after ≡ new
-    → WhereBusy result (BusyStep most database before new) → status_of_step result ≡ busy
+    → WhereBusy result (BusyStep (Some most) database before new) → status_of_step result ≡ busy
     → records_left matrix database before ≡ with_row (row_record database after) (records_left matrix database after)
 all_left most matrix database before after new (Ok steps.Row) gives same is found = absurd (omega (arith, found))
 all_left most matrix database before after new (Ok steps.Busy) gives same is found =

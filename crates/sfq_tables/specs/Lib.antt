@@ -1,7 +1,9 @@
 pub mod TableFaults
 pub mod Connections
-pub mod KeptConnections
 pub mod OpenStatements
 pub mod OpenColumns
 pub mod OpenConstants
+pub mod OpenQueries
 pub mod SteppedAnswers
+pub mod TextParts
+pub mod WrittenColumns

@@ -99,7 +99,7 @@ pub record HasStepped (most : ℕ) (database : SpatialDatabase) (before : Statem
   pub result : Result StatementStep AllocError
   pub statement : Statement
   pub steps : UnlessBusy result (Steps database before result statement)
-  pub busy : WhereBusy result (BusyStep most database before statement)
+  pub busy : WhereBusy result (BusyStep (Some most) database before statement)
   pub status_is : status ≡ status_of_step result
   pub there : slot ≡ Some statement
 

@@ -1,7 +1,10 @@
 //! The pointer to a database that a caller in C keeps.
 
 ghost use Rattle.std.specs.Prelude.{◌≡◌, Option, Some};
-ghost use Rattle.sfq_tables.specs.KeptConnections.{HeldDatabase, connection_coded, connection_owns, connection_slot_coded, connection_slot_owns};
+ghost use Rattle.std.specs.Coded.{coded_option};
+ghost use Rattle.library_calls.specs.Keeping.{held_owns, slot_owns};
+ghost use Rattle.sfq_tables.specs.Connections.{Connected};
+ghost use Rattle.sfq_tables.specs.contracts.connections.Connection.{the_row as connection_row};
 
 use crate::connections::Connection;
 use library_calls::parts::Parts;
@@ -14,11 +17,11 @@ use std::marker::Model;
 pub struct KeptConnection {
     at: *mut u8,
     alloc: Global,
-    pub ghost connection: { HeldDatabase } by { connection_coded },
+    pub ghost connection: { Connected } by { connection_row.coded },
 }
 
 impl Model for KeptConnection {
-    ghost also_owns = { λ k. connection_owns k.alloc k.at k.connection };
+    ghost also_owns = { λ k. held_owns connection_row k.alloc k.at k.connection };
 }
 
 impl KeptConnection {
@@ -70,11 +73,11 @@ impl Drop for KeptConnection {
 pub struct ConnectionSlot {
     at: *mut u8,
     alloc: Global,
-    pub ghost connection: { Option HeldDatabase } by { connection_slot_coded },
+    pub ghost connection: { Option Connected } by { coded_option connection_row.coded },
 }
 
 impl Model for ConnectionSlot {
-    ghost also_owns = { λ s. connection_slot_owns s.alloc s.at s.connection };
+    ghost also_owns = { λ s. slot_owns connection_row s.alloc s.at s.connection };
 }
 
 impl ConnectionSlot {

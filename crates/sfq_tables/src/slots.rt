@@ -80,7 +80,7 @@ pub(crate) fn step_slot(
 {
     match slot {
         Some(statement) => {
-            let stepped = statement.step_within(alloc, database, most);
+            let stepped = statement.step_within(alloc, database, Some(most));
             status_of(&stepped)
         }
         None => 4,

@@ -17,7 +17,7 @@ use sqlite_items::{self as items};
 use std::alloc::{AllocError, Global};
 use table_model::faults::SchemaFault;
 
-/// Says why a schema is refused.
+/// The sentence that says why a schema is refused.
 const REFUSAL: &str = "the name of a part isn't one of a table, or there are more than 16 parts";
 
 /// The name of the type of a geometry column.
@@ -46,14 +46,14 @@ fn type_name(column_type: &ColumnType) -> &'static str
     }
 }
 
-/// The words of a key.
+/// The words that a key has after its type.
 fn key_words(is_key: bool) -> &'static str
     ensures { result.now ≡ text_if is_key (codes " PRIMARY KEY") }
 {
     if is_key { " PRIMARY KEY" } else { "" }
 }
 
-/// The words of a column that has no null.
+/// The words that a column has that can't be null.
 fn null_words(not_null: bool) -> &'static str
     ensures { result.now ≡ text_if not_null (codes " NOT NULL") }
 {
@@ -72,14 +72,14 @@ fn push_column(text: &mut String, column: &ColumnDef, is_key: bool) -> Result<()
     text.push_str(null_words(column.not_null))
 }
 
-/// What is before the column of a number.
+/// The text before the column with a number: a comma, but not before the first.
 fn before_column(turn: usize) -> &'static str
     ensures { result.now ≡ separator turn }
 {
     if turn > 0 { ", " } else { "" }
 }
 
-/// Adds the definition of the column at a place of a table to a text, as the next of those that are copied.
+/// Adds the definition of the column at a place of a table to a text. It is the next of the columns that are copied.
 #[tactic(auto, unfolding(crate::specs::SchemaTexts::copied_text))]
 fn push_copied(
     text: &mut String,
@@ -117,7 +117,7 @@ fn push_mark(text: &mut String, name: &str) -> Result<(), AllocError>
     text.push_str(" INTEGER NOT NULL")
 }
 
-/// Adds the definitions of the marks of a part to a text, in tiles.
+/// Adds the definitions of the marks of a part to a text, if it is split into tiles.
 #[tactic(auto, unfolding(crate::specs::SchemaTexts::marks_text))]
 fn push_marks(text: &mut String, part: &NamedPart<'_, '_>) -> Result<(), AllocError>
     ensures { OnOk result (string_bytes text.new
@@ -145,7 +145,7 @@ fn push_table(text: &mut String, part: &NamedPart<'_, '_>) -> Result<(), AllocEr
     text.push_str(");\n")
 }
 
-/// The text of the schema of the parts.
+/// Makes the text of the schema of the parts.
 fn made_text(alloc: Global, parts: &[NamedPart<'_, '_>]) -> Result<String, AllocError>
     ensures { IfOk result (λ text. string_bytes text ≡ text_of parts.now) }
 {
@@ -156,7 +156,7 @@ fn made_text(alloc: Global, parts: &[NamedPart<'_, '_>]) -> Result<String, Alloc
     Ok(text)
 }
 
-/// Refuses a text that isn't read as a schema of the tables of the parts.
+/// Refuses a text that isn't read as a schema with the tables of the parts.
 fn check_text(alloc: Global, parts: &[NamedPart<'_, '_>], text: &[u8]) -> Result<(), Mistake>
     ensures tables { OnOk result ((tables : List (TableDef ShapeValue))
         × IsSchema shape_named text.now tables × AreMade parts.now tables) }
@@ -174,8 +174,8 @@ fn check_text(alloc: Global, parts: &[NamedPart<'_, '_>], text: &[u8]) -> Result
     }
 }
 
-/// The text of the schema of the parts: a CREATE TABLE for each, with the columns that are copied and, in tiles, the two marks.
-/// It is read again, and is a schema of these tables; it is refused if it is not (SQL, CREATE TABLE).
+/// Makes the text of the schema of the parts: a CREATE TABLE for each, with the columns that are copied and, for tiles,
+/// the two marks. The text is read again, and is refused if it isn't a schema of these tables (SQL, CREATE TABLE).
 pub fn schema_text(alloc: Global, parts: &[NamedPart<'_, '_>]) -> Result<String, Mistake>
     ensures text { IfOk result (λ text. string_bytes text ≡ text_of parts.now) }
     ensures tables { IfOk result (λ text. (tables : List (TableDef ShapeValue))

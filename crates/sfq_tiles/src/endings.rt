@@ -1,4 +1,4 @@
-//! Why the program ends early: what it prints then, and its status.
+//! Why the program ends early: the line that it prints then, and its status.
 
 ghost use Rattle.std.specs.Prelude.{◌≡◌, OnErr, OnOk};
 ghost use Rattle.std.specs.Io.KnownBytes.{Appends};
@@ -11,17 +11,17 @@ use failures::{Failure, MISUSE, fault_line, status};
 use std::alloc::{AllocError, AllocFailed};
 use streams::{Sink, SinkFault, put_all, put_parts};
 
-/// The status where a file can't be written.
+/// The status if a file can't be written.
 const UNWRITABLE: u8 = 6;
 
 /// Why the program ends early.
 #[derive(Clone, Copy, Debug)]
 pub enum Ending<'a> {
-    /// For a reason for which `sfq` ends too.
+    /// A failure that `sfq` has too.
     Failed(Failure<'a>),
-    /// A word of the command line is wrong, as this sentence says.
+    /// A word of the command line is wrong. The sentence says why.
     Mistaken(&'static str),
-    /// The directory that is asked for can't be made, or a file in it can't be written.
+    /// The directory can't be made, or a file in it can't be written.
     Unwritable,
 }
 
@@ -72,7 +72,7 @@ impl<'a> From<AllocError> for Ending<'a> {
     }
 }
 
-/// Prints the line of an ending, and returns the status, which is the same if the line can't be printed.
+/// Prints the line of an ending, and returns the status, even if the line can't be printed.
 pub fn ended<E: Sink>(ending: &Ending<'_>, err: &mut E) -> u8
     ensures status { result ≡ ending_status ending.now }
     ensures line { Writes (E.taken err.old) (E.taken err.new) (E.failures err.old)
@@ -100,7 +100,7 @@ fn put_ending<E: Sink>(ending: &Ending<'_>, err: &mut E) -> Result<(), SinkFault
     }
 }
 
-/// Writes the line of a word that is wrong.
+/// Writes the line about a wrong word.
 fn put_mistake<'t, E: Sink>(text: &'t str, err: &mut E) -> Result<(), SinkFault>
     ensures ok { OnOk result (Appends (E.taken err.old) (E.taken err.new) (mistake_line text.now)) }
     ensures front { OnErr result

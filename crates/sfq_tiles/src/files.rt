@@ -1,4 +1,4 @@
-//! The files of tiles and of stretches.
+//! Reads and writes files, among them those of tiles and of stretches.
 
 ghost use Rattle.std.specs.Prelude.{◌≡◌, None, OnErr, OnOk};
 ghost use Rattle.std.specs.Io.KnownBytes.{Appends};
@@ -12,15 +12,15 @@ use std::io::Write;
 use streams::{BoundedReader, PatientReader, SinkFault, write_again};
 use tiles::CellTexts;
 
-/// How many bytes of a file are kept before they are written.
+/// The number of bytes of a file that are kept before they are written.
 const BUFFER_BYTES: usize = 49_152;
 
-/// The files of a part, one in a folder for each cell: a file is opened to append when its buffer is full.
+/// The files of a part, one in a folder for each cell. A file is opened to append when its buffer is full.
 #[derive(Drop)]
 pub struct CellFiles<'r, 'w> {
     rt: &'r HostRuntime,
     out: &'w str,
-    // What the folders' names begin with, before the number.
+    // The beginning of the folders' names, before the number.
     folder: String,
     name: String,
     // The number of the first folder.
@@ -28,12 +28,12 @@ pub struct CellFiles<'r, 'w> {
     buffers: Vec<Vec<u8>>,
     // Whether no line of an earlier file comes any more once one of a later file has come.
     is_sequence: bool,
-    // How often a put failed.
+    // The number of calls of `put` that failed.
     failures: u64,
 }
 
 impl<'r, 'w> CellFiles<'r, 'w> {
-    /// The files of the tiles of a part.
+    /// Makes the files of the tiles of a part.
     fn of_tiles(
         rt: &'r HostRuntime,
         out: &'w str,
@@ -51,7 +51,7 @@ impl<'r, 'w> CellFiles<'r, 'w> {
         })
     }
 
-    /// The files of the stretches of a part.
+    /// Makes the files of the stretches of a part.
     fn of_stretches(
         rt: &'r HostRuntime,
         out: &'w str,
@@ -69,7 +69,7 @@ impl<'r, 'w> CellFiles<'r, 'w> {
         })
     }
 
-    /// The path of a folder.
+    /// The path of a cell's folder.
     fn folder_path(&self, cell: usize) -> Result<String, AllocError> {
         let mut digits = Buffer::new();
         let number = digits.format(cell.saturating_add(self.first));
@@ -81,7 +81,7 @@ impl<'r, 'w> CellFiles<'r, 'w> {
         Ok(path)
     }
 
-    /// Appends bytes to a file.
+    /// Appends bytes to a cell's file.
     fn append(&self, cell: usize, bytes: &[u8]) -> Result<(), SinkFault> {
         let mut path = self.folder_path(cell).map_err(|_| SinkFault)?;
         path.push_str("/").map_err(|_| SinkFault)?;
@@ -115,7 +115,7 @@ impl<'r, 'w> CellFiles<'r, 'w> {
         Ok(())
     }
 
-    /// Writes what is kept for a cell to which nothing comes any more, and gives the memory back.
+    /// Writes the bytes that are kept for a cell to which nothing more is added, and frees the memory.
     fn close(&mut self, cell: usize) -> Result<(), SinkFault>
         ensures { self.new.failures ≡ self.old.failures }
     {
@@ -126,7 +126,7 @@ impl<'r, 'w> CellFiles<'r, 'w> {
         Ok(())
     }
 
-    /// Writes what is kept for a cell.
+    /// Writes the bytes that are kept for a cell.
     fn write_out(&mut self, cell: usize) -> Result<(), SinkFault>
         ensures { self.new.failures ≡ self.old.failures }
     {
@@ -141,7 +141,7 @@ impl<'r, 'w> CellFiles<'r, 'w> {
         Ok(())
     }
 
-    /// Keeps a line of a cell, and writes what is kept for the cell where the buffer is full.
+    /// Keeps a line of a cell, and writes what is kept for the cell if the buffer is full.
     fn put_line(&mut self, cell: usize, line: &[u8]) -> Result<(), SinkFault>
         ensures { self.new.failures ≡ self.old.failures }
     {
@@ -158,7 +158,7 @@ impl<'r, 'w> CellFiles<'r, 'w> {
         buffer.extend_from_slice(line).map_err(|_| SinkFault)
     }
 
-    /// Writes all that is kept.
+    /// Writes all bytes that are kept.
     fn finish(&mut self) -> Result<(), SinkFault> {
         for cell in 0..self.buffers.len() {
             self.write_out(cell)?;
@@ -166,7 +166,7 @@ impl<'r, 'w> CellFiles<'r, 'w> {
         Ok(())
     }
 
-    /// How many bytes are kept for a cell.
+    /// The number of bytes that are kept for a cell.
     fn kept(&self, cell: usize) -> usize {
         match self.buffers.as_slice().get(cell) {
             Some(buffer) => buffer.len(),
@@ -199,7 +199,7 @@ pub struct HostFiles<'r> {
 }
 
 impl<'r> HostFiles<'r> {
-    /// The files of the machine.
+    /// Makes the sources that are the files of the machine.
     pub fn new(rt: &'r HostRuntime) -> HostFiles<'r> {
         HostFiles { rt }
     }
@@ -218,7 +218,7 @@ impl Sources for HostFiles<'_> {
     }
 }
 
-/// A directory of the machine, which is made.
+/// A directory of the machine, which the program makes.
 #[derive(Drop)]
 pub struct HostDirectory<'r, 'w> {
     rt: &'r HostRuntime,
@@ -228,7 +228,7 @@ pub struct HostDirectory<'r, 'w> {
 }
 
 impl<'r, 'w> HostDirectory<'r, 'w> {
-    /// The directory at a path.
+    /// Makes the target that is the directory at a path.
     pub fn new(rt: &'r HostRuntime, out: &'w str) -> Result<HostDirectory<'r, 'w>, AllocError> {
         let mut schema = String::from_str(rt.alloc(), out)?;
         schema.push_str("/schema.sql")?;

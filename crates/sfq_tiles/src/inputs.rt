@@ -1,4 +1,4 @@
-//! What the program reads: the schema, and the tables, each of which is checked.
+//! Reads the schema and the tables, and checks each table.
 
 ghost use Rattle.std.specs.Prelude.{◌≡◌, ◌∷◌, ◌<◌, [], IfErr, IfOk, IsTrue, OnOk, Some, length, slice_get, string_bytes};
 ghost use Rattle.sfq_tiles.specs.Checks.{AreChecked, IsCheckEnding, IsChecked, IsCheckedAt, IsOpenEnding, IsRead, IsTableEnding, IsUnopened, IsUnread, ReadsSchema};
@@ -20,10 +20,10 @@ use table_model::tokens::TEXT_LIMIT;
 use table_model::values::Value;
 use tiles::{PlainRecords, RowWatcher, Sampler, check_records, find_fault};
 
-/// How many bytes of a schema's file are read: one more than a schema may have.
+/// The number of bytes of a schema's file that are read: one more than a schema may have.
 const SCHEMA_BYTES: u64 = TEXT_LIMIT as u64 + 1;
 
-/// The bytes of a schema's file, up to one more than a schema may have: the reader of schemas refuses a longer one.
+/// Reads the bytes of a schema's file, up to one more than a schema may have: the reader of schemas refuses a longer one.
 fn schema_text<R: Read + Drop>(alloc: Global, file: R) -> Result<Vec<u8>, Failure<'static>>
     ensures text { IfOk result (λ text. IsRead (R.remaining file) text.items) }
     ensures failure { IfErr result IsUnread }
@@ -36,7 +36,7 @@ fn schema_text<R: Read + Drop>(alloc: Global, file: R) -> Result<Vec<u8>, Failur
     }
 }
 
-/// The schema in a file.
+/// Reads the schema in a file.
 pub fn schema_at<I: Sources>(
     alloc: Global,
     sources: &I,
@@ -75,7 +75,7 @@ fn table_path(alloc: Global, directory: &str, name: &str) -> Result<String, Allo
     Ok(path)
 }
 
-/// Opens the file of a table, which has to be readable.
+/// Opens the file of a table. A file that can't be opened is a failure.
 pub fn opened<'s, I: Sources>(
     alloc: Global,
     sources: &I,
@@ -93,14 +93,14 @@ pub fn opened<'s, I: Sources>(
     }
 }
 
-/// A sampler of the tiles of the part at a place, and the place of its table in the schema.
+/// The sampler of a part that is split into tiles, and the place of the part's table in the schema.
 #[derive(Drop)]
 struct PartSampler {
     table: usize,
     sampler: Sampler,
 }
 
-/// The samplers of all parts, of which those of one table look at its rows.
+/// The samplers of all parts. Those of the table at this place see its rows.
 #[derive(Drop)]
 struct TableSamplers<'a> {
     table: usize,
@@ -118,7 +118,7 @@ impl RowWatcher for TableSamplers<'_> {
     }
 }
 
-/// Looks for the fault of a table, two of whose keys may be equal.
+/// Reads a table again for its fault, if two of its keys may be equal.
 fn look_again<'s, I: Sources>(
     alloc: Global,
     sources: &I,
@@ -138,7 +138,7 @@ fn look_again<'s, I: Sources>(
     }
 }
 
-/// Checks a table. Where two of its keys may be equal, its file is read again to look which.
+/// Checks a table. If two of its keys may be equal, its file is read again to find them.
 fn check_table<'s, I: Sources>(
     alloc: Global,
     sources: &I,
@@ -177,7 +177,7 @@ fn open_tables<'s, I: Sources>(
     Ok(())
 }
 
-/// A sampler for each part of tiles, which has seen nothing.
+/// Makes a sampler, which has seen nothing, for each part that is split into tiles.
 fn part_samplers(
     alloc: Global,
     parts: &[NamedPart<'_, '_>],
@@ -194,7 +194,7 @@ fn part_samplers(
     Ok(samplers)
 }
 
-/// Checks the table at a place of the schema, whose rows the samplers of its parts see.
+/// Checks the table at a place of the schema. The samplers of its parts see its rows.
 fn check_place<'s, I: Sources>(
     alloc: Global,
     sources: &I,
@@ -216,7 +216,7 @@ fn check_place<'s, I: Sources>(
     check_table(alloc, sources, directory, schema.table(place), &mut watcher)
 }
 
-/// Checks every table of the schema, in its order, once the files of all can be opened.
+/// Checks every table of the schema, in its order, once the files of all tables could be opened.
 fn check_places<'s, I: Sources>(
     alloc: Global,
     sources: &I,
@@ -234,7 +234,7 @@ fn check_places<'s, I: Sources>(
     Ok(())
 }
 
-/// The samplers of parts alone.
+/// The samplers without the places of their tables.
 fn filled(alloc: Global, samplers: Vec<PartSampler>) -> Result<Vec<Sampler>, AllocError> {
     let mut filled = Vec::new(alloc);
     for it in samplers {
@@ -243,7 +243,7 @@ fn filled(alloc: Global, samplers: Vec<PartSampler>) -> Result<Vec<Sampler>, All
     Ok(filled)
 }
 
-/// Checks every table of the schema; returns a sampler for each part of tiles, which has seen the rows of its table.
+/// Checks every table of the schema. Returns a sampler for each part that is split into tiles, which has seen its table's rows.
 pub fn check_tables<'s, I: Sources>(
     alloc: Global,
     sources: &I,

@@ -1,4 +1,4 @@
-//! The list of tiles or of stretches, which the program prints.
+//! Prints the list of tiles or of stretches.
 
 ghost use Rattle.std.specs.Prelude.{◌≡◌, ◌+◌, ◌++◌, ◌∷◌, ◌≤◌, ◌<◌, [], codes, decimal, length, map, OnErr, OnOk};
 ghost use Rattle.std.specs.List.{concat, flat_map, range_with_len, slice_index_or};
@@ -14,14 +14,14 @@ use tiles::Cells;
 /// A part that was written.
 #[derive(Drop)]
 pub struct Written<'a> {
-    /// Its name.
+    /// The name of the part.
     pub name: &'a str,
-    /// How many rows each of its tiles or stretches has.
+    /// The number of rows of each of its tiles or stretches.
     pub counts: Vec<usize>,
 }
 
-/// Lists the stretches of some parts, with how many rows each has. It stops at the first failed put: a beginning of the list has
-/// been put by then, and one failure more is counted.
+/// Lists the stretches of some parts, with the number of rows of each. It stops at the first failed call of `put`. By
+/// then a beginning of the list is written, and one more failure is counted.
 pub fn list_stretches<S: Sink>(parts: &[Written<'_>], out: &mut S) -> Result<(), SinkFault>
     ensures ok { OnOk result (Appends (S.taken out.old) (S.taken out.new)
         (stretches_list parts.now)) }
@@ -100,8 +100,8 @@ fn put_field<S: Sink>(number: usize, out: &mut S) -> Result<(), SinkFault>
     put_parts(out, &parts)
 }
 
-/// Lists the tiles of some parts with their boxes, and how many rows of each part each has, by number; tile 0 is that of the empty
-/// geometries. It stops at the first failed put, as the list of stretches does.
+/// Lists the tiles of some parts by number, with their boxes and the number of rows of each part. Tile 0 is that of the
+/// empty geometries. It stops at the first failed call of `put`, as the list of stretches does.
 pub fn list_tiles<S: Sink>(
     parts: &[Written<'_>],
     cells: &Cells,
@@ -169,7 +169,7 @@ fn put_tiles<S: Sink>(parts: &[Written<'_>], cells: &Cells, out: &mut S) -> Resu
     Ok(())
 }
 
-/// Writes the line of the tile of a number.
+/// Writes the line of the tile with a number.
 fn put_tile<S: Sink>(
     parts: &[Written<'_>],
     cells: &Cells,
@@ -190,7 +190,7 @@ fn put_tile<S: Sink>(
     put_all(out, b"\n")
 }
 
-/// Writes how many rows of each part are in a tile.
+/// Writes the number of rows of each part in a tile.
 fn put_rows<S: Sink>(parts: &[Written<'_>], number: usize, out: &mut S) -> Result<(), SinkFault>
     ensures ok { OnOk result (Appends (S.taken out.old) (S.taken out.new)
         (rows_text parts.now number)) }
@@ -204,7 +204,7 @@ fn put_rows<S: Sink>(parts: &[Written<'_>], number: usize, out: &mut S) -> Resul
     Ok(())
 }
 
-/// How many rows are in the tile of a number.
+/// The number of rows in the tile with a number.
 fn rows_in(counts: &[usize], number: usize) -> usize
     ensures { result ≡ slice_index_or counts.now number 0 }
 {
@@ -214,7 +214,7 @@ fn rows_in(counts: &[usize], number: usize) -> usize
     }
 }
 
-/// Writes the sides of a cell; of that of the empty geometries four empty fields.
+/// Writes the sides of a cell, or four empty fields for the cell of the empty geometries.
 fn put_sides<S: Sink>(cell: &Option<Envelope>, out: &mut S) -> Result<(), SinkFault>
     ensures ok { OnOk result (Appends (S.taken out.old) (S.taken out.new) (sides_text cell.now)) }
     ensures front { OnErr result (AppendsFront (S.taken out.old) (S.taken out.new)

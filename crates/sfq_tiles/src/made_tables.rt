@@ -1,4 +1,4 @@
-//! Whether the tables of a schema are those of the parts.
+//! Checks whether the tables of a schema are those of the parts.
 
 ghost use Rattle.std.specs.Prelude.{◌≡◌, ◌↔◌, ◌<◌, ◌^◌, IsTrue, Some, slice_get, string_bytes};
 ghost use Rattle.sfq_tiles.specs.MadeTables.{AreCopied, AreMade, HasColumns, HasKey, HasMarks, IsCopied, IsMade, IsMadeAt, mark_column};
@@ -8,7 +8,7 @@ use crate::parts::NamedPart;
 use feature_table::{ColumnDef, ColumnType, TableDef};
 use sqlite_items::{self as items};
 
-/// Whether two columns have one type.
+/// Whether two columns have the same type.
 fn same_type(a: &ColumnType, b: &ColumnType) -> bool
     ensures { IsTrue result ↔ (a.now ≡ b.now) }
 {
@@ -22,7 +22,7 @@ fn same_type(a: &ColumnType, b: &ColumnType) -> bool
     }
 }
 
-/// Whether two columns have one name, one type, and both NOT NULL or neither.
+/// Whether two columns have the same name and the same type, and both or neither have NOT NULL.
 fn same_column(a: &ColumnDef, b: &ColumnDef) -> bool
     ensures { IsTrue result ↔ (a.now ≡ b.now) }
 {
@@ -31,7 +31,7 @@ fn same_column(a: &ColumnDef, b: &ColumnDef) -> bool
         && a.not_null == b.not_null
 }
 
-/// Whether the column at a place of a table is that at a place of another.
+/// Whether the column at a place of a table equals the one at a place of another.
 #[tactic(auto, unfolding(crate::specs::MadeTables::IsCopied))]
 fn is_copied(source: &[ColumnDef], place: usize, made: &[ColumnDef], turn: usize) -> bool
     ensures { IsTrue result ↔ IsCopied source.now place made.now turn }
@@ -58,7 +58,7 @@ fn are_copied(source: &[ColumnDef], places: &[usize], made: &[ColumnDef]) -> boo
     true
 }
 
-/// Whether the column at a place is a mark of this name: INTEGER NOT NULL.
+/// Whether the column at a place is a mark with this name: INTEGER NOT NULL.
 fn is_mark(made: &[ColumnDef], place: usize, name: &[u8]) -> bool
     ensures { IsTrue result ↔ (slice_get made.now place ≡ Some (mark_column name.now)) }
 {
@@ -70,14 +70,14 @@ fn is_mark(made: &[ColumnDef], place: usize, name: &[u8]) -> bool
     }
 }
 
-/// Whether a column is one of whole numbers.
+/// Whether the type of a column is INTEGER.
 fn is_integer(column_type: &ColumnType) -> bool
     ensures { IsTrue result ↔ (column_type.now ≡ column.Integer) }
 {
     matches!(column_type, ColumnType::Integer)
 }
 
-/// Whether after so many columns the marks of a part come, and nothing else.
+/// Whether the marks of a part come after this many columns, and nothing else.
 #[tactic(auto, unfolding(crate::specs::MadeTables::HasMarks))]
 fn has_marks(part: &NamedPart<'_, '_>, made: &[ColumnDef], count: usize) -> bool
     requires { count < 2 ^ 63 }
@@ -92,7 +92,7 @@ fn has_marks(part: &NamedPart<'_, '_>, made: &[ColumnDef], count: usize) -> bool
         && is_mark(made, count + 1, part.south.as_bytes())
 }
 
-/// Whether the columns of a table are those that are copied of a part, and then its marks.
+/// Whether the columns of a table are those that are copied for a part, and then its marks.
 #[tactic(auto, unfolding(crate::specs::MadeTables::HasColumns))]
 fn has_columns(part: &NamedPart<'_, '_>, made: &[ColumnDef]) -> bool
     ensures { IsTrue result ↔ HasColumns part.now made.now }
@@ -101,7 +101,7 @@ fn has_columns(part: &NamedPart<'_, '_>, made: &[ColumnDef]) -> bool
     are_copied(part.table.columns.as_slice(), places, made) && has_marks(part, made, places.len())
 }
 
-/// Whether the key of a table is that of the table of a part.
+/// Whether the key of a table is that of a part's table.
 fn has_key(part: &NamedPart<'_, '_>, key: usize) -> bool
     ensures { IsTrue result ↔ HasKey part.now key }
 {

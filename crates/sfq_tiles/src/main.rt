@@ -1,4 +1,4 @@
-//! The program `sfq-tiles`: it splits tables into tiles or stretches, each of which `sfq` runs alone.
+//! The program `sfq-tiles`: it splits tables into tiles or stretches, over which `sfq` can then run one at a time.
 #![tactic(auto)]
 
 mod definitions;
@@ -32,7 +32,7 @@ fn main(rt: HostRuntime) -> ExitCode {
     ExitCode::from(run(&rt, &words, &mut err))
 }
 
-/// Does what the words ask for, and returns the status.
+/// Runs the command line, and returns the status.
 fn run<E: Sink>(rt: &HostRuntime, words: &[String], err: &mut E) -> u8 {
     let Ok(texts) = texts_of(rt.alloc(), words) else {
         return failed(&Failure::OutOfMemory, err);
@@ -43,7 +43,7 @@ fn run<E: Sink>(rt: &HostRuntime, words: &[String], err: &mut E) -> u8 {
     }
 }
 
-/// Splits what the words name, and returns the status.
+/// Splits the tables that the words name, and returns the status.
 fn run_words<E: Sink>(rt: &HostRuntime, words: &Words<'_>, err: &mut E) -> u8 {
     let Ok(buffer) = BufWriter::new(rt.alloc(), rt.stdout()) else {
         return failed(&Failure::OutOfMemory, err);
@@ -57,7 +57,7 @@ fn run_words<E: Sink>(rt: &HostRuntime, words: &Words<'_>, err: &mut E) -> u8 {
     flushed(&mut out, status, err)
 }
 
-/// Prints `clap`'s text, and returns the status. Help that can't be written counts as an answer that can't.
+/// Prints `clap`'s text, and returns the status. A failure to write help counts as a failure to write an answer.
 fn shown<E: Sink>(rt: &HostRuntime, error: &Error, err: &mut E) -> u8 {
     let is_printed = error.print(rt).is_ok();
     match error.kind() {

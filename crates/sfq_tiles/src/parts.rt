@@ -1,4 +1,4 @@
-//! The parts that the words name, and the tables and columns that they mean.
+//! The parts that the words name, with their tables and columns.
 
 ghost use Rattle.sfq_tiles.specs.Words.{AreNamed, ByColumn, HasNames, IsNamed, IsOfGeometries, after, before, copied_places, is_called};
 ghost use Rattle.sfq_tiles.specs.declared.parts.Mistake.TheVariants as mistake;
@@ -13,12 +13,12 @@ use std::alloc::{AllocError, AllocFailed, Global};
 use table_model::definitions::COLUMN_LIMIT;
 use table_model::texts::same_name;
 
-/// What a word of the command line that isn't right makes of it.
+/// Why a word of the command line can't be used.
 #[derive(Clone, Copy, Debug)]
 pub enum Mistake {
     /// Memory ran out.
     Memory,
-    /// A word is wrong, as this sentence says.
+    /// A word is wrong. The sentence says why.
     Said(&'static str),
 }
 
@@ -47,19 +47,19 @@ impl From<AllocError> for Mistake {
 /// A part of the command line: a table under a name.
 #[derive(Drop)]
 pub struct NamedPart<'w, 's> {
-    /// Its name.
+    /// The name of the part.
     pub name: &'w str,
-    /// The place of its table in the schema.
+    /// The place of the part's table in the schema.
     pub place: usize,
-    /// The definition of its table.
+    /// The definition of the part's table.
     pub table: &'s TableDef,
-    /// The column of its tiles, if it is split into tiles.
+    /// The geometry column of its tiles, if it is split into tiles.
     pub column: Option<usize>,
-    /// The places of the columns that are copied, ascending.
+    /// The places of the columns that are copied, in ascending order.
     pub columns: Vec<usize>,
-    /// In tiles the name of the mark w, which no column has that is copied; else it is empty.
+    /// The name of the mark w, which no copied column has, for a part of tiles; else empty.
     pub west: String,
-    /// In tiles the name of the mark s, which no copied column has; else it is empty.
+    /// The name of the mark s, which no copied column has, for a part of tiles; else empty.
     pub south: String,
 }
 
@@ -87,7 +87,7 @@ fn is_called(table: &TableDef, place: usize, name: &str) -> bool
     }
 }
 
-/// The place of the column of this name.
+/// The place of the column with this name.
 fn column_named(table: &TableDef, name: &str) -> Result<usize, Mistake>
     ensures { IfOk result (λ place. is_called name.now (slice_get table.now.columns place) ≡ true) }
 {
@@ -99,7 +99,7 @@ fn column_named(table: &TableDef, name: &str) -> Result<usize, Mistake>
     Err(Mistake::Said("a part names a column that its table doesn't have"))
 }
 
-/// The place of the table of this name.
+/// The place of the table with this name.
 fn table_named(schema: &Schema, name: &str) -> Result<usize, Mistake>
     ensures within { IfOk result (λ place. place < length schema.now) }
     ensures called { IfOk result (λ place. IfSome (slice_get schema.now place)
@@ -113,7 +113,7 @@ fn table_named(schema: &Schema, name: &str) -> Result<usize, Mistake>
     Err(Mistake::Said("a part names a table that the schema doesn't have"))
 }
 
-/// Whether the column at a place of a table is one of geometries.
+/// Whether the column at a place of a table is a geometry column.
 fn is_of_geometries(table: &TableDef, place: usize) -> bool
     ensures { result ≡ true → IsOfGeometries (slice_get table.now.columns place) }
 {
@@ -126,7 +126,7 @@ fn is_of_geometries(table: &TableDef, place: usize) -> bool
     }
 }
 
-/// The place of the column by which tiles are cut, of this name, which has to be one of geometries.
+/// The place of the column with this name by which tiles are cut. It has to be a geometry column.
 fn tile_column(table: &TableDef, name: Option<&str>) -> Result<Option<usize>, Mistake>
     ensures { IfOk result (ByColumn table.now (option_map (λ name. name.now) name.entry)) }
 {
@@ -142,7 +142,7 @@ fn tile_column(table: &TableDef, name: Option<&str>) -> Result<Option<usize>, Mi
     }
 }
 
-/// The names in a list, with commas between them.
+/// The names in a list, which commas separate.
 fn names_in<'a>(alloc: Global, list: &'a str) -> Result<Vec<&'a str>, AllocError>
     ensures { IfOk result (λ names. map (λ name. name.now) names.items ≡ slice_split (λ b. b == 44) list.now) }
 {
@@ -157,7 +157,7 @@ fn check_names(table: &TableDef, names: &[&str]) -> Result<(), Mistake> {
     Ok(())
 }
 
-/// The names in a list, with commas between them, each of which a column of the table has.
+/// The names in a list, which commas separate. The table has to have a column with each name.
 fn known_names<'a>(alloc: Global, table: &TableDef, list: &'a str) -> Result<Vec<&'a str>, Mistake>
     ensures { IfOk result (λ names. map (λ name. name.now) names.items ≡ slice_split (λ b. b == 44) list.now) }
 {
@@ -178,7 +178,7 @@ fn is_listed(table: &TableDef, names: &[&str], place: usize) -> bool
     false
 }
 
-/// Whether the column at a place of a table is copied where these are listed.
+/// Whether the column at a place of a table is copied if these names are listed: it has one of the names, or it is the key.
 fn is_copied(table: &TableDef, names: &[&str], place: usize) -> bool
     ensures { result ≡ ((place == table.now.key)
         || list_any (λ name. is_called name.now (slice_get table.now.columns place)) names.now) }
@@ -196,7 +196,7 @@ fn push_if(columns: &mut Vec<usize>, place: usize, is_copied: bool) -> Result<()
     Ok(())
 }
 
-/// The places of the columns that these names list and of the key, among the first columns.
+/// The places of the key and of the columns with these names, among the first columns.
 fn listed_places(
     alloc: Global,
     table: &TableDef,
@@ -213,7 +213,7 @@ fn listed_places(
     Ok(columns)
 }
 
-/// How many columns a table has.
+/// The number of columns of a table.
 fn column_count(table: &TableDef) -> usize
     ensures { result ≡ length table.now.columns }
 {
@@ -248,8 +248,8 @@ fn every_column(alloc: Global, table: &TableDef) -> Result<Vec<usize>, Mistake>
     Ok(columns)
 }
 
-/// The places of the columns that are copied: of those that a list names and of the key, in the order of the schema; without
-/// a list of all.
+/// The places of the columns that are copied, in the order of the schema: the key and those that a list names, or all
+/// columns if there is no list.
 fn copied_columns(
     alloc: Global,
     table: &TableDef,
@@ -264,7 +264,7 @@ fn copied_columns(
     }
 }
 
-/// A text up to the first such character, and what comes after it, if it is there.
+/// The part of a text before the first such character, and the part after it, if there is one.
 fn parted(text: &str, separator: char) -> (&str, Option<&str>)
     requires { separator < 128 }
     ensures front { result.0.now ≡ before separator text.now }
@@ -285,7 +285,7 @@ struct PartWord<'a> {
     list: Option<&'a str>,
 }
 
-/// Takes the word of a part apart: NAME=TABLE[.COLUMN][:COLUMN,..].
+/// Splits the word of a part: NAME=TABLE[.COLUMN][:COLUMN,..].
 fn part_word(word: &str) -> Option<PartWord<'_>>
     ensures { IfSome result (λ names. HasNames word.now names.name.now names.table.now
         (option_map (λ column. column.now) names.column) (option_map (λ list. list.now) names.list)) }
@@ -302,7 +302,7 @@ fn part_word(word: &str) -> Option<PartWord<'_>>
     })
 }
 
-/// Whether a column that is copied has a name.
+/// Whether a copied column has a name.
 fn is_taken(table: &TableDef, columns: &[usize], name: &str) -> bool {
     for place in columns {
         if let Some(column) = table.columns.as_slice().get(*place) {
@@ -314,7 +314,7 @@ fn is_taken(table: &TableDef, columns: &[usize], name: &str) -> bool {
     false
 }
 
-/// The name of a mark: the letter, and underscores after it until no column that is copied has the name.
+/// Makes the name of a mark: the letter, and underscores after it until no copied column has the name.
 fn mark_name(
     alloc: Global,
     table: &TableDef,
@@ -331,7 +331,7 @@ fn mark_name(
     Err(Mistake::Said("the columns leave no name for a mark"))
 }
 
-/// The part that a word names.
+/// Reads the part that a word names.
 fn read_part<'w, 's>(
     alloc: Global,
     schema: &'s Schema,
@@ -371,7 +371,7 @@ fn read_part<'w, 's>(
     })
 }
 
-/// Refuses more than two parts of tiles, and parts with tiles beside parts without.
+/// Refuses more than two parts of tiles, and parts of tiles together with parts of stretches.
 fn check_tiled(parts: &[NamedPart<'_, '_>]) -> Result<(), Mistake> {
     let tiled = parts.iter().filter(|part| part.column.is_some()).count();
     if tiled > 2 {
@@ -390,7 +390,7 @@ fn has_part(parts: &[NamedPart<'_, '_>], name: &str) -> bool {
         .any(|part| same_name(part.name.as_bytes(), name.as_bytes()))
 }
 
-/// The parts that the words name, each under a name of its own.
+/// Reads the parts that the words name. Their names have to differ.
 pub fn read_parts<'w, 's>(
     alloc: Global,
     schema: &'s Schema,

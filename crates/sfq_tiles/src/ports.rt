@@ -1,4 +1,4 @@
-//! What splitting reads and writes. Its caller hands both over, so that its contract can speak of their bytes.
+//! What splitting reads and writes. A caller passes both, so that the contract of splitting can state their bytes.
 
 ghost use Rattle.std.specs.Prelude.{◌≡◌, ℕ, Bool, List, Option, IfSome, OnOk, IfOk};
 
@@ -9,10 +9,10 @@ use tiles::CellTexts;
 
 /// The files that are read.
 pub trait Sources {
-    /// What reads a file.
+    /// The reader of a file.
     type Reader: Read + Drop;
 
-    /// The bytes of the file at a path, alike each time that it is opened; None where nobody knows them.
+    /// The bytes of the file at a path, the same each time that it is opened; None if they aren't known.
     ghost bytes: { Self → List ℕ → Option (List ℕ) };
 
     /// Opens the file at a path. None if it can't be opened.
@@ -20,23 +20,23 @@ pub trait Sources {
         ensures { IfSome result (λ reader. Self.Reader.remaining reader ≡ bytes self.now path.now) };
 }
 
-/// Where parts are written: a directory, which is made.
+/// The target to which parts are written: a directory, which is made.
 pub trait Targets {
     /// The texts of a part.
     type Texts: CellTexts + Drop;
 
-    /// Whether something is there already; None where nobody knows it.
+    /// Whether something exists there already; None if that isn't known.
     ghost there: { Self → Option Bool };
-    /// The directory was made, with a schema of this text.
+    /// The directory was made, with a schema that has this text.
     ghost makes: { Self → List ℕ → Self → Type 0 };
-    /// These are the texts of the tiles of the part of this name, to which nothing was added yet.
+    /// These are the texts of the tiles of the part with this name, to which nothing was added yet.
     ghost begins_tiles: { Self → List ℕ → Self.Texts → Type 0 };
-    /// These are the texts of the stretches of the part of this name, to which nothing was added yet.
+    /// These are the texts of the stretches of the part with this name, to which nothing was added yet.
     ghost begins_stretches: { Self → List ℕ → Self.Texts → Type 0 };
-    /// These texts were written whole.
+    /// These texts were written completely.
     ghost takes: { Self → Self.Texts → Self → Type 0 };
 
-    /// Whether something is there already.
+    /// Whether something exists there already.
     fn is_there(&self) -> bool
         ensures { IfSome (there self.now) (λ known. result ≡ known) };
 

@@ -1,4 +1,4 @@
-//! What the program does: it reads the schema, checks every table, and writes the parts.
+//! The work of the program: it reads the schema, checks every table, and writes the parts.
 
 ghost use Rattle.std.specs.Prelude.{◌≡◌, ℕ, IfErr, IfOk, List, OnErr, OnOk, map};
 ghost use Rattle.std.specs.Io.KnownBytes.{Appends};
@@ -22,10 +22,10 @@ use std::alloc::{AllocError, Global};
 use streams::{Sink, SinkFault};
 use tiles::{Cells, CopyFault, Part, PlainRecords, Sampler, write_stretches, write_tiles};
 
-/// Splits the tables that the words name into parts, and returns the status. The schema and the tables are read from `sources`, each
-/// table twice, and nothing is made before all tables of the schema are checked. Then the schema of the parts, and of each part its
-/// tiles by one cut or its stretches, are written to `targets`, and listed in `out`. Where it ends early, `err` has the line of the
-/// ending. What a query gives over parts of tiles that are written is what it means over their whole tables.
+/// Splits the tables that the words name into parts, and returns the status. The schema and the tables are read from `sources`,
+/// each table twice, and nothing is made before all tables of the schema are checked. Then the schema of the parts, and for each
+/// part its stretches or its tiles, all by one cut, are written to `targets` and listed in `out`. If it ends early, the line of the
+/// ending is written to `err`. A query over written tiles gives what it means over their whole tables.
 pub fn split<I: Sources, O: Targets, S: Sink, E: Sink>(
     alloc: Global,
     words: &Words<'_>,
@@ -43,7 +43,7 @@ pub fn split<I: Sources, O: Targets, S: Sink, E: Sink>(
     split_words(alloc, words, sources, targets, out, err)
 }
 
-/// Splits the tables by the words.
+/// Splits the tables that the words name.
 fn split_words<I: Sources, O: Targets, S: Sink, E: Sink>(
     alloc: Global,
     words: &Words<'_>,
@@ -62,7 +62,7 @@ fn split_words<I: Sources, O: Targets, S: Sink, E: Sink>(
     }
 }
 
-/// Splits the tables of the schema's file.
+/// Splits the tables of the schema in a file.
 fn split_files<I: Sources, O: Targets, S: Sink, E: Sink>(
     alloc: Global,
     words: &Words<'_>,
@@ -188,7 +188,7 @@ fn write_all<'w, 's, I: Sources, O: Targets, S: Sink>(
     }
 }
 
-/// The cells for the corners that samplers kept: each stands for at most so many rows, as far as the sample shows.
+/// Cuts the grid at the corners that samplers kept: each cell has at most this many rows, as far as the sample shows.
 fn cut(alloc: Global, samplers: Vec<Sampler>, rows: usize) -> Result<Cells, AllocError>
     ensures { IfOk result (λ cells. CutsGrid cells) }
 {
@@ -217,7 +217,7 @@ fn make<O: Targets>(targets: &mut O, text: &str) -> Result<(), Ending<'static>>
     }
 }
 
-/// The ending of a second pass over a table.
+/// The ending for a fault of the second pass over a table.
 fn copy_ending(name: &str, fault: CopyFault) -> Ending<'_>
     ensures { result ≡ spec.copy_ending name.entry fault }
 {
@@ -227,7 +227,7 @@ fn copy_ending(name: &str, fault: CopyFault) -> Ending<'_>
     }
 }
 
-/// Writes the tiles or the stretches of parts, and returns how many rows each has.
+/// Writes the tiles or the stretches of parts, and returns the number of rows of each.
 fn write_parts<'w, 's, I: Sources, O: Targets>(
     alloc: Global,
     directory: &str,
@@ -272,7 +272,7 @@ fn list_parts<S: Sink>(
     }
 }
 
-/// Whether some part has tiles.
+/// Whether some part is split into tiles.
 fn has_tiles(parts: &[NamedPart<'_, '_>]) -> bool
     ensures { result ≡ has_tiles parts.now }
 {
@@ -284,7 +284,7 @@ fn has_tiles(parts: &[NamedPart<'_, '_>]) -> bool
     false
 }
 
-/// Writes the tiles of a part, or its stretches, and returns how many rows each has.
+/// Writes the tiles of a part, or its stretches, and returns the number of rows of each.
 fn write_part<'w, 's, I: Sources, O: Targets>(
     alloc: Global,
     directory: &str,
@@ -304,7 +304,7 @@ fn write_part<'w, 's, I: Sources, O: Targets>(
     }
 }
 
-/// Writes the stretches of a part, and returns how many rows each has.
+/// Writes the stretches of a part, and returns the number of rows of each.
 fn stretches_of<'w, 's, I: Sources, O: Targets>(
     alloc: Global,
     directory: &str,
@@ -336,7 +336,7 @@ fn stretches_of<'w, 's, I: Sources, O: Targets>(
     Ok(counts)
 }
 
-/// Writes the tiles of a part, by a column, and returns how many rows each has.
+/// Writes the tiles of a part, by a column, and returns the number of rows of each.
 fn tiles_of<'w, 's, I: Sources, O: Targets>(
     alloc: Global,
     directory: &str,

@@ -4,7 +4,7 @@ use clap::{ArgAction, Command, Error};
 use command_line::{VERSION, with_places, word};
 use std::alloc::{AllocError, Global};
 
-/// What the help shows below the words.
+/// The text that the help prints below the words.
 const MORE: &str = "\
 A part NAME=TABLE.COLUMN is split into tiles by the geometries in a column; one or two such parts
 share the tiles. A part NAME=TABLE is split into stretches of at most N rows.
@@ -20,17 +20,17 @@ Statuses: 0 done, 2 the command line, 3 the schema, 4 a table, 6 a file or the o
 pub struct Words<'a> {
     /// The path of the schema.
     pub schema: &'a str,
-    /// The path of the directory that holds one CSV file a table.
+    /// The path of the directory with one CSV file for each table.
     pub directory: &'a str,
     /// The path of the directory that is made.
     pub out: &'a str,
-    /// About how many rows a tile has, and the most of a stretch.
+    /// The approximate number of rows of a tile, and the greatest number of rows of a stretch.
     pub rows: &'a str,
-    /// The parts.
+    /// The words that name the parts.
     pub parts: Vec<&'a str>,
 }
 
-/// The command line of `sfq-tiles`. It fails only if memory runs out.
+/// Makes the command line of `sfq-tiles`. It fails only if memory runs out.
 fn command<'a>(alloc: Global) -> Result<Command<'a>, AllocError> {
     let rows = word(
         alloc,

@@ -11,10 +11,11 @@ use Rattle.streams.specs.MemorySinks.{memory_bytes}
 use Rattle.streams.specs.declared.memory.MemorySink.{MemorySink}
 use Rattle.text_commands.specs.Files.{path_of}
 use Rattle.text_commands.specs.declared.files.File.{File}
-use Rattle.sfq_web.specs.HandedFiles.{Handed, IsNotHandedAs, OpensAs, OpensBy, bytes_in, file_at, is_standard, opened_text, text_at}
-use Rattle.sfq_web.specs.Servings.{AreWritten, FailsOrder, HandsOutPath, HandsOutTexts, IsDone, IsMisuseOf, IsMisusedAs, IsPathOf, IsServed, IsServedOver, MissesFile, MissesGiven, ServesGiven, ServesWords, asking, handed_of}
+use Rattle.sfq_web.specs.HandedFiles.{AreFiles, Handed, IsNotHandedAs, OpensAs, OpensBy, bytes_in, file_at, found_of, is_standard, opened_text, text_at}
+use Rattle.sfq_web.specs.Servings.{AreWritten, FailsOrder, HandsOutPath, HandsOutTexts, IsDone, IsMisuseOf, IsMisusedAs, IsPathOf, IsServed, IsServedOver, MissesGiven, ServesGiven, ServesWords, asking, handed_of, input_of, texts_in}
 use Rattle.sfq_web.specs.declared.handed_files.HandedFile.{HandedFile}
 use Rattle.sfq_web.specs.declared.handed_files.HandedReader.{HandedReader}
+use Rattle.sfq_web.specs.declared.handed_in.HandedIn.{HandedIn}
 use Rattle.sfq_web.specs.declared.handing.Missed.{Missed}
 use Rattle.sfq_web.specs.declared.serve_call.Said.{Said}
 use Rattle.sfq_web.specs.declared.served.Served.{Served}
@@ -32,11 +33,11 @@ is_served words asks order asked files (Ok (served.Missing missed)) orders same 
     ((order, orders, subst (λ it. FailsOrder it files) same done.0), done.1)
 is_served words asks order asked files (Err e) orders same done = done
 
--- what was said is nothing, or is kept as it is
-pub same_bytes : {said more : MemorySink} → (memory_bytes said ≡ []) ⊎ (more ≡ said)
-    → (memory_bytes said ≡ []) ⊎ (memory_bytes more ≡ memory_bytes said)
-same_bytes (inl nothing) = inl nothing
-same_bytes (inr same) = inr (ap memory_bytes same)
+-- what was said is kept as it is, or is nothing and something else holds
+pub same_bytes : {said more : MemorySink} {Else : Type 0} → (more ≡ said) ⊎ ((memory_bytes said ≡ []) × Else)
+    → (memory_bytes more ≡ memory_bytes said) ⊎ ((memory_bytes said ≡ []) × Else)
+same_bytes (inl same) = inl (ap memory_bytes same)
+same_bytes (inr nothing) = inr nothing
 
 -- the words are no order
 pub is_misused : {E : Type 0} (words : List (List ℕ)) (asks : Bool) (misuse : Misuse) (files : Handed) (result : Result Served E)
@@ -79,6 +80,13 @@ opened_file files file path found reader standard is isnt same there opens =
     opens ∙ ap (λ it. option_and_then opened_text it) there ∙ ap (λ at. text_at files at) same in
     subst (λ b. OpensBy b files (path_of file) (option_map bytes_in reader) files) (sym isnt ∙ is) (given, refl)
 
+-- what came of words over files came of them as they are handed in
+pub served_over : (it : HandedIn) (files : List HandedFile) (lent : Option (Bor (List ℕ))) (came : Served)
+    → AreFiles files (texts_in it.paths) (texts_in it.texts) it.found.now
+    → option_map (λ bytes. bytes.now) lent ≡ input_of (found_of it.input_found) it.input.now
+    → IsServed (texts_in it.words) it.asks (handed_of files lent) came → IsServedOver it came
+served_over it files lent came are same is = (handed_of files lent, (are, same), is)
+
 -- ---- what is handed out
 
 -- what holds of what a command wrote holds of the texts that were written
@@ -95,20 +103,10 @@ of_written Are w it status out err more are =
     subst (λ t. Are status out err t) (sym are.3) by_err
 
 -- the texts of a command that was done over the files
-given : (words : List (List ℕ)) (asks : Bool) (paths texts : List (List ℕ)) (found : List ℕ) (lent : Option (Bor (List ℕ)))
-    (input : Option (List ℕ)) (w : Written)
-    → IsServedOver words asks paths texts found lent (served.Done w) → option_map (λ bytes. bytes.now) lent ≡ input
-    → (status : ℕ) (out err more : List ℕ) → AreWritten w status out err more
-    → ServesGiven words asks paths texts found input status out err more
-given words asks paths texts found lent input w over same status out err more are =
-    let files = over.0 in
-    let Serves : Option (List ℕ) → ℕ → List ℕ → List ℕ → List ℕ → Type 0 = λ i. ServesWords words asks (record {
-      files = files;
-      input = i;
-    }) in
-    let by_input : Serves input w.status (memory_bytes w.out) (memory_bytes w.err) (memory_bytes w.more) =
-    subst (λ i. Serves i w.status (memory_bytes w.out) (memory_bytes w.err) (memory_bytes w.more)) same over.2 in
-    (files, over.1, of_written (Serves input) w by_input status out err more are)
+given : (it : HandedIn) (w : Written) → IsServedOver it (served.Done w)
+    → (status : ℕ) (out err more : List ℕ) → AreWritten w status out err more → ServesGiven it status out err more
+given it w over status out err more are =
+    (over.0, over.1, of_written (ServesWords (texts_in it.words) it.asks over.0) w over.2 status out err more are)
 
 -- texts that are handed out as these are handed out as those too
 more_texts : (Are Those : ℕ → List ℕ → List ℕ → List ℕ → Type 0) (old new : List ℕ) (said : Said) (code : ℕ)
@@ -125,22 +123,18 @@ more_texts Are Those old new said code those texts_of = record {
 }
 
 -- the texts of a command that was done, as they are handed out
-pub given_texts : (words : List (List ℕ)) (asks : Bool) (paths texts : List (List ℕ)) (found : List ℕ)
-    (lent : Option (Bor (List ℕ))) (shown input : Option (List ℕ)) (w : Written) (old new : List ℕ) (said : Said) (code : ℕ)
-    → IsServedOver words asks paths texts found lent (served.Done w) → option_map (λ bytes. bytes.now) lent ≡ shown
-    → shown ≡ input → HandsOutTexts (AreWritten w) old new said code
-    → HandsOutTexts (ServesGiven words asks paths texts found input) old new said code
-given_texts words asks paths texts found lent shown input w old new said code over is same =
-    more_texts (AreWritten w) (ServesGiven words asks paths texts found input) old new said code
-    (given words asks paths texts found lent input w over (is ∙ same))
+pub given_texts : (it : HandedIn) (w : Written) (old new : List ℕ) (said : Said) (code : ℕ)
+    → IsServedOver it (served.Done w) → HandsOutTexts (AreWritten w) old new said code
+    → HandsOutTexts (ServesGiven it) old new said code
+given_texts it w old new said code over = more_texts (AreWritten w) (ServesGiven it) old new said code (given it w over)
 
 -- and those of words that are no order
-pub misused_texts : (words : List (List ℕ)) (asks : Bool) (paths texts : List (List ℕ)) (found : List ℕ)
-    (lent : Option (Bor (List ℕ))) (w : Written) (old new : List ℕ) (said : Said) (code : ℕ)
-    → IsServedOver words asks paths texts found lent (served.Misused w) → HandsOutTexts (AreWritten w) old new said code
-    → HandsOutTexts (IsMisuseOf words) old new said code
-misused_texts words asks paths texts found lent w old new said code over =
-    more_texts (AreWritten w) (IsMisuseOf words) old new said code (of_written (IsMisuseOf words) w over.2)
+pub misused_texts : (it : HandedIn) (w : Written) (old new : List ℕ) (said : Said) (code : ℕ)
+    → IsServedOver it (served.Misused w) → HandsOutTexts (AreWritten w) old new said code
+    → HandsOutTexts (IsMisuseOf (texts_in it.words)) old new said code
+misused_texts it w old new said code over =
+    let Are : ℕ → List ℕ → List ℕ → List ℕ → Type 0 = IsMisuseOf (texts_in it.words) in
+    more_texts (AreWritten w) Are old new said code (of_written Are w over.2)
 
 -- a file that is missed isn't handed in
 not_handed : {Z : Type 0} (files : Handed) (number : ℕ) (path : Option (String Z)) (text : List ℕ)
@@ -151,31 +145,24 @@ not_handed files number (Some path) text is missing =
 not_handed files number None text is missing = let no : ⊥ = cc in absurd no
 
 -- the path of a file that is missed, over the files that are handed in, and the number of what it is for the command
-missed_path : (words : List (List ℕ)) (asks : Bool) (paths texts : List (List ℕ)) (found : List ℕ)
-    (lent : Option (Bor (List ℕ))) (input : Option (List ℕ)) (missed : Missed) (number : ℕ) (path : List ℕ)
-    → IsServedOver words asks paths texts found lent (served.Missing missed) → option_map (λ bytes. bytes.now) lent ≡ input
-    → IsPathOf missed number path → MissesGiven words asks paths texts found input number path
-missed_path words asks paths texts found lent input missed number path over same is =
+missed_path : (it : HandedIn) (missed : Missed) (number : ℕ) (path : List ℕ) → IsServedOver it (served.Missing missed)
+    → IsPathOf missed number path → MissesGiven it number path
+missed_path it missed number path over is =
     let files = over.0 in
-    let here : IsNotHandedAs (handed_of files lent) missed.role path =
-    not_handed (handed_of files lent) missed.role missed.path path is.1 over.2.1 in
-    let misses : MissesFile words asks (handed_of files lent) number path =
-    (over.2.0, subst (λ n. IsNotHandedAs (handed_of files lent) n path) (sym is.0) here) in
-    (files, over.1, subst (λ i. MissesFile words asks (record { files = files; input = i }) number path) same misses)
+    let here : IsNotHandedAs files missed.role path = not_handed files missed.role missed.path path is.1 over.2.1 in
+    (files, over.1, (over.2.0, subst (λ n. IsNotHandedAs files n path) (sym is.0) here))
 
 -- the same, as it is handed out
-pub given_path : (words : List (List ℕ)) (asks : Bool) (paths texts : List (List ℕ)) (found : List ℕ)
-    (lent : Option (Bor (List ℕ))) (shown input : Option (List ℕ)) (missed : Missed) (old new : List ℕ) (said : Said) (code : ℕ)
-    → IsServedOver words asks paths texts found lent (served.Missing missed) → option_map (λ bytes. bytes.now) lent ≡ shown
-    → shown ≡ input → HandsOutPath (IsPathOf missed) old new said code
-    → HandsOutPath (MissesGiven words asks paths texts found input) old new said code
-given_path words asks paths texts found lent shown input missed old new said code over is same path =
+pub given_path : (it : HandedIn) (missed : Missed) (old new : List ℕ) (said : Said) (code : ℕ)
+    → IsServedOver it (served.Missing missed) → HandsOutPath (IsPathOf missed) old new said code
+    → HandsOutPath (MissesGiven it) old new said code
+given_path it missed old new said code over path =
     let out = path.handed_out in record {
       no_out = path.no_out;
       no_err = path.no_err;
       handed_out = record {
         text = out.text;
-        is_one = missed_path words asks paths texts found lent input missed said.code out.text over (is ∙ same) out.is_one;
+        is_one = missed_path it missed said.code out.text over out.is_one;
         size_of = out.size_of;
         status_of = out.status_of;
         room = out.room;

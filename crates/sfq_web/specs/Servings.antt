@@ -16,10 +16,13 @@ use Rattle.library_calls.specs.Explained.{HandsOut}
 use Rattle.library_calls.specs.Refusals.{too_small}
 use Rattle.streams.specs.MemorySinks.{memory_bytes, memory_failures}
 use Rattle.streams.specs.declared.memory.MemorySink.{MemorySink}
-use Rattle.sfq_web.specs.HandedFiles.{AreFiles, Handed, IsNotHandedAs, OpensHanded, bytes_in, is_there}
+use Rattle.sfq_web.specs.HandedFiles.{AreFiles, Handed, IsNotHandedAs, OpensHanded, bytes_in, found_of, is_there}
+use Rattle.sfq_web.specs.Pieces.{pieces}
 use Rattle.sfq_web.specs.declared.handed_files.Found.{Found}
 use Rattle.sfq_web.specs.declared.handed_files.HandedFile.{HandedFile}
 use Rattle.sfq_web.specs.declared.handed_files.HandedReader.{HandedReader}
+use Rattle.sfq_web.specs.declared.handed_in.Given.{Given}
+use Rattle.sfq_web.specs.declared.handed_in.HandedIn.{HandedIn}
 use Rattle.sfq_web.specs.declared.handing.Handing.{Handing}
 use Rattle.sfq_web.specs.declared.handing.Missed.{Missed}
 use Rattle.sfq_web.specs.declared.serve_call.Said.{Said}
@@ -65,8 +68,12 @@ pub record EndsOrder (order : Order) (files : Handed) (status : ℕ) (out err sa
   pub no_said : memory_bytes old_said ≡ []
   pub serves : ServesHanded old_out out old_said said files order status old_err err
 
+-- the status of a command that can't open or read a file
+abbrev pub unread_status : ℕ
+unread_status = failure_status f.SchemaUnreadable
+
 -- doing an order over the files has written these texts to standard output and standard error, whole, and gives this status; what explains its end
--- is what was written of that, unless that is nothing, and is nothing where the order doesn't ask why
+-- is what was written of that, unless that is nothing and a file can't be opened or read, and is nothing where the order doesn't ask why
 pub record DoesOrder (order : Order) (files : Handed) (status : ℕ) (out err more : List ℕ) : Type 0 where
   pub new_out : MemorySink
   pub new_err : MemorySink
@@ -76,12 +83,8 @@ pub record DoesOrder (order : Order) (files : Handed) (status : ℕ) (out err mo
   pub err_is : err ≡ memory_bytes new_err
   pub whole_out : memory_failures new_out ≡ 0
   pub whole_err : memory_failures new_err ≡ 0
-  pub explained : (memory_bytes new_said ≡ []) ⊎ (more ≡ memory_bytes new_said)
+  pub explained : (more ≡ memory_bytes new_said) ⊎ ((memory_bytes new_said ≡ []) × (status ≡ unread_status))
   pub unasked : asks_why order ≡ false → more ≡ []
-
--- the status of a command that can't open or read a file
-abbrev pub unread_status : ℕ
-unread_status = failure_status f.SchemaUnreadable
 
 -- doing an order over the files ends with that status
 abbrev pub FailsOrder : Order → Handed → Type 0
@@ -124,31 +127,39 @@ IsServed words asks files (served.Missing missed) = FailsWords words asks files 
 abbrev pub input_of : Found → List ℕ → Option (List ℕ)
 input_of found input = if is_there found then Some input else None
 
+-- texts that are handed in one after another
+abbrev pub texts_in : Given → List (List ℕ)
+texts_in given = pieces given.text.now given.lengths.now
+
+-- the files that are handed in with a command line, with their paths, and standard input
+abbrev pub AreHanded : HandedIn → Handed → Type 0
+AreHanded it files =
+    AreFiles files.files (texts_in it.paths) (texts_in it.texts) it.found.now × (files.input ≡ input_of (found_of it.input_found) it.input.now)
+
 -- ---- what is handed out
 
--- words, and files of these paths, texts and numbers of what was found: doing what the words order has written these texts, and gives this status
-abbrev pub ServesGiven : List (List ℕ) → Bool → List (List ℕ) → List (List ℕ) → List ℕ → Option (List ℕ) → ℕ → List ℕ → List ℕ → List ℕ → Type 0
-ServesGiven words asks paths texts found input status out err more =
-    (files : List HandedFile) × AreFiles files paths texts found
-    × ServesWords words asks (record { files = files; input = input }) status out err more
+-- doing what the words order, over the files that are handed in with them, has written these texts, and gives this status
+abbrev pub ServesGiven : HandedIn → ℕ → List ℕ → List ℕ → List ℕ → Type 0
+ServesGiven it status out err more =
+    (files : Handed) × AreHanded it files × ServesWords (texts_in it.words) it.asks files status out err more
 
 -- doing the order of the words ends so over the files, and what this number says for a command isn't handed in at this path
 abbrev pub MissesFile : List (List ℕ) → Bool → Handed → ℕ → List ℕ → Type 0
 MissesFile words asks files number path = FailsWords words asks files × IsNotHandedAs files number path
 
--- the same of files of these paths, texts and numbers of what was found
-abbrev pub MissesGiven : List (List ℕ) → Bool → List (List ℕ) → List (List ℕ) → List ℕ → Option (List ℕ) → ℕ → List ℕ → Type 0
-MissesGiven words asks paths texts found input number path =
-    (files : List HandedFile) × AreFiles files paths texts found × MissesFile words asks (record { files = files; input = input }) number path
+-- doing what the words order ends so over the files that are handed in with them
+abbrev pub MissesGiven : HandedIn → ℕ → List ℕ → Type 0
+MissesGiven it number path = (files : Handed) × AreHanded it files × MissesFile (texts_in it.words) it.asks files number path
 
 -- one of these texts isn't UTF-8
 abbrev pub HasNoString : List (List ℕ) → Type 0
 HasNoString texts = Any (λ text. ¬ IsUtf8 text) texts
 
 -- one of the words or paths isn't UTF-8, or there is another number of texts, or of numbers of what was found, than of paths
-abbrev pub IsUnfit : List (List ℕ) → List (List ℕ) → List (List ℕ) → List ℕ → Type 0
-IsUnfit words paths texts found =
-    HasNoString words ⊎ HasNoString paths ⊎ (length texts ≢ length paths) ⊎ (length found ≢ length paths)
+abbrev pub IsUnfit : HandedIn → Type 0
+IsUnfit it =
+    HasNoString (texts_in it.words) ⊎ HasNoString (texts_in it.paths) ⊎ (length (texts_in it.texts) ≢ length (texts_in it.paths))
+    ⊎ (length it.found.now ≢ length (texts_in it.paths))
 
 -- three texts of a command are handed out, one after another, with the lengths of the first two
 pub record HandsOutTexts (Are : ℕ → List ℕ → List ℕ → List ℕ → Type 0) (old new : List ℕ) (said : Said) (status : ℕ) : Type 0 where
@@ -167,11 +178,11 @@ pub record HandsOutPath (Is : ℕ → List ℕ → Type 0) (old new : List ℕ) 
   pub handed_out : HandsOut (Is said.code) old new said.size status
 
 -- the room is too small for what is to be handed out, whose size is said: the texts of a command, or the path of a file that isn't handed in
-abbrev pub LacksRoom : List (List ℕ) → Bool → List (List ℕ) → List (List ℕ) → List ℕ → Option (List ℕ) → List ℕ → List ℕ → Said → Type 0
-LacksRoom words asks paths texts found input old new said =
-    HandsOutTexts (ServesGiven words asks paths texts found input) old new said too_small
-    ⊎ HandsOutTexts (IsMisuseOf words) old new said too_small
-    ⊎ HandsOutPath (MissesGiven words asks paths texts found input) old new said too_small
+abbrev pub LacksRoom : HandedIn → List ℕ → List ℕ → Said → Type 0
+LacksRoom it old new said =
+    HandsOutTexts (ServesGiven it) old new said too_small
+    ⊎ HandsOutTexts (IsMisuseOf (texts_in it.words)) old new said too_small
+    ⊎ HandsOutPath (MissesGiven it) old new said too_small
 
 -- ---- steps by which it is found
 
@@ -188,10 +199,9 @@ IsMisusedAs misuse (served.Misused w) =
     (w.status ≡ status_of (kind_of misuse.error)) × IsOnItsStream w.status (memory_bytes w.out) (memory_bytes w.err) (memory_bytes w.more)
 IsMisusedAs misuse (served.Missing missed) = ⊥
 
--- what came of words over files of these paths, texts and numbers
-abbrev pub IsServedOver : List (List ℕ) → Bool → List (List ℕ) → List (List ℕ) → List ℕ → Option (Bor (List ℕ)) → Served → Type 0
-IsServedOver words asks paths texts found input it =
-    (files : List HandedFile) × AreFiles files paths texts found × IsServed words asks (handed_of files input) it
+-- what came of the words over the files that are handed in with them
+abbrev pub IsServedOver : HandedIn → Served → Type 0
+IsServedOver it served = (files : Handed) × AreHanded it files × IsServed (texts_in it.words) it.asks files served
 
 -- these texts were written, with this status
 abbrev pub AreWritten : Written → ℕ → List ℕ → List ℕ → List ℕ → Type 0

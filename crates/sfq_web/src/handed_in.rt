@@ -11,13 +11,35 @@ use crate::handing::Handing;
 use crate::served::{Served, serve_words};
 use std::alloc::{AllocError, Global};
 
-/// The words of a command line as a caller hands them in: one after another, with a list of their lengths.
+/// Texts as a caller hands them in: one after another, with a list of their lengths.
 #[derive(Clone, Copy)]
+#[repr(C)]
 pub struct Given<'g> {
     /// The texts.
     pub text: &'g [u8],
     /// Their lengths.
     pub lengths: &'g [usize],
+}
+
+/// A command line as a caller hands it in, with its files.
+#[derive(Clone, Copy)]
+#[repr(C)]
+pub struct HandedIn<'g> {
+    /// The words, the program's name first.
+    pub words: Given<'g>,
+    /// The paths of files, as in these words.
+    pub paths: Given<'g>,
+    /// What was read of each file.
+    pub texts: Given<'g>,
+    /// A number for what was found at each path: 0 a file, 1 what can be read only once, 2 a folder, 3 what can't be read to its
+    /// end, 4 nothing, 5 what this user may not read, another what can't be opened.
+    pub found: &'g [u8],
+    /// What was read of standard input.
+    pub input: &'g [u8],
+    /// Such a number for standard input.
+    pub input_found: u8,
+    /// Whether the caller asks why.
+    pub asks: bool,
 }
 
 /// Standard input as a caller hands it in.
@@ -47,34 +69,24 @@ impl<'g> Input<'g> {
 }
 
 /// Does what words order over files. None if a word or path isn't UTF-8, or if paths, texts and numbers aren't equally many.
-pub fn serve_given(
-    alloc: Global,
-    words: Given<'_>,
-    asks: bool,
-    paths: Given<'_>,
-    texts: Given<'_>,
-    found: &[u8],
-    input: Input<'_>,
-) -> Result<Option<Served>, AllocError>
-    ensures served { IfOk result (λ it. IfSome it (IsServedOver (pieces words.entry.text.now words.entry.lengths.now) asks
-        (pieces paths.entry.text.now paths.entry.lengths.now) (pieces texts.entry.text.now texts.entry.lengths.now)
-        found.now input.entry.text)) }
-    ensures unfit { IfOk result (λ it. it ≡ None → IsUnfit (pieces words.entry.text.now words.entry.lengths.now)
-        (pieces paths.entry.text.now paths.entry.lengths.now) (pieces texts.entry.text.now texts.entry.lengths.now) found.now) }
+pub fn serve_given(alloc: Global, handed: &HandedIn<'_>) -> Result<Option<Served>, AllocError>
+    ensures served { IfOk result (λ it. IfSome it (IsServedOver handed.now)) }
+    ensures unfit { IfOk result (λ it. it ≡ None → IsUnfit handed.now) }
 {
-    let Some(words) = strings_of(alloc, words.text, words.lengths)? else {
+    let Some(words) = strings_of(alloc, handed.words.text, handed.words.lengths)? else {
         return Ok(None);
     };
-    let Some(paths) = strings_of(alloc, paths.text, paths.lengths)? else {
+    let Some(paths) = strings_of(alloc, handed.paths.text, handed.paths.lengths)? else {
         return Ok(None);
     };
-    let texts = cut(alloc, texts.text, texts.lengths)?;
-    if texts.len() != paths.len() || found.len() != paths.len() {
+    let texts = cut(alloc, handed.texts.text, handed.texts.lengths)?;
+    if texts.len() != paths.len() || handed.found.len() != paths.len() {
         return Ok(None);
     }
-    let files = files_of(alloc, paths.as_slice(), texts.as_slice(), found)?;
+    let files = files_of(alloc, paths.as_slice(), texts.as_slice(), handed.found)?;
+    let input = Input::of(Found::of(handed.input_found), handed.input);
     let mut handing = Handing::new(alloc, files.as_slice(), input.text, input.is_broken);
-    let served = serve_words(alloc, words.as_slice(), asks, &mut handing)?;
+    let served = serve_words(alloc, words.as_slice(), handed.asks, &mut handing)?;
     Ok(Some(served))
 }
 

@@ -2,12 +2,9 @@
 
 ghost use Rattle.std.specs.Prelude.{◌≡◌, ◌≢◌, ◌⊎◌, ◌<◌, length};
 ghost use Rattle.library_calls.specs.Refusals.{first_refused, none_there, ok, out_of_memory, too_small, unknown};
-ghost use Rattle.sfq_web.specs.HandedFiles.{found_of};
-ghost use Rattle.sfq_web.specs.Pieces.{pieces};
-ghost use Rattle.sfq_web.specs.Servings.{AreWritten, HandsOutPath, HandsOutTexts, IsMisuseOf, IsPathOf, IsUnfit, LacksRoom, MissesGiven, ServesGiven, input_of};
+ghost use Rattle.sfq_web.specs.Servings.{AreWritten, HandsOutPath, HandsOutTexts, IsMisuseOf, IsPathOf, IsUnfit, LacksRoom, MissesGiven, ServesGiven, texts_in};
 
-use crate::handed_files::Found;
-use crate::handed_in::{Given, Input, serve_given};
+use crate::handed_in::{HandedIn, serve_given};
 use crate::handing::Missed;
 use crate::served::{Served, Written, add};
 use library_calls::hand_out;
@@ -27,11 +24,8 @@ pub struct Said {
     pub code: u8,
 }
 
-/// Does what the words of a command line order, the program's name first, as `sfq` does, and hands out what it writes: standard
-/// output, standard error, and what explains a fault, one after another. Its files are handed in, each with its path as in these
-/// words and a number for what was found: 0 a file, 1 what can be read only once, 2 a folder, 3 what can't be read to its end, 4
-/// nothing, 5 what this user may not read, another what can't be opened; so is standard input. Texts come one after another, with
-/// their lengths.
+/// Does what the words of a command line order, as `sfq` does, over the files that are handed in with them, and hands out what it
+/// writes: standard output, standard error, and what explains a fault, one after another.
 ///
 /// The status is 0 if the order was done or failed, and 1 if the words are none. If it is 6, the order needs a file that isn't
 /// handed in, whose path is handed out: read it, and call again. It is 5 if `room` is too small for what would be handed out, whose
@@ -40,52 +34,23 @@ pub struct Said {
 #[unsafe(no_mangle)]
 pub extern "C" fn sfq_proved_serve(
     alloc: Global,
-    words: &[u8],
-    word_lengths: &[usize],
-    asks: bool,
-    paths: &[u8],
-    path_lengths: &[usize],
-    texts: &[u8],
-    text_lengths: &[usize],
-    found: &[u8],
-    input_found: u8,
-    input: &[u8],
+    handed: &HandedIn<'_>,
     room: &mut [u8],
     said: &mut Said,
 ) -> u32
-    ensures served { result ≡ ok → HandsOutTexts
-        (ServesGiven (pieces words.now word_lengths.now) asks (pieces paths.now path_lengths.now)
-        (pieces texts.now text_lengths.now) found.now (input_of (found_of input_found) input.now)) room.old room.new said.new ok }
+    ensures served { result ≡ ok → HandsOutTexts (ServesGiven handed.now) room.old room.new said.new ok }
     ensures misused { result ≡ first_refused
-        → HandsOutTexts (IsMisuseOf (pieces words.now word_lengths.now)) room.old room.new said.new ok }
-    ensures missing { result ≡ none_there → HandsOutPath
-        (MissesGiven (pieces words.now word_lengths.now) asks (pieces paths.now path_lengths.now)
-        (pieces texts.now text_lengths.now) found.now (input_of (found_of input_found) input.now)) room.old room.new said.new ok }
-    ensures unfit { result ≡ unknown → IsUnfit (pieces words.now word_lengths.now) (pieces paths.now path_lengths.now)
-        (pieces texts.now text_lengths.now) found.now }
+        → HandsOutTexts (IsMisuseOf (texts_in handed.now.words)) room.old room.new said.new ok }
+    ensures missing { result ≡ none_there → HandsOutPath (MissesGiven handed.now) room.old room.new said.new ok }
+    ensures unfit { result ≡ unknown → IsUnfit handed.now }
     ensures kept { result ≢ ok → result ≢ first_refused → result ≢ none_there → room.new ≡ room.old }
     ensures unsaid { (result ≡ unknown) ⊎ (result ≡ out_of_memory) → said.new ≡ said.old }
     ensures no_room { result ≡ too_small → length room.old < said.new.size }
-    ensures size { result ≡ too_small → LacksRoom
-        (pieces words.now word_lengths.now) asks (pieces paths.now path_lengths.now)
-        (pieces texts.now text_lengths.now) found.now (input_of (found_of input_found) input.now) room.old room.new said.new }
+    ensures size { result ≡ too_small → LacksRoom handed.now room.old room.new said.new }
     ensures status { (result ≡ ok) ⊎ (result ≡ first_refused) ⊎ (result ≡ out_of_memory) ⊎ (result ≡ unknown)
         ⊎ (result ≡ too_small) ⊎ (result ≡ none_there) }
 {
-    let words = Given {
-        text: words,
-        lengths: word_lengths,
-    };
-    let paths = Given {
-        text: paths,
-        lengths: path_lengths,
-    };
-    let texts = Given {
-        text: texts,
-        lengths: text_lengths,
-    };
-    let input = Input::of(Found::of(input_found), input);
-    match serve_given(alloc, words, asks, paths, texts, found, input) {
+    match serve_given(alloc, handed) {
         Ok(Some(Served::Done(written))) => hand_out_texts(written, 0, room, said),
         Ok(Some(Served::Misused(written))) => hand_out_texts(written, 1, room, said),
         Ok(Some(Served::Missing(missed))) => hand_out_path(&missed, room, said),

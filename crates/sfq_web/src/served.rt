@@ -3,7 +3,7 @@
 ghost use Rattle.std.specs.Prelude.{◌≡◌, ◌⊎◌, ◌++◌, [], false, IfOk, OnOk, map};
 ghost use Rattle.command_line.specs.Orders.{asks_why};
 ghost use Rattle.sfq_web.specs.HandedFiles.{OpensAs};
-ghost use Rattle.sfq_web.specs.Servings.{IsDone, IsMisusedAs, IsServed, ServesHanded, asking, handed};
+ghost use Rattle.sfq_web.specs.Servings.{IsDone, IsMisusedAs, IsServed, ServesHanded, asking, handed, unread_status};
 ghost use Rattle.streams.specs.MemorySinks.{memory_bytes};
 
 use crate::handing::{Handing, Missed};
@@ -118,7 +118,7 @@ fn explained(
     handing: &mut Handing<'_>,
     mut said: MemorySink,
 ) -> Result<MemorySink, AllocError>
-    ensures kept { IfOk result (λ more. (memory_bytes said ≡ []) ⊎ (more ≡ said)) }
+    ensures kept { IfOk result (λ more. (more ≡ said) ⊎ ((memory_bytes said ≡ []) × (status ≡ unread_status))) }
     ensures unasked { IfOk result (λ more. asks_why order.now ≡ false → more ≡ said) }
 {
     if said.bytes().is_empty() && order.asks_why() && status == UNREAD {

@@ -16,9 +16,9 @@ use validity::Valid;
 pub enum Reading {
     /// The column's field.
     Field,
-    /// ST_AsText of its geometry (06-103r4, 6.1.2.2).
+    /// ST_AsText of the column's geometry (06-103r4, 6.1.2.2).
     Text,
-    /// ST_Dimension of its geometry (06-103r4, 6.1.2.2).
+    /// ST_Dimension of the column's geometry (06-103r4, 6.1.2.2).
     Dimension,
 }
 

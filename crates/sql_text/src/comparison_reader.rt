@@ -27,7 +27,7 @@ fn comparison_of(kind: TokenKind) -> Option<Comparison>
     }
 }
 
-/// Reads the rest of a comparison, after its left side. The comparison starts at this place.
+/// Reads the rest of a comparison, after its left side. The place is where the comparison starts.
 #[tactic(auto, unfolding(table_model::specs::QueryReading::compared))]
 fn compared<'a>(
     alloc: Global,

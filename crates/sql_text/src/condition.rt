@@ -20,7 +20,7 @@ use table_model::tokens::TokenKind;
 
 pub(crate) type WrittenCond<'a> = CondOf<'a, Argument<'a>>;
 
-/// The AND of these parts, if they were read; a fault is passed on.
+/// Makes the AND of these parts if they were read, or returns their fault.
 fn all_of<'a>(
     parts: Result<Items<WrittenCond<'a>>, QueryFault>,
 ) -> Result<WrittenCond<'a>, QueryFault>
@@ -32,7 +32,7 @@ fn all_of<'a>(
     }
 }
 
-/// The OR of these parts, if they were read; a fault is passed on.
+/// Makes the OR of these parts if they were read, or returns their fault.
 fn one_of<'a>(
     parts: Result<Items<WrittenCond<'a>>, QueryFault>,
 ) -> Result<WrittenCond<'a>, QueryFault>
@@ -44,7 +44,7 @@ fn one_of<'a>(
     }
 }
 
-/// The NOT of a condition that was read; a fault is passed on.
+/// Makes the NOT of a condition that was read, or returns its fault.
 pub(crate) fn negated<'a, A: Drop>(
     alloc: Global,
     read: Result<CondOf<'a, A>, QueryFault>,
@@ -59,7 +59,7 @@ pub(crate) fn negated<'a, A: Drop>(
     }
 }
 
-/// A list that begins with a first part, if it was read; a fault is passed on.
+/// Makes a list that begins with a first part if it was read, or returns its fault.
 fn list_of<T: Drop>(alloc: Global, first: Result<T, QueryFault>) -> Result<Items<T>, QueryFault>
     ensures ok { IfOk first (λ part. Gives QueryFault.OutOfMemory (λ parts. parts) result (Ok (part ∷ []))) }
     ensures err { IfErr first (λ fault. result ≡ Err fault) }
@@ -69,7 +69,7 @@ fn list_of<T: Drop>(alloc: Global, first: Result<T, QueryFault>) -> Result<Items
     Ok(parts)
 }
 
-/// Adds a part that was read to those before it; a fault is passed on.
+/// Adds a part that was read to those before it, or returns its fault.
 fn keep<T: Drop>(parts: &mut Items<T>, read: Result<T, QueryFault>) -> Result<(), QueryFault>
     ensures ok { IfOk read (λ part.
         Gives QueryFault.OutOfMemory (λ _. parts.new) result (Ok (parts.old ++ part ∷ []))) }
@@ -79,7 +79,7 @@ fn keep<T: Drop>(parts: &mut Items<T>, read: Result<T, QueryFault>) -> Result<()
     Ok(())
 }
 
-/// Whether a part was read and the word between parts comes next; the word is read then.
+/// Whether a part was read and the word between parts comes next. If so, the word is read.
 fn goes_on<T>(tokens: &mut Cursor<'_, '_>, read: &Result<T, QueryFault>, between: TokenKind) -> bool
     ensures ok { IfOk read.now (λ _.
         (result ≡ steps.sees between tokens.old) × (tokens.new ≡ steps.after between tokens.old)) }
@@ -88,7 +88,7 @@ fn goes_on<T>(tokens: &mut Cursor<'_, '_>, read: &Result<T, QueryFault>, between
     read.is_ok() && tokens.eat(between)
 }
 
-/// Reads the rest of a disjunction, after a first part and OR.
+/// Reads the rest of a disjunction, after its first part and OR.
 #[cycle(conditions)]
 #[tactic(auto, unfolding(table_model::specs::Parsers::parts_from))]
 fn disjuncts<'a>(
@@ -130,7 +130,7 @@ pub(crate) fn condition<'a>(
     one_of(disjuncts(alloc, tokens, levels, list_of(alloc, first)))
 }
 
-/// Reads the rest of a conjunction, after a first part and AND.
+/// Reads the rest of a conjunction, after its first part and AND.
 #[cycle(conditions)]
 #[tactic(auto, unfolding(table_model::specs::Parsers::parts_from))]
 fn conjuncts<'a>(
@@ -185,7 +185,7 @@ fn group<'a>(
     closed(condition(alloc, tokens, levels), tokens)
 }
 
-/// Reads what NOT negates, after it.
+/// Reads the condition after NOT, and negates it.
 #[cycle(conditions)]
 fn opposite<'a>(
     alloc: Global,
@@ -198,7 +198,7 @@ fn opposite<'a>(
     negated(alloc, negation(alloc, tokens, levels))
 }
 
-/// Reads a predicate at the innermost level, where neither NOT nor parentheses may come.
+/// Reads a predicate at the innermost level, where neither NOT nor parentheses are allowed.
 #[tactic(auto, unfolding(table_model::specs::QueryReading::negation))]
 fn innermost<'a>(alloc: Global, tokens: &mut Cursor<'_, 'a>) -> Result<WrittenCond<'a>, QueryFault>
     ensures { Reads QueryFault.OutOfMemory

@@ -1,6 +1,6 @@
-//! A cursor over the tokens of a text. Contracts see it as the list of the tokens that are left, and its methods as
-//! the steps of the readers in `specs/Parsers.antt` of `table_model`: a function that reads with a cursor ensures
-//! `Reads memory (reader tokens.old) result tokens.new`.
+//! A cursor over the tokens of a text. Contracts see it as the list of the tokens that are left, and its methods as the
+//! steps of the readers in `specs/Parsers.antt` of `table_model`: a function that reads with a cursor ensures `Reads
+//! memory (reader tokens.old) result tokens.new`.
 
 ghost use Rattle.std.specs.Prelude.{◌≡◌, length};
 ghost use Rattle.table_model.specs.Parsers as spec;
@@ -11,7 +11,7 @@ use table_model::queries::Name;
 use table_model::texts::Slice;
 use table_model::tokens::{Token, TokenKind};
 
-/// The tokens that are left to be read. Past the last one is the kind Bad, at place 0.
+/// The tokens that are left to be read. After the last one, the kind of the next token is Bad, and its place is 0.
 #[derive(Drop)]
 pub struct Cursor<'t, 'a> {
     left: &'t [Token<'a>],
@@ -27,7 +27,7 @@ impl<'t, 'a> Model for Cursor<'t, 'a> {
 }
 
 impl<'t, 'a> Cursor<'t, 'a> {
-    /// A cursor before the first of these tokens.
+    /// Makes a cursor before the first of these tokens.
     pub fn new(tokens: &'t [Token<'a>]) -> Cursor<'t, 'a>
         ensures { result ≡ tokens.now }
     {
@@ -77,7 +77,7 @@ impl<'t, 'a> Cursor<'t, 'a> {
         }
     }
 
-    /// How many tokens are left.
+    /// The number of tokens that are left.
     pub fn count(&self) -> usize
         ensures { result ≡ length self.now }
     {

@@ -1,4 +1,4 @@
-//! Reads the definition of a table. Each function ensures the outcome of the reader of its name in
+//! Reads the definition of a table. Each function ensures the outcome of the reader with its name in
 //! `specs/SchemaReading.antt` of `table_model`, which has the grammar.
 
 ghost use Rattle.std.specs.Prelude.{◌≡◌, true, IfOk};
@@ -19,7 +19,7 @@ use table_model::faults::SchemaFault;
 use table_model::texts::{OwnedText, same_name};
 use table_model::tokens::TokenKind;
 
-/// The fault of a next token that can't be there.
+/// The fault of a next token that isn't allowed.
 pub(crate) fn refuse(tokens: &Cursor<'_, '_>) -> SchemaFault
     ensures { result ≡ SchemaFault.Syntax (steps.place tokens.now) }
 {
@@ -72,7 +72,7 @@ fn is_ascii(bytes: &[u8]) -> bool
     true
 }
 
-/// A copy of a text of ASCII bytes.
+/// Copies a text of ASCII bytes.
 fn owned_word(alloc: Global, bytes: &[u8]) -> Result<OwnedText, AllocError>
     requires { spec.is_ascii bytes.now ≡ true }
     ensures { IfOk result (λ text. text ≡ bytes.now) }
@@ -83,14 +83,14 @@ fn owned_word(alloc: Global, bytes: &[u8]) -> Result<OwnedText, AllocError>
     }
 }
 
-/// Whether the next token may be a name: a word that isn't reserved.
+/// Whether the next token can be a name: a word that isn't reserved.
 fn sees_name(tokens: &Cursor<'_, '_>) -> bool
     ensures { result ≡ spec.sees_name tokens.now }
 {
     tokens.sees(TokenKind::Word) && is_ascii(tokens.spelling())
 }
 
-/// Reads a new name: TooMany if there is no room for one more, DoubleName if it is taken.
+/// Reads a new name. The fault is TooMany if the limit on names is reached, DoubleName if the name is already used.
 #[tactic(auto, unfolding(table_model::specs::SchemaReading::new_name))]
 fn new_name(
     alloc: Global,
@@ -137,7 +137,7 @@ fn shape_named(word: &[u8]) -> Option<ColumnShape>
     }
 }
 
-/// The type of this name.
+/// The column type that a word names.
 #[tactic(auto, unfolding(table_model::specs::SchemaReading::type_named))]
 fn type_named(word: &[u8]) -> Option<ColumnType>
     ensures { result ≡ spec.type_named shape_named word.now }
@@ -204,7 +204,7 @@ fn key_mark(
     Ok(true)
 }
 
-/// Reads the marks of a column: whether NOT NULL is there, and whether PRIMARY KEY is.
+/// Reads the marks of a column, and returns whether NOT NULL is one of them, and whether PRIMARY KEY is.
 #[tactic(auto, unfolding(table_model::specs::SchemaReading::marks))]
 fn marks(
     tokens: &mut Cursor<'_, '_>,
@@ -255,7 +255,7 @@ fn column(
     Ok((column, is_key))
 }
 
-/// The place of the key after one more column.
+/// The place of the key once one more column was read.
 fn key_after(key: Option<usize>, place: usize, is_key: bool) -> Option<usize>
     ensures { result ≡ spec.key_after key place is_key }
 {
@@ -283,7 +283,7 @@ fn columns(
     Err(refuse(tokens))
 }
 
-/// Reads the parenthesis that closes a table; NoKey there if the table has no key.
+/// Reads the parenthesis that closes a table. The fault there is NoKey if the table has no key.
 fn close(
     tokens: &mut Cursor<'_, '_>,
     name: OwnedText,
@@ -312,7 +312,7 @@ fn has_table(tables: &[TableDef], name: &[u8]) -> bool
     false
 }
 
-/// Reads the name of a table after those that were read.
+/// Reads the name of a table that comes after those that were read.
 #[tactic(auto, unfolding(table_model::specs::SchemaReading::table_name))]
 fn table_name(
     alloc: Global,
@@ -325,7 +325,7 @@ fn table_name(
     new_name(alloc, tokens, tables.len() >= TABLE_LIMIT, taken)
 }
 
-/// Reads a table after those that were read.
+/// Reads a table that comes after those that were read.
 #[tactic(auto, unfolding(table_model::specs::SchemaReading::table))]
 pub(crate) fn table(
     alloc: Global,

@@ -1,4 +1,4 @@
-//! Reads what SELECT lists.
+//! Reads the select list.
 
 ghost use Rattle.table_model.specs.QueryReading as spec;
 ghost use Rattle.table_model.specs.Parsers as steps;
@@ -105,7 +105,7 @@ fn counted<'a>(tokens: &mut Cursor<'_, 'a>) -> Result<Selection<'a>, QueryFault>
     Ok(Selection::Count)
 }
 
-/// Reads what SELECT lists.
+/// Reads the select list.
 #[tactic(auto, unfolding(table_model::specs::QueryReading::selection))]
 pub(crate) fn selection<'a>(
     alloc: Global,

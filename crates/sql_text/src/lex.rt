@@ -58,7 +58,7 @@ fn continues_word(byte: u8) -> bool
     begins_word(byte) || byte.is_ascii_digit()
 }
 
-/// The byte at a place, or 0 past the end.
+/// The byte at a place, or 0 after the end.
 fn byte_at(text: &[u8], at: usize) -> u8
     ensures value { result ≡ slice_index text.now at }
     ensures within { 0 < result → at < length text.now }
@@ -66,7 +66,7 @@ fn byte_at(text: &[u8], at: usize) -> u8
     if at < text.len() { text[at] } else { 0 }
 }
 
-/// How many bytes at the beginning of a text continue a word.
+/// The number of bytes at the front of a text that continue a word.
 fn word_length(text: &[u8]) -> usize
     ensures value { result ≡ prefix_len spec.continues_word text.now }
     ensures within { result ≤ length text.now }
@@ -79,7 +79,7 @@ fn word_length(text: &[u8]) -> usize
     text.len()
 }
 
-/// How many bytes at the beginning of a text are digits.
+/// The number of bytes at the front of a text that are digits.
 fn digits_length(text: &[u8]) -> usize
     ensures value { result ≡ prefix_len is_ascii_digit text.now }
     ensures within { result ≤ length text.now }
@@ -92,7 +92,7 @@ fn digits_length(text: &[u8]) -> usize
     text.len()
 }
 
-/// How many bytes a text has before its first line feed.
+/// The number of bytes of a text before its first line feed.
 fn line_length(text: &[u8]) -> usize
     ensures value { result ≡ prefix_len spec.is_in_line text.now }
     ensures within { result ≤ length text.now }
@@ -119,7 +119,7 @@ fn word_kind(word: &[u8]) -> TokenKind
     TokenKind::Word
 }
 
-/// The kind of a symbol of one byte, Bad if the byte is none.
+/// The kind of a symbol of one byte; Bad if the byte isn't a symbol.
 fn symbol_of_one(byte: u8) -> TokenKind
     ensures { result ≡ spec.symbol_of_one byte }
 {
@@ -158,8 +158,8 @@ fn symbol(byte: u8, next: u8) -> (TokenKind, usize)
     }
 }
 
-/// The place after the quote that closes a string whose bytes after the first quote are these, counted from that
-/// quote.
+/// The place after the quote that closes a string, counted from its first quote. The bytes are those after the first
+/// quote. None if no quote closes it.
 fn closing(rest: &[u8]) -> Option<usize>
     requires { length rest.now < 2 ^ 63 }
     ensures value { result ≡ spec.closing 1 false rest.now }
@@ -180,7 +180,7 @@ fn closing(rest: &[u8]) -> Option<usize>
     }
 }
 
-/// The string whose first quote begins a text, and its length; Bad, of one byte, if it isn't closed.
+/// The kind and length of the string whose first quote begins a text; Bad, with length 1, if the string isn't closed.
 fn string(text: &[u8]) -> (TokenKind, usize)
     requires { 0 < length text.now }
     ensures value { result ≡ spec.string text.now }
@@ -193,7 +193,7 @@ fn string(text: &[u8]) -> (TokenKind, usize)
 }
 
 #[tactic(auto, unfolding(table_model::specs::Tokens::front))]
-/// What is at the front of a text: its kind, or none for white space and comments, and its length in bytes.
+/// The kind of what is at the front of a text, None for white space and comments, and its length in bytes.
 fn front(text: &[u8], strings: bool) -> (Option<TokenKind>, usize)
     requires { 0 < length text.now }
     ensures value { result ≡ spec.front strings text.now }
@@ -219,7 +219,7 @@ fn front(text: &[u8], strings: bool) -> (Option<TokenKind>, usize)
     }
 }
 
-/// The text of a token of this kind and length at the front of a text. A string's is between its quotes.
+/// The text of a token of this kind and length at the front of a text. For a string, it is what is between the quotes.
 fn text_of<'a>(kind: TokenKind, len: usize, text: &'a [u8]) -> &'a [u8]
     requires { (1 ≤ len) × (len ≤ length text.now) }
     ensures { result.now ≡ spec.text_of kind len text.now }
@@ -258,9 +258,9 @@ fn cut<'a>(alloc: Global, text: &'a [u8], strings: bool) -> Result<Items<Token<'
     Ok(tokens)
 }
 
-/// The tokens of a text in their order. The last one is End, at the text's length, or Bad: the first byte that begins no
-/// token, or the first quote of a string that isn't closed. Strings are tokens if `strings` says so. Each token's text is
-/// the part of the text at its place; a string's is what is between its quotes. It fails only when memory runs out.
+/// Returns the tokens of a text in order. The last is End, at the text's length, or Bad: the first byte that begins no
+/// token, or the first quote of a string that isn't closed. Strings are tokens only if `strings` is true. A token's
+/// text is its part of the text; a string's is what is between its quotes. It fails only when memory runs out.
 pub fn lex<'a>(alloc: Global, text: &'a [u8], strings: bool) -> Result<Items<Token<'a>>, AllocError>
     ensures tokens { IfOk result (λ tokens. tokens ≡ spec.tokens strings text.now) }
     ensures slices { IfOk result (λ tokens. AllByRecursion (spec.IsSlice text.now) tokens) }

@@ -1,6 +1,6 @@
-//! Reads schemas and queries in the style of OGC 06-104r4 (Simple Features, part 2): `lex` cuts a text into tokens, a `Cursor`
-//! goes through them, and `read_schema` and `read_query` make the definitions of tables and the tree of a query that the grammar
-//! gives.
+//! Reads schemas and queries in the style of OGC 06-104r4 (Simple Features, part 2). `lex` cuts a text into tokens, a
+//! `Cursor` reads them one by one, `read_schema` returns definitions of tables, and `read_query` returns the tree of a
+//! query by the grammar.
 #![tactic(auto)]
 
 mod comparison_reader;

@@ -1,14 +1,14 @@
-//! The numbers that digits write.
+//! The numbers that digits spell.
 
 ghost use Rattle.std.specs.Prelude.{◌≡◌};
 ghost use Rattle.table_model.specs.QueryReading as spec;
 
 use crate::numbers::magnitude;
 
-/// The greatest magnitude of a number of 64 bits with a sign: the number with a minus fits, the one without doesn't.
+/// The greatest magnitude of a number of 64 bits with a sign. With a minus it fits, without one it doesn't.
 const GREATEST_MAGNITUDE: u64 = 1 << 63;
 
-/// The number that digits and a sign write, if it fits in 64 bits.
+/// The number that digits and a sign spell, if it fits in 64 bits.
 pub(crate) fn integer_value(negative: bool, digits: &[u8]) -> Option<i64>
     ensures { result ≡ spec.integer_value negative digits.now }
 {
@@ -25,7 +25,7 @@ pub(crate) fn integer_value(negative: bool, digits: &[u8]) -> Option<i64>
     }
 }
 
-/// The number of rows that digits write, if it fits in 64 bits with a sign.
+/// The number of rows that digits spell, if it fits in 64 bits with a sign.
 pub(crate) fn limit_value(digits: &[u8]) -> Option<u64>
     ensures { result ≡ spec.limit_value digits.now }
 {

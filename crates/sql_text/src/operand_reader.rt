@@ -18,7 +18,7 @@ use table_model::tokens::TokenKind;
 
 pub(crate) type WrittenOperand<'a> = OperandOf<'a, Argument<'a>>;
 
-/// Reads digits, after a minus or not; NumberTooBig if their number doesn't fit in 64 bits.
+/// Reads digits, perhaps after a minus. The fault is NumberTooBig if their number doesn't fit in 64 bits.
 #[tactic(auto, unfolding(table_model::specs::QueryReading::integer))]
 fn integer<'a>(
     tokens: &mut Cursor<'_, 'a>,
@@ -38,7 +38,7 @@ fn integer<'a>(
     }
 }
 
-/// Reads a geometry argument: a column, or ST_GeomFromText of a string.
+/// Reads a geometry argument: a column, or a call of ST_GeomFromText with a string.
 #[tactic(auto, unfolding(table_model::specs::QueryReading::geometry))]
 fn geometry<'a>(tokens: &mut Cursor<'_, 'a>) -> Result<WrittenGeometry<'a>, QueryFault>
     ensures { Reads QueryFault.OutOfMemory (spec.geometry tokens.old) result tokens.new }

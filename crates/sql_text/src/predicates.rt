@@ -1,4 +1,4 @@
-//! Reads predicates: calls of the functions that relate geometries, and what they are compared with.
+//! Reads predicates: calls of the functions that relate geometries, and the 1 or 0 with which they may be compared.
 
 ghost use Rattle.std.specs.Prelude.{◌≡◌, map, Ok, Err, IfOk, IfErr};
 ghost use Rattle.table_model.specs.Outcomes.{Gives};
@@ -31,8 +31,8 @@ const NAMED_PREDICATES: [(&[u8], Predicate); 8] = [
     (b"ST_Overlaps", Predicate::Overlaps),
 ];
 
-/// Reads the right parenthesis after the arguments of a predicate, and what the predicate is compared with. Returns what was
-/// read of the arguments, and whether the predicate is to hold. A fault is passed on.
+/// Reads the right parenthesis after the arguments of a predicate, and its comparison with 1 or 0 if there is one.
+/// Returns the arguments that were read, and whether the predicate has to hold, or the fault of the arguments.
 fn tested<T: Drop>(
     arguments: Result<T, QueryFault>,
     tokens: &mut Cursor<'_, '_>,
@@ -46,7 +46,7 @@ fn tested<T: Drop>(
     Ok((call, is_to_hold))
 }
 
-/// A condition that was read if it is to hold, else its NOT; a fault is passed on.
+/// A condition that was read if it has to hold, else its NOT; or its fault.
 fn given<'a, A: Drop>(
     alloc: Global,
     read: Result<(CondOf<'a, A>, bool), QueryFault>,
@@ -62,7 +62,7 @@ fn given<'a, A: Drop>(
     }
 }
 
-/// Reads the arguments of a predicate of two geometries. The predicate starts at this place.
+/// Reads the arguments of a predicate of two geometries. The place is where the predicate starts.
 #[tactic(auto, unfolding(table_model::specs::QueryReading::relates))]
 fn relates<'a>(
     alloc: Global,
@@ -78,7 +78,7 @@ fn relates<'a>(
     Ok(WrittenCond::Relates(at, WrittenPredicate::Named(predicate), a, b))
 }
 
-/// Reads the arguments of ST_Relate, which starts at this place.
+/// Reads the arguments of ST_Relate. The place is where it starts.
 #[tactic(auto, unfolding(table_model::specs::QueryReading::relates_by))]
 fn relates_by<'a>(
     alloc: Global,
@@ -95,7 +95,7 @@ fn relates_by<'a>(
     Ok(WrittenCond::Relates(at, WrittenPredicate::Relate(pattern), a, b))
 }
 
-/// Reads the argument of ST_IsEmpty, which starts at this place.
+/// Reads the argument of ST_IsEmpty. The place is where it starts.
 fn empty_argument<'a>(
     alloc: Global,
     tokens: &mut Cursor<'_, 'a>,
@@ -109,13 +109,13 @@ fn empty_argument<'a>(
 /// A function that is a predicate.
 #[derive(Clone, Copy)]
 pub enum Function {
-    /// A predicate of two geometries, by its name.
+    /// A predicate of two geometries with a name of its own.
     Named(Predicate),
     Relate,
     IsEmpty,
 }
 
-/// Reads the arguments of a function, whose name starts at this place.
+/// Reads the arguments of a function. The place is where its name starts.
 fn arguments<'a>(
     alloc: Global,
     tokens: &mut Cursor<'_, 'a>,
@@ -131,7 +131,7 @@ fn arguments<'a>(
     }
 }
 
-/// Reads a call of a function, from its name on, and what it is compared with.
+/// Reads a call of a function, from its name on, and its comparison with 1 or 0 if there is one.
 fn call<'a>(
     alloc: Global,
     tokens: &mut Cursor<'_, 'a>,
@@ -146,7 +146,7 @@ fn call<'a>(
     given(alloc, tested(arguments, tokens))
 }
 
-/// The first predicate of a table whose function is called next.
+/// The first predicate in a list whose function is called next.
 fn called_of(table: &[(&[u8], Predicate)], tokens: &Cursor<'_, '_>) -> Option<Predicate>
     ensures { result ≡ named_in (map (λ row. (row.0.now, row.1)) table.now) tokens.now }
 {
@@ -190,7 +190,7 @@ fn called(tokens: &Cursor<'_, '_>) -> Option<Function>
     }
 }
 
-/// Reads a predicate, by the function that is called next; a comparison if none is.
+/// Reads a predicate if its function is called next, else a comparison.
 pub(crate) fn predicate<'a>(
     alloc: Global,
     tokens: &mut Cursor<'_, 'a>,

@@ -1,5 +1,5 @@
-//! The reader of queries, in the style of OGC 06-104r4 (Simple Features, part 2): `read_query` reads a text into the
-//! tree that the grammar gives.
+//! The reader of queries, in the style of OGC 06-104r4 (Simple Features, part 2): `read_query` returns the tree of a
+//! text by the grammar.
 
 use sqlite_items::Boxed;
 use table_model::queries::{WrittenColumn, WrittenGeometry};

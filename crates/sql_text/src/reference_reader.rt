@@ -1,4 +1,4 @@
-//! Reads FROM: the tables that a query is over, and the condition of ON.
+//! Reads FROM: the tables of a query, and the condition of ON.
 
 ghost use Rattle.table_model.specs.QueryReading as spec;
 ghost use Rattle.table_model.specs.Parsers.{Reads};
@@ -53,7 +53,7 @@ pub(crate) type SourcesOf<'a, A> = (References<WrittenReference<'a>>, Option<Con
 /// The table references and the condition of ON.
 pub(crate) type Sources<'a> = SourcesOf<'a, Argument<'a>>;
 
-/// Reads a second table reference after a comma or CROSS JOIN, which has no condition.
+/// Reads a second table reference after a comma or CROSS JOIN. It has no condition.
 #[tactic(auto, unfolding(table_model::specs::QueryReading::crossed))]
 fn crossed<'a>(
     alloc: Global,
@@ -94,7 +94,7 @@ fn joined_on<'a>(
     }
 }
 
-/// Reads a second table reference and its condition, if they come next; both references, or the first alone.
+/// Reads a second table reference and its condition, if they come next. Returns both references, or only the first.
 pub(crate) fn with_second<'a>(
     alloc: Global,
     first: WrittenReference<'a>,

@@ -26,7 +26,7 @@ fn goes_on(tokens: &mut Cursor<'_, '_>) -> bool
     separated && !tokens.sees(TokenKind::End)
 }
 
-/// Reads tables with semicolons between them, and perhaps one after the last.
+/// Reads tables with semicolons between them, and perhaps a semicolon after the last.
 #[tactic(auto, unfolding(table_model::specs::SchemaReading::tables_from))]
 fn all_tables(alloc: Global, tokens: &mut Cursor<'_, '_>) -> Result<Vec<TableDef>, SchemaFault>
     ensures { ReadsAs SchemaFault.OutOfMemory (λ v. v.items)
@@ -57,7 +57,7 @@ fn schema(alloc: Global, tokens: &mut Cursor<'_, '_>) -> Result<Vec<TableDef>, S
     Ok(tables)
 }
 
-/// Reads the text of a schema: its length is tested first, then its grammar.
+/// Reads the text of a schema: tests its length first, then its grammar.
 #[tactic(auto, unfolding(table_model::specs::SchemaReading::schema_of))]
 fn read(alloc: Global, text: &[u8]) -> Result<Schema, SchemaFault>
     ensures { Gives SchemaFault.OutOfMemory (λ schema. schema) result
@@ -72,12 +72,12 @@ fn read(alloc: Global, text: &[u8]) -> Result<Schema, SchemaFault>
     Ok(Schema::of(tables))
 }
 
-/// Reads the text of a schema: tables in the grammar of `specs/SchemaReading.antt` of `table_model`. Words are taken
-/// in any ASCII case. A text of more than 65,536 bytes is `TooLong`. Otherwise the first fault from left to right is
-/// returned, with its byte: `Syntax` at the first token that can't be there, or at the text's length;
-/// `TooMany` at the name of the 17th table or the 33rd column of a table; `DoubleName` at the second of two equal
-/// names of tables, or of columns of a table; `TwoKeys` at the second PRIMARY of a table; `NoKey` at the closing
-/// parenthesis of a table without key; or `OutOfMemory` (SQL, CREATE TABLE).
+/// Reads the text of a schema: tables in the grammar of `specs/SchemaReading.antt` of `table_model`. Words may have any
+/// ASCII case. A text of more than 65,536 bytes is `TooLong`. Otherwise the fault is the first from left to right, with
+/// its byte: `Syntax` at the first token that isn't allowed there, or at the text's length if the text ends too soon;
+/// `TooMany` at the name of the 17th table or the 33rd column of a table; `DoubleName` at the second of two equal names
+/// of tables, or of columns of a table; `TwoKeys` at the second PRIMARY of a table; `NoKey` at the closing parenthesis
+/// of a table without a key; or `OutOfMemory` (SQL, CREATE TABLE).
 pub fn read_schema(alloc: Global, text: &[u8]) -> Result<Schema, SchemaFault>
     ensures ok { IfOk result (λ schema. IsSchema shape_named text.now schema) }
     ensures only { ReturnsSchema shape_named text.now result }

@@ -11,7 +11,7 @@ use std::marker::Model;
 use table_model::definitions::{COLUMN_LIMIT, TABLE_LIMIT};
 use table_model::texts::same_name;
 
-/// The type of a geometry column: one type of geometry, or none for GEOMETRY, which takes them all (06-104r4, 7.2).
+/// The type of a geometry column: one type of geometry, or None for GEOMETRY, which allows all types (06-104r4, 7.2).
 pub type ColumnShape = Option<GeometryType>;
 
 /// The type of a column: whole numbers, texts or geometries (SQL; 06-104r4, 7.2).
@@ -20,10 +20,10 @@ pub type ColumnType = table_model::definitions::ColumnType<ColumnShape>;
 /// A column of a table (06-104r4, feature tables).
 pub type ColumnDef = table_model::definitions::ColumnDef<ColumnShape>;
 
-/// A table: its columns in order, one of which is the feature key (06-104r4, feature tables).
+/// A table: its columns in order. One of them is the feature key (06-104r4, feature tables).
 pub type TableDef = table_model::definitions::TableDef<ColumnShape>;
 
-/// A lawful list of table definitions, which contracts see as that list (06-104r4, feature tables).
+/// A lawful list of table definitions. Contracts see it as that list (06-104r4, feature tables).
 #[derive(Drop)]
 pub struct Schema {
     tables: Items<TableDef>,
@@ -43,7 +43,7 @@ impl Model for Schema {
 }
 
 impl Schema {
-    /// The schema of a lawful list of definitions. It takes no memory.
+    /// Makes a schema from a lawful list of definitions. It allocates nothing.
     pub fn of(tables: Vec<TableDef>) -> Schema
         requires { IsTrue (lawful tables.items) }
         ensures { result ≡ tables.items }
@@ -61,7 +61,7 @@ impl Schema {
         self.tables.as_slice()
     }
 
-    /// Lends the definition at a place, which is a lawful one.
+    /// Lends the definition at a place. It is lawful.
     pub fn table(&self, place: usize) -> &TableDef
         requires { place < length self.now }
         ensures value { slice_get self.now place ≡ Some result.now }
@@ -113,7 +113,7 @@ fn tables_differ(tables: &[TableDef]) -> bool
     true
 }
 
-/// Whether a column holds whole numbers.
+/// Whether the type of a column is INTEGER.
 pub(crate) fn is_integer(column_type: &ColumnType) -> bool
     ensures { result ≡ is_integer column_type.now }
 {
@@ -123,7 +123,7 @@ pub(crate) fn is_integer(column_type: &ColumnType) -> bool
     }
 }
 
-/// Whether the column at a place is there and may be a key.
+/// Whether there is a column at a place, and it can be a key.
 fn has_key(columns: &[ColumnDef], key: usize) -> bool
     ensures { result ≡ may_be_key (slice_get columns.now key) }
 {
@@ -148,9 +148,9 @@ fn are_lawful(tables: &[TableDef]) -> bool
     tables.iter().all(is_lawful_table)
 }
 
-/// Whether a list of table definitions is lawful: there are at most 16 tables of at most 32 columns; the names of tables
+/// Whether a list of table definitions is lawful: it has at most 16 tables of at most 32 columns; the names of tables
 /// differ, and so do the names of a table's columns, without regard to ASCII case; the key of each table is an INTEGER
-/// column. The empty list is lawful (06-104r4, feature tables, of the key). It takes no memory.
+/// column. The empty list is lawful (06-104r4, feature tables: the key). It allocates nothing.
 #[tactic(auto, unfolding(table_model::specs::Definitions::lawful))]
 pub fn lawful(tables: &[TableDef]) -> bool
     ensures { result ≡ lawful tables.now }

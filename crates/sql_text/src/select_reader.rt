@@ -83,10 +83,10 @@ fn explained(tokens: &mut Cursor<'_, '_>) -> Explain
     }
 }
 
-/// EXPLAIN, if it is there, and what SELECT lists.
+/// EXPLAIN, if it is written, and the select list.
 type Head<'a> = (Explain, Selection<'a>);
 
-/// Reads a query up to FROM: EXPLAIN and what SELECT lists.
+/// Reads a query up to FROM: EXPLAIN and the select list.
 fn head<'a>(alloc: Global, tokens: &mut Cursor<'_, 'a>) -> Result<Head<'a>, QueryFault>
     ensures { Reads QueryFault.OutOfMemory (parts.head tokens.old) result tokens.new }
 {
@@ -105,10 +105,10 @@ fn sources<'a>(alloc: Global, tokens: &mut Cursor<'_, 'a>) -> Result<Sources<'a>
     with_second(alloc, first, tokens)
 }
 
-/// The condition of WHERE and the number of LIMIT, if they are there.
+/// The condition of WHERE and the number of LIMIT, if they are written.
 type Ending<'a> = (Option<WrittenCond<'a>>, Option<u64>);
 
-/// Reads LIMIT and the end of the tokens, if what comes before was read; a fault is passed on.
+/// Reads LIMIT and the end of the tokens if what comes before was read, or returns its fault.
 fn with_limit<T: Drop>(
     read: Result<T, QueryFault>,
     tokens: &mut Cursor<'_, '_>,
@@ -131,7 +131,7 @@ fn ending<'a>(alloc: Global, tokens: &mut Cursor<'_, 'a>) -> Result<Ending<'a>, 
     with_limit(where_condition(alloc, tokens), tokens)
 }
 
-/// The query of its parts, if the last of them was read; a fault is passed on.
+/// Makes a query from its parts if the last of them was read, or returns its fault.
 fn assembled<'a, A: Drop, C: Drop>(
     head: (Explain, SelectionOf<'a, C>),
     sources: SourcesOf<'a, A>,
@@ -177,7 +177,7 @@ fn bad_place(tokens: &[Token<'_>]) -> Option<usize>
     None
 }
 
-/// Reads the text of a query: its length is tested first, then its tokens, then its grammar.
+/// Reads the text of a query: tests its length first, then its tokens, then its grammar.
 #[tactic(auto, unfolding(table_model::specs::QueryReading::query_of))]
 fn read<'a>(alloc: Global, text: &'a str) -> Result<Query<'a>, QueryFault>
     ensures { Gives QueryFault.OutOfMemory (λ q. q) result (spec.query_of text.now) }
@@ -193,14 +193,14 @@ fn read<'a>(alloc: Global, text: &'a str) -> Result<Query<'a>, QueryFault>
     query(alloc, &mut cursor)
 }
 
-/// Reads the text of a query, a SELECT over one table or two. The tree is the one that the grammar gives:
-/// EXPLAIN and ANALYZE, `*` or columns and functions of columns or `COUNT(*)`, a table reference, a second
-/// one with its condition, a condition of WHERE, LIMIT, and `;` at the end or not.
+/// Reads the text of a query, a SELECT over one table or two. The tree is the one that the grammar gives: EXPLAIN and
+/// ANALYZE, `*` or columns and functions of columns or `COUNT(*)`, a table reference, a second one with its condition, a
+/// condition of WHERE, LIMIT, and perhaps `;` at the end.
 ///
-/// The fault is TooLong for a text of more than 65,536 bytes; else Lex at the first byte, from 0, that begins no token, or
-/// at the quote of a string that isn't closed; else the first of these from left to right: Syntax at a token that can't be
-/// there, or at the text's length if it ends too soon; TooDeep at the NOT or parenthesis of the 65th level; NumberTooBig at
-/// the first digit of a number that doesn't fit in 64 bits. OutOfMemory may come in place of any result.
+/// The fault is TooLong if the text has more than 65,536 bytes; else Lex at the first byte, from 0, that begins no token, or
+/// at the quote of a string that isn't closed; else the first of these from left to right: Syntax at a token that isn't
+/// allowed there, or at the text's length if it ends too soon; TooDeep at the NOT or parenthesis of the 65th level;
+/// NumberTooBig at the first digit of a number that doesn't fit in 64 bits. OutOfMemory may come in place of any result.
 pub fn read_query<'a>(alloc: Global, text: &'a str) -> Result<Query<'a>, QueryFault>
     ensures ok { IfOk result (λ q. IsQuery text.now q) }
     ensures only { ReturnsQuery text.now result }

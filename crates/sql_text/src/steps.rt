@@ -1,4 +1,4 @@
-//! The small steps of the readers of queries: a token of a kind, and what a predicate is compared with.
+//! The small steps of the readers of queries: a token of a kind, and the 1 or 0 with which a predicate is compared.
 
 ghost use Rattle.std.specs.Prelude.{◌≡◌, OnErr};
 ghost use Rattle.sql_text.specs.Comparands as spec;
@@ -10,14 +10,14 @@ use crate::numbers::truth_digit;
 use table_model::faults::QueryFault;
 use table_model::tokens::TokenKind;
 
-/// The fault of a next token that can't be there.
+/// The fault of a next token that isn't allowed.
 pub fn refuse(tokens: &Cursor<'_, '_>) -> QueryFault
     ensures { result ≡ QueryFault.Syntax (steps.place tokens.now) }
 {
     QueryFault::Syntax(tokens.place())
 }
 
-/// Reads a token of a kind. A refusal leaves the tokens as they were.
+/// Reads a token of a kind. If it refuses the next token, nothing is read.
 #[tactic(auto, unfolding(table_model::specs::Parsers::expect))]
 pub fn expect(tokens: &mut Cursor<'_, '_>, wanted: TokenKind) -> Result<(), QueryFault>
     ensures reads { Reads QueryFault.OutOfMemory
@@ -32,7 +32,7 @@ pub fn expect(tokens: &mut Cursor<'_, '_>, wanted: TokenKind) -> Result<(), Quer
     }
 }
 
-/// Reads the 1 or the 0 that a predicate is compared with: whether it is to hold. A refusal leaves the tokens as they were.
+/// Reads the 1 or 0 with which a predicate is compared, and returns whether it has to hold. If refused, nothing is read.
 fn truth(tokens: &mut Cursor<'_, '_>) -> Result<bool, QueryFault>
     ensures reads { Reads QueryFault.OutOfMemory (spec.truth tokens.old) result tokens.new }
     ensures refused { OnErr result (tokens.new ≡ tokens.old) }
@@ -49,8 +49,8 @@ fn truth(tokens: &mut Cursor<'_, '_>) -> Result<bool, QueryFault>
     }
 }
 
-/// Reads what a predicate is compared with, if it is compared: whether it is to hold. A refusal comes after the equal sign,
-/// which was read.
+/// Reads a predicate's comparison with 1 or 0, if there is one, and returns whether the predicate has to hold. If a
+/// refusal comes after the equal sign, the sign was read.
 #[tactic(auto, unfolding(table_model::specs::Parsers::after))]
 pub fn comparand(tokens: &mut Cursor<'_, '_>) -> Result<bool, QueryFault>
     ensures reads { Reads QueryFault.OutOfMemory (spec.comparand tokens.old) result tokens.new }

@@ -1,5 +1,5 @@
-//! The small steps of the readers: a parenthesis, a name, a column, a string. Here and in the other files of this crate,
-//! each function ensures the outcome of the reader of its name in `specs/QueryReading.antt` of `table_model`.
+//! The small steps of the readers: a parenthesis, a name, a column, a string. Here and in the other files of this
+//! crate, each function ensures the outcome of the reader with its name in `specs/QueryReading.antt` of `table_model`.
 
 ghost use Rattle.std.specs.Prelude.{◌≡◌, Some, Ok, Err, IfOk, IfErr};
 ghost use Rattle.table_model.specs.Outcomes.{Gives};
@@ -16,7 +16,7 @@ use table_model::queries::{Name, WrittenColumn};
 use table_model::texts::same_name;
 use table_model::tokens::TokenKind;
 
-/// Reads the right parenthesis after what was read in parentheses; a fault is passed on.
+/// Reads the right parenthesis after what was read in parentheses, or returns its fault.
 pub(crate) fn closed<T: Drop>(
     inner: Result<T, QueryFault>,
     tokens: &mut Cursor<'_, '_>,
@@ -30,7 +30,7 @@ pub(crate) fn closed<T: Drop>(
     Ok(value)
 }
 
-/// What was read, behind a pointer of its own; a fault is passed on.
+/// Returns what was read behind a pointer of its own, or its fault.
 pub(crate) fn boxed<T: Drop>(
     alloc: Global,
     read: Result<T, QueryFault>,
@@ -41,14 +41,14 @@ pub(crate) fn boxed<T: Drop>(
     Ok(Boxed::new(alloc, read?)?)
 }
 
-/// An optional part that was read; a fault is passed on.
+/// Returns an optional part that was read as present, or its fault.
 pub(crate) fn present<T: Drop>(read: Result<T, QueryFault>) -> Result<Option<T>, QueryFault>
     ensures { result ≡ passing.mapped Some read }
 {
     Ok(Some(read?))
 }
 
-/// Reads a name: a word that isn't reserved. With `(` after it, it is a function.
+/// Reads a name: a word that isn't reserved. A word with `(` after it is a function, not a name.
 #[tactic(auto, unfolding(table_model::specs::QueryReading::name))]
 pub(crate) fn name<'a>(tokens: &mut Cursor<'_, 'a>) -> Result<Name<'a>, QueryFault>
     ensures { Reads QueryFault.OutOfMemory (spec.name tokens.old) result tokens.new }
@@ -62,7 +62,7 @@ pub(crate) fn name<'a>(tokens: &mut Cursor<'_, 'a>) -> Result<Name<'a>, QueryFau
     }
 }
 
-/// Reads a column, with the name of its reference or without.
+/// Reads a column, with or without the name of its reference.
 #[tactic(auto, unfolding(table_model::specs::QueryReading::column))]
 pub(crate) fn column<'a>(tokens: &mut Cursor<'_, 'a>) -> Result<WrittenColumn<'a>, QueryFault>
     ensures { Reads QueryFault.OutOfMemory (spec.column tokens.old) result tokens.new }

@@ -1,5 +1,6 @@
 -- Statements: queries that are read, bound and planned once, whose rows are found step by step.
-use Rattle.std.specs.Prelude.{◌≡◌, ◌≤◌, ◌+◌, ◌-◌, ⊤, ℕ, Bool, true, false, List, [], ◌∷◌, Option, Some, None, Result, Ok, Err, decimal, drop, take}
+use Rattle.std.specs.Prelude.{◌≡◌, ◌≤◌, ◌-◌, ⊤, ℕ, Bool, true, false, List, [], ◌∷◌, Option, Some, None, Result, Ok, Err, decimal, drop, take}
+use Rattle.executor.specs.Looks.{IsNearer}
 use Rattle.executor.specs.Pairs.{IsPlace, choice_of}
 use Rattle.executor.specs.PausedRows.{IsOf, stream_of}
 use Rattle.executor.specs.Streams.{Stream, looks_ahead, to_come, work_after, work_at_end}
@@ -153,9 +154,9 @@ pub record Steps {E : Type 0} (database : SpatialDatabase) (old : Statement) (re
 
 -- ---- steps of bounded work
 
--- a busy step, which made so many looks and gave no row: none is there, the same records are to come, each once and in the same order, the work
+-- a busy step, which made so many looks and gave no row, as it does only where there is a bound: none is there, the same records are to come, each once and in the same order, the work
 -- in all is the same, its query and its plan are, and so many looks less are ahead
-pub record BusyStep (most : ℕ) (database : SpatialDatabase) (old new : Statement) : Type 0 where
+pub record BusyStep (most : Option ℕ) (database : SpatialDatabase) (old new : Statement) : Type 0 where
   pub come : ByEveryMatrix (λ matrix. records_left matrix database new ≡ records_left matrix database old)
   pub row : row_record database new ≡ None
   pub counted : ByEveryMatrix (λ matrix. work_in_all matrix database new ≡ work_in_all matrix database old)
@@ -163,7 +164,7 @@ pub record BusyStep (most : ℕ) (database : SpatialDatabase) (old new : Stateme
   pub bound : new.bound ≡ old.bound
   pub plan : new.plan ≡ old.plan
   pub over : IsOver database new
-  pub nearer : looks_ahead (stream database new) + most ≤ looks_ahead (stream database old)
+  pub nearer : IsNearer most (looks_ahead (stream database new)) (looks_ahead (stream database old))
 
 -- what holds where a step is busy, and where it isn't
 abbrev pub WhereBusy : {E : Type 0} → Result StatementStep E → Type 0 → Type 0

@@ -10,7 +10,7 @@ ghost use Rattle.table_model.specs.GeometryColumns.{geometry_binding};
 ghost use Rattle.table_model.specs.Outcomes.{Gives};
 ghost use Rattle.table_model.specs.Plans.{IsLawful, chosen};
 
-use crate::found_rows::{begun, count_rows, count_rows_within, next_row, next_row_within, sum};
+use crate::found_rows::{begun, count_rows, next_row, sum};
 use crate::lines::first_line;
 use crate::phases::first_phase;
 use crate::plan_texts::analysis_text;
@@ -162,24 +162,18 @@ impl Statement {
         requires { IsOver database.now self.old }
         ensures { Steps database.now self.old result self.new }
     {
-        match self.phase {
-            Phase::Rows => self.step_row(alloc, database),
-            Phase::Count(counted) => self.step_count(alloc, database, counted),
-            Phase::Plan => self.step_plan(alloc, database),
-            Phase::Analysis => self.step_analysis(alloc, database),
-            Phase::Lines => Ok(self.step_line(database)),
-            Phase::Nothing => Ok(self.end(database)),
-        }
+        self.step_within(alloc, database, None)
     }
 
-    /// Finds the next row by at most `most` looks. If that many candidates and rows of the outer reference gave no row, it is busy,
-    /// and the same rows are still to come. With 1 look or more a step, the steps end. The first step of a plan that needs a list
-    /// isn't busy (this project's choice). That it looks no further is tested, and no clause says it: only time depends on it.
+    /// Finds the next row; if there is a bound, by at most `most` looks. If that many candidates and rows of the outer reference
+    /// gave no row, it is busy, and the same rows are still to come. With 1 look or more a step, the steps end; without a bound
+    /// none is busy. The first step of a plan that needs a list isn't busy (this project's choice). That it looks no further is
+    /// tested, and no clause says it: only time depends on it.
     pub fn step_within<I: EnvelopeIndex + Drop>(
         &mut self,
         alloc: Global,
         database: &Database<'_, I>,
-        most: u64,
+        most: Option<u64>,
     ) -> Result<StatementStep, AllocError>
         requires { IsOver database.now self.old }
         ensures steps { UnlessBusy result (Steps database.now self.old result self.new) }
@@ -187,19 +181,21 @@ impl Statement {
         ensures over { IsOver database.now self.new }
     {
         match self.phase {
-            Phase::Rows => self.step_row_within(alloc, database, most),
-            Phase::Count(counted) => self.step_count_within(alloc, database, counted, most),
-            Phase::Analysis => self.step_analysis_within(alloc, database, most),
-            Phase::Plan | Phase::Lines | Phase::Nothing => self.step(alloc, database),
+            Phase::Rows => self.step_row(alloc, database, most),
+            Phase::Count(counted) => self.step_count(alloc, database, counted, most),
+            Phase::Plan => self.step_plan(alloc, database),
+            Phase::Analysis => self.step_analysis(alloc, database, most),
+            Phase::Lines => Ok(self.step_line(database)),
+            Phase::Nothing => Ok(self.end(database)),
         }
     }
 
-    /// Finds the next row or pair of rows by at most `most` looks.
-    fn step_row_within<I: EnvelopeIndex + Drop>(
+    /// Finds the next row or pair of rows, by at most `most` looks if there is a bound.
+    fn step_row<I: EnvelopeIndex + Drop>(
         &mut self,
         alloc: Global,
         database: &Database<'_, I>,
-        most: u64,
+        most: Option<u64>,
     ) -> Result<StatementStep, AllocError>
         requires over { IsOver database.now self.old }
         requires phase { self.old.phase ≡ Phase.Rows }
@@ -209,7 +205,7 @@ impl Statement {
     {
         self.row = CurrentRow::Absent;
         let found = &mut self.rows;
-        match next_row_within(alloc, database, &self.bound, &self.plan, most, found)? {
+        match next_row(alloc, database, &self.bound, &self.plan, most, found)? {
             Step::Row(pair) => {
                 self.row = CurrentRow::Pair(pair);
                 Ok(StatementStep::Row)
@@ -219,54 +215,14 @@ impl Statement {
         }
     }
 
-    /// Finds the next row or pair of rows.
-    fn step_row<I: EnvelopeIndex + Drop>(
-        &mut self,
-        alloc: Global,
-        database: &Database<'_, I>,
-    ) -> Result<StatementStep, AllocError>
-        requires over { IsOver database.now self.old }
-        requires phase { self.old.phase ≡ Phase.Rows }
-        ensures { Steps database.now self.old result self.new }
-    {
-        self.row = CurrentRow::Absent;
-        let Some(found) = next_row(alloc, database, &self.bound, &self.plan, &mut self.rows) else {
-            return Ok(StatementStep::End);
-        };
-        let pair = found?;
-        self.row = CurrentRow::Pair(pair);
-        Ok(StatementStep::Row)
-    }
-
-    /// Counts the rows. Under LIMIT 0 their number isn't returned.
+    /// Counts rows, by at most `most` looks if there is a bound, and returns their number once all are counted. Under LIMIT 0
+    /// it isn't returned.
     fn step_count<I: EnvelopeIndex + Drop>(
         &mut self,
         alloc: Global,
         database: &Database<'_, I>,
         counted: u64,
-    ) -> Result<StatementStep, AllocError>
-        requires over { IsOver database.now self.old }
-        requires phase { self.old.phase ≡ Phase.Count counted }
-        ensures { Steps database.now self.old result self.new }
-    {
-        self.row = CurrentRow::Absent;
-        self.phase = Phase::Nothing;
-        let others = count_rows(alloc, database, &self.bound, &self.plan, &mut self.rows)?;
-        let count = sum(counted, others)?;
-        if self.bound.limit == Some(0) {
-            return Ok(StatementStep::End);
-        }
-        self.row = CurrentRow::Count(count);
-        Ok(StatementStep::Row)
-    }
-
-    /// Counts rows by at most `most` looks, and returns their number once all are counted. Under LIMIT 0 it isn't returned.
-    fn step_count_within<I: EnvelopeIndex + Drop>(
-        &mut self,
-        alloc: Global,
-        database: &Database<'_, I>,
-        counted: u64,
-        most: u64,
+        most: Option<u64>,
     ) -> Result<StatementStep, AllocError>
         requires over { IsOver database.now self.old }
         requires phase { self.old.phase ≡ Phase.Count counted }
@@ -277,15 +233,18 @@ impl Statement {
         self.row = CurrentRow::Absent;
         self.phase = Phase::Nothing;
         let found = &mut self.rows;
-        match count_rows_within(alloc, database, &self.bound, &self.plan, most, found)? {
+        match count_rows(alloc, database, &self.bound, &self.plan, most, found)? {
             CountStep::More(others) => {
                 self.phase = Phase::Count(sum(counted, others)?);
                 Ok(StatementStep::Busy)
             }
             CountStep::All(others) => {
                 let count = sum(counted, others)?;
-                self.phase = Phase::Count(count);
-                self.step_count(alloc, database, count)
+                if self.bound.limit == Some(0) {
+                    return Ok(StatementStep::End);
+                }
+                self.row = CurrentRow::Count(count);
+                Ok(StatementStep::Row)
             }
         }
     }
@@ -308,31 +267,12 @@ impl Statement {
         Ok(self.step_line(database))
     }
 
-    /// Finds all rows, and returns the first line of EXPLAIN ANALYZE.
+    /// Finds rows, by at most `most` looks if there is a bound, and returns the first line of EXPLAIN ANALYZE once all are found.
     fn step_analysis<I: EnvelopeIndex + Drop>(
         &mut self,
         alloc: Global,
         database: &Database<'_, I>,
-    ) -> Result<StatementStep, AllocError>
-        requires over { IsOver database.now self.old }
-        requires phase { self.old.phase ≡ Phase.Analysis }
-        ensures { Steps database.now self.old result self.new }
-    {
-        self.row = CurrentRow::Absent;
-        self.phase = Phase::Nothing;
-        count_rows(alloc, database, &self.bound, &self.plan, &mut self.rows)?;
-        self.text = analysis_text(alloc, &self.bound, &self.plan, &self.rows.progress.work)?;
-        self.given = 0;
-        self.phase = Phase::Lines;
-        Ok(self.step_line(database))
-    }
-
-    /// Finds rows by at most `most` looks, and returns the first line of EXPLAIN ANALYZE once all are found.
-    fn step_analysis_within<I: EnvelopeIndex + Drop>(
-        &mut self,
-        alloc: Global,
-        database: &Database<'_, I>,
-        most: u64,
+        most: Option<u64>,
     ) -> Result<StatementStep, AllocError>
         requires over { IsOver database.now self.old }
         requires phase { self.old.phase ≡ Phase.Analysis }
@@ -343,14 +283,17 @@ impl Statement {
         self.row = CurrentRow::Absent;
         self.phase = Phase::Nothing;
         let found = &mut self.rows;
-        match count_rows_within(alloc, database, &self.bound, &self.plan, most, found)? {
+        match count_rows(alloc, database, &self.bound, &self.plan, most, found)? {
             CountStep::More(_) => {
                 self.phase = Phase::Analysis;
                 Ok(StatementStep::Busy)
             }
             CountStep::All(_) => {
-                self.phase = Phase::Analysis;
-                self.step_analysis(alloc, database)
+                let work = &self.rows.progress.work;
+                self.text = analysis_text(alloc, &self.bound, &self.plan, work)?;
+                self.given = 0;
+                self.phase = Phase::Lines;
+                Ok(self.step_line(database))
             }
         }
     }

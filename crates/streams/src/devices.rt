@@ -1,4 +1,4 @@
-//! Sinks, readers and writers that fail where a test makes them.
+//! Sinks, readers and writers that fail where a test wants them to.
 
 ghost use Rattle.std.specs.Prelude.{◌≡◌, ◌≤◌, [], Some, IfErr};
 ghost use Rattle.std.specs.IoError.{error_kind};
@@ -7,7 +7,7 @@ use crate::sink::{Sink, SinkFault};
 use std::alloc::Global;
 use std::io::{self, Error, ErrorKind, Read, Write};
 
-/// A sink over memory that fails at one call of `put`, and takes short pieces at the others.
+/// A sink over memory that fails at one call of `put`, and accepts short pieces in the other calls.
 #[derive(Drop)]
 pub struct StopSink {
     bytes: Vec<u8>,
@@ -21,8 +21,8 @@ impl StopSink {
     ghost use Rattle.streams.specs.StopSinks.{stop_bytes, stop_failures, calls_to_failure, piece_limit};
     ghost use Rattle.std.specs.Prelude.{◌↔◌, ◌-◌, IsTrue};
 
-    /// An empty sink that fails at the call of this number, counted from 1 (0: at none), and takes
-    /// at most this many bytes a call. It takes no memory yet.
+    /// Makes an empty sink that fails at the call of this number, counted from 1 (0: at none), and accepts at most this
+    /// many bytes in each call. It allocates nothing yet.
     pub fn new(alloc: Global, failing_call: u64, greatest_piece: usize) -> StopSink
         requires { 1 ≤ greatest_piece }
         ensures empty { stop_bytes result ≡ [] }
@@ -38,21 +38,21 @@ impl StopSink {
         }
     }
 
-    /// The bytes that it took, in their order.
+    /// The bytes that were accepted, in their order.
     pub fn bytes(&self) -> &[u8]
         ensures { result.now ≡ stop_bytes self.now }
     {
         self.bytes.as_slice()
     }
 
-    /// How often a put failed.
+    /// The number of calls of `put` that failed.
     pub fn failures(&self) -> u64
         ensures { result ≡ stop_failures self.now }
     {
         self.failures
     }
 
-    /// Goes one call on, and returns whether it is the failing one.
+    /// Counts a call, and returns whether it is the one that fails.
     fn fails_now(&mut self) -> bool
         ensures fails { IsTrue result ↔ (calls_to_failure self.old ≡ 1) }
         ensures after { calls_to_failure self.new ≡ calls_to_failure self.old - 1 }
@@ -96,7 +96,7 @@ impl Sink for StopSink {
     }
 }
 
-/// A reader over bytes of which one read fails, with an error of kind `Other`, and gives none.
+/// A reader over bytes that fails at one read, with an error of kind `Other`. That read returns no bytes.
 #[derive(Clone, Copy)]
 pub struct StopReader<'a> {
     rest: &'a [u8],
@@ -106,7 +106,7 @@ pub struct StopReader<'a> {
 impl<'a> StopReader<'a> {
     ghost use Rattle.streams.specs.StopReaders.{bytes_left, reads_to_failure};
 
-    /// A reader over these bytes whose read of this number, counted from 1, fails (0: none does).
+    /// Makes a reader over these bytes that fails at the read of this number, counted from 1 (0: at none).
     pub fn new(bytes: &'a [u8], failing_read: u64) -> StopReader<'a>
         ensures bytes { bytes_left result ≡ bytes.entry.now }
         ensures read { reads_to_failure result ≡ failing_read }
@@ -143,7 +143,7 @@ impl Read for StopReader<'_> {
     }
 }
 
-/// A writer that takes no byte and returns no error.
+/// A writer that accepts no byte and returns no error.
 #[derive(Clone, Copy, Debug, Default)]
 pub struct ZeroWriter;
 

@@ -1,15 +1,15 @@
-//! A reader whose reading is observed.
+//! A reader that reports its progress to an observer.
 
 use std::io::{self, Read};
 
-/// What a reader reports its progress to.
+/// An observer of the progress of a reader.
 pub trait ReadObserver {
-    /// The reader gave this many bytes.
+    /// Reports that the reader returned this many bytes.
     fn came(&mut self, bytes: usize);
 }
 
-/// A reader that gives what the reader beneath gives, the same bytes and the same errors, and reports to its observer how
-/// many bytes each read gave.
+/// A reader that returns the bytes and errors of the reader beneath, and reports to its observer the number of bytes of
+/// each read.
 #[derive(Drop)]
 pub struct Followed<R: Read, O: ReadObserver> {
     reader: R,
@@ -20,7 +20,7 @@ impl<R: Read, O: ReadObserver> Followed<R, O> {
     ghost use Rattle.std.specs.Prelude.{◌≡◌};
     ghost use Rattle.streams.specs.FollowedReaders.{reader_under};
 
-    /// A reader over this one, which reports to this observer. It takes no memory.
+    /// Makes a reader over this one that reports to this observer. It allocates nothing.
     pub fn new(reader: R, observer: O) -> Followed<R, O>
         ensures { reader_under result ≡ reader }
     {

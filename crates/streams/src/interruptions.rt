@@ -1,14 +1,14 @@
-//! Makes calls of the system again that a signal interrupted.
+//! Repeats system calls that a signal interrupted.
 
 ghost use Rattle.std.specs.Io.{WritesAtMost};
 ghost use Rattle.std.specs.Io.KnownBytes.{WriteAppends};
 
 use std::io::{self, Error, ErrorKind, Read, Write};
 
-/// How often a call is made at most. No program lives as long.
+/// The greatest number of times that a call is made. No program lives that long.
 const TURNS: u64 = u64::MAX;
 
-/// A reader whose reads are made again where a signal interrupts them.
+/// A reader that repeats reads which a signal interrupts.
 #[derive(Drop)]
 pub struct PatientReader<R: Read> {
     reader: R,
@@ -18,7 +18,7 @@ impl<R: Read> PatientReader<R> {
     ghost use Rattle.std.specs.Prelude.{◌≡◌};
     ghost use Rattle.streams.specs.Readers.{patient_under};
 
-    /// A reader over an open file or stream. It takes no memory.
+    /// Makes a reader over an open file or stream. It allocates nothing.
     pub fn new(reader: R) -> PatientReader<R>
         ensures { patient_under result ≡ reader }
     {
@@ -42,8 +42,8 @@ impl<R: Read> Read for PatientReader<R> {
     }
 }
 
-/// Writes some bytes to a stream, and again where a signal interrupts it. It returns how many were written; none are after an
-/// error.
+/// Writes bytes to a stream, and repeats a write that a signal interrupts. It returns the number of bytes written.
+/// After an error, none were.
 pub fn write_again<W: Write>(stream: &mut W, buffer: &[u8]) -> io::Result<usize>
     ensures bound { WritesAtMost result buffer.now }
     ensures bytes { WriteAppends (W.contents stream.old) (W.contents stream.new) result buffer.now }

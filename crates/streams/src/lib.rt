@@ -1,6 +1,6 @@
-//! Where bytes come from and go to: sinks over memory and writers, and the writer of records as `csv` lines; readers with a bound
-//! on fields and records; calls of the system that are made again after a signal; observers of progress, which change nothing;
-//! and the devices that fail on purpose, for tests.
+//! Where bytes come from and go to: sinks over memory and writers, and the writer of records as `csv` lines; readers
+//! with a limit on fields and records; system calls that are repeated after a signal; observers of progress, which
+//! change nothing; and devices that fail on purpose, for tests.
 #![tactic(auto)]
 
 pub mod devices;

@@ -16,7 +16,7 @@ const LINE_FEED: u8 = b'\n';
 
 const CARRIAGE_RETURN: u8 = b'\r';
 
-/// Makes the line of a record, ended by a line feed. A record without a byte gets two quotes, since a blank line isn't one.
+/// Makes the line of a record, ended by a line feed. A record without bytes becomes two quotes, since a blank line isn't a record.
 pub fn push_line(line: &mut Vec<u8>, fields: &ByteRecord) -> Result<(), AllocError>
     requires { line.old.items ≡ [] }
     ensures { OnOk result (line.new.items ≡ spec.row_text spec.default_writer (fields_of fields.now)) }
@@ -25,7 +25,7 @@ pub fn push_line(line: &mut Vec<u8>, fields: &ByteRecord) -> Result<(), AllocErr
     push_end(line, false)
 }
 
-/// Ends a line: two quotes if its record has no byte, neither in the line nor written before it, and a line feed.
+/// Ends a line with a line feed, after two quotes if its record has no byte, neither in the line nor written before it.
 pub(crate) fn push_end(line: &mut Vec<u8>, is_begun: bool) -> Result<(), AllocError>
     ensures { OnOk result (line.new.items
         ≡ line.old.items ++ line_end (is_begun || not (length line.old.items == 0))) }
@@ -52,7 +52,7 @@ fn push_fields(line: &mut Vec<u8>, fields: &ByteRecord) -> Result<(), AllocError
     Ok(())
 }
 
-/// Adds what comes before a field: a comma, or nothing before the first.
+/// Adds what comes before a field: nothing before the first field, and a comma before the others.
 pub(crate) fn push_separator(line: &mut Vec<u8>, is_first: bool) -> Result<(), AllocError>
     ensures { OnOk result (line.new.items ≡ line.old.items ++ separator (not is_first)) }
 {
@@ -74,7 +74,7 @@ pub(crate) fn push_field(line: &mut Vec<u8>, field: &[u8]) -> Result<(), AllocEr
     line.extend_from_slice(field)
 }
 
-/// Whether a field needs quotes: it has a comma, a quote or a byte that ends a line.
+/// Whether a field needs quotes: it contains a comma, a quote or a byte that ends a line.
 fn needs_quotes(field: &[u8]) -> bool
     ensures { result ≡ spec.needs_quotes spec.default_writer field.now }
 {
@@ -85,7 +85,7 @@ fn needs_quotes(field: &[u8]) -> bool
     needs
 }
 
-/// Whether a field with this byte needs quotes.
+/// Whether a field that contains this byte needs quotes.
 fn needs_byte(byte: u8) -> bool
     ensures { result ≡ spec.needs_byte spec.default_writer byte }
 {
@@ -103,7 +103,7 @@ fn push_quoted(line: &mut Vec<u8>, field: &[u8]) -> Result<(), AllocError>
     Ok(())
 }
 
-/// Adds the bytes of a field that is in quotes, each quote twice.
+/// Adds the bytes of a field that is in quotes. Each quote is doubled.
 fn push_escaped(line: &mut Vec<u8>, field: &[u8]) -> Result<(), AllocError>
     ensures { OnOk result
         (line.new.items ≡ line.old.items ++ spec.escaped spec.default_writer field.now) }

@@ -5,7 +5,7 @@ ghost use Rattle.std.specs.Prelude.{◌≡◌, [], Some};
 use crate::sink::{Sink, SinkFault};
 use std::alloc::Global;
 
-/// A sink that keeps what it took in memory. A refused growth is its failure.
+/// A sink that keeps in memory what it accepted. It fails when memory runs out.
 #[derive(Drop)]
 pub struct MemorySink {
     bytes: Vec<u8>,
@@ -15,7 +15,7 @@ pub struct MemorySink {
 impl MemorySink {
     ghost use Rattle.streams.specs.MemorySinks.{memory_bytes, memory_failures};
 
-    /// An empty sink. It takes no memory yet, and keeps the allocator for later.
+    /// Makes an empty sink. It allocates nothing yet, and keeps the allocator for later.
     pub fn new(alloc: Global) -> MemorySink
         ensures empty { memory_bytes result ≡ [] }
         ensures fresh { memory_failures result ≡ 0 }
@@ -26,14 +26,14 @@ impl MemorySink {
         }
     }
 
-    /// The bytes that it took, in their order.
+    /// The bytes that were accepted, in their order.
     pub fn bytes(&self) -> &[u8]
         ensures { result.now ≡ memory_bytes self.now }
     {
         self.bytes.as_slice()
     }
 
-    /// How often a put failed.
+    /// The number of calls of `put` that failed.
     pub fn failures(&self) -> u64
         ensures { result ≡ memory_failures self.now }
     {

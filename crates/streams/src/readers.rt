@@ -1,9 +1,9 @@
-//! A reader that fails once its text has passed the bound.
+//! A reader that fails once its text has passed a limit.
 
 use crate::tallies::Tally;
 use std::io::{self, Error, ErrorKind, Read};
 
-/// A reader that gives the bytes of the reader beneath until one of their fields or records is longer than its limit.
+/// A reader that returns the bytes of the reader beneath until one of their fields or records is longer than its limit.
 /// From then on each read is an error of the kind `InvalidData`, and nothing is read from the reader beneath.
 #[derive(Drop)]
 pub struct BoundedReader<R: Read> {
@@ -16,7 +16,7 @@ impl<R: Read> BoundedReader<R> {
     ghost use Rattle.streams.specs.Bounds.{first_tally};
     ghost use Rattle.streams.specs.Readers.{reader_under, tally_of};
 
-    /// Bounds a reader at the start of a CSV text. It takes no memory.
+    /// Makes a bounded reader from a reader at the start of a CSV text. It allocates nothing.
     pub fn new(reader: R) -> BoundedReader<R>
         ensures reader { reader_under result ≡ reader }
         ensures start { tally_of result ≡ first_tally }

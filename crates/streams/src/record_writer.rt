@@ -1,4 +1,4 @@
-//! A writer of records: it makes the CSV line of each, whole or field by field, and writes it to a sink.
+//! A writer of records. It makes the CSV line of each, as a whole or field by field, and writes it to a sink.
 
 ghost use Rattle.std.specs.Prelude.{◌≡◌, ◌++◌, ◌∷◌, [], List, Option, false, ℕ, OnOk, OnErr, true};
 ghost use Rattle.std.specs.Io.KnownBytes.{Appends};
@@ -13,11 +13,11 @@ use crate::{Sink, SinkFault, put_all};
 use csv::ByteRecord;
 use std::alloc::{AllocError, Global};
 
-/// A line of this many bytes is written before its record ends, and its memory is freed, not kept for the next one.
+/// A line of this many bytes is written before its record ends, and its memory is freed, not kept for the next line.
 const LONG_LINE: usize = 65_536;
 
-/// Makes the line of each record in memory, and writes it to a sink. A record is given whole, or field by field. The memory of a
-/// line is kept for the next one, unless it was long.
+/// Makes the line of each record in memory, and writes it to a sink. A caller passes a record as a whole or field by
+/// field. The memory of a line is kept for the next one, unless it was long.
 #[derive(Drop)]
 pub struct RecordWriter {
     // What is still to be written of the record, empty between records.
@@ -29,7 +29,7 @@ pub struct RecordWriter {
 }
 
 impl RecordWriter {
-    /// A writer that is ready for a record. It takes no memory yet.
+    /// Makes a writer that is ready for a record. It allocates nothing yet.
     pub fn new(alloc: Global) -> RecordWriter
         ensures ready { IsReady result }
     {
@@ -40,8 +40,8 @@ impl RecordWriter {
         }
     }
 
-    /// Writes the line of a record, ended by a line feed: all of it at Ok, and perhaps a beginning of it if the sink fails or
-    /// memory runs out. In each case the writer is ready for the next record.
+    /// Writes the line of a record, ended by a line feed. At Ok all of it is written. If the sink fails or memory runs
+    /// out, a beginning of it may be. In each case the writer is ready for the next record.
     pub fn put<S: Sink>(
         &mut self,
         alloc: Global,
@@ -61,9 +61,9 @@ impl RecordWriter {
         written
     }
 
-    /// Adds a field to the record that is being made: the first one, if the writer is ready. What is to be written of the record is
-    /// kept in the line until that is long, or the record ends. If the sink fails or memory runs out, a beginning of the record's
-    /// text may have been written, and the record can't be made any more.
+    /// Adds a field to the current record, or starts a record with it if the writer is ready. The text of the record
+    /// stays in the line until the line is long or the record ends. If the sink fails or memory runs out, a beginning
+    /// of the record's text may have been written, and the record can't be finished.
     pub fn put_field<S: Sink>(
         &mut self,
         alloc: Global,
@@ -78,8 +78,8 @@ impl RecordWriter {
         Ok(())
     }
 
-    /// Ends the record whose fields were put: at Ok all of its line has been written, ended by a line feed, and perhaps a beginning
-    /// of it if the sink fails or memory runs out. In each case the writer is ready for the next record.
+    /// Ends the record whose fields were added. At Ok all of its line is written, ended by a line feed. If the sink
+    /// fails or memory runs out, a beginning of it may be. In each case the writer is ready for the next record.
     pub fn end<S: Sink>(&mut self, alloc: Global, sink: &mut S) -> Result<(), PutFault>
         ensures ready { IsReady self.new }
         ensures ok { (fields : List (List ℕ)) (start : Option (List ℕ)) → Holds self.old fields start (S.taken sink.old)
@@ -150,7 +150,7 @@ impl RecordWriter {
         Ok(())
     }
 
-    /// Gets ready for the next record: empties the line, and frees its memory if it was long.
+    /// Prepares for the next record: empties the line, and frees its memory if it was long.
     fn let_go(&mut self, alloc: Global)
         ensures { IsReady self.new }
     {

@@ -3,21 +3,21 @@
 ghost use Rattle.std.specs.Prelude.{◌≡◌, ℕ};
 ghost use Rattle.std.specs.Fn.{iterate};
 
-/// What the search for the rows of a query reports its progress to. Candidates that are decided together are reported together,
-/// and leave the observer as reports of each of them would.
+/// An observer of the progress of a query's search for rows. Candidates that are decided together are reported
+/// together, which leaves the observer as reports of each of them would.
 pub trait RowObserver {
-    /// The observer after one candidate, where this many rows are still to come after the candidate's row.
+    /// The observer after one candidate, if this many rows are still to come after the candidate's row.
     ghost after_candidate: { ℕ → Self → Self };
 
     /// The observer after one row of the query.
     ghost after_row: { Self → Self };
 
-    /// So many candidates are looked at, all of one row of the outer table, or of the only one. After it this many rows are still
-    /// to come.
+    /// Reports that this many candidates are looked at, all of one row of the outer table, or of the only one. After
+    /// that row, `left` rows are still to come.
     fn looked(&mut self, candidates: usize, left: usize)
         ensures together { self.new ≡ iterate (after_candidate left) candidates self.old };
 
-    /// So many candidates pass all conditions: they are rows of the query.
+    /// Reports that this many candidates pass all conditions, so that they are rows of the query.
     fn found(&mut self, rows: usize)
         ensures together { self.new ≡ iterate after_row rows self.old };
 }
@@ -40,23 +40,23 @@ impl RowObserver for Unobserved {
     }
 }
 
-/// An observer that counts, up to the greatest number of 64 bits.
+/// An observer that counts, up to the greatest number in 64 bits.
 #[derive(Clone, Copy, Debug, Default)]
 pub struct RowCount {
-    /// How many candidates were looked at.
+    /// The number of candidates that were looked at.
     pub candidates: u64,
-    /// How many rows of the outer table, or of the only one, were still to come after that of the first candidate.
+    /// The number of rows of the outer table, or of the only one, that were still to come after that of the first candidate.
     pub first_left: usize,
-    /// How many were still to come after that of the last candidate.
+    /// The number of these rows that were still to come after that of the last candidate.
     pub last_left: usize,
-    /// How many rows of the query were found.
+    /// The number of rows of the query that were found.
     pub rows: u64,
 }
 
 impl RowCount {
     ghost use Rattle.std.specs.Prelude.{◌==◌, if◌then◌else◌};
 
-    /// How many rows are still to come after that of the first candidate: this many, if no candidate came before.
+    /// The number of rows that are still to come after that of the first candidate: this number, if no candidate came before.
     fn first_or(&self, left: usize) -> usize
         ensures { result ≡ (if self.now.candidates == 0 then left else self.now.first_left) }
     {

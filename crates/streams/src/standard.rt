@@ -5,8 +5,8 @@ ghost use Rattle.std.specs.Prelude.{◌≡◌};
 use crate::sink::{Sink, SinkFault};
 use std::io::Write;
 
-/// A sink over a writer, as standard output or a buffer before it. An error of the writer is a
-/// failure, and so are 0 bytes of a piece that has any. Nothing is tried twice.
+/// A sink over a writer, such as standard output or a buffer before it. An error of the writer is a failure, and so is
+/// a call that accepts 0 bytes of a piece that isn't empty. Nothing is tried twice.
 #[derive(Drop)]
 pub struct StdSink<W: Write> {
     writer: W,
@@ -19,7 +19,7 @@ impl<W: Write> StdSink<W> {
     ghost use Rattle.streams.specs.Sinks.{CountsFailure};
     ghost use Rattle.streams.specs.StdSinks.{writer_under, std_failures};
 
-    /// A sink over this writer, without a failure. It takes no memory.
+    /// Makes a sink over this writer, without failures so far. It allocates nothing.
     pub fn new(writer: W) -> StdSink<W>
         ensures writer { writer_under result ≡ writer }
         ensures fresh { std_failures result ≡ 0 }
@@ -30,15 +30,15 @@ impl<W: Write> StdSink<W> {
         }
     }
 
-    /// How often a put or a flush failed.
+    /// The number of calls of `put` or `flush` that failed.
     pub fn failures(&self) -> u64
         ensures { result ≡ std_failures self.now }
     {
         self.failures
     }
 
-    /// Hands on what the writer still holds back. It takes no further byte, and an error of the
-    /// writer is a failure, as of a put.
+    /// Makes the writer pass on what it still holds back. No more bytes are accepted, and an error of the writer is a
+    /// failure, as in `put`.
     pub fn flush(&mut self) -> Result<(), SinkFault>
         ensures bytes { Keeps (W.contents (writer_under self.old)) (W.contents (writer_under self.new)) }
         ensures failures { CountsFailure (std_failures self.old) (std_failures self.new) result }
@@ -49,7 +49,7 @@ impl<W: Write> StdSink<W> {
         Ok(())
     }
 
-    /// Counts one failure more.
+    /// Counts one more failure.
     fn failed(&mut self) -> SinkFault
         ensures same { writer_under self.new ≡ writer_under self.old }
         ensures failures { std_failures self.new ≡ one_more (std_failures self.old) }

@@ -1,4 +1,4 @@
-//! How long the current field and record of a CSV text are so far, and whether one was longer than its limit.
+//! The lengths so far of the current field and record of a CSV text, and whether one was longer than its limit.
 
 ghost use Rattle.std.specs.Prelude.{◌≡◌, ◌≤◌, ◌<◌, ℕ, IfSome, List, drop, length, take, true, false};
 ghost use Rattle.std.specs.Bool.{OnTrue};
@@ -10,45 +10,45 @@ ghost use Rattle.streams.specs.declared.tallies.Place.TheVariants as at;
 
 use memchr::memchr;
 
-/// The greatest length of a field, in bytes, its quotes counted.
+/// The greatest length of a field, in bytes, including its quotes.
 pub const FIELD_BYTES: u64 = 1 << 20;
 
-/// How many fields a record has at most.
+/// The greatest number of fields of a record.
 pub const RECORD_FIELDS: u64 = 100_000;
 
-/// The greatest length of a record, in bytes: 32 of the greatest fields, and as much as one more for what is between
-/// them. The blank lines before a record count.
+/// The greatest length of a record, in bytes: 32 of the longest fields, and as much as one more for what is between
+/// them. The blank lines before a record count too.
 pub const RECORD_BYTES: u64 = 33 << 20;
 
 const COMMA: u8 = b',';
 
 const QUOTE: u8 = b'"';
 
-/// A run of as many bytes is worth its own count.
+/// The least length of a run of bytes that is counted as a whole.
 const LONG_RUN: usize = 32;
 
-/// Where a CSV text is after some of its bytes.
+/// The place in a CSV text after some of its bytes.
 #[derive(Clone, Copy, Debug, PartialEq, Eq)]
 pub enum Place {
-    /// Before its first byte.
+    /// Before the first byte.
     Start,
     /// After the first byte of a byte order mark.
     FirstMark,
     /// After the second byte of a byte order mark.
     SecondMark,
-    /// Where a record begins, or a blank line.
+    /// At the beginning of a record or of a blank line.
     RecordStart,
-    /// Where a field begins, after a comma.
+    /// At the beginning of a field, after a comma.
     FieldStart,
     /// In a field, outside quotes.
     Unquoted,
     /// In a field, in quotes.
     Quoted,
-    /// After a quote in quotes: it ends them, or is the first of two that mean one.
+    /// After a quote in quotes, which ends them or is the first of two that mean one.
     QuoteInQuotes,
 }
 
-/// Where a CSV text is, and how long its field and its record are so far.
+/// A place in a CSV text, with the lengths of its current field and record so far.
 #[derive(Clone, Copy, Debug, PartialEq, Eq)]
 pub struct Tally {
     place: Place,
@@ -83,8 +83,8 @@ impl Tally {
         self.is_past
     }
 
-    /// The tally after more bytes. Long runs without a quote are counted at once, as far as that is clear, and other bytes some at
-    /// a time.
+    /// The tally after more bytes. Long runs without a quote are counted as a whole, if that is possible, and other
+    /// bytes in small parts.
     pub fn after(self, bytes: &[u8]) -> Tally
         ensures { result ≡ fold spec.tally_after self bytes.now }
     {
@@ -105,8 +105,8 @@ impl Tally {
         tally
     }
 
-    /// How many of the first bytes are a run: those before a quote. None where the next byte says what a quote meant, or that the
-    /// text begins with no byte order mark.
+    /// The length of the run of bytes before the first quote; 0 if the next byte decides what a quote meant, or whether
+    /// the text begins with a byte order mark.
     fn run_length(self, bytes: &[u8]) -> usize
         ensures within { result ≤ length bytes.now }
         ensures none { list_any spec.is_quote (take result bytes.now) ≡ false }
@@ -129,8 +129,8 @@ impl Tally {
         }
     }
 
-    /// The tally after bytes without a quote. Only those after the last end of a record are looked at one by one, if it is
-    /// clear where that is.
+    /// The tally after bytes without a quote. Only those after the last end of a record are looked at one by one, if
+    /// its place is clear.
     fn after_records(self, bytes: &[u8]) -> Tally
         requires { list_any spec.is_quote bytes.now ≡ false }
         ensures { result ≡ fold spec.tally_after self bytes.now }
@@ -141,7 +141,7 @@ impl Tally {
         }
     }
 
-    /// The place in these bytes behind the last end of a record. None if they begin in quotes, or may pass a limit.
+    /// The place just after the last end of a record in these bytes. None if they begin in quotes, or may pass a limit.
     fn clear_end(self, bytes: &[u8]) -> Option<usize>
         requires { list_any spec.is_quote bytes.now ≡ false }
         ensures within { IfSome result (λ end. end ≤ length bytes.now) }
@@ -155,7 +155,7 @@ impl Tally {
         Some(end)
     }
 
-    /// Whether no length passes its limit within so many bytes more.
+    /// Whether no length passes its limit within this many more bytes.
     fn has_room(self, bytes: usize) -> bool
         ensures { OnTrue result (IsWithin self bytes) }
     {
@@ -166,7 +166,7 @@ impl Tally {
             && self.record_bytes.saturating_add(more) <= RECORD_BYTES
     }
 
-    /// The tally where a record begins, with no blank line before it.
+    /// The tally at the beginning of a record, with no blank line before it.
     fn at_new_record() -> Tally
         ensures { result ≡ spec.new_record }
     {
@@ -176,7 +176,7 @@ impl Tally {
         }
     }
 
-    /// The tally after more bytes. Those that stay in a field are counted together, the others looked at one by one.
+    /// The tally after more bytes. Those that stay in the field are counted together, and the others one by one.
     fn after_each(self, bytes: &[u8]) -> Tally
         ensures { result ≡ fold spec.tally_after self bytes.now }
     {
@@ -195,7 +195,7 @@ impl Tally {
         tally
     }
 
-    /// How many of the first bytes stay in the field.
+    /// The number of bytes at the front that stay in the field.
     fn staying(self, bytes: &[u8]) -> usize
         ensures within { result ≤ length bytes.now }
         ensures stay { all_stay self.place (take result bytes.now) ≡ true }
@@ -209,7 +209,7 @@ impl Tally {
         }
     }
 
-    /// The tally after so many bytes that stay in the field.
+    /// The tally after this many bytes that stay in the field.
     fn after_staying(self, count: usize) -> Tally
         requires { 0 < count }
         ensures { (bytes : List ℕ) → length bytes ≡ count → all_stay self.place bytes ≡ true
@@ -255,7 +255,7 @@ impl Tally {
         }
     }
 
-    /// The tally where a record or a blank line begins.
+    /// The tally at the beginning of a record or of a blank line.
     fn at_record(self) -> Tally
         ensures { result ≡ spec.at_record self }
     {
@@ -285,7 +285,7 @@ impl Tally {
     }
 }
 
-/// The place in these bytes behind the last end of a record: a byte that ends a line, after one that doesn't.
+/// The place just after the last end of a record in these bytes: a byte that ends a line, after one that doesn't.
 fn record_end(bytes: &[u8]) -> Option<usize>
     ensures { IfSome result (λ end. IsRecordEnd bytes.now end) }
 {
@@ -309,7 +309,7 @@ fn place_in_field(place: Place) -> Place
     }
 }
 
-/// How many bytes there are before the first quote. It finds a quote that is far off.
+/// The number of bytes before the first quote. This way is faster if the quote is far off.
 fn before_quote(bytes: &[u8]) -> usize
     ensures within { result ≤ length bytes.now }
     ensures none { list_any spec.is_quote (take result bytes.now) ≡ false }
@@ -320,7 +320,7 @@ fn before_quote(bytes: &[u8]) -> usize
     }
 }
 
-/// How many bytes there are before the first quote. It finds a quote that is near.
+/// The number of bytes before the first quote. This way is faster if the quote is near.
 fn quoted(bytes: &[u8]) -> usize
     ensures within { result ≤ length bytes.now }
     ensures count { result ≡ prefix_len (stays at.Quoted) bytes.now }
@@ -328,7 +328,7 @@ fn quoted(bytes: &[u8]) -> usize
     bytes.iter().take_while(|byte| **byte != QUOTE).count()
 }
 
-/// How many bytes there are before the first comma, quote or end of a line.
+/// The number of bytes before the first comma, quote or end of a line.
 fn plain(bytes: &[u8]) -> usize
     ensures within { result ≤ length bytes.now }
     ensures count { result ≡ prefix_len is_plain bytes.now }
@@ -343,7 +343,7 @@ fn is_plain(byte: u8) -> bool
     !(byte == COMMA || byte == QUOTE || ends_line(byte))
 }
 
-/// Some bytes from a place on.
+/// The bytes from a place on.
 fn from_place(bytes: &[u8], place: usize) -> &[u8]
     requires { place ≤ length bytes.now }
     ensures { result.now ≡ drop place bytes.now }
@@ -351,7 +351,7 @@ fn from_place(bytes: &[u8], place: usize) -> &[u8]
     &bytes[place..]
 }
 
-/// How many of the first bytes are looked at before a next run is looked for.
+/// The number of bytes at the front that are looked at before the next run is looked for.
 fn some_length(bytes: &[u8]) -> usize
     requires { 0 < length bytes.now }
     ensures within { result ≤ length bytes.now }
@@ -360,7 +360,7 @@ fn some_length(bytes: &[u8]) -> usize
     bytes.len().min(LONG_RUN)
 }
 
-/// Some bytes up to a place.
+/// The bytes before a place.
 fn before_place(bytes: &[u8], place: usize) -> &[u8]
     requires { place ≤ length bytes.now }
     ensures { result.now ≡ take place bytes.now }
@@ -408,7 +408,7 @@ fn place_after(place: Place, byte: u8) -> Place
     }
 }
 
-/// The place after a byte at the start of a field; or after a quote in quotes, where a second one is part of the field.
+/// The place after a byte at the start of a field, or after a quote in quotes, where a second quote is part of the field.
 fn place_from_start(byte: u8) -> Place
     ensures { result ≡ spec.place_from_start byte }
 {
@@ -418,7 +418,7 @@ fn place_from_start(byte: u8) -> Place
     place_outside(byte)
 }
 
-/// The place after a byte outside quotes, where a quote is a byte like others.
+/// The place after a byte outside quotes. There, a quote is a byte like others.
 fn place_outside(byte: u8) -> Place
     ensures { result ≡ spec.place_outside byte }
 {

@@ -1,4 +1,4 @@
-//! The candidates of a lawful plan, and what passes its filters.
+//! The candidates of a lawful plan, and which of them pass its filters.
 
 ghost use Rattle.table_laws.specs.CandidateLaws.{
   ProbesLoseNone,
@@ -15,34 +15,34 @@ pub fn probes_lose_none()
     ensures { ProbesLoseNone }
 {}
 
-/// No choice of places is twice among the candidates of a lawful plan.
+/// The candidates of a lawful plan differ: no choice of places comes twice.
 pub fn candidates_differ()
     ensures { CandidatesDiffer }
 {}
 
-/// Where the outer reference is the first, or there is one alone, the candidates that pass the filters are, in their
-/// order, what ON and WHERE select.
+/// If the first reference is the outer one, or the only one, the candidates that pass the filters are what ON and WHERE
+/// select, in the same order.
 pub fn passing_are_selected()
     ensures { PassingAreSelected }
 {}
 
-/// Whichever is the outer reference, the candidates that pass the filters are what ON and WHERE select, in some order.
+/// Whichever reference is the outer one, the candidates that pass the filters are what ON and WHERE select, in some order.
 pub fn passing_are_permuted()
     ensures { PassingArePermuted }
 {}
 
-/// What ON and WHERE select ascends: by the first's place, then the second's.
+/// What ON and WHERE select is in ascending order of the first place, then the second.
 pub fn selected_ascend()
     ensures { SelectedAscend }
 {}
 
-/// The candidates that pass the filters, brought into ascending order, are what ON and WHERE select.
+/// The candidates that pass the filters, sorted into ascending order, are what ON and WHERE select.
 pub fn ordered_are_selected()
     ensures { OrderedAreSelected }
 {}
 
-/// Where the outer reference is the first, or there is one alone, the candidates up to the one that gave the n-th row
-/// give the first n rows.
+/// If the first reference is the outer one, or the only one, the candidates up to the one that gave the n-th row give
+/// the first n rows.
 pub fn first_rows_are_meant()
     ensures { FirstRowsAreMeant }
 {}

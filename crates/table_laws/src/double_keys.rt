@@ -1,8 +1,8 @@
-//! Laws of the test for double keys.
+//! Laws of `double_key`, which finds a repeated key.
 
 ghost use Rattle.table_laws.specs.KeyLaws.{DoubleIsFirst, NoneIsDouble};
 
-/// A number that `double_key` returns, counted from 1, is that of the first key that equals an earlier one.
+/// The number that `double_key` returns, counted from 1, is that of the first key that equals an earlier one.
 pub fn double_is_first()
     ensures { DoubleIsFirst }
 {}

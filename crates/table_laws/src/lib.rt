@@ -1,6 +1,6 @@
-//! The laws of tables: what loads is a table, a probe loses no row, every lawful plan gives the meaning of the query, and a query
-//! over tiles or stretches gives what it gives over the whole. Nothing here runs: each function has an empty body, and its
-//! contract is a law.
+//! The laws of tables: what loads is a table, a probe loses no row, every lawful plan gives the meaning of the query,
+//! and a query over tiles or stretches gives what it gives over the whole. Nothing here runs: each function has an
+//! empty body, and its contract is a law.
 #![tactic(auto)]
 
 pub mod candidate_laws;

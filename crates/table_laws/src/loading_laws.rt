@@ -1,4 +1,4 @@
-//! Laws of loading, for every type `T` of geometry columns and every `G` that a geometry is.
+//! Laws of loading, for every type `T` of geometry columns and every type `G` of geometries.
 
 ghost use Rattle.table_laws.specs.LoadLaws.{RowsAscend, RowsArePermuted, RowsFit, RequiredAreFilled};
 
@@ -7,7 +7,7 @@ pub fn rows_ascend<T, G>()
     ensures { RowsAscend T G }
 {}
 
-/// The rows of a table that loads are the typed rows of its records in another order.
+/// The rows of a table that loads are the typed rows of its records, in another order.
 pub fn rows_are_permuted<T, G>()
     ensures { RowsArePermuted T G }
 {}
@@ -17,7 +17,7 @@ pub fn rows_fit<T, G>()
     ensures { RowsFit T G }
 {}
 
-/// No row of a table that loads has a null in a column that takes none: one with NOT NULL, or the key.
+/// No row of a table that loads has a null in a column that can't be null: the key, or one with NOT NULL.
 pub fn required_are_filled<T, G>()
     ensures { RequiredAreFilled T G }
 {}

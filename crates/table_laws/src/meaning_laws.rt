@@ -1,4 +1,4 @@
-//! The law that whichever lawful plan is taken, its rows are the meaning of the query.
+//! The law that the rows of every lawful plan are the meaning of the query.
 
 ghost use Rattle.table_laws.specs.MeaningLaws.{MeantIsMeaning, PlansGiveMeaning, DatabaseHasValid, BoundHasValid};
 
@@ -8,8 +8,8 @@ pub fn meant_is_meaning<G, A, C>()
     ensures { MeantIsMeaning G A C }
 {}
 
-/// Whichever lawful plan is taken, the candidates that pass its filters, sorted and under LIMIT, give the meaning of the
-/// query (SQL, the query; 06-103r4, 6.1.15.3).
+/// For every lawful plan, the candidates that pass its filters, sorted and under LIMIT, give the meaning of the query
+/// (SQL, the query; 06-103r4, 6.1.15.3).
 pub fn plans_give_meaning()
     ensures { PlansGiveMeaning }
 {}

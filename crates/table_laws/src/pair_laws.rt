@@ -1,4 +1,4 @@
-//! The laws of pairs: each pair of envelopes that meet is found in one cell.
+//! The laws of pairs: each pair of geometries whose envelopes meet is found in one cell.
 
 ghost use Rattle.table_laws.specs.PairLaws.{OwnersFind, PairsAreOnce, GridIsCut};
 
@@ -7,12 +7,12 @@ pub fn owners_find()
     ensures { OwnersFind }
 {}
 
-/// Where boxes cut the grid, a pair of geometries whose envelopes meet is found in exactly one cell.
+/// If boxes cut the grid, a pair of geometries whose envelopes meet is found in exactly one cell.
 pub fn pairs_are_once()
     ensures { PairsAreOnce }
 {}
 
-/// The grid in one box is a cut.
+/// One box that is the whole grid cuts it.
 pub fn grid_is_cut()
     ensures { GridIsCut }
 {}

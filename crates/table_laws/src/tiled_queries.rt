@@ -2,7 +2,7 @@
 
 ghost use Rattle.table_laws.specs.TileLaws.{DatabaseIsWhole, TilesGiveRows, MergedTilesAreMeant, CountsOfTilesAddUp, SortedTileIsTile, TileIsKeyed};
 
-/// A database whose geometries are on the grid is a whole, of which the other laws speak (06-104r4).
+/// A database whose geometries are on the grid is a whole, as the laws of tiles and stretches assume (06-104r4).
 pub fn database_is_whole()
     ensures { DatabaseIsWhole }
 {}
@@ -12,22 +12,22 @@ pub fn tiles_give_rows()
     ensures { TilesGiveRows }
 {}
 
-/// The meanings over the tiles, merged by the keys and up to the limit, are the meaning over the whole (SQL, the query).
+/// The meanings over the tiles, merged by the keys and cut at the limit, are the meaning over the whole (SQL, the query).
 pub fn merged_tiles_are_meant()
     ensures { MergedTilesAreMeant }
 {}
 
-/// Under COUNT(*) the answer is the sum of the numbers of rows of the tiles; under LIMIT 0 it has no record (SQL, COUNT).
+/// Under COUNT(*) the answer is the sum of the numbers of rows of the tiles. Under LIMIT 0 it has no record (SQL, COUNT).
 pub fn counts_of_tiles_add_up()
     ensures { CountsOfTilesAddUp }
 {}
 
-/// Whatever the order of the records of a tile, its rows by ascending key are the tile.
+/// Whatever the order of the records of a tile, its rows, sorted by ascending key, are the tile.
 pub fn sorted_tile_is_tile()
     ensures { SortedTileIsTile }
 {}
 
-/// A tile has the rows of a whole table with marks, so it may be cut into stretches itself (06-104r4, feature tables).
+/// A tile's rows are those of a whole table with marks, so it may itself be cut into stretches (06-104r4, feature tables).
 pub fn tile_is_keyed()
     ensures { TileIsKeyed }
 {}

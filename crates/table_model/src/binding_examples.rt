@@ -6,8 +6,8 @@ ghost use Rattle.table_model.specs.BindingExamples.{towns, called, bare, qualifi
 ghost use Rattle.table_model.specs.declared.faults.QueryFault.TheVariants as fault;
 ghost use Rattle.table_model.specs.declared.typing.OperandType.TheVariants as types;
 
-/// What names of columns stand for: no column of that name, the table's name under an alias, a column of two
-/// references, and a name in another case.
+/// How names of columns are bound: a column that doesn't exist, the table's name although it has an alias, a column of
+/// two references, and a name in another case.
 #[tactic(auto, unfolding(crate::specs::Texts::same_name))]
 pub fn names_of_columns()
     ensures unknown { bound_column towns (called (codes "t") ∷ []) (bare (codes "nope"))
@@ -21,7 +21,7 @@ pub fn names_of_columns()
         ≡ Ok (record { place = record { reference = 1; column = 1 }; column_type = types.Integer }) }
 {}
 
-/// A number and a text can't be compared; two quotes in a row are one.
+/// A number and a text can't be compared. Two quotes in a row in a string are one quote.
 #[tactic(auto, unfolding(crate::specs::Texts::same_name))]
 pub fn comparisons_and_strings()
     ensures mismatch { compared_with_x (codes "pop") ≡ Err (fault.TypeMismatch 23) }

@@ -1,11 +1,11 @@
-//! Bound queries: names have become places, and texts of geometries have become geometries.
+//! Bound queries: names are replaced by places, and texts of geometries by geometries.
 
 use crate::queries::Explain;
 use crate::references::References;
 use geometry_model::Predicate;
 use sqlite_items::{Boxed, Items};
 
-/// A sign of comparison (SQL, comparison).
+/// The operator of a comparison (SQL, comparison).
 #[derive(Clone, Copy, PartialEq, Eq)]
 pub enum Comparison {
     Equal,
@@ -16,7 +16,7 @@ pub enum Comparison {
     GreaterOrEqual,
 }
 
-/// Where a column is: the place of its reference in the query and its own in the table, both from 0.
+/// Where a column is: the place of its reference in the query, and its own place in the table, both from 0.
 #[derive(Clone, Copy, PartialEq, Eq)]
 pub struct ColumnPlace {
     /// The place of the reference in the query.
@@ -37,7 +37,7 @@ pub enum GeometryArgument<G> {
 pub enum Operand<A> {
     Column(ColumnPlace),
     Integer(i64),
-    /// The bytes of a string, each doubled quote being one.
+    /// The bytes of a string, in which a doubled quote is one quote.
     Text(Items<u8>),
     Null,
     AsText(A),
@@ -67,29 +67,29 @@ pub enum Item<C> {
     IsEmpty(C),
 }
 
-/// A table reference: the table's place in the schema, and the bytes of the name that comes before the columns of
-/// an answer over two tables (SQL, FROM).
+/// A table reference: the table's place in the schema, and the name that is written before its columns in an answer
+/// over two tables (SQL, FROM).
 #[derive(Drop)]
 pub struct Reference {
     /// The place of the table in the schema, from 0.
     pub table: usize,
-    /// The alias, or without one the table's name as the schema spells it.
+    /// The alias, or the table's name as the schema spells it if there is no alias.
     pub name: Items<u8>,
 }
 
 /// A bound query: one or two references; its items, none under COUNT(*); its conjuncts, those of ON before those of
-/// WHERE; its limit, if there is one (SQL, the query).
+/// WHERE; and its limit, if it has one (SQL, the query).
 #[derive(Drop)]
 pub struct Bound<A, C> {
-    /// Whether EXPLAIN or EXPLAIN ANALYZE is asked for.
+    /// Whether the query begins with EXPLAIN or EXPLAIN ANALYZE.
     pub explain: Explain,
     /// The references of FROM, one or two.
     pub references: References<Reference>,
     /// What SELECT lists, in order; none under COUNT(*).
     pub items: Items<Item<C>>,
-    /// The parts of ON, then those of WHERE, between ANDs at the top. All of them have to be true.
+    /// The conjuncts of ON, then those of WHERE. A row is selected if all of them are true.
     pub conjuncts: Items<Cond<A>>,
-    /// Whether COUNT(*) is listed: the answer is the number of rows.
+    /// Whether the query selects COUNT(*): then the answer is the number of rows.
     pub counts: bool,
     /// LIMIT: the answer has at most this many rows.
     pub limit: Option<u64>,

@@ -28,13 +28,13 @@ pub enum ColumnType<T> {
 pub struct ColumnDef<T> {
     /// The name as the schema spells it.
     pub name: OwnedText,
-    /// What its fields are.
+    /// The type of its fields.
     pub column_type: ColumnType<T>,
     /// Whether NOT NULL is written. The key is never null, written or not.
     pub not_null: bool,
 }
 
-/// A table: its columns in order, one of which is the feature key (06-104r4, feature tables).
+/// A table: its columns in order. One of them is the feature key (06-104r4, feature tables).
 #[derive(Drop)]
 pub struct TableDef<T> {
     /// The name as the schema spells it.

@@ -1,17 +1,16 @@
-//! Why a schema, a table or a query is refused. The lines that the program prints are not the texts here, but those of the
-//! crate `failures`.
+//! Why a schema, a table or a query is refused. The crate `failures` has the lines that the program prints.
 
 use geometry_model::GeometryFault;
 use std::alloc::{AllocError, AllocFailed};
 use thiserror::Error;
 
-/// Why the text of a schema is refused. A number is the byte of the text, from 0.
+/// Why the text of a schema is refused. The number says where what is described begins, in bytes of the text from 0.
 #[derive(Clone, Copy, Debug, PartialEq, Eq, Error)]
 pub enum SchemaFault {
-    /// S1: a token that can't be there, or the end of a text that ends too soon.
+    /// S1: a token that isn't allowed there, or the end of a text that ends too soon.
     #[error("syntax at {0}")]
     Syntax(usize),
-    /// S2: the name of a table, or of a column of a table, that an earlier one has.
+    /// S2: the name of a table that an earlier table has, or the name of a column that an earlier column of its table has.
     #[error("name given twice at {0}")]
     DoubleName(usize),
     /// S3: the parenthesis that closes a table without PRIMARY KEY.
@@ -31,10 +30,10 @@ pub enum SchemaFault {
     OutOfMemory,
 }
 
-/// Why a table isn't loaded. A number is that of a record, 1 for the first after the header.
+/// Why a table isn't loaded. The number is that of a record, and the first record after the header is 1.
 #[derive(Clone, Copy, Debug, PartialEq, Eq, Error)]
 pub enum LoadFault {
-    /// L1: the header lacks the name of a column.
+    /// L1: the header doesn't have the name of a column.
     #[error("a column is missing in the header")]
     MissingColumn,
     /// L2: the header has the name of a column more than once.
@@ -55,7 +54,7 @@ pub enum LoadFault {
     /// L7: a geometry of the record isn't of its column's type.
     #[error("record {0} has a geometry of another type than the column")]
     WrongType(usize),
-    /// L8: a field of the record is empty, but its column takes no null.
+    /// L8: a field of the record is empty, but its column can't be null.
     #[error("record {0} has a null where none is allowed")]
     NullNotAllowed(usize),
     /// L9: the record has a key that an earlier record has.
@@ -81,19 +80,19 @@ pub struct TableFault {
     pub fault: LoadFault,
 }
 
-/// Why the text of a query is refused. A number is the byte of the text, from 0.
+/// Why the text of a query is refused. The number says where what is described begins, in bytes of the text from 0.
 #[derive(Clone, Copy, Debug, PartialEq, Eq, Error)]
 pub enum QueryFault {
     /// Q1: a byte that begins no token, or the quote of a string that isn't closed.
     #[error("no token at {0}")]
     Lex(usize),
-    /// Q2: a token that can't be there, or the end of a text that ends too soon.
+    /// Q2: a token that isn't allowed there, or the end of a text that ends too soon.
     #[error("syntax at {0}")]
     Syntax(usize),
-    /// Q3: the name of a table that the schema lacks.
+    /// Q3: the name of a table that isn't in the schema.
     #[error("unknown table at {0}")]
     UnknownTable(usize),
-    /// Q4: the name of a reference that an earlier one has.
+    /// Q4: the name of a reference that an earlier reference has.
     #[error("two references of one name at {0}")]
     SameName(usize),
     /// Q5: a column that no reference has.
@@ -102,7 +101,7 @@ pub enum QueryFault {
     /// Q6: a column that both references have.
     #[error("column of both tables at {0}")]
     AmbiguousColumn(usize),
-    /// Q7: a comparison of two types, or a predicate or function of what isn't a geometry.
+    /// Q7: a comparison of two types that can't be compared, or a predicate or function whose argument isn't a geometry.
     #[error("types that do not fit at {0}")]
     TypeMismatch(usize),
     /// Q8: a string that isn't the text of a valid geometry, with its fault.

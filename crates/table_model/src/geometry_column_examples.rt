@@ -1,5 +1,5 @@
-//! Worked rows of tables and queries with geometries, computed: what records load to, and where a query's names and
-//! types are refused.
+//! Worked examples of tables and queries with geometries, proved by computing: what records load as, and where a
+//! query's names and types are refused.
 #![tactic(auto, unfolding(geometry_model::specs::CheckedTexts::geometry_in_text, geometry_model::specs::TextReading::read_text, geometry_model::specs::TextReading::whole, geometry_model::specs::TextReading::tagged, geometry_model::specs::TextReading::typed, geometry_model::specs::TextReading::body, geometry_model::specs::TextReading::parts, geometry_model::specs::TextReading::line, geometry_model::specs::TextReading::separated, geometry_model::specs::TextReading::point, geometry_model::specs::TextReading::position, geometry_model::specs::TextReading::space, geometry_model::specs::TextReading::coordinate, geometry_model::specs::TextReading::numeral, geometry_model::specs::TextReading::fraction, geometry_model::specs::TextReading::sign, crate::specs::Texts::same_name, crate::specs::Loading::load, crate::specs::Loading::by_key, crate::specs::Loading::double_key, crate::specs::Loading::header_fault, crate::specs::Loading::checked_row, crate::specs::Loading::row_of, crate::specs::Loading::rows_of, crate::specs::Loading::value_of, crate::specs::Loading::integer_of,))]
 
 ghost use Rattle.std.specs.Prelude.{◌≡◌, [], ◌∷◌, codes, pos, Some, None, Ok, Err};
@@ -39,8 +39,8 @@ ghost use Rattle.table_model.specs.declared.queries.WrittenOperand.TheVariants a
 ghost use Rattle.table_model.specs.declared.queries.WrittenPredicate.TheVariants as predicates;
 ghost use Rattle.table_model.specs.declared.values.Value.TheVariants as values;
 
-/// Records with geometries: an empty field is null, and the first fault of a field is that of its text, then of
-/// its geometry, then of its type.
+/// Records with geometries. An empty field is null. The first fault of a field is that of its text, then that of its
+/// geometry, then that of its type.
 pub fn loaded_geometries()
     ensures by_key { loaded None
         (fields (codes "3") (codes "9") (codes "POINT(9 9)")
@@ -58,7 +58,7 @@ pub fn loaded_geometries()
         ≡ Err (load.BadGeometry 1 (Invalid (TooFewPoints 0))) }
 {}
 
-/// Names that nothing has, or two things have.
+/// Names that nothing has, or that two things have.
 pub fn refused_names()
     ensures no_table { bound selections.All (table (codes "t") 14 ∷ table (codes "v") 17 ∷ []) None
         ≡ Err (query.UnknownTable 17) }
@@ -76,7 +76,7 @@ pub fn refused_names()
         (table (codes "t") 15 ∷ table (codes "u") 18 ∷ []) None ≡ Err (query.AmbiguousColumn 7) }
 {}
 
-/// Types that don't fit: the arguments of a predicate are bound before its types are compared.
+/// Types that don't match: the arguments of a predicate are bound before their types are compared.
 pub fn refused_types()
     ensures comparison { bound_where
         (conds.Compare 23 Equal (operand_column (codes "pop") 23) (operands.Text (name (codes "x") 29)))
@@ -96,8 +96,8 @@ pub fn refused_types()
         (geometry_column (codes "nope") 38)) ≡ Err (query.UnknownColumn 38) }
 {}
 
-/// Strings that are no valid geometry or no pattern: a fault's byte is counted in the string's value, and these
-/// faults go before those of types.
+/// Strings that aren't valid geometries or patterns. The byte of such a fault is counted in the string's value, and the
+/// fault comes before those of types.
 pub fn refused_strings()
     ensures bad_text { bound_where (conds.IsEmpty 23 (from_text (codes "POINT(1 2") 50))
         ≡ Err (query.BadGeometry 50 (Text (Syntax 9))) }
@@ -116,7 +116,7 @@ pub fn refused_strings()
         (geometry_column (codes "geom") 33) (geometry_column (codes "geom") 39)) ≡ Err (query.BadPattern 46) }
 {}
 
-/// The texts of faults of geometries, in a table and in a query.
+/// The texts of the faults of geometries, in a table and in a query.
 pub fn geometry_fault_texts()
     ensures text { load_text (codes "t") (load.BadGeometry 2 (Text (Syntax 9)))
         ≡ codes "t L6 record 2 W1 at 9" }
@@ -129,7 +129,7 @@ pub fn geometry_fault_texts()
     ensures pattern { query_text (query.BadPattern 40) ≡ codes "Q9 at 40" }
 {}
 
-/// Functions of the select list: the canonical text, the dimension by the kind, whether it is empty; of null, nothing.
+/// Functions in the select list: the canonical text, the dimension of the type, and whether the geometry is empty; null gives null.
 pub fn functions_of_geometries()
     ensures { said (
         shaped 1 (values.Geometry (MultiPoint (at (pos 1) (pos 2) ∷ at (pos 3) (pos 4) ∷ [])))

@@ -1,4 +1,4 @@
-//! A worked row of two tables joined by ON, computed: the query bound as it is written, its conjuncts, and the records of
+//! A worked example of two tables joined by ON, proved by computing: the bound query, its conjuncts, and the records of
 //! its answer.
 
 ghost use Rattle.std.specs.Prelude.{◌≡◌, [], ◌∷◌, codes, Ok, map};
@@ -15,14 +15,14 @@ ghost use Rattle.table_model.specs.JoinExamples.{
 };
 ghost use Rattle.table_model.specs.Statements.{by_conjuncts};
 
-/// The conditions of ON and of WHERE are apart, and are the two conjuncts in this order.
+/// The conditions of ON and of WHERE are kept apart, and are the two conjuncts in this order.
 pub fn binding_of_a_join()
     ensures whole { statement geometry_binding points_and_squares written_join ≡ Ok join }
     ensures conjuncts { binding geometry_binding points_and_squares written_join ≡ Ok (by_conjuncts join) }
 {}
 
-/// The pairs for which ON and WHERE are true, by the first's key, then the second's, also where the squares' keys
-/// are exchanged.
+/// The answer is the pairs for which ON and WHERE are true, by the first table's key, then the second's, also if the
+/// keys of the squares are exchanged.
 pub fn answers_of_a_join()
     ensures left_first { joined_with left_first
         ≡ pair (codes "b.id") (codes "s.id")

@@ -1,7 +1,7 @@
-//! Tables, queries and answers in the style of OGC 06-104r4 (Simple Features, part 2) as definitions: what the
-//! contracts of the crates above mean by a schema, a query, a database, the loading of records, truth, the
-//! meaning of a query and the text of an answer. The definitions are in `specs/`. The code has the plain
-//! types that the definitions and the programs share.
+//! Tables, queries and answers in the style of OGC 06-104r4 (Simple Features, part 2), as definitions. The contracts of
+//! other crates use them for a schema, a query, a database, the loading of records, truth, the meaning of a query and
+//! the text of an answer. The definitions are in `specs/`. The code has the plain types that the definitions and the
+//! programs share.
 #![tactic(auto)]
 
 pub mod answer_examples;

@@ -1,4 +1,4 @@
-//! Worked rows of LIMIT and COUNT(*), computed: texts of EXPLAIN and EXPLAIN ANALYZE with their work, and records.
+//! Worked examples of LIMIT and COUNT(*), proved by computing: texts of EXPLAIN and EXPLAIN ANALYZE with their work, and records.
 
 ghost use Rattle.std.specs.Prelude.{◌≡◌, [], ◌∷◌, codes, Some};
 ghost use Rattle.table_model.specs.PlanExamples.{
@@ -22,7 +22,7 @@ ghost use Rattle.table_model.specs.PlanExamples.{
   worked_to,
 };
 
-/// Under LIMIT the work is that of the candidates up to the one that gives the last row wanted.
+/// Under LIMIT, the work is that of the candidates up to the one that gives the last row of the answer.
 pub fn first_rows()
     ensures text { analyzed big (limit_to 2 far_or_near)
         ≡ Some (codes "cost 100\nouter big scan\nfilter 1\nlimit 2\nwork 2\n") }
@@ -47,7 +47,7 @@ pub fn counted_rows()
         ≡ (codes "COUNT(*)" ∷ []) ∷ (codes "4" ∷ []) ∷ [] }
 {}
 
-/// Under LIMIT 0 there is the header alone; without COUNT(*) no candidate counts, with it all do.
+/// Under LIMIT 0, only the header is returned. With COUNT(*) all candidates count as work, without it none does.
 pub fn no_rows()
     ensures records { returned (definition (codes "big") ∷ []) big
         (listing (0 ∷ []) (limit_to 0 (query (of 0 (codes "big") ∷ []) []))) ≡ (codes "id" ∷ []) ∷ [] }
@@ -65,7 +65,7 @@ pub fn no_rows()
         ≡ Some (codes "cost 30\nouter s scan\ninner b probe 1\nfilter 2 1\nlimit 0\nwork 0\n") }
 {}
 
-/// Where the second reference is the outer one all candidates count; where the first is, those up to the last row wanted.
+/// If the second reference is the outer one, all candidates count. If the first is, those up to the last row of the answer count.
 pub fn pairs_under_limit()
     ensures text { analyzed (point_rows 1 100 ∷ exchanged ∷ []) (limit_to 1 joined)
         ≡ Some (codes "cost 30\nouter s scan\ninner b probe 1\nfilter 2 1\nlimit 1\nwork 8\n") }

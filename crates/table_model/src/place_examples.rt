@@ -1,4 +1,4 @@
-//! Worked rows of places, of what a condition computes and of ST_AsText in conditions.
+//! Worked examples of choices of places, of conditions that compute a matrix, and of ST_AsText in conditions.
 
 ghost use Rattle.std.specs.Prelude.{◌≡◌, [], ◌∷◌, codes, true, false, pos};
 ghost use Rattle.geometry_model.specs.Labels.{labelled_matrix};
@@ -25,7 +25,7 @@ ghost use Rattle.table_model.specs.declared.conditions.Cond.TheVariants.{Or, Not
 ghost use Rattle.table_model.specs.declared.conditions.Operand.TheVariants.{Text, AsText, Dimension, Integer};
 ghost use Rattle.table_model.specs.declared.values.Value.TheVariants.{Null};
 
-/// Two rows with the same fields are two choices of places.
+/// Two rows with equal fields are two choices of places.
 pub fn equal_rows()
     ensures both { meant (truth labelled_matrix denoted) ((first_point ∷ first_point ∷ []) ∷ [])
         (query (of 0 (codes "t") ∷ []) []) ≡ (0 ∷ []) ∷ (1 ∷ []) ∷ [] }
@@ -36,7 +36,7 @@ pub fn equal_rows()
         ≡ (0 ∷ 0 ∷ []) ∷ (0 ∷ 1 ∷ []) ∷ (1 ∷ 0 ∷ []) ∷ (1 ∷ 1 ∷ []) ∷ [] }
 {}
 
-/// A condition computes where one of its DE-9IM predicates has no null argument, at whatever depth.
+/// A condition computes if one of its DE-9IM predicates has no null argument, however deep it is nested.
 pub fn conditions_that_compute()
     ensures at_a_point { computes denoted (first_point ∷ []) (with_literal Intersects (square 0 0)) ≡ true }
     ensures at_null { computes denoted (row 1 Null ∷ []) (with_literal Intersects (square 0 0)) ≡ false }
@@ -46,7 +46,7 @@ pub fn conditions_that_compute()
         (Or (key_is Greater 0 9 ∷ IsEmpty (geometry 0) ∷ [])) ≡ false }
 {}
 
-/// ST_AsText on either side of a comparison or before IS NULL, at whatever depth.
+/// Conditions that contain ST_AsText, on either side of a comparison or before IS NULL, however deep it is nested.
 pub fn conditions_with_as_text()
     ensures left { has_as_text
         (Not (Or (key_is Greater 0 9 ∷ Compare Equal (AsText (geometry 0)) (Text (codes "POINT(1 1)")) ∷ [])))

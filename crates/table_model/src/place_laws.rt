@@ -1,5 +1,5 @@
-//! Laws of rows by places. Nothing here runs: each function has an empty body, and its contract is a law of the
-//! definitions, whatever a geometry and its arguments are.
+//! Laws of rows by places, whatever a geometry and its arguments are. Nothing here runs: each function has an empty
+//! body, and its contract is a law of the definitions.
 
 ghost use Rattle.table_model.specs.PlaceLaws.{
   ChoicesGiveProduct,
@@ -19,12 +19,12 @@ pub fn selected_gives_passing<G, A, C>()
     ensures { SelectedGivesPassing G A C }
 {}
 
-/// The rows at the places of a meaning are those that LIMIT leaves (SQL, LIMIT).
+/// The rows at the places of a meaning are those that LIMIT keeps (SQL, LIMIT).
 pub fn meant_gives_limited<G, A, C>()
     ensures { MeantGivesLimited G A C }
 {}
 
-/// The elements up to the n-th that passes a test are the shortest beginning of the list with the first n that pass.
+/// The elements up to the n-th that passes a test are the shortest beginning of the list that has the first n elements that pass.
 pub fn up_to_passing_is_front<X>()
     ensures { UpToPassingIsFront X }
 {}

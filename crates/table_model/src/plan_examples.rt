@@ -1,4 +1,4 @@
-//! Worked rows of plans, computed: costs, and texts of EXPLAIN and EXPLAIN ANALYZE.
+//! Worked examples of plans, proved by computing: costs, and texts of EXPLAIN and EXPLAIN ANALYZE.
 
 ghost use Rattle.std.specs.Prelude.{◌≡◌, [], ◌∷◌, codes, Some};
 ghost use Rattle.geometry_model.specs.Geometries.{MultiPoint};
@@ -40,8 +40,8 @@ pub fn probe_of_points()
         ≡ Some (codes "cost 14\nouter big probe 1\nfilter 1\nwork 4\n") }
 {}
 
-/// A predicate under OR or NOT drives nothing, and neither does one that holds of geometries apart, nor one of two
-/// columns of one reference.
+/// A predicate drives no probe if it is under OR or NOT, if it can hold of geometries that are apart, or if both of its
+/// columns are of one reference.
 pub fn scans_of_points()
     ensures under_or { analyzed (point_rows 1 100 ∷ [])
         (query (of 0 (codes "big") ∷ [])
@@ -58,7 +58,7 @@ pub fn scans_of_points()
         (query (of 0 (codes "big") ∷ []) (with_itself Intersects ∷ [])) ≡ 100 ∷ [] }
 {}
 
-/// Filters are evaluated up to the first that isn't true, each predicate of a condition counting by itself.
+/// Filters are evaluated up to the first that isn't true. Each predicate of a condition counts by itself.
 pub fn work_of_filters()
     ensures false_first { analyzed (point_rows 1 100 ∷ [])
         (query (of 0 (codes "big") ∷ []) (key_is Less 0 0 ∷ Not (with_literal Within (square 0 0)) ∷ []))
@@ -73,8 +73,8 @@ pub fn work_of_filters()
         ≡ Some (codes "cost 100\nouter big scan\nfilter 1\nwork 200\n") }
 {}
 
-/// Two references of one table of two squares: of equal costs the first is chosen, and where there is no conjunct
-/// there is no filter.
+/// A table of two squares, joined with itself: of two plans with equal costs the first is chosen, and a query without
+/// conjuncts has no filter.
 pub fn squares_with_squares()
     ensures costs { costs (squares ∷ [])
         (query (of 0 (codes "a") ∷ of 0 (codes "b") ∷ []) (of_both Touches ∷ [])) ≡ 6 ∷ 10 ∷ 6 ∷ 10 ∷ [] }
@@ -85,8 +85,8 @@ pub fn squares_with_squares()
         ≡ Some (codes "cost 6\nouter a scan\ninner b scan\nfilter none\nwork 0\n") }
 {}
 
-/// A hundred points and two squares: the second reference is the outer one, whose squares drive a probe of the
-/// points, and the comparison is evaluated before the predicate.
+/// A hundred points and two squares: the second reference is the outer one, its squares drive a probe of the points,
+/// and the comparison is evaluated before the predicate.
 pub fn points_with_squares()
     ensures costs { costs (point_rows 1 100 ∷ squares ∷ [])
         (query (of 0 (codes "b") ∷ of 1 (codes "s") ∷ []) (of_both Intersects ∷ key_is NotEqual 0 2 ∷ []))
@@ -96,8 +96,8 @@ pub fn points_with_squares()
         ≡ Some (codes "cost 30\nouter s scan\ninner b probe 1\nfilter 2 1\nwork 8\n") }
 {}
 
-/// A probe with an empty geometry gives the rows with empty geometries and the null one, for which nothing is
-/// computed.
+/// A probe with an empty geometry returns the rows with empty geometries and the row with null. The null row needs no
+/// computing.
 pub fn probe_of_empty_geometries()
     ensures costs { costs (empties ∷ [])
         (query (of 0 (codes "e") ∷ []) (with_literal Equals (MultiPoint []) ∷ [])) ≡ 5 ∷ 4 ∷ [] }
@@ -106,7 +106,7 @@ pub fn probe_of_empty_geometries()
         ≡ Some (codes "cost 4\nouter e probe 1\nfilter 1\nwork 3\n") }
 {}
 
-/// Small tables are scanned: a probe costs 4 at least, and of equal costs the scan is the first.
+/// Small tables are scanned: a probe costs at least 4, and of two equal costs the scan's comes first.
 pub fn scans_of_small_tables()
     ensures two_rows { explained (squares ∷ [])
         (query (of 0 (codes "sq") ∷ []) (with_literal Within (square 0 0) ∷ []))
@@ -118,7 +118,7 @@ pub fn scans_of_small_tables()
         ≡ Some (codes "cost 4\nouter t scan\nfilter 1\n") }
 {}
 
-/// An outer reference that can be probed: each line of the cost and of the expected rows counts in one of the costs, and of
+/// An outer reference that can be probed: each case of the cost and of the expected rows is in one of the costs, and of
 /// two plans that cost the same the earlier one is chosen.
 pub fn probes_of_outer_references()
     ensures costs { costs (point_rows 1 100 ∷ squares ∷ []) near_and_joined

@@ -32,7 +32,7 @@ pub fn first_is_chosen()
     ensures { FirstIsChosen }
 {}
 
-/// Over one reference or two a plan is chosen.
+/// If there are one or two references, a plan is chosen.
 pub fn some_plan_is_chosen()
     ensures { SomePlanIsChosen }
 {}

@@ -1,4 +1,4 @@
-//! Plans of queries: in which order the rows of the tables are found, how, and what that costs.
+//! Plans of queries: the order in which the rows of the tables are found, the way in which they are found, and the cost.
 
 use sqlite_items::Items;
 
@@ -7,7 +7,7 @@ use sqlite_items::Items;
 pub enum AccessMethod {
     /// All rows.
     Scan,
-    /// The rows at which the envelopes of the two arguments of a conjunct meet: the conjunct's place, from 0.
+    /// The rows at which the envelopes of the two arguments of a conjunct meet. The number is the conjunct's place, from 0.
     Probe(usize),
 }
 
@@ -27,6 +27,6 @@ pub struct Plan {
     pub accesses: Items<Access>,
     /// The places of all conjuncts, from 0, in the order in which they are evaluated.
     pub filters: Items<usize>,
-    /// What the plan costs, counted in rows.
+    /// The cost of the plan, counted in rows.
     pub cost: u64,
 }

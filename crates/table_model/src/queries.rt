@@ -1,4 +1,4 @@
-//! Queries as they are written. Parentheses are left out, and names and strings are parts of the query's text.
+//! Queries as they are written, without their parentheses. Names and strings are parts of the query's text.
 
 use crate::conditions::Comparison;
 use crate::references::References;
@@ -6,7 +6,7 @@ use crate::texts::Slice;
 use geometry_model::Predicate;
 use sqlite_items::{Boxed, Items};
 
-/// The most levels to which NOT and parentheses may nest in a condition.
+/// The greatest depth to which NOT and parentheses may nest in a condition.
 pub const LEVEL_LIMIT: usize = 64;
 
 /// A name or a string, and the byte from 0 at which its token starts in the query's text.
@@ -39,13 +39,13 @@ pub enum WrittenOperand<'a, A> {
     Integer(i64),
     Text(Name<'a>),
     Null,
-    /// ST_AsText, and the byte of that word.
+    /// ST_AsText. The number is the byte at which that word starts.
     AsText(usize, A),
-    /// ST_Dimension, and the byte of that word.
+    /// ST_Dimension. The number is the byte at which that word starts.
     Dimension(usize, A),
 }
 
-/// Which DE-9IM predicate is written: ST_Relate has its pattern as a string (06-103r4, 6.1.15).
+/// The DE-9IM predicate that is written. ST_Relate has its pattern as a string (06-103r4, 6.1.15).
 #[derive(Drop)]
 pub enum WrittenPredicate<'a> {
     Named(Predicate),
@@ -69,7 +69,7 @@ pub enum WrittenCond<'a, A> {
 #[derive(Drop)]
 pub enum WrittenItem<'a, C> {
     Column(WrittenColumn<'a>),
-    /// ST_AsText, ST_Dimension and ST_IsEmpty, each with the byte of that word.
+    /// ST_AsText, ST_Dimension and ST_IsEmpty. The number is the byte at which that word starts.
     AsText(usize, C),
     Dimension(usize, C),
     IsEmpty(usize, C),
@@ -81,7 +81,7 @@ pub enum Selection<'a, C> {
     /// `*`
     All,
     Items(Items<WrittenItem<'a, C>>),
-    /// `COUNT(*)`, the number of rows; it is alone.
+    /// `COUNT(*)`, the number of rows. It is the only item.
     Count,
 }
 

@@ -1,4 +1,4 @@
-//! Worked texts of queries, computed: the tree that each reads as, or its first fault.
+//! Worked examples of texts of queries, proved by computing: the tree as which each is read, or its first fault.
 #![tactic(auto, unfolding(crate::specs::Texts::same_name, crate::specs::Tokens::same_kind, crate::specs::Tokens::word_kind, crate::specs::Tokens::symbol, crate::specs::Tokens::front, crate::specs::Tokens::tokens, crate::specs::Parsers::kind, crate::specs::Parsers::place, crate::specs::Parsers::spelling, crate::specs::Parsers::next, crate::specs::Parsers::sees, crate::specs::Parsers::after, crate::specs::Parsers::expect, crate::specs::Parsers::parts_from, crate::specs::QueryReading::name, crate::specs::QueryReading::column, crate::specs::QueryReading::calls, crate::specs::QueryReading::string, crate::specs::QueryReading::geometry, crate::specs::QueryReading::integer, crate::specs::QueryReading::operand, crate::specs::QueryReading::compared, crate::specs::QueryReading::null_test, crate::specs::QueryReading::comparison, crate::specs::QueryReading::truth_value, crate::specs::QueryReading::truth_test, crate::specs::QueryReading::relates, crate::specs::QueryReading::relates_by, crate::specs::QueryReading::predicate, crate::specs::QueryReading::negation, crate::specs::QueryReading::item, crate::specs::QueryReading::selection, crate::specs::QueryReading::alias, crate::specs::QueryReading::reference, crate::specs::QueryReading::crossed, crate::specs::QueryReading::joined_on, crate::specs::QueryReading::where_condition, crate::specs::QueryReading::limit_number, crate::specs::QueryReading::says, crate::specs::QueryReading::query, crate::specs::QueryReading::query_of))]
 
 ghost use Rattle.std.specs.Prelude.{◌≡◌, ◌++◌, [], ◌∷◌, codes, pos, Some, None, Err};
@@ -25,7 +25,7 @@ ghost use Rattle.table_model.specs.declared.queries.WrittenItem.TheVariants as i
 ghost use Rattle.table_model.specs.declared.queries.WrittenOperand.TheVariants as operands;
 ghost use Rattle.table_model.specs.declared.queries.WrittenPredicate.TheVariants as predicates;
 
-/// EXPLAIN of a query whose condition has a literal, EXPLAIN ANALYZE, and the two words as names.
+/// EXPLAIN of a query whose condition has a literal, EXPLAIN ANALYZE, and the two words used as names.
 pub fn plans_are_asked_for()
     ensures explain { read
         (codes "EXPLAIN SELECT id FROM big WHERE ST_Intersects(geom, ST_GeomFromText('POLYGON((0 0,4 0,4 4,0 4,0 0))'))")
@@ -40,7 +40,7 @@ pub fn plans_are_asked_for()
         None None }
 {}
 
-/// A second table, in each of the ways in which it is written.
+/// A second table, in each of the forms in which it can be written.
 pub fn tables_are_joined()
     ensures inner { read
         (codes "SELECT b.id, s.id FROM big b JOIN sq s ON ST_Intersects(b.geom, s.geom) WHERE b.id <> 2")
@@ -74,7 +74,7 @@ pub fn items_are_functions()
         (table (codes "e") 66 ∷ []) None None }
 {}
 
-/// Functions in conditions: predicates, alone or compared with 1 or 0 in any spelling, and operands.
+/// Functions in conditions: predicates, alone or compared with 1 or 0 in any spelling, and operands of comparisons.
 pub fn conditions_are_functions()
     ensures relate { read_where (codes "ST_Relate(geom, geom, 'T*F**F***') = 0")
         ≡ all_where (conds.Not (conds.Relates 22 (predicates.Relate (name (codes "T*F**F***") 44))
@@ -94,7 +94,7 @@ pub fn conditions_are_functions()
         (operands.Dimension 52 (from_text (codes "POINT EMPTY") 81)) ∷ [])) }
 {}
 
-/// What may come after a predicate: no sign, no number but 1 and 0, and no other comparison.
+/// A predicate can be compared only by `=` and only with 1 or 0, and those numbers have no sign.
 pub fn truth_values_are_one_and_zero()
     ensures minus { read_where (codes "ST_IsEmpty(geom) = -1") ≡ Err (Syntax 41) }
     ensures plus { read_where (codes "ST_IsEmpty(geom) = +0") ≡ Err (Syntax 41) }
@@ -104,7 +104,7 @@ pub fn truth_values_are_one_and_zero()
     ensures not_equal { read_where (codes "ST_IsEmpty(geom) <> 1") ≡ Err (Syntax 39) }
 {}
 
-/// A function where the grammar names none, or another.
+/// A function where the grammar allows none, or only another.
 pub fn functions_are_refused()
     ensures unknown { read_where (codes "ST_Buffer(geom)") ≡ Err (Syntax 22) }
     ensures predicate_as_operand { read_where (codes "1 = ST_IsEmpty(geom)") ≡ Err (Syntax 26) }
@@ -118,7 +118,7 @@ pub fn functions_are_refused()
     ensures explain { read (codes "EXPLAIN (SELECT * FROM t)") ≡ Err (Syntax 0) }
 {}
 
-/// Faults of the other parts, and levels and numbers beside functions.
+/// Faults of the other parts of a query, and of levels and numbers in queries with functions.
 pub fn queries_are_refused()
     ensures explain_twice { read (codes "EXPLAIN EXPLAIN SELECT * FROM t") ≡ Err (Syntax 8) }
     ensures join_without_on { read (codes "SELECT * FROM t JOIN u") ≡ Err (Syntax 22) }
@@ -128,7 +128,7 @@ pub fn queries_are_refused()
     ensures number { read_where (codes "ST_Dimension(geom) = 9223372036854775808") ≡ Err (NumberTooBig 43) }
 {}
 
-/// The parentheses of a function open no level, and the 65th level is refused.
+/// The parentheses of a function don't count as a level. The 65th level is refused.
 pub fn functions_open_no_level()
     ensures deepest { read_where (repeat 64 (codes "(") ++ codes "ST_IsEmpty(geom)" ++ repeat 64 (codes ")"))
         ≡ all_where (conds.IsEmpty 86 (geometry_column (codes "geom") 97)) }
@@ -174,7 +174,7 @@ pub fn rows_are_limited()
         ≡ under selections.All (table (codes "t") 14) None (Some 9223372036854775807) }
 {}
 
-/// LIMIT's integer has no sign and is within 64 bits with a sign; LIMIT comes once, at the end, and is no name.
+/// LIMIT's integer has no sign and fits in 64 bits with a sign. LIMIT comes once, at the end, and can't be a name.
 pub fn limits_are_refused()
     ensures minus { read (codes "SELECT id FROM big LIMIT -1") ≡ Err (Syntax 25) }
     ensures plus { read (codes "SELECT id FROM big LIMIT +1") ≡ Err (Syntax 25) }
@@ -190,7 +190,7 @@ pub fn limits_are_refused()
     ensures name { read (codes "SELECT * FROM limit") ≡ Err (Syntax 14) }
 {}
 
-/// COUNT(*) is alone, and only in the select list.
+/// COUNT(*) is refused with other items, and outside the select list.
 pub fn counts_are_refused()
     ensures before_item { read (codes "SELECT COUNT(*), id FROM t") ≡ Err (Syntax 15) }
     ensures behind_item { read (codes "SELECT id, COUNT(*) FROM t") ≡ Err (Syntax 11) }

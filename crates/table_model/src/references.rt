@@ -7,8 +7,8 @@ use sqlite_items::Items;
 use std::alloc::{AllocError, Global};
 use std::marker::Model;
 
-/// The references of a query, written or bound, in their order: one or two, generic in what a reference is (SQL,
-/// FROM). Contracts see the list of them.
+/// The references of a query, written or bound, in their order: one or two, generic in what a reference is (SQL, FROM).
+/// Contracts see them as a list.
 #[derive(Drop)]
 pub struct References<R> {
     listed: Items<R>,
@@ -29,7 +29,7 @@ impl<R> Model for References<R> {
 }
 
 impl<R> References<R> {
-    /// One reference. It fails only when memory runs out.
+    /// Makes the list of one reference. It fails only when memory runs out.
     pub fn one(alloc: Global, only: R) -> Result<References<R>, AllocError>
     where
         R: Drop,
@@ -40,7 +40,7 @@ impl<R> References<R> {
         Ok(References { listed })
     }
 
-    /// Two references, in their order. It fails only when memory runs out.
+    /// Makes the list of two references, in their order. It fails only when memory runs out.
     pub fn two(alloc: Global, first: R, second: R) -> Result<References<R>, AllocError>
     where
         R: Drop,
@@ -52,14 +52,14 @@ impl<R> References<R> {
         Ok(References { listed })
     }
 
-    /// Lends the list of them.
+    /// Lends the list of references.
     pub fn as_slice(&self) -> &[R]
         ensures { result.now ≡ self.now }
     {
         self.listed.as_slice()
     }
 
-    /// Lends the first, and the second, where there are two.
+    /// Lends the first reference, and the second if there are two.
     pub fn parts(&self) -> (&R, Option<&R>)
         ensures { self.now ≡ result.0.now ∷ option_to_list (option_copied result.1) }
     {

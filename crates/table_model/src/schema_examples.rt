@@ -1,4 +1,4 @@
-//! Worked texts of schemas with geometry columns, computed: the tables that are read, and the first fault.
+//! Worked examples of schemas with geometry columns, proved by computing: the tables that a text is read as, or its first fault.
 #![tactic(auto, unfolding(crate::specs::Texts::same_name, crate::specs::Tokens::same_kind, crate::specs::Tokens::word_kind, crate::specs::Tokens::symbol, crate::specs::Tokens::front, crate::specs::Tokens::tokens, crate::specs::Parsers::kind, crate::specs::Parsers::place, crate::specs::Parsers::spelling, crate::specs::Parsers::next, crate::specs::Parsers::sees, crate::specs::Parsers::after, crate::specs::Parsers::expect, crate::specs::SchemaReading::expect_word, crate::specs::SchemaReading::new_name, crate::specs::SchemaReading::type_named, crate::specs::SchemaReading::column_type, crate::specs::SchemaReading::null_mark, crate::specs::SchemaReading::key_mark, crate::specs::SchemaReading::marks, crate::specs::SchemaReading::column, crate::specs::SchemaReading::columns_from, crate::specs::SchemaReading::table_name, crate::specs::SchemaReading::table, crate::specs::SchemaReading::goes_on, crate::specs::SchemaReading::tables_from, crate::specs::SchemaReading::schema, crate::specs::SchemaReading::schema_of))]
 
 ghost use Rattle.std.specs.Prelude.{◌≡◌, [], ◌∷◌, codes, None, Some, Ok, Err};
@@ -6,7 +6,7 @@ ghost use Rattle.geometry_model.specs.declared.shapes.GeometryType.TheVariants.{
 ghost use Rattle.table_model.specs.SchemaExamples.{keyed, shown};
 ghost use Rattle.table_model.specs.declared.faults.SchemaFault.TheVariants as fault;
 
-/// A column of each geometry, one of points, and two tables of which the second has a column of polygons.
+/// A column of each geometry type, a column of points, and two tables of which the second has a column of polygons.
 pub fn schemas_with_geometries()
     ensures any { shown (codes "CREATE TABLE e (id INT PRIMARY KEY, geom GEOMETRY)")
         ≡ Ok (keyed (codes "e") None ∷ []) }
@@ -17,7 +17,7 @@ pub fn schemas_with_geometries()
         ≡ Ok (keyed (codes "e") (Some Point) ∷ keyed (codes "sq") (Some Polygon) ∷ []) }
 {}
 
-/// The first fault: a type that isn't named, a name given twice, no key, two keys.
+/// The first fault of a schema: an unknown type, a name used twice, no key, two keys.
 pub fn faults_of_schemas()
     ensures no_type { shown (codes "CREATE TABLE t (id INT PRIMARY KEY, geom CIRCLE)")
         ≡ Err (fault.Syntax 41) }

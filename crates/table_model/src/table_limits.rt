@@ -1,4 +1,4 @@
-//! The limits of tables and texts: each constant of the code is the number of its definition.
+//! The limits of tables and texts: each constant in the code equals the number in its definition.
 
 ghost use Rattle.std.specs.Prelude.{◌≡◌};
 ghost use Rattle.table_model.specs.Definitions.{most_columns, most_tables};

@@ -6,7 +6,7 @@ ghost use Rattle.table_model.specs.Texts as spec;
 use std::alloc::{AllocError, Global};
 use std::marker::Model;
 
-/// A part of a text that lives for `'a`, which contracts see as its bytes.
+/// A part of a text that lives for `'a`. Contracts see it as its bytes.
 #[derive(Drop)]
 pub struct Slice<'a> {
     bytes: &'a [u8],
@@ -24,7 +24,7 @@ impl<'a> Model for Slice<'a> {
 }
 
 impl<'a> Slice<'a> {
-    /// The part with these bytes.
+    /// Makes a part of a text from its bytes.
     pub fn new(bytes: &'a [u8]) -> Slice<'a>
         ensures { result ≡ bytes.entry.now }
     {
@@ -38,7 +38,7 @@ impl<'a> Slice<'a> {
         self.bytes
     }
 
-    /// A second value for the same bytes. Nothing is copied.
+    /// Returns a second value for the same bytes. Nothing is copied.
     pub fn again(&self) -> Slice<'a>
         ensures { result ≡ self.now }
     {
@@ -46,7 +46,7 @@ impl<'a> Slice<'a> {
     }
 }
 
-/// A text that owns its memory, which contracts see as its bytes in UTF-8.
+/// A text that owns its memory. Contracts see it as its bytes in UTF-8.
 #[derive(Drop)]
 pub struct OwnedText {
     text: String,
@@ -64,7 +64,7 @@ impl Model for OwnedText {
 }
 
 impl OwnedText {
-    /// A copy of a text. It fails only when memory runs out.
+    /// Copies a text. It fails only when memory runs out.
     pub fn copy_of(alloc: Global, text: &str) -> Result<OwnedText, AllocError>
         ensures { IfOk result (λ t. t ≡ text.now) }
     {
@@ -87,7 +87,7 @@ impl OwnedText {
     }
 }
 
-/// Whether two names are the same, without regard to ASCII case.
+/// Whether two names are equal, without regard to ASCII case.
 pub fn same_name(a: &[u8], b: &[u8]) -> bool
     ensures { result ≡ spec.same_name a.now b.now }
 {

@@ -5,14 +5,14 @@ use crate::texts::Slice;
 /// The most bytes that the text of a schema or of a query may have.
 pub const TEXT_LIMIT: usize = 65_536;
 
-/// What a token is. A reserved word has a kind of its own.
+/// The kind of a token. Each reserved word has a kind of its own.
 #[derive(Clone, Copy, PartialEq, Eq)]
 pub enum TokenKind {
     /// A word that isn't reserved.
     Word,
     /// One or more digits.
     Integer,
-    /// A string, whose text is what is between its quotes, each quote in it doubled.
+    /// A string. Its text is what is between its quotes, with each quote in it doubled.
     Text,
     LeftParenthesis,
     RightParenthesis,

@@ -5,7 +5,7 @@ ghost use Rattle.table_model.specs.TruthLaws.{ConjunctsAreJoined, NestedAndsAreO
 ghost use Rattle.table_model.specs.Truths.{not_of, and_of, or_of, all_of, any_of};
 ghost use Rattle.table_model.specs.declared.values.Truth.TheVariants.{True, False, Unknown};
 
-/// The rows of the truth tables that have an unknown part, and the values of AND and OR with no part.
+/// The rows of the truth tables that have an unknown part, and the values of AND and OR without parts.
 pub fn unknown_parts()
     ensures not { not_of Unknown ≡ Unknown }
     ensures and_true { and_of True Unknown ≡ Unknown }
@@ -24,13 +24,12 @@ pub fn unknown_parts()
     ensures any_unknown { any_of (False ∷ Unknown ∷ False ∷ []) ≡ Unknown }
 {}
 
-/// Conditions are all true at the same rows as their AND (SQL's three-valued logic).
+/// Several conditions are all true at exactly the rows at which their AND is true (SQL's three-valued logic).
 pub fn conjuncts_are_joined()
     ensures { ConjunctsAreJoined }
 {}
 
-/// An AND inside an AND may be replaced by its parts, so conjuncts may be in one flat list (SQL's three-valued
-/// logic).
+/// An AND inside an AND may be replaced by its parts, so conjuncts may be in one flat list (SQL's three-valued logic).
 pub fn nested_ands_are_one()
     ensures { NestedAndsAreOne }
 {}

@@ -1,4 +1,4 @@
-//! The types that the parts of a query have while it is bound.
+//! The types of the parts of a query while it is bound.
 
 use crate::conditions::ColumnPlace;
 
@@ -8,11 +8,11 @@ pub enum OperandType {
     Integer,
     Text,
     Geometry,
-    /// The type of NULL, which fits INTEGER and TEXT.
+    /// The type of NULL, which can be compared with INTEGER and TEXT.
     Null,
 }
 
-/// What the name of a column is bound to: its place, and the column's type.
+/// What the name of a column is bound to: the column's place, and its type.
 #[derive(Clone, Copy, PartialEq, Eq)]
 pub struct Found {
     /// Where the column is.
@@ -21,7 +21,7 @@ pub struct Found {
     pub column_type: OperandType,
 }
 
-/// A part of a query with the type that it has.
+/// A part of a query with its type.
 #[derive(Drop)]
 pub struct Typed<P> {
     pub part: P,

@@ -15,7 +15,7 @@ pub enum Value<G> {
     Geometry(G),
 }
 
-/// The three values of a condition: what is neither true nor false is unknown (SQL's three-valued logic).
+/// The three values of a condition. A condition that is neither true nor false is unknown (SQL's three-valued logic).
 #[derive(Clone, Copy, PartialEq, Eq)]
 pub enum Truth {
     True,

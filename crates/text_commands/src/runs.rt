@@ -100,7 +100,7 @@ fn relate_all<R: Read + Drop, S: Sink, M: Sink>(
         some_refused = either(some_refused, refused);
         notes = note_pair(alloc, notes, refused, place + 1, &pair, more);
     }
-    // No text has so many records.
+    // No text has that many records.
     Err(broken_off())
 }
 

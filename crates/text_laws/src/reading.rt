@@ -1,4 +1,4 @@
-//! Laws of well-known text: reading takes exactly the texts of the grammar, and the canonical text of a geometry is one of them.
+//! Laws of well-known text: reading accepts exactly the texts of the grammar, and the canonical text of a geometry is one of them.
 ghost use Rattle.text_laws.specs.ReadingLaws.{
   ReadIsSpelled,
   SpelledIsRead,
@@ -33,7 +33,7 @@ pub fn canonical_text_is_read()
     ensures { CanonicalTextIsRead }
 {}
 
-/// Where reading returns W2, W3 or W4, that refusal applies.
+/// If reading returns W2, W3 or W4, that fault applies to the text.
 pub fn refusals_apply()
     ensures { RefusalsApply }
 {}

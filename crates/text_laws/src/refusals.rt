@@ -1,12 +1,12 @@
 //! Laws of the refusals of well-known text: reading returns exactly the fault that applies.
 ghost use Rattle.text_laws.specs.RefusalLaws.{RefusalIsReturned, SyntaxIsReturned, AnswerIsGiven, TooManyIsTooLong};
 
-/// Where W2, W3 or W4 applies, reading returns it.
+/// If W2, W3 or W4 applies, reading returns it.
 pub fn refusal_is_returned()
     ensures { RefusalIsReturned }
 {}
 
-/// Where W1 applies, reading returns it.
+/// If W1 applies, reading returns it.
 pub fn syntax_is_returned()
     ensures { SyntaxIsReturned }
 {}

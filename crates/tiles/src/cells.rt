@@ -18,23 +18,23 @@ use rtree::{Envelope, meets};
 use std::alloc::{AllocError, Global};
 use std::marker::Model;
 
-/// How many boxes a cut has at most.
+/// The greatest number of boxes of a cut.
 pub const MOST_BOXES: usize = 1024;
 
-/// Behind how many lines a box lies at most: two to this power is `MOST_BOXES`.
+/// The greatest number of lines that cut a box out of the grid: two to this power is `MOST_BOXES`.
 const MOST_CUTS: u32 = 10;
 
 /// The greatest coordinate, and the negative of the least.
 const LIMIT: i32 = COORDINATE_LIMIT as i32;
 
-/// The cells of a cut of the grid: boxes that together hold each of its positions exactly once, and the cell of the empty
-/// geometries. Cells go by number: the boxes from 1 on, in the order of the cut; the cell of the empty ones is 0. Contracts
-/// see the list of the boxes.
+/// The cells of a cut of the grid: boxes that together contain each of its positions exactly once, and the cell of the
+/// empty geometries. The boxes are numbered from 1, in the order of the cut; the cell of the empty geometries is 0.
+/// Contracts see the list of the boxes.
 #[derive(Drop)]
 pub struct Cells {
     /// The box of the whole grid.
     grid: Envelope,
-    /// What it is cut into.
+    /// The tree of the lines that cut it.
     tree: Tree,
     /// The boxes of the tree.
     boxes: Vec<Envelope>,
@@ -50,10 +50,10 @@ impl Model for Cells {
 }
 
 impl Cells {
-    /// Cuts the grid at medians of a sample of positions, the least corners of envelopes: along the longer side of a box, else
-    /// along the other, again and again, until a box has at most `most` of the sample, or all that it has lies at one
-    /// position, or it lies behind ten lines. The same sample in the same order gives the same cells. The sample is put into
-    /// another order. It fails only when memory runs out.
+    /// Cuts the grid at medians of a sample of positions, the least corners of envelopes: along the longer side of a
+    /// box, or else along the other, again and again, until a box has at most `most` of the sample, or all of its
+    /// sample is at one position, or ten lines cut it out. The same sample in the same order gives the same cells. The
+    /// sample is reordered. It fails only when memory runs out.
     pub fn cut(alloc: Global, sample: &mut [GridPoint], most: usize) -> Result<Cells, AllocError>
         ensures cut { IfOk result (λ cells. CutsGrid cells) }
         ensures medians { IfOk result (λ cells. IsCutAtMedians 10 most sample.old whole cells) }
@@ -67,14 +67,14 @@ impl Cells {
         Ok(Cells { grid, tree, boxes })
     }
 
-    /// The boxes; the number of each is one more than its place here.
+    /// The boxes. The number of each is one more than its place here.
     pub fn boxes(&self) -> &[Envelope]
         ensures { result.now ≡ self.now }
     {
         self.boxes.as_slice()
     }
 
-    /// The cell of this number: a box, or `None`, the cell of the empty geometries.
+    /// The cell with this number: a box, or `None` for the cell of the empty geometries.
     pub fn cell(&self, number: usize) -> Option<Envelope>
         requires { number ≤ length self.now }
         ensures { slice_get (cells_of self.now) number ≡ Some result }
@@ -86,8 +86,8 @@ impl Cells {
         }
     }
 
-    /// Replaces what the vector holds by the numbers, ascending, of the cells that meet an envelope: those to which a row
-    /// with this envelope is copied. It fails only when memory runs out, and then leaves the vector empty.
+    /// Replaces the content of the vector by the numbers, in ascending order, of the cells that meet an envelope: a row
+    /// with this envelope is copied to these. It fails only when memory runs out, and then leaves the vector empty.
     pub fn meeting(
         &self,
         envelope: Option<Envelope>,
@@ -104,7 +104,7 @@ impl Cells {
         found
     }
 
-    /// Leaves the numbers of the cells that meet an envelope, ascending, in an empty vector.
+    /// Adds the numbers of the cells that meet an envelope, in ascending order, to an empty vector.
     fn push_meeting(
         &self,
         envelope: &Option<Envelope>,

@@ -1,4 +1,4 @@
-//! The first pass over a table: it checks what loading checks, but for the number of rows. Rows aren't kept, only their keys.
+//! The first pass over a table: it checks what loading checks, except the number of rows. It keeps only the keys, not the rows.
 
 ghost use Rattle.std.specs.Prelude.{◌≡◌, ◌∷◌, [], ℕ, IfErr, IfNone, IfOk, IfSome, IsTrue, List, None, OnOk, Option, Some, int_lt, length, false, true, vec_len};
 ghost use Rattle.std.specs.List.{IsAllAdjacentAnswer};
@@ -24,10 +24,10 @@ use std::alloc::Global;
 use std::io::Read;
 use table_model::faults::LoadFault;
 
-/// Checks records, of which none was read yet, and shows each row to a watcher. It returns how many rows there are, or None where the
-/// one fault is that two keys are equal: `find_fault` looks which. The error is the first fault but that of keys; `ReadFailed`, only
-/// where `csv` returned an error of reading, and `OutOfMemory` may come in place of any result. Eight bytes are kept for each row
-/// (06-104r4, feature tables).
+/// Checks records, none of which was read yet, and shows each row to a watcher. It returns the number of rows, or None
+/// if the only fault is that two keys are equal, which `find_fault` finds. The error is the first fault but that of
+/// keys; it is `ReadFailed` only if `csv` reported that reading failed, and `OutOfMemory` may come in place of any
+/// result. Eight bytes are kept for each row (06-104r4, feature tables).
 pub fn check_records<R: Read + Drop, W: RowWatcher>(
     alloc: Global,
     table: &TableDef,
@@ -44,7 +44,7 @@ pub fn check_records<R: Read + Drop, W: RowWatcher>(
     Ok(differing(keys))
 }
 
-/// How many keys there are, if they differ.
+/// The number of keys, if they differ; else None.
 fn differing(mut keys: Vec<i64>) -> Option<usize>
     ensures count { IfSome result (λ count. count ≡ length keys.items) }
     ensures differ { IfSome result (λ _. spec.double_key keys.items ≡ None) }
@@ -60,15 +60,15 @@ fn differing(mut keys: Vec<i64>) -> Option<usize>
     None
 }
 
-/// Whether each key is below the next.
+/// Whether each key is less than the next.
 fn ascend(keys: &[i64]) -> bool
     ensures { IsAllAdjacentAnswer (λ key next below. below ≡ int_lt key next) keys.now result }
 {
     keys.is_sorted_by(|key, next| *key < *next)
 }
 
-/// How many rows records give, of which none was read yet. The error is their first fault, that of keys too; `ReadFailed`, only where
-/// `csv` returned an error of reading, and `OutOfMemory` may come in place of any result (06-104r4, feature tables).
+/// Counts the rows of records, none of which was read yet. The error is their first fault, also that of keys; it is `ReadFailed`
+/// only if `csv` reported that reading failed, and `OutOfMemory` may come in place of any result (06-104r4, feature tables).
 pub fn find_fault<R: Read + Drop>(
     alloc: Global,
     table: &TableDef,
@@ -87,7 +87,7 @@ pub fn find_fault<R: Read + Drop>(
     }
 }
 
-/// The keys of records of which none was read yet, in their order, or the first fault that isn't one of keys.
+/// The keys, in order, of records none of which was read yet, or the first fault that isn't one of keys.
 fn keys_in<R: Read + Drop, W: RowWatcher>(
     alloc: Global,
     table: &TableDef,
@@ -146,7 +146,7 @@ fn keys_after<R: Read + Drop, W: RowWatcher>(
     Err(LoadFault::OutOfMemory)
 }
 
-/// Reads the next record, shows its row to a watcher, and returns its key; none after the last record.
+/// Reads the next record, shows its row to a watcher, and returns its key; None after the last record.
 fn next_key<R: Read + Drop, W: RowWatcher>(
     alloc: Global,
     table: &TableDef,

@@ -1,4 +1,4 @@
-//! The second pass over a table that is split into tiles: each record is written to each cell that it is copied to.
+//! The second pass over a table that is split into tiles: each record is written to each of its cells.
 
 ghost use Rattle.std.specs.Prelude.{◌≡◌, ◌≢◌, ◌⊎◌, ◌+◌, ◌++◌, ◌==◌, ◌<◌, ◌^◌, if◌then◌else◌, [], ℕ, IfErr, IfOk, List, OnOk, Option, count_by, length, map, nat_lt, replicate, slice_index, true, vec_len};
 ghost use Rattle.std.specs.List.{All};
@@ -26,9 +26,9 @@ use std::alloc::Global;
 use std::io::Read;
 use table_model::faults::LoadFault;
 
-/// Writes the records of a table to the cells that they are copied to, by the geometry in a column. Each cell's text begins with the
-/// header. It returns how many records each cell has. After an error nothing is known of the texts. The fault is `Sink` only where
-/// a put failed, and else that of the header, `ReadFailed` or `OutOfMemory`.
+/// Writes the records of a table to the cells to which their geometry in a column copies them. Each cell's text begins
+/// with the header. It returns the number of records of each cell. After an error nothing is known of the texts. The
+/// fault is `Sink` only if a call of `put` failed, and else that of the header, `ReadFailed` or `OutOfMemory`.
 pub fn write_tiles<R: Read + Drop, T: CellTexts>(
     alloc: Global,
     part: &Part<'_>,
@@ -69,7 +69,7 @@ pub fn write_tiles<R: Read + Drop, T: CellTexts>(
     Ok(counts)
 }
 
-/// Writes the header to the first cells, and returns that each has no record.
+/// Writes the header to the first cells, and returns their counts of records, which are 0.
 fn put_headers<T: CellTexts>(
     alloc: Global,
     header: &ByteRecord,
@@ -91,7 +91,7 @@ fn put_headers<T: CellTexts>(
     Ok(counts)
 }
 
-/// Writes each record that is left to the cells that it is copied to, and counts it there.
+/// Writes each record that is left to its cells, and counts it in each.
 fn copy_records<R: Read + Drop, T: CellTexts>(
     alloc: Global,
     columns: &[usize],
@@ -131,7 +131,7 @@ fn copy_records<R: Read + Drop, T: CellTexts>(
     Err(CopyFault::Load(LoadFault::OutOfMemory))
 }
 
-/// Writes the row of a record to the cells that it is copied to, and counts it there.
+/// Writes the row of a record to its cells, and counts it in each.
 fn copy_record<T: CellTexts>(
     alloc: Global,
     columns: &[usize],
@@ -164,7 +164,7 @@ fn copy_record<T: CellTexts>(
     }
 }
 
-/// Writes the row of a record whose geometry has this envelope to the cells that meet it, and counts it there.
+/// Writes the row of a record whose geometry has this envelope to the cells that meet it, and counts it in each.
 fn copy_to_cells<T: CellTexts>(
     alloc: Global,
     columns: &[usize],
@@ -201,7 +201,7 @@ fn copy_to_cells<T: CellTexts>(
     Ok(())
 }
 
-/// Writes the row of a record to the cells of some numbers.
+/// Writes the row of a record to the cells with these numbers.
 fn put_rows<T: CellTexts>(
     alloc: Global,
     columns: &[usize],
@@ -228,7 +228,7 @@ fn put_rows<T: CellTexts>(
     Ok(())
 }
 
-/// Writes the row of some fields to the cell of a number, with its marks there.
+/// Writes the row of some fields to the cell with a number, with its marks there.
 fn put_row<T: CellTexts>(
     cells: &Cells,
     envelope: &Option<Envelope>,
@@ -249,7 +249,7 @@ fn put_row<T: CellTexts>(
     put_record(text, number, line, texts)
 }
 
-/// Counts one row more in the cells of some numbers.
+/// Counts one more row in each of the cells with these numbers.
 fn count_rows(numbers: &[usize], counts: &mut Vec<usize>)
     requires within { All (λ number. number < vec_len counts.old) numbers.now }
     requires room { (cell : ℕ) → slice_index counts.old.items cell

@@ -1,4 +1,4 @@
-//! How a box is cut into smaller ones.
+//! Cuts a box into smaller ones.
 
 ghost use Rattle.std.specs.Prelude.{◌≡◌, ◌⊎◌, ◌+◌, ◌≤◌, ◌^◌, ◌∷◌, ◌++◌, List, [], true, length, take, drop, IfSome, IfOk, OnOk, MatchOption};
 ghost use Rattle.std.specs.List.{enumerate_from};
@@ -23,15 +23,15 @@ struct Halves {
     line: Line,
     /// The part before the line.
     low: Envelope,
-    /// The part behind it.
+    /// The part after the line.
     high: Envelope,
-    /// How many of the box's sample lie before the line.
+    /// The number of positions of the box's sample before the line.
     before: usize,
 }
 
-/// Adds to `boxes` those that a box is cut into, and returns them as a tree. The box is cut at the median of its sample, along
-/// its longer side if a line there parts the sample, and so are its parts again and again, until one has at most `most` of
-/// the sample, or lies behind `cuts` lines.
+/// Adds to `boxes` those into which a box is cut, and returns them as a tree. The box is cut at the median of its
+/// sample, along its longer side if a line there divides the sample, and its parts are cut again and again, until one
+/// has at most `most` of the sample, or `cuts` lines cut it out.
 pub(crate) fn push_boxes(
     alloc: Global,
     region: Envelope,
@@ -74,7 +74,7 @@ pub(crate) fn push_boxes(
     }
 }
 
-/// Adds a box that is not cut.
+/// Adds a box that isn't cut.
 fn push_whole(region: Envelope, boxes: &mut Vec<Envelope>) -> Result<Tree, AllocError>
     ensures pushed { OnOk result (boxes.new.items ≡ boxes.old.items ++ region ∷ []) }
     ensures parted { IfOk result (λ tree. is_parted tree region ≡ true) }
@@ -85,8 +85,8 @@ fn push_whole(region: Envelope, boxes: &mut Vec<Envelope>) -> Result<Tree, Alloc
     Ok(Tree::Whole(boxes.len()))
 }
 
-/// Cuts a box in two, if a line parts its sample: along the longer side, else along the other. It sorts the sample so that
-/// those before the line come first.
+/// Cuts a box in two, if a line divides its sample: along the longer side, or else along the other. It sorts the sample
+/// so that positions before the line come first.
 fn halved(region: &Envelope, sample: &mut [GridPoint]) -> Option<Halves>
     requires grid { IsInGrid region.now }
     requires inside { LiesWithin sample.old region.now }
@@ -107,7 +107,7 @@ fn halved(region: &Envelope, sample: &mut [GridPoint]) -> Option<Halves>
     }
 }
 
-/// Cuts a box in two by a line along one axis, if one parts its sample.
+/// Cuts a box in two by a line along one axis, if such a line divides its sample.
 fn halved_along(axis: Axis, region: &Envelope, sample: &mut [GridPoint]) -> Option<Halves>
     requires grid { IsInGrid region.now }
     requires inside { LiesWithin sample.old region.now }

@@ -11,7 +11,7 @@ use std::alloc::Global;
 use table_model::faults::LoadFault;
 use validity::envelope_of;
 
-/// The envelope of the geometry in a field, if the field isn't empty. The fault is OutOfMemory, or ReadFailed, where it spells none.
+/// The envelope of the geometry in a field, if the field isn't empty. The fault is OutOfMemory, or ReadFailed if it spells none.
 #[tactic(auto, unfolding(crate::specs::RecordLines::geometry_in_field))]
 pub(crate) fn envelope_in(
     alloc: Global,

@@ -1,10 +1,10 @@
-//! The fault of a second pass.
+//! The fault of a second pass over a table.
 
 use std::alloc::{AllocError, AllocFailed};
 use streams::SinkFault;
 use table_model::faults::LoadFault;
 
-/// Why a second pass wasn't done to its end.
+/// Why a second pass over a table wasn't finished.
 #[derive(Clone, Copy, Debug)]
 pub enum CopyFault {
     /// The table can't be read again as it was.

@@ -1,6 +1,6 @@
-//! What splits tables. The grid is cut into cells, and one cell more is for the empty geometries; a row is copied to each cell
-//! that the envelope of its geometry meets, with two marks. A first pass checks a table as loading does, without its bound of
-//! rows, and keeps no row; a second one writes each record to the texts of its cells, or of the stretch that it is in.
+//! Splits tables. The grid is cut into cells, and there is one more cell for the empty geometries. A row is copied to each
+//! cell that the envelope of its geometry meets, with two marks. A first pass checks a table as loading does, without the
+//! limit on rows, and keeps no row. A second one writes each record to the texts of its cells, or to that of its stretch.
 #![tactic(auto)]
 
 mod cells;

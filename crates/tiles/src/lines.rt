@@ -9,21 +9,21 @@ ghost use Rattle.tiles.specs.Lines.{coordinate, least_along, greatest_along, IsI
 use fraction::GridPoint;
 use rtree::Envelope;
 
-/// The direction in which a line's coordinate is counted.
+/// The axis along which a line's coordinate is counted.
 #[derive(Clone, Copy, Drop)]
 pub(crate) enum Axis {
-    /// Eastwards: the line is vertical.
+    /// To the east: the line is vertical.
     X,
-    /// Northwards: the line is level.
+    /// To the north: the line is horizontal.
     Y,
 }
 
-/// A line that cuts a box in two. It passes between positions: one side has the coordinates less than `at`.
+/// A line that cuts a box in two. It passes between positions: those on one side have a coordinate less than `at`.
 #[derive(Clone, Copy, Drop)]
 pub(crate) struct Line {
     /// The axis of the coordinate.
     pub(crate) axis: Axis,
-    /// The least coordinate past the line.
+    /// The least coordinate after the line.
     pub(crate) at: i32,
 }
 
@@ -70,7 +70,7 @@ impl Axis {
     }
 }
 
-/// The axis along which a box is longer; the first where both sides are equal.
+/// The axis along which a box is longer; X if both sides are equal.
 pub(crate) fn longer_axis(region: &Envelope) -> Axis
     ensures { result ≡ longer region.now }
 {
@@ -88,9 +88,9 @@ fn length(axis: Axis, region: &Envelope) -> i64
     i64::from(axis.greatest(region)) - i64::from(axis.least(region))
 }
 
-/// The line at the median of a sample, and how many of the sample lie before it; `None` where all have one coordinate. It
-/// sorts the sample along the axis, so that those before the line are first. Where half of the sample or more has the
-/// least coordinate, the line passes behind these.
+/// The line at the median of a sample, and the number of positions of the sample before it; `None` if all have the same
+/// coordinate. It sorts the sample along the axis, so that positions before the line are first. If half of the sample
+/// or more has the least coordinate, the line is just after these.
 pub(crate) fn median_line(axis: Axis, sample: &mut [GridPoint]) -> Option<(Line, usize)>
     ensures moved { IsPermutation sample.old sample.new }
     ensures within { IfSome result (λ cut. cut.1 ≤ length sample.old) }
@@ -110,7 +110,7 @@ pub(crate) fn median_line(axis: Axis, sample: &mut [GridPoint]) -> Option<(Line,
     Some((Line { axis, at }, before))
 }
 
-/// The two parts of a box on the two sides of a line that passes through it, the lesser coordinates first.
+/// The two parts of a box on the two sides of a line through it. The part with the lesser coordinates is first.
 pub(crate) fn parted(region: &Envelope, line: Line) -> (Envelope, Envelope)
     requires grid { IsInGrid region.now }
     requires passes { PassesThrough line.axis line.at region.now }
@@ -130,7 +130,7 @@ pub(crate) fn parted(region: &Envelope, line: Line) -> (Envelope, Envelope)
     }
 }
 
-/// The box of these bounds.
+/// The box with these bounds.
 fn spanned(least_x: i32, greatest_x: i32, least_y: i32, greatest_y: i32) -> Envelope
     requires least { IsOnGrid (record { x = least_x; y = least_y }) }
     requires greatest { IsOnGrid (record { x = greatest_x; y = greatest_y }) }

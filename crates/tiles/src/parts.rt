@@ -1,14 +1,14 @@
-//! What of a table is copied.
+//! What is copied of a table.
 
 use feature_table::TableDef;
 
-/// What of a table is copied.
+/// What is copied of a table.
 #[derive(Drop)]
 pub struct Part<'a> {
     /// The definition of the table.
     pub table: &'a TableDef,
-    /// The places of the columns that are copied, ascending.
+    /// The places of the columns that are copied, in ascending order.
     pub columns: &'a [usize],
-    /// The names of the two marks, in tiles.
+    /// The names of the two marks, for tiles.
     pub marks: [&'a str; 2],
 }

@@ -1,4 +1,4 @@
-//! The records of a table, read one by one without a bound.
+//! The records of a table, read one by one without a limit.
 
 ghost use Rattle.std.specs.Prelude.{◌≡◌, ◌≢◌, IfErr, IfOk, List, OnOk, false, length, true};
 ghost use Rattle.csv.specs.Records.{fields_of};
@@ -12,16 +12,16 @@ use std::alloc::Global;
 use std::io::Read;
 use table_model::faults::LoadFault;
 
-/// The records of a table's CSV text, with the header, read one by one, however many they are.
+/// The records of a table's CSV text, with the header, read one by one, whatever their number.
 #[derive(Drop)]
 pub struct PlainRecords<R> {
     reader: Reader<R>,
-    /// Whether `csv` returned the last time that reading failed.
+    /// Whether the last call of `csv` reported that reading failed.
     read_failed: bool,
 }
 
 impl<R: Read + Drop> PlainRecords<R> {
-    /// The records of the CSV text that a reader gives. None is read yet.
+    /// Makes the records of the CSV text that a reader gives. None is read yet.
     pub fn new(alloc: Global, reader: R) -> PlainRecords<R>
         ensures ready { IsReady result }
         ensures fresh { read_failed result ≡ false }
@@ -33,15 +33,15 @@ impl<R: Read + Drop> PlainRecords<R> {
         }
     }
 
-    /// Whether `csv` returned the last time that reading failed.
+    /// Whether the last call of `csv` reported that reading failed.
     pub fn read_failed(&self) -> bool
         ensures { result ≡ read_failed self.now }
     {
         self.read_failed
     }
 
-    /// Reads the next record, and returns whether there is one. The fault is ReadFailed, where `csv` returned an error of reading, or
-    /// OutOfMemory.
+    /// Reads the next record, and returns whether there is one. The fault is ReadFailed if `csv` reported that reading
+    /// failed, or OutOfMemory.
     pub(crate) fn read(&mut self, fields: &mut ByteRecord) -> Result<bool, LoadFault>
         requires { IsReady self.old }
         ensures ready { OnOk result (IsReady self.new) }
@@ -62,8 +62,8 @@ impl<R: Read + Drop> PlainRecords<R> {
         }
     }
 
-    /// Reads the next record, which has to be there. The fault is OutOfMemory, or ReadFailed, where `csv` returned an error of reading or
-    /// there is no record.
+    /// Reads the next record, which has to exist. The fault is ReadFailed if `csv` reported that reading failed or
+    /// there is no record, or else OutOfMemory.
     pub(crate) fn read_header(&mut self, fields: &mut ByteRecord) -> Result<(), LoadFault>
         requires { IsReady self.old }
         ensures ready { OnOk result (IsReady self.new) }
@@ -78,8 +78,8 @@ impl<R: Read + Drop> PlainRecords<R> {
         Ok(())
     }
 
-    /// Reads the next record, which has to be of this length, and returns whether there is one. The fault is OutOfMemory, or ReadFailed,
-    /// where `csv` returned an error of reading or the record is of another length.
+    /// Reads the next record, which has to have this length, and returns whether there is one. The fault is ReadFailed
+    /// if `csv` reported that reading failed or the record has another length, or else OutOfMemory.
     pub(crate) fn read_even(
         &mut self,
         width: usize,

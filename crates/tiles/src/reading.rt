@@ -1,4 +1,4 @@
-//! The header of a table, read again.
+//! Reads the header of a table again.
 
 ghost use Rattle.std.specs.Prelude.{◌≡◌, ◌⊎◌, IfErr, IfOk, List, None, OnOk, true};
 ghost use Rattle.csv.specs.Records.{fields_of};
@@ -15,7 +15,7 @@ use std::alloc::Global;
 use std::io::Read;
 use table_model::faults::LoadFault;
 
-/// Reads the header of a table, and where its columns are there. The fault is ReadFailed or OutOfMemory, or one of the header.
+/// Reads the header of a table, and finds its columns there. The fault is ReadFailed, OutOfMemory, or one of the header.
 pub(crate) fn read_layout<R: Read + Drop>(
     alloc: Global,
     table: &TableDef,

@@ -1,4 +1,4 @@
-//! The lines that are written.
+//! Makes and writes the lines of tiles and stretches.
 
 ghost use Rattle.std.specs.Prelude.{◌≡◌, ◌++◌, ◌∷◌, [], IfErr, OnOk, map};
 ghost use Rattle.csv.specs.Records.{fields_of, partial_of};
@@ -29,7 +29,7 @@ fn name_at(columns: &[ColumnDef], column: usize) -> &[u8]
     }
 }
 
-/// Fills a record with the names of the columns at some places.
+/// Fills a record with the names of the columns at these places.
 pub(crate) fn names(
     columns: &[ColumnDef],
     copied: &[usize],
@@ -45,7 +45,7 @@ pub(crate) fn names(
     Ok(())
 }
 
-/// Fills a record with the names of the columns that are copied and of the marks.
+/// Fills a record with the names of the copied columns and of the marks.
 pub(crate) fn marked_names(part: &Part<'_>, line: &mut ByteRecord) -> Result<(), AllocError>
     ensures { OnOk result (fields_of line.new
         ≡ names_of part.now.table.now.columns part.now.columns.now ++ map (λ mark. mark.now) part.now.marks) }
@@ -57,7 +57,7 @@ pub(crate) fn marked_names(part: &Part<'_>, line: &mut ByteRecord) -> Result<(),
     Ok(())
 }
 
-/// The field of a record in the column at a place, where the columns are at these places of the header; empty if there is none.
+/// The field of a record in a column; empty if there is none. `places` says where the columns are in the header.
 pub(crate) fn field_in<'a>(places: &[usize], fields: &'a ByteRecord, column: usize) -> &'a [u8]
     ensures { result.now ≡ field_in places.now (fields_of fields.now) column }
 {
@@ -67,7 +67,7 @@ pub(crate) fn field_in<'a>(places: &[usize], fields: &'a ByteRecord, column: usi
     }
 }
 
-/// Fills a record with the fields of a record in the columns at some places.
+/// Fills a record with the fields that another has in the columns at these places.
 pub(crate) fn copied_fields(
     places: &[usize],
     fields: &ByteRecord,

@@ -14,25 +14,25 @@ use sqlite_items::{self as items};
 use std::alloc::{AllocError, Global};
 use table_model::values::Value;
 
-/// The most corners that are kept.
+/// The greatest number of corners that are kept.
 const SAMPLE_LIMIT: usize = 16_384;
 
-/// How often a stride of one can be doubled.
+/// The number of times that a stride of one can be doubled.
 const MOST_DOUBLINGS: u32 = 63;
 
-/// Keeps the least corners of the envelopes in a column, evenly over the rows: of each so many rows with an envelope the first.
+/// Keeps the least corners of the envelopes in a column, evenly over the rows: the first of every `stride` rows with an envelope.
 #[derive(Drop)]
 pub struct Sampler {
     column: usize,
-    // Of how many rows one is kept.
+    // One of this many rows is kept.
     stride: usize,
-    // How many rows with an envelope are left out before the next one that is kept.
+    // The number of rows with an envelope that are skipped before the next one that is kept.
     since: usize,
     corners: Vec<GridPoint>,
 }
 
 impl Sampler {
-    /// A sampler of this column that has seen nothing.
+    /// Makes a sampler of this column that has seen nothing.
     pub fn new(alloc: Global, column: usize) -> Sampler
         ensures column { result.column ≡ column }
         ensures sample { IsSampleOf [] result }
@@ -45,14 +45,14 @@ impl Sampler {
         }
     }
 
-    /// Of how many rows with an envelope one is kept: a power of two.
+    /// One of this many rows with an envelope is kept: a power of two.
     pub fn stride(&self) -> usize
         ensures { result ≡ self.now.stride }
     {
         self.stride
     }
 
-    /// Leaves out corners until one of at least so many rows is kept, or of 2^63. It is for a sampler that has seen all of its rows.
+    /// Removes corners until one of at least `stride` rows is kept, or of 2^63. It is for a sampler that has seen all of its rows.
     pub fn thin_to(&mut self, stride: usize)
         ensures column { self.new.column ≡ self.old.column }
         ensures since { self.new.since ≡ self.old.since }
@@ -68,14 +68,14 @@ impl Sampler {
         }
     }
 
-    /// Lends the corners that it kept.
+    /// Lends the corners that were kept.
     pub fn corners(&self) -> &[GridPoint]
         ensures { result.now ≡ self.now.corners.items }
     {
         self.corners.as_slice()
     }
 
-    /// Keeps a corner, or not.
+    /// Keeps a corner, or skips it.
     fn take(&mut self, corner: GridPoint) -> Result<(), AllocError>
         ensures column { self.new.column ≡ self.old.column }
         ensures sample { (all : List Position) → IsSampleOf all self.old → OnOk result (IsSampleOf (all ++ corner ∷ []) self.new) }
@@ -92,7 +92,7 @@ impl Sampler {
         Ok(())
     }
 
-    /// Leaves out each second corner, unless the stride can't be doubled.
+    /// Removes every second corner, unless the stride can't be doubled.
     fn thin(&mut self)
         ensures column { self.new.column ≡ self.old.column }
         ensures since { self.new.since ≡ self.old.since }

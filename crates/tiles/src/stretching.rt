@@ -21,9 +21,9 @@ use std::alloc::Global;
 use std::io::Read;
 use table_model::faults::LoadFault;
 
-/// Writes the records of a table in stretches of at most `most`, or of one where `most` is 0, each a text of its own with the header.
-/// It returns how many records each has; there is at least one stretch. After an error nothing is known of the texts. The fault is
-/// `Sink` only where a put failed, and else that of the header, `ReadFailed` or `OutOfMemory`.
+/// Writes the records of a table in stretches of at most `most` records, or of one if `most` is 0, each a text of its own
+/// with the header. It returns the number of records of each, at least one stretch. After an error nothing is known of the
+/// texts. The fault is `Sink` only if a call of `put` failed, and else that of the header, `ReadFailed` or `OutOfMemory`.
 pub fn write_stretches<R: Read + Drop, T: CellTexts>(
     alloc: Global,
     part: &Part<'_>,
@@ -60,7 +60,7 @@ pub fn write_stretches<R: Read + Drop, T: CellTexts>(
     )
 }
 
-/// How many records a stretch has at most.
+/// The greatest number of records of a stretch: `most`, but at least 1.
 fn at_least_one(most: usize) -> usize
     ensures size { result ≡ size_of most }
     ensures some { 0 < result }
@@ -68,7 +68,7 @@ fn at_least_one(most: usize) -> usize
     if most == 0 { 1 } else { most }
 }
 
-/// Writes the records that are left in stretches of so many, each with the header, and returns how many each has.
+/// Writes the records that are left in stretches of `size`, each with the header, and returns the number of records of each.
 fn copy_stretches<R: Read + Drop, T: CellTexts>(
     alloc: Global,
     columns: &[usize],
@@ -107,7 +107,7 @@ fn copy_stretches<R: Read + Drop, T: CellTexts>(
     Err(CopyFault::Load(LoadFault::OutOfMemory))
 }
 
-/// Begins a stretch where the last one is full, and returns how many records the last one has then.
+/// Begins a stretch if the last one is full, and returns the number of records of the last one then.
 fn begin_if_full<T: CellTexts>(
     size: usize,
     rows: usize,

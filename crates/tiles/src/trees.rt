@@ -1,4 +1,4 @@
-//! The tree of the lines of a cut, by which the cells that an envelope meets are found.
+//! The tree of the lines of a cut. It finds the cells that an envelope meets.
 
 ghost use Rattle.std.specs.Prelude.{◌≡◌, ◌++◌, true, OnOk};
 ghost use Rattle.geometry_model.specs.Envelopes.{Envelope as Rectangle, overlap};
@@ -10,18 +10,18 @@ use crate::lines::Line;
 use rtree::Envelope;
 use std::alloc::AllocError;
 
-/// What a box is cut into.
+/// How a box is cut.
 #[derive(Drop)]
 pub(crate) enum Tree {
-    /// The box itself, with its number.
+    /// The box isn't cut, and has this number.
     Whole(usize),
-    /// A line through the box, what its part with the lesser coordinates is cut into, and what the other part is.
+    /// A line cuts the box. The trees are of its part with the lesser coordinates and of its other part.
     Parted(Line, Box<Tree>, Box<Tree>),
 }
 
 impl Tree {
     /// Adds the numbers of the boxes that meet an envelope, in the order of the cut. The envelope meets the box that is
-    /// cut: so it meets a part if it reaches over the line.
+    /// cut, so it meets a part if it reaches that side of the line.
     pub(crate) fn push_meeting(
         &self,
         asked: &Envelope,

@@ -1,16 +1,16 @@
-//! What looks at each row of a table while it is checked.
+//! Watches each row of a table while it is checked.
 
 use feature_table::Geometry;
 use std::alloc::AllocError;
 use table_model::values::Value;
 
-/// Looks at the rows of a table, one by one, before each is dropped.
+/// Sees the rows of a table, one by one, before each is dropped.
 pub trait RowWatcher {
-    /// Looks at the next row. The error is that memory ran out.
+    /// Sees the next row. The error is that memory ran out.
     fn saw(&mut self, row: &[Value<Geometry>]) -> Result<(), AllocError>;
 }
 
-/// Looks at nothing.
+/// A watcher that does nothing.
 #[derive(Drop)]
 pub struct Unwatched;
 

@@ -1,4 +1,4 @@
-//! The laws of what is written. Nothing here runs: each function has an empty body, and its contract is a law.
+//! The laws of written tiles and stretches. Nothing here runs: each function has an empty body, and its contract is a law.
 
 ghost use Rattle.tiles.specs.LoadedParts.{StretchesAreLoaded, TilesAreLoaded};
 ghost use Rattle.tiles.specs.LoadedRows.{CheckedIsLoaded, LoadedAreOnGrid};
@@ -11,17 +11,17 @@ ghost use Rattle.tiles.specs.TileRows.{TilesAreRead};
 ghost use Rattle.tiles.specs.TiledAnswers.{TiledAnswersAreMeant, TiledCountsAreMeant};
 ghost use Rattle.tiles.specs.WholeTables.{CheckedIsWhole, LoadedIsWhole, WholeTablesAreKeyed};
 
-/// The text of a tile or of a stretch is read as its header and its records, each of the fields that were written (RFC 4180).
+/// The text of a tile or of a stretch is read as its header and its records, with the fields that were written (RFC 4180).
 pub fn written_tables_are_read()
     ensures { WrittenTablesAreRead }
 {}
 
-/// Stretches together have the records of their table, in their order, each once.
+/// The stretches of a table together have its records, in their order, each once.
 pub fn stretches_are_whole()
     ensures { StretchesAreWhole }
 {}
 
-/// A check of up to 100,000 records gives how many rows load, or the fault of loading (06-104r4, feature tables).
+/// A check of up to 100,000 records returns the number of rows that load, or the fault of loading (06-104r4, feature tables).
 pub fn checked_is_loaded()
     ensures { CheckedIsLoaded }
 {}
@@ -31,18 +31,18 @@ pub fn loaded_are_on_grid()
     ensures { LoadedAreOnGrid }
 {}
 
-/// The records of a tile are read as the table's typed rows whose geometry is copied to the cell, each with the fields that are copied
-/// and its marks (06-104r4, feature tables).
+/// The records of a tile are read as the table's typed rows whose geometry is copied to the cell, with the copied
+/// fields and the row's marks (06-104r4, feature tables).
 pub fn tiles_are_read()
     ensures { TilesAreRead }
 {}
 
-/// A check gives how many rows a whole table has, however many, or its fault (06-104r4, feature tables).
+/// A check returns the number of rows of a whole table, however many, or its fault (06-104r4, feature tables).
 pub fn checked_is_whole()
     ensures { CheckedIsWhole }
 {}
 
-/// Up to 100,000 records load as their whole table, or have its fault (06-104r4, feature tables).
+/// Up to 100,000 records load as the rows of their whole table, or have its fault (06-104r4, feature tables).
 pub fn loaded_is_whole()
     ensures { LoadedIsWhole }
 {}
@@ -52,17 +52,17 @@ pub fn whole_tables_are_keyed()
     ensures { WholeTablesAreKeyed }
 {}
 
-/// The records of each stretch of a whole table load, as its stretches with the columns that are copied (06-104r4, feature tables).
+/// The records of each stretch of a whole table load as its stretch with the copied columns (06-104r4, feature tables).
 pub fn stretches_are_loaded()
     ensures { StretchesAreLoaded }
 {}
 
-/// The records of a tile of a whole table load as its tile with the columns that are copied (06-104r4, feature tables).
+/// The records of a tile of a whole table load as its tile with the copied columns (06-104r4, feature tables).
 pub fn tiles_are_loaded()
     ensures { TilesAreLoaded }
 {}
 
-/// The first name of a column of each table in a schema's text begins as a word does (SQL, identifiers).
+/// The first name of a column of each table in a schema's text begins like a word (SQL, identifiers).
 pub fn schema_names_begin_words()
     ensures { SchemaNamesBeginWords }
 {}
@@ -72,24 +72,24 @@ pub fn texts_are_loaded()
     ensures { TextsAreLoaded }
 {}
 
-/// The texts of the stretches of a whole table load as its stretches with the columns that are copied (06-104r4, feature tables).
+/// The texts of the stretches of a whole table load as its stretches with the copied columns (06-104r4, feature tables).
 pub fn stretch_texts_are_loaded()
     ensures { StretchTextsAreLoaded }
 {}
 
-/// A definition that has the copied columns of a table one by one, and then two of whole numbers, is that of the table's tiles.
+/// A definition with the copied columns of a table, one by one, and then two columns of whole numbers is that of its tiles.
 pub fn made_tiles_are_marked()
     ensures { MadeTilesAreMarked }
 {}
 
-/// The rows that a query over two split tables gives in the cells of a cut, merged by their keys and up to the limit, are what is copied
-/// of the rows that the query means over the whole tables (SQL, the query).
+/// The rows of a query over two split tables in the cells of a cut, merged by their keys and cut at the limit, are
+/// copies of the rows that the query means over the whole tables (SQL, the query).
 pub fn tiled_answers_are_meant()
     ensures { TiledAnswersAreMeant }
 {}
 
-/// Under COUNT(*) the numbers of rows that a query over two split tables gives in the cells of a cut add up to that over the whole
-/// tables (SQL, COUNT).
+/// Under COUNT(*) the numbers of rows of a query over two split tables in the cells of a cut add up to the number over
+/// the whole tables (SQL, COUNT).
 pub fn tiled_counts_are_meant()
     ensures { TiledCountsAreMeant }
 {}

@@ -14,7 +14,7 @@ use fraction::GridPoint;
 use geometry_model::ValidityFault;
 use wkt::{Geometry, LineString};
 
-/// Where a ring meets some rings: where it meets the first of them that it shares a point with.
+/// Where a ring meets the first one of some rings with which it shares a point.
 fn ring_meeting(ring: &LineString, others: &[LineString]) -> Option<SharedPlace>
     ensures place { IfSome result (IsMeetingWithOne ring.now others.now) }
     ensures first { IfSome result (IsFirstMeetingWithOne ring.now others.now) }

@@ -3,8 +3,8 @@
 
 ghost use Rattle.witnesses.specs.FractionLaws.{WritesLeastForm};
 
-/// A fraction is written in least form: as the two numbers, of which the second is at least 1, that have the fraction's value
-/// and no common divisor but 1.
+/// A fraction is written in least form: as the two numbers, the second at least 1, that have the fraction's value and no
+/// common divisor but 1.
 pub fn fractions_are_least()
     ensures { WritesLeastForm }
 {}

@@ -4,6 +4,11 @@ pub mod Halves
 pub mod Items
 pub mod NearestFacts
 pub mod Outcomes
+pub mod Printed
+pub mod PrintedNearest
+pub mod Repeated
 pub mod RoundedFacts
+pub mod Scaling
 pub mod Signed
+pub mod SizeOrders
 pub mod Sizes

@@ -16,7 +16,7 @@ turned s p t u = omega arith
 pub div_both : (x p w : ℕ) → 0 < p → x * p / (p * w) ≡ x / w
 div_both x p w h = sym (div-div-eq-div-mul (x * p) p w) ∙ ap (λ (n : ℕ). n / w) (mul-div_cancel x h)
 
-mod_both : (x p w : ℕ) → 0 < p → x * p % (p * w) ≡ p * (x % w)
+pub mod_both : (x p w : ℕ) → 0 < p → x * p % (p * w) ≡ p * (x % w)
 mod_both x p w h =
     let q : x * p / (p * w) ≡ x / w = div_both x p w h in
     let e : x * p / (p * w) * (p * w) + x * p % (p * w) ≡ x * p = div-add-mod' (x * p) (p * w) in
@@ -47,7 +47,7 @@ some_power : (k : ℕ) → 0 < 2 ^ k
 some_power k = omega (arith, pow_pos k)
 
 -- the least double above 0 goes so often into the number 1
-one_is : (k : ℕ) → k ≤ 1074 → one ≡ 2 ^ k * 2 ^ (1074 - k)
+pub one_is : (k : ℕ) → k ≤ 1074 → one ≡ 2 ^ k * 2 ^ (1074 - k)
 unfolding one
 one_is k h = ap (λ (n : ℕ). 2 ^ n) (together k h) ∙ pow-add 2 k (1074 - k)
   where

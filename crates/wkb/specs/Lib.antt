@@ -1,6 +1,11 @@
+pub mod BinaryPieces
+pub mod BinaryPrinting
 pub mod BinaryReading
 pub mod Doubles
+pub mod Extents
 pub mod Grids
+pub mod NearestDoubles
 pub mod ReadingSteps
 pub mod Rounding
+pub mod Scales
 pub mod Ticks

@@ -7,7 +7,7 @@ use thiserror::Error;
 /// and positions are counted from 0 as they are written.
 #[derive(Clone, Copy, Debug, PartialEq, Eq, Error)]
 pub enum Refusal {
-    /// W1: no such binary can go on with this byte, or it ends here too soon.
+    /// W1: what begins at this byte can't be there in such a binary, or it ends here too soon, or should have ended.
     #[error("no well-known binary at {0}")]
     Syntax(usize),
     /// W2: this position isn't on the grid, and the grid moves no position.

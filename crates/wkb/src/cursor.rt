@@ -1,4 +1,4 @@
-//! A cursor over bytes. Contracts see it as the `State` of the readers in `specs/BinaryReading.antt`, and its methods as their steps.
+//! A cursor over bytes. Contracts see it as the `State` of the readers in `specs/BinaryReading.antt`, and its methods as steps.
 
 ghost use Rattle.std.specs.Prelude.{◌≡◌, ◌≤◌, ◌+◌, ◌*◌, ◌==◌, length, IfOk, OnOk, Ok, true, false};
 ghost use Rattle.geometry_model.specs.WellKnownText.{position_limit, part_limit};

@@ -17,7 +17,7 @@ pub fn is_minus(bits: u64) -> bool
 }
 
 /// The biased exponent of a double.
-fn exponent(bits: u64) -> u64
+pub fn exponent(bits: u64) -> u64
     ensures value { result ≡ spec.exponent bits }
     ensures within { result < 2048 }
 {
@@ -25,7 +25,7 @@ fn exponent(bits: u64) -> u64
 }
 
 /// The digits of a double after its leading bit.
-fn trailing(bits: u64) -> u64
+pub fn trailing(bits: u64) -> u64
     ensures value { result ≡ spec.trailing bits }
     ensures within { result < 2 ^ 52 }
 {

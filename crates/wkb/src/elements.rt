@@ -41,7 +41,7 @@ fn is_of(element: Element, shape: GeometryType) -> bool
 /// Reads the head of an element, and returns whether the least byte of a number comes first; `Syntax` at the head's first
 /// byte if it has another type.
 #[tactic(auto, unfolding(crate::specs::BinaryReading::element))]
-fn element_head(cursor: &mut Cursor<'_>, element: Element) -> Result<bool, Refusal>
+pub fn element_head(cursor: &mut Cursor<'_>, element: Element) -> Result<bool, Refusal>
     ensures read { ReadsAs (λ b. b) (spec.element element cursor.old) result cursor.new }
     ensures added { OnOk result (Adds cursor.old 0 0 cursor.new) }
 {

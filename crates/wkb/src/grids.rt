@@ -7,10 +7,12 @@ ghost use Rattle.geometry_model.specs.WellKnownText.{coordinate_limit};
 ghost use Rattle.wkb.specs.Doubles.{value};
 ghost use Rattle.wkb.specs.Grids as spec;
 ghost use Rattle.wkb.specs.Grids.{IsAxis, unit_limit, ticks};
+ghost use Rattle.wkb.specs.NearestDoubles.{place_of, double_at};
 ghost use Rattle.wkb.specs.Rounding.{IsRounded};
 ghost use Rattle.wkb.specs.Ticks.{whole_size, nearest_tick, ticks_past};
 
 use crate::doubles::{TICKS, Ticks, ticks_of};
+use crate::nearest_doubles::nearest_size;
 use fraction::grid_points::COORDINATE_LIMIT;
 use std::marker::Model;
 
@@ -120,6 +122,7 @@ impl Axis {
 
     /// The nearest coordinate to a double that is a number, and how far the double is from there; `None` exactly if that is past
     /// the limit of coordinates. It is the greater one of two that are equally near.
+    #[inline(always)]
     pub fn round(&self, bits: u64) -> Option<Rounded>
         ensures { MatchOption result (coordinate_limit < unsigned_abs (spec.nearest self.now (value bits)))
             (λ found. IsRounded self.now (value bits) found) }
@@ -139,6 +142,44 @@ impl Axis {
             moved: whole_size(past, ticks.has_rest),
         })
     }
+}
+
+impl Axis {
+    /// Where a coordinate is in the source, in parts.
+    fn place(&self, coordinate: i32) -> i128
+        requires { unsigned_abs coordinate ≤ coordinate_limit }
+        ensures value { result ≡ place_of self.now coordinate }
+        ensures within { unsigned_abs result < 2 ^ 98 }
+    {
+        moved_by(
+            multiple(coordinate, i128::from(self.step)),
+            i128::from(self.origin),
+        )
+    }
+
+    /// The double that is nearest to a coordinate, by its bits; the even one of two that are equally near.
+    pub fn double(&self, coordinate: i32) -> u64
+        requires { unsigned_abs coordinate ≤ coordinate_limit }
+        ensures { result ≡ double_at self.now coordinate }
+    {
+        let place = self.place(coordinate);
+        let size = nearest_size(place.unsigned_abs(), self.parts());
+        if place < 0 {
+            0x8000_0000_0000_0000 + size
+        } else {
+            size
+        }
+    }
+}
+
+/// The sum of a distance from the origin and the origin, in parts.
+fn moved_by(distance: i128, origin: i128) -> i128
+    requires distance { unsigned_abs distance ≤ 2 ^ 96 }
+    requires origin { unsigned_abs origin ≤ 2 ^ 63 }
+    ensures value { result ≡ distance +ℤ origin }
+    ensures within { unsigned_abs result < 2 ^ 98 }
+{
+    distance + origin
 }
 
 /// The sum of a place in ticks and half a step.

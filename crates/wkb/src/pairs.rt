@@ -1,7 +1,8 @@
 //! Two doubles, as bits.
 
-/// Two doubles, as bits.
-#[derive(Clone, Copy)]
+/// Two doubles, as bits, in the order in which C has them.
+#[repr(C)]
+#[derive(Clone, Copy, Debug)]
 pub struct Pair {
     /// The first one.
     pub x: u64,

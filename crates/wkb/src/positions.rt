@@ -32,7 +32,7 @@ pub fn is_empty_pair(pair: Pair) -> bool
 }
 
 /// Whether both doubles are numbers, and neither infinite nor a NaN.
-fn are_finite(pair: Pair) -> bool
+pub fn are_finite(pair: Pair) -> bool
     ensures { result ≡ spec.are_finite pair }
 {
     is_finite(pair.x) && is_finite(pair.y)
@@ -45,11 +45,12 @@ struct GridPlace {
     position: GridPoint,
     /// Whether both doubles are exactly there.
     is_on: bool,
-    /// By how many ticks that coordinate is moved that is moved further.
+    /// The greater of the numbers of ticks by which the two coordinates are moved.
     further: u128,
 }
 
 /// The position of the grid that is nearest to two doubles; `None` past the limit.
+#[inline(always)]
 fn nearest(grid: &Grid, pair: Pair) -> Option<GridPlace>
     ensures { MatchOption result (spec.is_within (spec.position_at grid.now pair) ≡ false)
         (λ found. (spec.is_within (spec.position_at grid.now pair) ≡ true) × (found.position ≡ spec.position_at grid.now pair)
@@ -75,6 +76,7 @@ fn nearest(grid: &Grid, pair: Pair) -> Option<GridPlace>
 
 /// The position at two doubles; `OutOfRange` past the limit, then `OffGrid` if the grid moves no position and this one isn't on it.
 #[tactic(auto, unfolding(crate::specs::BinaryReading::placed))]
+#[inline(always)]
 fn placed(cursor: &mut Cursor<'_>, grid: &Grid, pair: Pair) -> Result<GridPoint, Refusal>
     requires { HasRoom cursor.old }
     ensures read { ReadsAs (λ p. p) (spec.placed grid.now pair cursor.old) result cursor.new }
@@ -96,6 +98,7 @@ fn placed(cursor: &mut Cursor<'_>, grid: &Grid, pair: Pair) -> Result<GridPoint,
 
 /// The position at two doubles, the first of which begins at this byte; `Syntax` there if one of them is infinite or no number.
 #[tactic(auto, unfolding(crate::specs::BinaryReading::located))]
+#[inline(always)]
 pub fn located(
     cursor: &mut Cursor<'_>,
     grid: &Grid,
@@ -115,6 +118,7 @@ pub fn located(
 
 /// Reads a position.
 #[tactic(auto, unfolding(crate::specs::BinaryReading::position))]
+#[inline(always)]
 pub fn position(cursor: &mut Cursor<'_>, grid: &Grid, is_little: bool) -> Result<GridPoint, Refusal>
     ensures read { ReadsAs (λ p. p) (spec.position grid.now is_little cursor.old) result cursor.new }
     ensures added { OnOk result (Adds cursor.old 0 0 cursor.new) }

@@ -32,7 +32,7 @@ pub struct Binary {
     pub rounding: Rounding,
 }
 
-/// A content in a value of its own, behind a pointer. It fails only if memory runs out.
+/// Moves a content behind a pointer. It fails only if memory runs out.
 fn larger(alloc: Global, content: Larger) -> Result<Shape, AllocError>
     ensures { IfOk result (λ shape. geometry_in shape ≡ larger_in content) }
 {
@@ -191,8 +191,8 @@ fn whole(alloc: Global, cursor: &mut Cursor<'_>, grid: &Grid) -> Result<(Shape, 
 /// equally near, the one with the greater coordinate. A position that repeats the one before it on its line or ring is left out. A
 /// POINT whose coordinates are NaN is empty.
 ///
-/// Places are bytes from 0. The refusal is the first from left to right: `Syntax` at the first byte with which no such binary can
-/// go on, at the first of a position's bytes if one of its coordinates is infinite or NaN, at the length if the bytes end too soon,
+/// Places are bytes from 0. The refusal is the first from left to right: `Syntax` at the first byte of what no such binary can have
+/// there, at the first of a position's bytes if one of its coordinates is infinite or NaN, at the length if the bytes end too soon,
 /// and where they should end; `UnknownType` at the first byte of a head of another type; `EmptyPart` at the first byte of a point
 /// of a MULTIPOINT without coordinates, and of the number of positions or rings of another part without positions; `OutOfRange`
 /// with the number of a position, from 0, that is past the limit, then `OffGrid` if the grid moves no position and it isn't on the

@@ -97,7 +97,7 @@ fn are_zeros(digits: &[u8]) -> bool
     true
 }
 
-/// The number that decimal digits write; none if it is past the limit of coordinates. There may be any number of leading
+/// The number that decimal digits write; None if it is past the limit of coordinates. There may be any number of leading
 /// zeros.
 fn magnitude(digits: &[u8]) -> Option<u32>
     requires { list_all is_ascii_digit digits.now ≡ true }

@@ -40,7 +40,7 @@ impl Room {
     }
 }
 
-/// Reads positions of a MULTIPOINT, one or more with commas between, of which `most` may still come.
+/// Reads positions of a MULTIPOINT, one or more with commas between; `most` may still come.
 pub fn points(
     alloc: Global,
     cursor: &mut Cursor<'_>,
@@ -87,8 +87,8 @@ fn push_new(
     Ok(())
 }
 
-/// Reads positions of a line or ring, one or more with commas between, of which `most` may still come. Returns how many may
-/// come after it. A position that repeats the one before it is left out.
+/// Reads positions of a line or ring, one or more with commas between; `most` may still come. Returns how many may come
+/// after it. A position that repeats the one before it is left out.
 pub fn line_positions(
     alloc: Global,
     cursor: &mut Cursor<'_>,

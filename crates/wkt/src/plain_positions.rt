@@ -1,4 +1,4 @@
-//! Positions as most writers spell them: two numbers of digits alone, each with or without a minus, with one space between. They
+//! Positions as most writers spell them: two numbers of only digits, each with or without a minus, with one space between. They
 //! are read in one pass over their bytes. What is spelled otherwise isn't read here: `position_reader` reads it part by part.
 
 ghost use Rattle.std.specs.Prelude.{◌≡◌, ◌≤◌, IfSome, MatchOption, ◌==◌, ◌∷◌, false};

@@ -11,7 +11,7 @@ use thiserror::Error;
 /// right (06-103r4, 7.2; the cases: this project's choice).
 #[derive(Clone, Copy, Debug, PartialEq, Eq, Error)]
 pub enum WktFault {
-    /// W1: no text of a geometry can go on with this byte, or the text ends here too soon.
+    /// W1: what begins at this byte can't be there in the text of a geometry, or the text ends here too soon.
     #[error("syntax at {0}")]
     Syntax(usize),
     /// W2: the number that begins at this byte isn't whole.

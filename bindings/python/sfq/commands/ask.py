@@ -23,15 +23,18 @@ from typing import Any, Iterator, NamedTuple, Optional, TextIO
 from .. import __version__
 from ..geometry.faults import LibraryError
 from ..layers import reading
-from ..tables import rules
-from . import asking, caches, child, constants, endings, exports, geopackage, imports, showing, streams, units
+from ..tables import rules, statements
+from . import asking, caches, changes, child, constants, coverage, endings, exports, geopackage, imports, in_sqlite, left_out, showing, streams, stretches, units
 from .asking import Refused
 from .conditions import Conditions
 from .endings import DATA, DONE, FILES, MISSING, USAGE, Stopped
 from .outputs import Output
+from .progress import Progress
 
 NAME = "sfq-ask"
 MODES = ("csv", "table", "json", "geojson", "gpkg", "svg")
+# The status where a layer isn't a coverage, or it isn't known whether it is one.
+NO_COVERAGE = 8
 # Those in which a plan can't be written.
 PICTURES = ("gpkg", "svg")
 # The file of kept tables with the lines that were said when they were made.
@@ -113,25 +116,59 @@ def need_few(folder: units.Folder, conditions: Conditions, query: str, is_kept: 
                 f"{first}sfq-scale run {words} --scheduler tcp://HOST:PORT; sfq-export --like {shlex.quote(place)} brings its answer back", DATA)
 
 
+def asked(folder: units.Folder, conditions: Conditions, query: str, is_parted: bool) -> asking.Answer:
+    """Returns the answer to a query, which is asked in stretches of its table if that is too large for one run. Refused where there is none."""
+    if is_parted:
+        return stretches.ask(NAME, folder, conditions, query)
+    return asking.Asker(NAME, [folder.schema_file, folder.path], folder.schema).ask(query)
+
+
 def ask(options: argparse.Namespace, folder: units.Folder, is_kept: bool, output: Output) -> None:
     """Asks the query, and writes its answer. Refused where there is none."""
-    conditions, written = Conditions(options.query, folder), constants.Written(options.query, folder.grid)
+    notes = folder.choose_columns(options.query)
+    given = Conditions(options.query, folder)
+    written = constants.Written(options.query, folder.grid, given.numbers(NAME))
+    conditions = Conditions(options.query, folder, written.made)
+    conditions.compared = given.compared
     conditions.need_lawful(NAME)
     written.need_on_grid(NAME)
-    need_few(folder, conditions, written.made, is_kept)
-    asker = asking.asker(NAME, options.sfq, [folder.schema_file, folder.path], folder.schema)
+    is_parted = stretches.is_wanted(conditions, written.made)
+    if not is_parted:
+        need_few(folder, conditions, written.made, is_kept)
+    if not options.lenient and not statements.is_plan(options.query):
+        left_out.need_whole(folder, conditions.layers)
     try:
-        answer = asker.ask(written.made)
+        found = folder.returned(asked(folder, conditions, written.made, is_parted), written.made)
     except Refused as error:
-        raise written.refused(error, NAME) from None
+        refused = written.refused(error, NAME)
+        if not error.code.startswith("Q"):
+            raise refused from None
+        if in_sqlite.wanted(conditions):
+            need_few(folder, conditions, written.made, is_kept)
+        found = in_sqlite.ask(NAME, folder, conditions, written.made, refused)
+        notes.append(f"SQLite ran the query over the tables and relations of sfq, which has no {in_sqlite.wanted(conditions)}; what it computes of "
+                     "coordinates and of columns that count steps is in steps")
     try:
-        give(folder.returned(answer, options.query), options.out, output)
+        give(found, options.out, output)
     finally:
-        answer.close()
-    # Of a note of the program the line alone: the query that it shows isn't the one that the user wrote.
-    sys.stderr.writelines(it for it in answer.notes.splitlines(True) if it.startswith("sfq: "))
-    for it in conditions.notes():
+        found.answer.close()
+    for it in (*notes, *left_out.notes(folder, conditions.layers.values()), *conditions.notes(), *changes.notes(folder.relations, conditions.layers.values())):
         say(f"note: {it}")
+
+
+def cover(options: argparse.Namespace, folder: units.Folder, output: Output) -> int:
+    """Writes what keeps a table from being a coverage, and returns the status: whether it is one, and no record is left out of it."""
+    layer, progress = coverage.layer_named(folder, options.coverage), Progress(NAME, wait=0.5)
+    lacking = list(left_out.notes(folder, [layer]))
+    try:
+        found = coverage.check(list(coverage.areas_of(folder, layer)), progress)
+    finally:
+        progress.clear()
+    give(coverage.returned(found, folder, layer), options.out, output)
+    say(found.line(str(layer.said["table"])))
+    for it in (*lacking, *changes.notes(folder.relations, [layer, layer])):
+        say(f"note: {it}")
+    return DONE if found.is_coverage and (options.lenient or not lacking) else NO_COVERAGE
 
 
 # ---- the tables ----
@@ -163,7 +200,7 @@ def made(options: argparse.Namespace, place: Place) -> tuple[units.Folder, bool]
         folder = units.Folder(found)
         step, origin = folder.grid.spelled
         say(f"--grid {step} --origin {','.join(origin)}; the tables are in {found}, and what was said of them in its {REPORT}")
-        for it in left_out(found):
+        for it in mended(found):
             say(it)
         return folder, True
     path, lines = f"{place.room}/tables", []
@@ -198,7 +235,7 @@ def depends_on(options: argparse.Namespace) -> Any:
     except metadata.PackageNotFoundError:
         gdal = ""
     environment = {name: value for name, value in os.environ.items() if name.startswith(OF_GDAL)}
-    return [__version__, gdal, dataclasses.asdict(dataclasses.replace(options.of_import, program="")), environment]
+    return [__version__, gdal, dataclasses.asdict(options.of_import), environment]
 
 
 def is_of_its_files(source: str) -> bool:
@@ -208,12 +245,11 @@ def is_of_its_files(source: str) -> bool:
     return found.GetDriver().ShortName in OF_FILES and all(os.path.realpath(it) in files for it in found.GetFileList() or ())
 
 
-def left_out(folder: str) -> Iterator[str]:
-    """Returns a line for each layer of which records were left out or mended."""
+def mended(folder: str) -> Iterator[str]:
+    """Returns a line for each layer of which records were mended. What is said of those that are left out comes beneath the answer."""
     counts: collections.Counter[tuple[str, str]] = collections.Counter()
     with open(f"{folder}/left-out.csv", newline="", encoding="utf-8") as file:
-        for row in csv.DictReader(file):
-            counts[row["layer"], row["done"]] += 1
+        counts.update((row["layer"], row["done"]) for row in csv.DictReader(file) if row["done"] != left_out.DONE)
     for (layer, done), count in sorted(counts.items()):
         yield f"{layer}: {count:,} {done}: {folder}/left-out.csv says why"
 
@@ -244,19 +280,21 @@ def is_imported(path: str) -> bool:
 
 def parser() -> argparse.ArgumentParser:
     found = argparse.ArgumentParser(
-        prog=NAME, usage="sfq-ask [OPTION ..] FOLDER|SOURCE .. QUERY", description="Runs a query over layers, in their own coordinates.",
+        prog=NAME, usage="sfq-ask [OPTION ..] FOLDER|SOURCE .. QUERY|--coverage LAYER", description="Runs a query over layers, in their own coordinates.",
         epilog="Statuses are those of sfq run: 3 the schema, 4 a table, a record under --invalid stop or --strict, or no record was kept, 5 the query, "
-        "6 a file or the output, 7 out of memory; else 0 done, 1 GDAL, or both the library and sfq aren't there, 2 the command line. The manual: man sfq-ask.")
+        "6 a file or the output, 7 out of memory; 8 the layer of --coverage isn't one; else 0 done, 1 GDAL or the library isn't there, 2 the command line. The manual: man sfq-ask.")
     add = found.add_argument
     add("words", metavar="FOLDER|SOURCE .. QUERY", nargs="+",
         help="a folder that sfq-import made, or files, folders or databases that GDAL reads; and the SELECT, or @FILE that has it")
     add("--out", choices=MODES, help="how the answer is written (by the ending of --output; else table on a terminal, and csv elsewhere)")
     add("--output", metavar="FILE", default="", help="write the answer into a file, as a whole or not at all")
+    add("--coverage", metavar="LAYER", default="",
+        help="in place of a query: list where areas of this layer overlap, where their borders have other vertices, and gaps between them")
     add("--no-cache", action="store_true", help="keep no tables in $XDG_CACHE_HOME/sfq")
     imports.add_options(found, {"action": "append"})
     add("--strict", action="store_true", help="end with status 4 if a record is left out")
+    add("--lenient", action="store_true", help="run a join even if a record is left out whose envelope meets the other table")
     add("--allow-empty", action="store_true", help="run the query even if no record is kept")
-    add("--sfq", metavar="PROGRAM", default="", help="check and query with this proved program, not with the libraries libsfq and libsfq_tables")
     add("--version", action="version", version=f"{NAME} {__version__}")
     return found
 
@@ -265,7 +303,7 @@ def parsed(words: list[str]) -> argparse.Namespace:
     """Returns the options."""
     found = parser()
     options = found.parse_intermixed_args(imports.joined(words))
-    *options.sources, options.query = options.words
+    options.sources, options.query = (options.words, "") if options.coverage else (options.words[:-1], options.words[-1])
     if not options.sources or os.path.exists(options.query):
         found.error("name a folder or a source, and behind it the query")
     if options.output and os.path.realpath(options.output) in map(os.path.realpath, options.sources):
@@ -278,7 +316,7 @@ def parsed(words: list[str]) -> argparse.Namespace:
     if any(map(is_imported, options.sources)):
         if len(options.sources) > 1:
             found.error("a folder that sfq-import made is asked alone: sfq-import SOURCE --out FOLDER adds tables to it")
-        if dataclasses.replace(options.of_import, program="") != imports.options_of(found.parse_args([""]), found):
+        if options.of_import != imports.options_of(found.parse_args([""]), found):
             found.error(f"{options.sources[0]} is imported, so it takes no option of an import")
     return options
 
@@ -301,6 +339,8 @@ def run(options: argparse.Namespace, place: Place, output: Output) -> int:
             it.reconfigure(encoding="utf-8", errors="surrogateescape", newline="\n")
     try:
         folder, is_kept = tables(options, place)
+        if options.coverage:
+            return cover(options, folder, output)
         ask(options, folder, is_kept, output)
     except Refused as error:
         sys.stdout.flush()

@@ -2,7 +2,7 @@
 
 The numbers in the string of an ST_GeomFromText are those of the source. Each becomes the whole coordinate of the grid that it is, exactly;
 one that isn't on the grid is refused, never rounded. All else of the query stays as it is, a text that spells no geometry too: sfq says
-what is wrong with it. None of it is proved.
+what is wrong with it. The library says where the strings are. The rest isn't proved.
 """
 from __future__ import annotations
 
@@ -10,16 +10,14 @@ import math
 import re
 from decimal import Decimal
 from fractions import Fraction
-from typing import Iterator, NamedTuple, Optional
+from typing import Iterator, NamedTuple, Optional, Sequence
 
 from ..geometry import grids
 from ..geometry.faults import MEANINGS
-from ..tables import errors, placeholders
-from . import asking
+from ..tables import errors, parts
+from . import asking, left_out
 from .asking import QUERY, Refused, encoded
 
-# A string that is closed.
-STRING = re.compile(r"'(?:[^']|'')*'")
 # White space, signs and what is between them, as the reader of well-known text parts them (06-103r4, 7.2); numbers as it takes them.
 WORD = re.compile(r"[ \t\r\n]+|[(),]|[^ \t\r\n(),]+")
 NUMBER = re.compile(r"[+-]?(?:[0-9]+\.?[0-9]*|\.[0-9]+)")
@@ -95,24 +93,34 @@ class Constant(NamedTuple):
     value: Value
 
 
-class Written:
-    """A query as the user wrote it, with its constants in the coordinates of the source."""
+class Number(NamedTuple):
+    """A number that is compared with a column of decimal numbers: its first character, the one behind it, and what sfq gets."""
 
-    def __init__(self, text: str, grid: grids.Grid) -> None:
+    at: int
+    end: int
+    made: str
+
+
+class Written:
+    """A query as the user wrote it, with its constants in the coordinates of the source, and its numbers as the source has them."""
+
+    def __init__(self, text: str, grid: grids.Grid, numbers: Sequence[Number] = ()) -> None:
         self.text, self.grid = text, grid
         self.pieces: list[Piece] = []
         self.constants: list[Constant] = []
-        size, before = 0, ("", "")
-        for token in placeholders.TOKENS.findall(text):
-            if before == placeholders.SHAPE and STRING.fullmatch(token):
-                value = Value(token[1:-1].replace("''", "'"), grid)
-                self.constants.append(Constant(size, value))
-                self.pieces += [Piece("'", "'"), *(Piece(*map(doubled, it)) for it in value.pieces), Piece("'", "'")]
-            else:
-                self.pieces.append(Piece(token, token))
-            if not placeholders.BLANK.match(token):
-                before = before[1], token.upper()
-            size += len(encoded(token))
+        end, left = 0, sorted(numbers)
+        for it in parts.parts(text):
+            if left and left[0].at <= it.at:
+                number = left.pop(0)
+                self.pieces += [Piece(text[end : number.at], text[end : number.at]), Piece(number.made, text[number.at : number.end])]
+                end = number.end
+            if it.kind != parts.STRING or it.constant != parts.GEOMETRY:
+                continue
+            value = Value(text[it.at + 1 : it.end - 1].replace("''", "'"), grid)
+            self.constants.append(Constant(len(encoded(text[: it.at])), value))
+            self.pieces += [Piece(text[end : it.at + 1], text[end : it.at + 1]), *(Piece(*map(doubled, each)) for each in value.pieces)]
+            end = it.end - 1
+        self.pieces.append(Piece(text[end:], text[end:]))
 
     @property
     def made(self) -> str:
@@ -148,6 +156,10 @@ class Written:
         of_text = OF_TEXT.search(first)
         if constant and of_text:
             yield f"sfq: {errors.MEANINGS['Q8']}: {MEANINGS[of_text[0]]}\n"
+            reason = asking.reasons(["".join(it.made for it in constant.value.pieces)]) if of_text[0][0] == "V" else ""
+            at = left_out.place(reason.rstrip("\n"), self.grid)
+            if at:
+                yield f"{name}: the fault is at {' '.join(at)}\n"
             if of_text[0] == "W3":
                 yield f"{name}: the grid reaches from {self.corner(-grids.MOST)} to {self.corner(grids.MOST)}\n"
         else:

@@ -34,12 +34,14 @@ SIZE, MARGIN, COLOUR = 480, 24, "#2a6fb0"
 
 
 class Known(NamedTuple):
-    """What grid.json says: the grid, the columns by their names in lower case, their tables' coordinate systems, and the layers."""
+    """What grid.json says: the grid, the columns by their names in lower case, their tables' coordinate systems, the layers, and the relations
+    that rounding changed."""
 
     grid: grids.Grid
     types: dict[str, str]
     systems: dict[str, Any]
     layers: Sequence[Any] = ()
+    relations: Sequence[Any] = ()
 
 
 def kind_of(column: Any) -> str:
@@ -62,7 +64,10 @@ def known(folder: str) -> Known:
                     types[name] = kind if types.get(name, kind) == kind else "GEOMETRY" if kind in GEOMETRIC else "TEXT"
                     if kind in GEOMETRIC:
                         of_columns.setdefault(name, []).append(layer["coordinate_system"])
-            return Known(grids.Grid.of_file(found), types, of_columns, found["layers"])
+            relations = found.get("relations", [])
+            for it in relations:
+                it["said"], it["changed"], *it["tables"]
+            return Known(grids.Grid.of_file(found), types, of_columns, found["layers"], relations)
         except (KeyError, TypeError, ValueError, RecursionError) as error:
             raise Stopped(f"{path} isn't one that sfq-import made: {error!r}", DATA) from None
 

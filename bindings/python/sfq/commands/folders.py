@@ -16,14 +16,17 @@ import shutil
 import stat
 import sys
 import tempfile
-from typing import Any, Iterator
+from typing import Any, Iterator, Sequence, NamedTuple
 
 from ..geometry import grids
 from ..layers import systems
-from ..tables import rules, statements
+from ..tables import parts, rules, statements
 from . import outputs
 from .endings import DATA, FILES, USAGE, Stopped, held
 
+# The file of the pairs whose relation rounding changed. No table has its name.
+CHANGED = "changed-relations.csv"
+# The columns of left-out.csv that say which record it is and why; left_out.py has the others.
 LEFT_OUT = ["layer", "record", "fid", "reason", "done", "table"]
 # What renameat2 of Linux takes for paths from the folder of the process on, and for two that change places.
 HERE, EXCHANGE = -100, 2
@@ -85,7 +88,7 @@ class Folder:
     def tables(self) -> set[str]:
         """Returns the names of the tables that are there, in lower case: those that have a file, or a place in schema.sql."""
         files = {it[:-4].lower() for it in os.listdir(self.path) if it.endswith(".csv")} if self.found else set()
-        return files - {"left-out"} | {it.name.lower() for it in statements.tables(self.schema)} | {it["table"].lower() for it in self.layers}
+        return files - {"left-out", CHANGED[:-4]} | {it.name.lower() for it in statements.tables(self.schema)} | {it["table"].lower() for it in self.layers}
 
     def begin(self, replaced: set[str]) -> None:
         """Makes the room, with what stays of the folder that is there: all but the tables of these names, which are in lower case."""
@@ -104,12 +107,17 @@ class Folder:
             if it.endswith(".csv") and it[:-4].lower() in replaced:
                 os.remove(f"{self.room}/{it}")
         self.found["layers"] = [it for it in self.layers if it["table"].lower() not in replaced]
+        relations = self.found.get("relations", [])
+        self.found["relations"] = [it for it in relations if not replaced & {name.lower() for name in it["tables"]}]
         for table in statements.tables(self.schema):
             if table.name.lower() in replaced:
                 self.schema = without(self.schema, table)
 
-    def kept_of_left_out(self) -> Iterator[list[str]]:
-        """Returns the records of left-out.csv of the tables that stay. One of an import that wrote no tables gets the table of its layer."""
+    def kept_of_left_out(self, more: Sequence[str]) -> Iterator[list[str]]:
+        """Returns the records of left-out.csv of the tables that stay, with these further columns, which older ones lack.
+
+        A record of an import that wrote no tables gets the table of its layer.
+        """
         path = f"{self.path}/left-out.csv"
         if not self.found or not os.path.isfile(path):
             return
@@ -120,7 +128,7 @@ class Folder:
             for row in csv.DictReader(file):
                 row.setdefault("table", tables.get(row["layer"], ""))
                 if row["table"] in known:
-                    yield [row[it] for it in LEFT_OUT]
+                    yield [row[it] for it in LEFT_OUT] + [row.get(it) or "" for it in more]
 
     def new(self, name: str) -> str:
         """Returns the path of a file that is to be written. What is there by this name is a link to a file that has to stay."""
@@ -164,6 +172,14 @@ class Folder:
                 os.close(self.lock)
 
 
+class Nowhere(Folder):
+    """No folder, where nothing is written."""
+
+    def __init__(self) -> None:
+        self.name, self.path, self.room, self.lock, self.mode = "", "", "", -1, 0o700
+        self.found, self.schema = {}, ""
+
+
 def linked(source: str, target: str) -> None:
     """Makes a link to a file, or where there can be none a copy of it."""
     try:
@@ -199,20 +215,33 @@ def without(schema: str, table: statements.Table) -> str:
 
 def ended(schema: str) -> str:
     """Returns a schema that has a `;` behind its last table, so that one more can come."""
-    last = list(statements.tokens(schema))[-1:]
-    ends = [it.end() for it in last if it[0] != ";"]
+    last = [it for it in parts.parts(schema) if it.kind != parts.END][-1:]
+    ends = [it.end for it in last if it.kind != parts.SEMICOLON]
     return f"{schema[: ends[0]]};{schema[ends[0] :]}" if ends else schema
 
 
-def written(folder: Folder, made_by: str, grid: tuple[str, tuple[str, ...]], layers: list[dict[str, Any]], schemas: list[str]) -> None:
+class Made(NamedTuple):
+    """What an import made: its grid, what grid.json says of each new table and of the relations that rounding changed, and the schemas."""
+
+    made_by: str
+    grid: tuple[str, tuple[str, ...]]
+    layers: list[dict[str, Any]]
+    relations: list[dict[str, Any]]
+    schemas: list[str]
+
+
+def written(folder: Folder, made: Made) -> None:
     """Writes grid.json and schema.sql of a folder: what stays, and then the tables that are new."""
-    step, origin = grid
-    found = {**folder.found, "made_by": made_by, "step": step, "origin": list(origin), "layers": [*folder.layers, *layers]}
+    step, origin = made.grid
+    found = {
+        **folder.found, "made_by": made.made_by, "step": step, "origin": list(origin), "layers": [*folder.layers, *made.layers],
+        "relations": [*folder.found.get("relations", []), *made.relations],
+    }
     with open(folder.new("grid.json"), "w", encoding="utf-8") as file:
         file.write(json.dumps(found, ensure_ascii=False, indent=1) + "\n")
     first = folder.schema or "-- Made by sfq-import; grid.json has the step and the origin of the grid.\n"
     with open(folder.new("schema.sql"), "w", encoding="utf-8") as file:
-        file.write("\n".join([ended(first), *schemas]))
+        file.write("\n".join([ended(first), *made.schemas]))
 
 
 def most_tables(folder: Folder, replaced: set[str], names: list[str]) -> None:

@@ -1,8 +1,9 @@
 """The command sfq-import: makes the tables of sfq from any vector sources that GDAL reads.
 
     sfq-import SOURCE .. --out DIR [--grid STEP] [--origin X,Y] [--to EPSG:N] [--layer NAME ..] [--key COLUMN] [--scale COLUMN=STEP ..]
-               [--xy X,Y] [--wkt COLUMN] [--invalid leave-out|mend|stop] [--flat] [--part] [--replace]
-               [--strict] [--allow-empty]
+               [--columns NAME ..] [--xy X,Y] [--wkt COLUMN] [--invalid snap|mend|leave-out|stop] [--part] [--replace] [--rejects FILE]
+               [--no-relations] [--changed FILE] [--anyway] [--strict] [--allow-empty]
+    sfq-import SOURCE .. --steps
 
 DIR then has schema.sql, a CSV file for each layer, grid.json, which remembers step and origin for sfq-export, and left-out.csv, which
 lists each record that was left out or mended, with sfq's own reason. None of it is proved; what sfq accepts of it is.
@@ -15,20 +16,25 @@ import functools
 import os
 import sys
 from dataclasses import dataclass, field
-from typing import Any, Callable, Mapping, NamedTuple, Optional, Sequence
+from typing import Any, Callable, Iterator, Mapping, NamedTuple, Optional, Sequence
 
 from .. import __version__
 from ..geometry import grids
 from ..geometry.faults import LibraryError
-from ..layers import proposing, reading, systems
+from ..layers import proposing, reading, snapping, systems
 from ..tables import rules
-from . import checking, endings, folders, reports
+from . import changes, checking, endings, folders, left_out, rejects, reports, stepping
 from .endings import DATA, DONE, MISSING, USAGE, Stopped
 from .passes import HasParts, Key, Means, NotAscending, Pass, type_of, written_as_multi
 
 NAME = "sfq-import"
 # The step or the origin that is to be proposed.
 AUTO = "auto"
+# What becomes of records that are refused: what rounding alone broke is rounded anew, and areas are cut whose rings touch; besides, others are
+# mended; all are left out; the first one ends the import.
+INVALID = ("snap", "mend", "leave-out", "stop")
+# What --scale takes in place of columns where none gets a step by itself.
+NO_SCALE = "none"
 # How an option takes several values: one behind another.
 MANY = {"nargs": "+", "action": "extend"}
 Say = Callable[[str], None]
@@ -47,20 +53,27 @@ class Options:
     of: str = ""
     layers: Sequence[str] = ()
     key: str = ""
-    # The size of a step of each column whose numbers are to be whole.
+    # The size of a step of each column whose numbers are to be whole, and whether columns of decimal numbers get one by themselves.
     steps: Mapping[str, str] = field(default_factory=dict)
+    scales: bool = True
+    # The columns that tables get, of all layers; none means all.
+    columns: Sequence[str] = ()
     # The columns of points' coordinates, or of texts of geometries, in layers that have no geometries of their own.
     xy: Sequence[str] = ()
     wkt: str = ""
-    # What becomes of records that are refused: leave-out, mend or stop.
-    invalid: str = "leave-out"
-    is_flat: bool = False
+    # What becomes of records that are refused: one of INVALID.
+    invalid: str = "snap"
     # Whether records of more positions than sfq takes become several rows.
     is_parted: bool = False
     # Whether tables that are there by the names of new ones are replaced.
     replaces: bool = False
-    # The program that checks in place of the library.
-    program: str = ""
+    # Whether the relations before and after rounding are compared, and the file of a layer of those that changed.
+    compares: bool = True
+    changed: str = ""
+    # The file of a layer of the records that are left out.
+    rejects: str = ""
+    # Whether a step is taken that breaks more than 1% of the records.
+    takes_anyway: bool = False
 
 
 class Imported(NamedTuple):
@@ -81,8 +94,15 @@ class Import:
         self.means, self.folder, self.key, self.say = means, folder, key, say
         self.schemas: list[str] = []
         self.layers: list[dict[str, Any]] = []
+        # What is compared of each table, and what came of it.
+        self.tables: list[changes.Table] = []
+        self.compared: list[changes.Said] = []
+        self.rejected: list[rejects.Rejected] = []
+        # How many geometries aren't valid on the grid, and the layers of which the grid breaks records.
+        self.invalid = 0
+        self.broken: list[stepping.Broken] = []
         self.left_out = open(folder.new("left-out.csv"), "wb")
-        for row in (folders.LEFT_OUT, *folder.kept_of_left_out()):
+        for row in ([*folders.LEFT_OUT, *left_out.COLUMNS], *folder.kept_of_left_out(left_out.COLUMNS)):
             self.left_out.write(",".join(map(rules.quoted, row)).encode() + b"\n")
 
     def __enter__(self) -> Import:
@@ -96,7 +116,23 @@ class Import:
     def finish_all(self) -> None:
         """Writes what speaks of all tables."""
         self.left_out.close()
-        folders.written(self.folder, f"{NAME} {__version__}", self.means.grid.spelled, self.layers, self.schemas)
+        relations = [it.described() for it in self.compared]
+        folders.written(self.folder, folders.Made(f"{NAME} {__version__}", self.means.grid.spelled, self.layers, relations, self.schemas))
+
+    def compare(self) -> None:
+        """Compares the relations of the tables before and after rounding, and says what came of it."""
+        means = self.means
+        self.compared = changes.compared(self.tables, means.checker, means.modules, means.grid, means.name)
+        for it in self.compared:
+            self.say(f"{it.label}: {it.line}")
+        for table in self.tables:
+            if table.others:
+                self.say(f"{table.label}: relations of {table.others:,} mended or parted records aren't compared")
+            if table.members is None:
+                self.say(f"{table.label}: relations aren't compared in tables of more than {rules.MOST_ROWS:,} rows")
+        if self.tables and self.folder.layers:
+            self.say(f"relations with tables that were there aren't compared: {', '.join(it['table'] for it in self.folder.layers)}")
+        changes.write(self.folder, self.compared)
 
     def first_key(self, layer: reading.Layer) -> Key:
         """Returns the key that is asked for where the layer has it and it can be one, else the FID."""
@@ -149,8 +185,14 @@ class Import:
         if multi:
             written_as_multi(f"{self.folder.room}/{name}.csv", multi)
         self.schemas.append(rules.schema(name, found.columns, found.columns[0].name))
+        self.rejected += found.rejected
         self.layers.append(reports.described(layer, name, found))
         reports.report(layer, name, found, self.say)
+        if self.means.compares:
+            self.tables += changes.tables(layer, name, found)
+        self.invalid += found.invalid
+        if found.broken:
+            self.broken.append(stepping.Broken(layer.label, found.broken, found.records))
 
 
 # ---- what is imported ----
@@ -181,9 +223,12 @@ def chosen(sources: Sequence[reading.Source], options: Options) -> list[reading.
             it.label = f"{os.path.basename(it.source.name)}: {it.name}"
     if options.key and not any(it.has(options.key) for it in layers):
         raise Stopped(f"no layer has a column {options.key}", USAGE)
-    for column in options.steps:
-        if not any(it.has(column) for it in layers):
-            raise Stopped(f"--scale: no layer has a column {column}", USAGE)
+    for option, columns in (("--scale", options.steps), ("--columns", options.columns)):
+        for column in columns:
+            if not any(it.has(column) for it in layers):
+                raise Stopped(f"{option}: no layer has a column {column}", USAGE)
+    for it in layers:
+        it.kept = options.columns
     return layers
 
 
@@ -199,6 +244,20 @@ def take_columns(layers: Sequence[reading.Layer], options: Options) -> None:
         it.take_points(*options.xy)
     for it in by_wkt:
         it.take_texts(options.wkt)
+
+
+def take_decimals(layers: Sequence[reading.Layer], options: Options) -> None:
+    """Has columns of decimal numbers become whole ones: those of one name in several layers with the same step, so that they can be compared."""
+    if not options.scales:
+        return
+    found: list[tuple[reading.Layer, str, grids.Places]] = []
+    for it in layers:
+        names = [name for _, name in it.columns() if it.is_real(name) and name not in options.steps]
+        found += [(it, name, places) for name, places in it.places(names).items() if places.step]
+    for it, name, own in found:
+        its = (places for _, other, places in found if other.lower() == name.lower())
+        finest = max(its, key=lambda places: places.places)
+        it.steps[name] = finest.step if own.greatest * finest.unit < 2**62 else own.step
 
 
 def system_named(osr: Any, code: str) -> Any:
@@ -247,7 +306,16 @@ def need_one_system(layers: Sequence[reading.Layer], folder: folders.Folder, osr
     return known[0][1] if known else None
 
 
-def grid_of(layers: Sequence[reading.Layer], folder: folders.Folder, system: Any, options: Options, say: Say) -> grids.Grid:
+class Chosen(NamedTuple):
+    """The grid of an import: whether its step was given, or has each coordinate exactly, and the extent of all where that is known."""
+
+    grid: grids.Grid
+    is_given: bool
+    is_exact: bool
+    extent: Optional[proposing.Extent]
+
+
+def grid_of(layers: Sequence[reading.Layer], folder: folders.Folder, system: Any, options: Options, say: Say) -> Chosen:
     """Returns the grid that the folder has, or is given, or is proposed; a line says of one that is proposed what it is.
 
     Stopped where the folder has another one than is given.
@@ -259,15 +327,28 @@ def grid_of(layers: Sequence[reading.Layer], folder: folders.Folder, system: Any
         given = grids.Grid(step or spelled[0], (origin or spelled[1]).split(","))
         if (given.x.step, given.x.origin, given.y.origin) != (found.x.step, found.x.origin, found.y.origin):
             raise Stopped(f"{folder.name} has the grid --grid {spelled[0]} --origin {spelled[1]}, which new tables get too", USAGE)
-        return found
+        return Chosen(needed(found), True, False, None)
     if step and options.origin != AUTO:
-        return grids.Grid(step, (origin or "0,0").split(","))
-    extent = reading.extent(layers)
-    found = proposing.proposed(extent, systems.metres(system), step, origin)
-    spelled = found.spelled[0], ",".join(found.spelled[1])
-    unit = systems.unit(system)
-    say(f"--grid {spelled[0]} --origin {spelled[1]} takes all (steps of {spelled[0]} {unit}" + ("" if extent else "; there is no geometry") + ")")
-    return found
+        return Chosen(needed(grids.Grid(step, (origin or "0,0").split(","))), True, False, None)
+    (found, is_exact), extent = stepping.proposal(layers, systems.metres(system), step, origin)
+    exactly, unit = " exactly" * bool(is_exact and extent), systems.unit(system)
+    needed(found)
+    say(f"{options_of_grid(found)} takes all{exactly} (steps of {found.spelled[0]} {unit}" + ("" if extent else "; there is no geometry") + ")")
+    return Chosen(found, bool(step), is_exact, extent)
+
+
+def needed(grid: grids.Grid) -> grids.Grid:
+    """Returns a grid that the library takes. Stopped where it has too many digits."""
+    try:
+        grid.check()
+    except ValueError as error:
+        raise Stopped(f"{options_of_grid(grid)}: {error}", DATA) from None
+    return grid
+
+
+def options_of_grid(grid: grids.Grid) -> str:
+    """Returns the options that give a grid."""
+    return f"--grid {grid.spelled[0]} --origin {','.join(grid.spelled[1])}"
 
 
 def names_of(layers: Sequence[reading.Layer], folder: folders.Folder, options: Options) -> tuple[list[str], set[str]]:
@@ -282,27 +363,78 @@ def names_of(layers: Sequence[reading.Layer], folder: folders.Folder, options: O
     return found, replaced
 
 
+class Opened(NamedTuple):
+    """The layers that are asked for, those of them that have geometries, and the reference system of these."""
+
+    layers: list[reading.Layer]
+    shaped: list[reading.Layer]
+    system: Any
+
+
+def opened(sources: Sequence[str], folder: folders.Folder, options: Options, found: reading.Modules, say: Say) -> Opened:
+    """Opens the sources."""
+    layers = chosen([reading.Source(found, it) for it in sources], options)
+    take_columns(layers, options)
+    shaped = [it for it in layers if it.shapes]
+    move(shaped, found.osr, options)
+    return Opened(layers, shaped, need_one_system(shaped, folder, found.osr, say))
+
+
+def means_of(found: reading.Modules, grid: grids.Grid, options: Options, name: str) -> Means:
+    """Returns what an import works with."""
+    reducer = functools.lru_cache(maxsize=1)(lambda: snapping.reducer(found))
+    return Means(found, checking.Checker(), grid, options.invalid, options.is_parted, options.steps, name, options.compares, bool(options.rejects), reducer)
+
+
+def made(layers: Sequence[reading.Layer], names: Sequence[str], means: Means, folder: folders.Folder, key: str) -> tuple[Import, list[str]]:
+    """Makes the tables of layers, and returns the import and what it has to say."""
+    said: list[str] = []
+    with Import(means, folder, key, said.append) as work:
+        for it, table in zip(layers, names):
+            work.take(it, table)
+        if means.compares:
+            work.compare()
+        work.finish_all()
+    return work, said
+
+
 def imported(sources: Sequence[str], folder: folders.Folder, options: Options, means: tuple[str, Say]) -> Imported:
     """Imports sources into a folder, which takes its place at the end."""
     (name, say), found = means, reading.modules()
     with reading.warnings_said(found, say):
-        opened = [reading.Source(found, it) for it in sources]
-        checker = checking.checker(options.program)
-        layers = chosen(opened, options)
-        take_columns(layers, options)
-        shaped = [it for it in layers if it.shapes]
-        move(shaped, found.osr, options)
-        system = need_one_system(shaped, folder, found.osr, say)
+        checking.Checker()
+        layers, shaped, system = opened(sources, folder, options, found, say)
         names, replaced = names_of(layers, folder, options)
+        take_decimals(layers, options)
         grid = grid_of(shaped, folder, system, options, say)
         folder.begin(replaced)
-        means_of_all = Means(found, checker, grid, options.invalid, options.is_flat, options.is_parted, options.steps, name)
-        with Import(means_of_all, folder, options.key, say) as work:
-            for it, table in zip(layers, names):
-                work.take(it, table)
-            work.finish_all()
+        with_grid = means_of(found, grid.grid, options, name)
+        work, said = made(layers, names, with_grid, folder, options.key)
+        if not grid.is_given and not grid.is_exact and work.invalid:
+            other = stepping.better(shaped, with_grid, sum(it["left_out"] for it in work.layers), grid.extent)
+            if other:
+                say(f"{options_of_grid(other)} is taken instead: it refuses fewer records")
+                work, said = made(layers, names, with_grid._replace(grid=other), folder, options.key)
+        for it in said:
+            say(it)
+        if options.rejects:
+            rejects.write(found, work.rejected, system, options.rejects)
+        if grid.is_given:
+            stepping.need_fine(work.broken, shaped, grid.grid, say, options.takes_anyway)
+        if options.changed:
+            changes.as_layer(found, work.compared, system, options.changed)
         folder.put()
-        return Imported(grid, work.layers)
+        return Imported(work.means.grid, work.layers)
+
+
+def shown_steps(sources: Sequence[str], options: Options, name: str, say: Say) -> Iterator[stepping.Row]:
+    """Yields what each step does to sources, of which nothing is imported."""
+    found, folder = reading.modules(), folders.Nowhere()
+    with reading.warnings_said(found, say):
+        _, shaped, system = opened(sources, folder, options, found, say)
+        grid = grid_of(shaped, folder, system, options, say)
+        extent = grid.extent or reading.extent(shaped)
+        yield from stepping.rows(shaped, means_of(found, grid.grid, options, name), extent)
 
 
 def import_sources(
@@ -333,12 +465,17 @@ def check(options: Options) -> None:
     if origin.count(",") != 1:
         raise ValueError(f"--origin: {options.origin!r} isn't X,Y")
     try:
-        grids.Grid("1" if options.grid == AUTO else options.grid, origin.split(","))
+        grids.Grid("1" if options.grid == AUTO else options.grid, origin.split(",")).check()
     except ValueError as error:
         raise ValueError(f"--grid or --origin: {error}") from None
     for option, code in (("--to", options.to), ("--from", options.of)):
         if code and not systems.CODE.fullmatch(code):
             raise ValueError(f"{option}: {code!r} isn't the code of a reference system, such as EPSG:25832")
+    if options.rejects and not changes.format_of(options.rejects):
+        raise ValueError(f"--rejects: {options.rejects!r} ends with none of {', '.join(changes.FORMATS)}")
+    if options.changed and (not options.compares or not changes.format_of(options.changed)):
+        why = "--no-relations compares nothing" if not options.compares else f"{options.changed!r} doesn't end in {', '.join(changes.FORMATS)}"
+        raise ValueError(f"--changed: {why}")
     if options.xy and (len(options.xy) != 2 or not all(options.xy) or options.xy[0] == options.xy[1]):
         raise ValueError(f"--xy: {','.join(options.xy)!r} isn't two columns, X,Y")
 
@@ -350,33 +487,43 @@ def add_options(found: argparse.ArgumentParser, many: Mapping[str, Any] = MANY) 
     """Adds the options of an import to those of a command. `many` says how one takes several values."""
     add = found.add_argument
     add("--grid", metavar="STEP", default=AUTO,
-        help="the size of a step of the grid, in units of the source: 0.01; auto proposes the finest that reaches all (auto)")
+        help="the size of a step of the grid, in units of the source: 0.01; auto proposes one that reaches all (auto)")
     add("--origin", metavar="X,Y", default="", help="where the grid's 0 0 is in the source, or auto (0,0; auto if the step is)")
     add("--to", metavar="EPSG:N", default="", help="move all geometries to this reference system")
     add("--from", metavar="EPSG:N", default="", dest="of", help="the reference system of sources that don't give one")
     add("--layer", metavar="NAME", default=[], **many, help="the layers to import (all)")
     add("--key", metavar="COLUMN", default="", help="the column of whole numbers that is the key (the FID)")
     add("--scale", metavar="COLUMN=STEP", default=[], **many,
-        help="turn a column into whole numbers, which count steps of this size: width=0.01")
+        help="turn a column into whole numbers, which count steps of this size: width=0.01; none leaves decimal numbers as texts")
+    add("--columns", metavar="NAME", default=[], **many, help="the columns that tables get, beside the key and the geometries (all)")
     add("--xy", metavar="X,Y", default="", help="make points from two columns of a CSV file: lon,lat")
     add("--wkt", metavar="COLUMN", default="", help="make geometries from a column of well-known text of a CSV file")
-    add("--invalid", choices=("leave-out", "mend", "stop"), default="leave-out", help="what to do with records that sfq refuses (leave-out)")
-    add("--flat", action="store_true", help="drop Z and M from geometries")
+    add("--invalid", choices=INVALID, default=INVALID[0],
+        help="what to do with records that sfq refuses: snap rounds those anew that rounding broke, and cuts areas whose rings touch (snap)")
+    # Z and M are always dropped; earlier versions did so where this was given.
+    add("--flat", action="store_true", help=argparse.SUPPRESS)
     add("--part", action="store_true", help="split a record with more than 10,000 positions into several rows")
+    add("--anyway", action="store_true", help="import also with a step that breaks more than 1%% of the records")
+    add("--no-relations", action="store_true", help="don't compare which geometries meet before and after rounding, which takes time")
 
 
 def parser() -> argparse.ArgumentParser:
     found = argparse.ArgumentParser(prog=NAME, description="Makes the tables of sfq from any vector sources that GDAL reads.",
-                                    epilog="Statuses: 0 done, 1 GDAL or sfq isn't there, 2 the command line, 4 a record under "
+                                    epilog="Statuses: 0 done, 1 GDAL or the library isn't there, 2 the command line, 4 a record under "
                                     "--invalid stop or --strict, or no record was kept, 6 files, 7 memory. The manual: man sfq-import.")
     add = found.add_argument
     add("source", metavar="SOURCE", nargs="+", help="a file, folder or database that GDAL reads, as ogrinfo takes it")
-    add("--out", metavar="DIR", required=True, help="a folder that isn't there yet, is empty, or gets more tables")
+    add("--out", metavar="DIR", default="", help="a folder that isn't there yet, is empty, or gets more tables")
+    add("--steps", action="store_true",
+        help="import nothing, and print what the step and coarser ones do: records refused, greatest shift, relations changed")
     add_options(found)
     add("--replace", action="store_true", help="replace tables that the folder already has")
+    add("--changed", metavar="FILE", default="",
+        help="write the pairs whose relation rounding changed as a layer of points: .gpkg, .geojson or .fgb")
+    add("--rejects", metavar="FILE", default="",
+        help="write the records that are left out as a layer, with the code and the place of each fault: .gpkg, .geojson or .fgb")
     add("--strict", action="store_true", help="end with status 4 if a record was left out")
     add("--allow-empty", action="store_true", help="end with status 0 even if no record is kept")
-    add("--sfq", metavar="PROGRAM", default="", help="check with this proved program, not with the library libsfq")
     add("--version", action="version", version=f"{NAME} {__version__}")
     return found
 
@@ -385,6 +532,8 @@ def steps_of(words: list[str], key: str) -> dict[str, str]:
     """Returns the step of each column that the words name. ValueError where one is wrong."""
     found: dict[str, str] = {}
     for it in words:
+        if it == NO_SCALE:
+            continue
         column, _, step = it.rpartition("=")
         if not column or column in found:
             raise ValueError(f"{it!r} isn't COLUMN=STEP" if not column else f"{column} has two steps")
@@ -412,9 +561,10 @@ def options_of(given: argparse.Namespace, found: argparse.ArgumentParser) -> Opt
     except ValueError as error:
         found.error(f"argument --scale: {error}")
     options = Options(
-        grid=given.grid, origin=given.origin, to=given.to, of=given.of, layers=given.layer, key=given.key, steps=steps,
-        xy=given.xy.split(",") if given.xy else (), wkt=given.wkt, invalid=given.invalid, is_flat=given.flat, is_parted=given.part,
-        replaces=getattr(given, "replace", False), program=given.sfq,
+        grid=given.grid, origin=given.origin, to=given.to, of=given.of, layers=given.layer, key=given.key, steps=steps, scales=NO_SCALE not in given.scale,
+        columns=given.columns, xy=given.xy.split(",") if given.xy else (), wkt=given.wkt, invalid=given.invalid, is_parted=given.part,
+        replaces=getattr(given, "replace", False), compares=not given.no_relations, changed=getattr(given, "changed", ""), rejects=getattr(given, "rejects", ""),
+        takes_anyway=given.anyway,
     )
     try:
         check(options)
@@ -427,11 +577,22 @@ def parsed(words: list[str]) -> tuple[argparse.Namespace, Options]:
     """Returns the words of the command, and the options of the import."""
     found = parser()
     given = found.parse_args(joined(words))
+    if given.steps == bool(given.out):
+        found.error("--steps imports nothing, so it takes no --out" if given.steps else "the following arguments are required: --out")
+    if given.changed and os.path.realpath(given.changed) in map(os.path.realpath, given.source):
+        found.error(f"--changed {given.changed} is a source")
     return given, options_of(given, found)
 
 
 def run(given: argparse.Namespace, options: Options) -> int:
-    """Does an import, and returns its status. Stopped where it keeps too little."""
+    """Does an import, or prints the table of steps, and returns the status. Stopped where an import keeps too little."""
+    if given.steps:
+        try:
+            sys.stdout.write(stepping.table(list(shown_steps(given.source, options, NAME, functools.partial(endings.say, NAME)))))
+            sys.stdout.flush()
+        except (reading.Missing, LibraryError) as error:
+            raise Stopped(str(error).removeprefix("sfq: "), MISSING) from None
+        return DONE
     found = import_sources(given.source, given.out, options)
     if not given.allow_empty and not found.count("rows"):
         why = f"{given.out}/left-out.csv says why" if found.count("records") else "the source has none"

@@ -11,7 +11,7 @@ import os
 import shutil
 import stat
 import tempfile
-from typing import Any, Optional, Sequence, TextIO
+from typing import Any, Iterator, Optional, Sequence, TextIO
 
 from .endings import held
 
@@ -176,6 +176,19 @@ class Output:
         if self.file:
             with contextlib.suppress(OSError):
                 self.file.close()
+
+
+@contextlib.contextmanager
+def made_by_gdal(path: str) -> Iterator[str]:
+    """Hands out the path of a file that GDAL makes and closes, which is there as a whole at the end or not at all. OSError where it can't."""
+    output = Output(path, True)
+    try:
+        yield output.new
+        output.keep()
+    except RuntimeError as error:
+        raise OSError(f"{path}: GDAL can't write it: {error}") from None
+    finally:
+        output.drop()
 
 
 def keep(outputs: Sequence[Output]) -> None:

@@ -10,10 +10,10 @@ from typing import Any, Callable, Mapping, NamedTuple, Optional, Sequence
 
 from ..geometry import binary, grids
 from ..geometry.faults import MEANINGS
-from ..layers import parting, reading
+from ..layers import parting, proposing, reading, relating, snapping, touching
 from ..layers.columns import Refused
 from ..tables import rules
-from . import checking
+from . import checking, left_out, rejects
 from .endings import DATA, Stopped
 from .progress import Progress
 
@@ -21,6 +21,10 @@ from .progress import Progress
 BATCH, BATCH_SIZE = 2_000, 1_000_000
 # How often a geometry is mended, since what is mended is rounded again.
 TIMES = 3
+# What becomes of a record that sfq refuses: it is left out, mended by GEOS's make-valid, or rounded anew, where rounding alone broke it.
+MENDED, SNAPPED = "mended", "snapped"
+# The ways in which what rounding broke is mended, and areas are cut whose rings touch.
+SETTLES = ("snap", "mend")
 # What a reason ends with that is the record's own: the value of a field.
 VALUE = re.compile(r": (['\"]).*\1$", re.S)
 
@@ -36,14 +40,18 @@ class HasParts(Exception):
 class Record:
     """A record on its way: its number in the layer, its FID, its fields, its geometries' texts, and why it is refused or was mended."""
 
-    __slots__ = ("number", "fid", "fields", "texts", "parts", "reasons")
+    __slots__ = ("number", "fid", "fields", "texts", "parts", "reasons", "sources", "done")
 
     def __init__(self, number: int, fid: int, fields: list[str], texts: list[Optional[str]]) -> None:
         self.number, self.fid, self.fields, self.texts = number, fid, fields, texts
         # The texts of the parts of the one geometry of a record that is parted.
         self.parts: list[str] = []
+        # Each geometry of the source as well-known binary, with its bounds.
+        self.sources: list[Optional[tuple[bytes, Any]]] = []
         # Each with what is before it in the list: the column, where a layer has several geometries.
         self.reasons: tuple[tuple[str, str], ...] = ()
+        # What was done for these reasons, where the record is kept.
+        self.done = SNAPPED
 
 
 class Means(NamedTuple):
@@ -53,13 +61,17 @@ class Means(NamedTuple):
     checker: checking.Checker
     grid: grids.Grid
     invalid: str
-    is_flat: bool
     # Whether records with more positions than sfq takes are parted.
     parts: bool
     # The size of a step of each column whose numbers are to be whole.
     steps: Mapping[str, str]
     # The name of the command, for the line that says how far it is.
     name: str
+    # Whether relations before and after rounding are compared, and whether records that are left out are kept for a layer.
+    compares: bool = False
+    rejects: bool = False
+    # Makes what rounds a geometry and keeps it valid, when it is first needed; None where no GEOS can.
+    reducer: Callable[[], Optional[snapping.Reducer]] = lambda: None
 
 
 class Key(NamedTuple):
@@ -78,9 +90,13 @@ class Pass:
         self.means, self.layer, self.key, self.name, self.has_parts = means, layer, key, name, has_parts
         self.table, self.left_out = files
         self.shift, self.rows, self.records, self.kept, self.flattened = grids.Shift(), 0, 0, 0, 0
-        # Records that are parted, their parts, and what cuts put in.
-        self.parted, self.parts, self.put_in, self.bend = 0, 0, 0, 0.0
+        # Records that are parted, their parts, and what cuts put in; those of the records whose rings touch.
+        self.parted, self.parts, self.put_in, self.bend, self.touching = 0, 0, 0, 0.0, 0
         self.counts: Counter[Any] = Counter()
+        # How many records are left out, mended or rounded anew.
+        self.done: Counter[str] = Counter()
+        # Collections of one kind, and records that are left out, for a layer.
+        self.gathered, self.rejected = 0, list[rejects.Rejected]()
         self.empty: Counter[str] = Counter()
         self.words: list[set[str]] = [set() for _ in layer.shapes]
         self.columns = columns(layer, key, means.steps, has_parts)
@@ -88,6 +104,14 @@ class Pass:
         self.readers, self.key_of, self.takes = self.in_order(), self.key_reader(), [it.read for it in layer.shapes]
         self.forms: dict[str, str] = {}
         self.last_key = -1
+        # What is compared of each column of geometries: None where there are too many.
+        self.members: Optional[list[list[relating.Member]]] = [[] for _ in layer.shapes]
+        self.uncompared = 0
+        if not means.compares or layer.count() > rules.MOST_ROWS:
+            self.members = None
+        # Geometries that aren't valid on the grid and are left out; those that a finer grid has as they are, whatever becomes of them; and those
+        # that no GEOS is there for to round anew.
+        self.invalid, self.broken, self.unsnapped = 0, 0, 0
 
     def in_order(self) -> list[Callable[[Any], str]]:
         """Returns the readers of the columns after the key: a FID that has a name of its own first."""
@@ -101,6 +125,15 @@ class Pass:
         read, scale = self.layer.reader(at, self.empty), self.scales.get(name)
         if scale is None:
             return read
+        if name not in self.means.steps:
+            # Each number is a whole one of its steps, of at most 15 digits.
+            double, unit = self.layer.double(at), 10**scale.axis.digits
+
+            def whole_of(it: Any) -> str:
+                found = double(it)
+                return "" if found is None else str(round(found * unit))
+
+            return whole_of
         whole = scale.field
 
         def scaled(it: Any) -> str:
@@ -152,13 +185,17 @@ class Pass:
                 fields.append(read(feature))
         except Refused as it:
             record.reasons, record.fields = (("", str(it)),), []
-            return record
         for at, read in enumerate(self.takes):
             try:
                 geometry = read(feature)
-                record.texts.append(None if geometry is None else self.text(geometry, record, at))
+                if geometry is None:
+                    record.texts.append(None)
+                    record.sources.append(None)
+                else:
+                    record.texts.append(self.text(geometry, record, at))
             except Refused as it:
-                record.reasons += ((self.column(at), str(it)),)
+                if record.fields or record.texts:
+                    record.reasons += ((self.column(at), str(it)),)
                 record.texts.append(None)
                 record.fields = []
         return record
@@ -168,25 +205,36 @@ class Pass:
         return "" if len(self.takes) == 1 else f"{self.layer.shapes[at].name}: "
 
     def text(self, geometry: Any, record: Record, at: int) -> str:
-        """Returns the text of a geometry on the grid. Refused where sfq has none for its form, unless that is mended."""
-        if self.means.is_flat and (geometry.Is3D() or geometry.IsMeasured()):
+        """Returns the text of a geometry on the grid, without its Z or M. Refused where sfq has none for its form, unless that is mended."""
+        if geometry.Is3D() or geometry.IsMeasured():
             geometry.FlattenTo2D()
             self.flattened += 1
+        alike = reading.gathered(self.means.modules.ogr, geometry, self.layer.shapes[at].word)
+        if alike is not None:
+            geometry, self.gathered = alike, self.gathered + 1
+        given = reading.binary_of(geometry)
+        record.sources.append((given, geometry.GetEnvelope()))
         try:
-            shape = binary.shape(reading.binary_of(geometry))
-        except binary.NoText as it:
-            reason = self.reason_of_form(it.form)
-            if self.means.invalid != "mend":
-                raise Refused(reason) from None
-            try:
-                shape = binary.shape(reading.flat(geometry), drops_empty=True)
-            except binary.NoText:
-                raise Refused(reason) from None
-            record.reasons += ((self.column(at), reason),)
-        try:
-            return binary.text(shape, self.means.grid, self.shift)
+            return binary.text(given, self.means.grid, self.shift)
         except grids.NotANumber as it:
             raise Refused(f"W1: {it}") from None
+        except binary.NoText as it:
+            reason = self.reason_of_form(it.form)
+        if self.means.invalid != "mend":
+            raise Refused(reason)
+        return self.flat_text(geometry, record, (self.column(at), reason))
+
+    def flat_text(self, geometry: Any, record: Record, reason: tuple[str, str]) -> str:
+        """Returns the text of what a geometry is without its curves and empty elements. Refused for the reason if that has none either."""
+        try:
+            found = binary.text(reading.flat(geometry), self.means.grid, self.shift, drops_empty=True)
+        except binary.NoText:
+            raise Refused(reason[1]) from None
+        except grids.NotANumber as it:
+            record.reasons += (reason,)
+            raise Refused(f"W1: {it}") from None
+        record.reasons, record.done = (*record.reasons, reason), MENDED
+        return found
 
     def reason_of_form(self, form: str) -> str:
         """Returns sfq's reason against the beginning of a text, and the words of it."""
@@ -204,40 +252,104 @@ class Pass:
         for record in batch:
             rows = self.lines(record) if record.fields else None
             if record.reasons:
-                self.note(record, "left out" if rows is None else "mended")
+                self.note(record, left_out.DONE if rows is None else record.done)
             if rows is not None:
                 self.table.writelines(rows)
                 self.rows += len(rows)
                 self.kept += 1
+                if self.members is not None:
+                    self.compare(record, self.members)
+
+    def compare(self, record: Record, members: list[list[relating.Member]]) -> None:
+        """Takes the geometries of a record that is kept, to compare their relations, if they are those of the source on the grid."""
+        if record.reasons or record.parts:
+            self.uncompared += 1
+            return
+        for its, source, text in zip(members, record.sources, record.texts):
+            if source and text and not text.endswith("EMPTY"):
+                its.append(relating.Member(record.fields[0], source[0], checking.Asked(text), source[1], self.means.grid))
+        if self.kept > rules.MOST_ROWS:
+            self.members = None
 
     def refuse(self, record: Record, at: int, reason: str) -> None:
         """Mends a geometry that sfq refuses where that is wanted and can be done; else refuses the record."""
         if self.means.parts and reason[:2] == "W4" and len(self.takes) == 1:
             self.part(record, reason)
             return
+        broken = left_out.BROKEN if reason[0] == "V" and is_broken(self.means.checker, record.sources[at]) else ""
+        self.broken += bool(broken)
+        if reason[0] == "V" and self.means.invalid in SETTLES and self.settles(record, at, reason, broken):
+            return
         if self.means.invalid == "mend" and reason[0] == "V":
             text, behind = self.mended(record.texts[at] or "")
-            if text is None:
+            found = self.cut(text) if text and behind else None
+            if text is None or (behind and found is None):
                 record.fields = []
+            elif found:
+                self.take_parts(record, found)
+                behind = ""
             else:
                 record.texts[at] = text
             reason += behind
         else:
             record.fields = []
+        record.done = MENDED
+        if not record.fields:
+            self.invalid += reason[0] == "V"
+            reason += broken
         record.reasons += ((self.column(at), reason),)
 
-    def mended(self, text: str) -> tuple[Optional[str], str]:
-        """Returns what make-valid makes of a text, on the grid and valid there; else None and what is said of it."""
-        behind = ""
-        for _ in range(TIMES):
-            made = reading.mended(self.means.modules, text)
+    def settles(self, record: Record, at: int, reason: str, broken: str) -> bool:
+        """Whether a geometry that is valid in the source, as GEOS sees it, is cut where its rings touch, or rounded anew, without further faults."""
+        source, text = record.sources[at], record.texts[at] or ""
+        if source is None or not snapping.is_valid(self.means.modules, source[0]):
+            return False
+        found = self.cut(text) if reason[:2] in touching.CODES else None
+        if found is None:
+            reducer = self.means.reducer()
+            made = snapping.snapped(reducer, source[0], self.means.grid) if reducer else None
+            self.unsnapped += reducer is None
             if made is None:
-                return None, behind or "; make-valid leaves nothing of it"
+                return False
+            further = self.means.checker.reasons([made])[0]
+            found = self.cut(made) if further else None
+            if further and found is None:
+                return False
+            record.texts[at] = made
+            record.reasons += ((self.column(at), reason + broken),)
+        if found:
+            self.take_parts(record, found)
+        return True
+
+    def cut(self, text: str) -> Optional[parting.Parted]:
+        """Returns the parts of an area whose rings touch in points; None where it has none, and in a table of several columns of geometries."""
+        if len(self.takes) != 1 or not snapping.is_valid(self.means.modules, text):
+            return None
+        try:
+            return touching.parted(text, self.means.checker.reasons)
+        except parting.Undivided:
+            return None
+
+    def take_parts(self, record: Record, found: parting.Parted) -> None:
+        """Has a record be several rows, since its rings touch. HasParts where the table has no columns for parts."""
+        if not self.has_parts:
+            raise HasParts()
+        record.parts = found.texts
+        self.parted, self.parts, self.touching = self.parted + 1, self.parts + len(found.texts), self.touching + 1
+
+    def mended(self, text: str) -> tuple[Optional[str], str]:
+        """Returns what make-valid makes of a text, on the grid, and what is said of it where that isn't valid there; None where it makes nothing."""
+        made, behind = None, ""
+        for _ in range(TIMES):
+            further = reading.mended(self.means.modules, text)
+            if further is None:
+                return made, behind or "; make-valid leaves nothing of it"
+            made = text = further
             reason = self.means.checker.reasons([made])[0]
             if reason is None:
                 return made, ""
-            text, behind = made, f"; after make-valid {reason}"
-        return None, behind
+            behind = f"; after make-valid {reason}"
+        return made, behind
 
     def part(self, record: Record, reason: str) -> None:
         """Parts a record, or refuses it. HasParts where the table has no columns for parts."""
@@ -248,7 +360,7 @@ class Pass:
             found, further = self.parts_of(made) if made else (None, "; make-valid leaves nothing of it")
             behind = f"{behind}{further}"
         if behind:
-            record.reasons += (("", reason + behind),)
+            record.reasons, record.done = (*record.reasons, ("", reason + behind)), MENDED
         if found is None:
             record.fields = []
             return
@@ -277,14 +389,14 @@ class Pass:
         try:
             "".join(record.fields).encode()
         except UnicodeEncodeError:
-            record.reasons += (("", "L4: a text isn't UTF-8"),)
+            record.reasons, record.done = (*record.reasons, ("", "L4: a text isn't UTF-8")), MENDED
             if self.means.invalid != "mend":
                 return None
             record.fields = [it.encode("utf-8", "replace").decode() for it in record.fields]
         found = []
         rows: list[list[Optional[str]]] = [[it] for it in record.parts] or [record.texts]
         for number, texts in enumerate(rows):
-            line = self.line(record, [str(self.rows + number + 1)] if self.has_parts else [], texts)
+            line = self.line(record, [str(self.rows + number + 1), record.fields[0]] if self.has_parts else [], texts)
             if line is None:
                 return None
             found.append(line)
@@ -312,39 +424,57 @@ class Pass:
             if self.means.invalid == "stop":
                 raise Stopped(f"{self.layer.label} record {record.number} (FID {record.fid}): {column}{reason}", DATA)
             fields = [self.layer.name, str(record.number), str(record.fid), column + reason, done, self.name]
+            fields += left_out.described(self.means.modules, record.sources, reason, self.means.grid)
             self.left_out.write(",".join(map(rules.quoted, fields)).encode("utf-8", "replace") + b"\n")
+        self.done[done] += 1
         for it in {kind(reason) for _, reason in record.reasons}:
             self.counts[done, it] += 1
+        if done == left_out.DONE and self.means.rejects:
+            reason = record.reasons[0][1]
+            shape = next((it[0] for it in record.sources if it), None)
+            self.rejected.append(rejects.Rejected(
+                self.layer.name, record.number, record.fid, reason, left_out.place(reason, self.means.grid), shape))
+
+
+def is_broken(checker: checking.Checker, source: Optional[tuple[bytes, Any]]) -> bool:
+    """Whether a geometry that is refused on a grid is valid on one of its own, whose step is the finest that reaches it."""
+    if source is None:
+        return False
+    try:
+        grid = proposing.proposed(proposing.Extent(*source[1]), None)
+        return checker.reasons([binary.text(source[0], grid, grids.Shift())])[0] is None
+    except (ValueError, OverflowError):
+        return False
 
 
 def kind(reason: str) -> str:
     """Returns what a reason has in common with others of its kind, and what it means."""
     code, text = re.split(r"\W", reason, maxsplit=1)[0], VALUE.sub("", reason.partition(": ")[2])
-    return f"{code}: {MEANINGS[code] if code[0] == 'V' or code in ('W3', 'W4') else text}"
+    broken = left_out.BROKEN if reason.endswith(left_out.BROKEN) else ""
+    return f"{code}: {MEANINGS[code] if code[0] == 'V' or code in ('W3', 'W4') else text}{broken}"
 
 
 def columns(layer: reading.Layer, key: Key, steps: Mapping[str, str], has_parts: bool) -> list[rules.Column]:
     """Returns the columns of a table: the key, those of the layer in their order, and the geometries.
 
-    Where a record may be several rows the key is a number of the row, and the record's own key is in a column `whole`.
+    Where a record may be several rows the key is a number of the row, and the record's own key is in a column `whole`, and in its own.
     """
     names, fid = rules.Names(), layer.layer.GetFIDColumn()
-    if has_parts:
-        source = "" if key.source == "#" else key.source or fid
-        found = [rules.Column(names.of("part", "part"), "", "INTEGER"), rules.Column(names.of("whole", "whole"), source, "INTEGER")]
-    elif key.source == "#":
-        found = [rules.Column(names.of("id", "id"), "", "INTEGER")]
+    found = [rules.Column(names.of(it, it), "", "INTEGER") for it in ("part", "whole") if has_parts]
+    if key.source == "#":
+        found.append(rules.Column(names.of("id", "id"), "", "INTEGER"))
     elif not key.source:
-        found = [rules.Column(names.of(fid or "fid", "fid"), fid, "INTEGER")]
+        found.append(rules.Column(names.of(fid or "fid", "fid"), fid, "INTEGER"))
     else:
-        found = [rules.Column(names.of(key.source, "key"), key.source, "INTEGER")]
+        found.append(rules.Column(names.of(key.source, "key"), key.source, "INTEGER"))
     if key.source and fid:
         found.append(rules.Column(names.of(fid, "fid"), fid, "INTEGER"))
     for _, name in layer.columns():
         if name != key.source:
-            step = steps.get(name, "")
+            own = "" if name in steps else layer.steps.get(name, "")
+            step = steps.get(name, own)
             kind = "INTEGER" if step or layer.is_whole(name) else "TEXT"
-            found.append(rules.Column(names.of(name, "field"), name, kind, not step and layer.is_real(name), step))
+            found.append(rules.Column(names.of(name, "field"), name, kind, not step and layer.is_real(name), step, bool(own)))
     for it in layer.shapes:
         found.append(rules.Column(names.of(it.name or "geom", "geom"), it.name, "GEOMETRY"))
     return found

@@ -57,7 +57,7 @@ class Completer:
         """Returns the names that begin so: behind a point the columns of its table, and the reserved words in the case of the word."""
         table, point, begin = word.rpartition(".")
         if point:
-            named = statements.references(before + " " + READLINE.get_line_buffer() if READLINE else before, self.tables)
+            named = statements.mentioned(before + " " + READLINE.get_line_buffer() if READLINE else before, self.tables)
             asked = [named[table.lower()]] if table.lower() in named else [it for it in self.tables if it.name.lower() == table.lower()]
             return [f"{table}.{name}" for it in asked for name, _ in it.columns if name.lower().startswith(begin.lower())]
         columns = [name for it in self.tables for name, _ in it.columns]

@@ -19,16 +19,22 @@ def described(layer: reading.Layer, name: str, found: passes.Pass) -> dict[str, 
         "source": layer.source.name, "layer": layer.name, "table": name, "key": found.columns[0].name, "records": found.records,
         "rows": found.rows, "invalid": found.means.invalid,
         "columns": [it.described() for it in found.columns], "coordinate_system": systems.described(layer.reference),
-        "shift": {"greatest": float(f"{shift.greatest:.3g}"), "mean": float(f"{shift.mean:.3g}"), "positions": shift.positions},
-        "merged": shift.merged, "flattened": found.flattened, "left_out": found.records - found.kept,
+        "shift": {"greatest": float(f"{shift.greatest:.3g}"), "mean": float(f"{shift.mean:.3g}"), "positions": shift.positions, "moved": shift.moved},
+        "merged": shift.merged, "flattened": found.flattened, "left_out": found.records - found.kept, "mended": done(found, passes.MENDED),
+        "snapped": done(found, passes.SNAPPED),
         "empty_texts": dict(found.empty),
     }
     if found.has_parts:
         made["parted"] = {
-            "part": found.columns[0].name, "whole": found.columns[1].name, "records": found.parted, "rows": found.parts, "predicates": PREDICATES,
-            "put_in": found.put_in, "greatest": bend(found),
+            "part": found.columns[0].name, "whole": found.columns[1].name, "records": found.parted, "rows": found.parts, "touching": found.touching,
+            "predicates": PREDICATES, "put_in": found.put_in, "greatest": bend(found),
         }
     return made
+
+
+def done(found: passes.Pass, what: str) -> int:
+    """Returns how many records were mended in this way."""
+    return found.done[what]
 
 
 def bend(found: passes.Pass) -> float:
@@ -38,12 +44,14 @@ def bend(found: passes.Pass) -> float:
 
 def report(layer: reading.Layer, name: str, found: passes.Pass, say: Callable[[str], None]) -> None:
     """Says what became of a layer: a line for the table, and one for each kind of thing that isn't as in the source."""
-    label, shift = layer.label, found.shift
-    say(f"{label}: {found.kept:,} of {found.records:,} records in {name}.csv; {shift.positions:,} positions moved by at most "
-        f"{shift.greatest:.3g}, {shift.mean:.3g} in the mean, {shift.merged:,} merged")
+    label = layer.label
+    say(f"{label}: {found.kept:,} of {found.records:,} records in {name}.csv; {found.shift.said}")
     for (done, what), count in sorted(found.counts.items()):
         say(f"{label}: {count:,} {done}: {what}{beyond(layer, found.means.grid) if what.startswith('W3') else ''}")
-    for column, scale in found.scales.items():
+    own = {it.source: it.step for it in found.columns if it.is_decimal}
+    if own:
+        say(f"{label}: decimal numbers are whole ones, which count steps: {', '.join(f'{name} of {step}' for name, step in own.items())}")
+    for column, scale in ((name, it) for name, it in found.scales.items() if name not in own):
         say(f"{label}: {column} counts steps of {scale.spelled}: {scale.moved:,} numbers moved by at most {float(scale.greatest):.3g}")
     reals = [it.source for it in found.columns if it.is_real]
     if reals:
@@ -62,13 +70,21 @@ def further(layer: reading.Layer, found: passes.Pass) -> list[str]:
     """Returns what is said of a layer besides."""
     lines = []
     if found.has_parts:
-        lines.append(f"{found.parted:,} records are parted into {found.parts:,} rows: {found.columns[0].name} is the key, {found.columns[1].name} that "
+        why = f", {found.touching:,} of them since their rings touch" if found.touching else ""
+        lines.append(f"{found.parted:,} records are parted into {found.parts:,} rows{why}: {found.columns[0].name} is the key, {found.columns[1].name} that "
                      f"of the record; {found.put_in:,} positions were put in at cuts, at most {bend(found):.3g} from their edges; of parts "
                      "ST_Intersects and ST_Disjoint alone say what they say of the whole")
+    if found.unsnapped:
+        lines.append(f"{found.unsnapped:,} records would be rounded anew by GEOS 3.10 or later, which neither GDAL 3.9 nor shapely 2 nor libgeos_c has here")
     if found.flattened:
         lines.append(f"{found.flattened:,} geometries without their Z or M")
+    if found.gathered:
+        lines.append(f"{found.gathered:,} collections became geometries of a MULTI type, or empty ones")
+    if not found.means.parts and any(what.startswith("W4") for _, what in found.counts):
+        lines.append("--part splits records with too many positions into several rows")
     if len(found.columns) > rules.MOST_COLUMNS:
-        lines.append(f"schema.sql has {rules.MOST_COLUMNS} of {len(found.columns)} columns, and the CSV all: sfq takes no more")
+        lines.append(f"schema.sql has {rules.MOST_COLUMNS} of {len(found.columns)} columns, and the CSV all: sfq takes no more. sfq-ask takes those that a query "
+                     "names, and --columns chooses some")
     if found.rows > rules.MOST_ROWS:
         lines.append(f"one run of sfq takes at most {rules.MOST_ROWS:,} rows; sfq-scale takes more (docs/SCALE.md)")
     seeming = layer.seeming()

@@ -21,7 +21,7 @@ from typing import Iterable, Iterator, NamedTuple, Optional
 from .. import __version__
 from ..geometry.faults import LibraryError
 from ..tables import statements
-from . import asking, endings, outputs, prompt, showing, streams
+from . import asking, endings, exports, left_out, outputs, prompt, showing, streams
 from .asking import Refused
 from .endings import DONE, MISSING, USAGE, Stopped
 
@@ -94,7 +94,7 @@ class Shell:
                 say(f"{time.monotonic() - begun:.3f} s")
 
     def write(self, answer: asking.Answer) -> None:
-        """Writes an answer, and what is said of it."""
+        """Writes an answer."""
         width = None
         if self.out is sys.stdout and self.out.isatty():
             width = os.get_terminal_size(self.out.fileno()).columns or None
@@ -102,8 +102,6 @@ class Shell:
             showing.show(answer, self.mode, showing.Place(self.out, width, self.folder))
         finally:
             answer.close()
-        sys.stderr.write(answer.notes)
-        sys.stderr.flush()
 
     def print(self, text: str) -> None:
         """Writes a text where answers are written."""
@@ -212,13 +210,20 @@ class Shell:
     def do_why(self, rest: str) -> None:
         found = self.words(".why", rest, 2)
         if found and (len(found) == 2 or not re.fullmatch(r"[A-Za-z]\d+", found[0])):
-            self.print(asking.reasons(found))
+            self.print(self.with_places(asking.reasons(found)))
         elif found:
             self.print(asking.page(found[0]))
         elif self.fault.text:
             self.print(self.asker.why(self.last, self.fault))
         else:
             raise Stopped("no fault came before: name one, as .why V3 does, or give one or two geometries, each in quotes", USAGE)
+
+    def with_places(self, reasons: str) -> str:
+        """Returns why a geometry isn't valid, or where two meet, with the places in the source too, where sfq-import made the tables."""
+        if not os.path.isfile(os.path.join(self.folder, "grid.json")):
+            return reasons
+        grid = exports.known(self.folder).grid
+        return "".join(f"{left_out.with_places(it, grid)}\n" for it in reasons.splitlines())
 
     def do_mode(self, rest: str) -> None:
         found = self.words(".mode", rest, 1)
@@ -340,7 +345,7 @@ def parser() -> argparse.ArgumentParser:
     found = argparse.ArgumentParser(
         prog=NAME, description="Asks for queries at a prompt.",
         epilog="Through a pipe, with -c, and in a file that .read names, the first fault ends it, with the status that sfq run has: 3 the schema, "
-        "4 a table, 5 the query, 6 a file or the output, 7 out of memory; else 0 done, 1 neither the library nor sfq is there, 2 the command line or "
+        "4 a table, 5 the query, 6 a file or the output, 7 out of memory; else 0 done, 1 the library isn't there, 2 the command line or "
         "a command. At a prompt faults end nothing. The manual: man sfq-shell.")
     add = found.add_argument
     add("schema", metavar="SCHEMA", help="the file of CREATE TABLE statements")
@@ -349,7 +354,6 @@ def parser() -> argparse.ArgumentParser:
     add("--mode", choices=tuple(showing.MODES), help="how answers are written (table on a terminal, else csv)")
     add("--all", action="store_true", help="load all tables at the start, and not each when it is first named")
     add("--no-history", action="store_true", help="keep no history of what you typed, $XDG_STATE_HOME/sfq/shell-history")
-    add("--sfq", metavar="PROGRAM", default="", help="run this program for each query, not the library libsfq_tables")
     add("--version", action="version", version=f"{NAME} {__version__}")
     return found
 
@@ -362,7 +366,7 @@ def run(options: argparse.Namespace) -> int:
             it.reconfigure(encoding="utf-8", errors="surrogateescape", newline="\n")
     with open(options.schema, encoding="utf-8", errors="surrogateescape", newline="\n") as file:
         schema = file.read()
-    asker = asking.asker(NAME, options.sfq, [options.schema, options.folder], schema)
+    asker = asking.Asker(NAME, [options.schema, options.folder], schema)
     shell = Shell(asker, schema, options.folder, options.mode or ("table" if sys.stdout.isatty() else "csv"))
     try:
         if options.all:

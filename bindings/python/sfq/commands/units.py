@@ -3,14 +3,16 @@ from __future__ import annotations
 
 import os
 import re
-from typing import Any, Callable, Iterator, NamedTuple
+from typing import Any, Callable, Iterator, NamedTuple, Optional
 
 from ..geometry import grids, texts
-from ..tables import statements
+from ..tables import parts, rules, statements
 from . import exports
 from .asking import Answer
 from .endings import DATA, Stopped
 
+# How many columns a line names.
+MOST_NAMED = 5
 # A position in the text of a geometry.
 POSITION = re.compile(r"(-?\d+) (-?\d+)")
 
@@ -51,11 +53,38 @@ class Folder:
         with open(self.schema_file, encoding="utf-8", errors="surrogateescape", newline="\n") as file:
             self.schema = file.read()
         known = exports.known(path)
-        self.grid, self.tables = known.grid, statements.tables(self.schema)
+        self.grid, self.tables, self.relations = known.grid, statements.tables(self.schema), known.relations
         try:
             self.layers = {str(it["table"]).lower(): layer_of(it) for it in known.layers}
         except (KeyError, TypeError) as error:
             raise Stopped(f"{path}/grid.json isn't one that sfq-import made: {error!r}", DATA) from None
+
+    def choose_columns(self, query: str) -> list[str]:
+        """Has the schema list the columns that a query names, where a table has more of them than sfq takes: they take the place of the last others.
+
+        Returns a line for each table of the query that a `*` shows in part. Stopped where the query names too many.
+        """
+        spelled = [query[it.at : it.end].lower() for it in parts.parts(query)]
+        words, lines = set(spelled), []
+        shows_all = any(it == "*" and spelled[at - 1] != "(" for at, it in enumerate(spelled))
+        named = self.layers_of(query).values()
+        for it in self.tables:
+            layer = self.layers.get(it.name.lower())
+            if layer not in named or layer is None or len(layer.columns) <= rules.MOST_COLUMNS:
+                continue
+            key = str(layer.said["key"])
+            columns = [rules.Column(each["name"], each["source"], each["type"]) for each in layer.columns.values()]
+            chosen = rules.chosen(columns, key, it.columns, words)
+            if len(chosen) > rules.MOST_COLUMNS:
+                raise Stopped(f"the query names {len(chosen)} columns of {it.name}, with its key and geometries, and sfq takes at most {rules.MOST_COLUMNS}", DATA)
+            if {name.lower() for name, _ in it.columns} != {each.name.lower() for each in chosen}:
+                self.schema = self.schema.replace(it.text.rstrip(";\n"), rules.schema(it.name, chosen, key).rstrip(";\n"), 1)
+            left = [each.name for each in columns if each not in chosen]
+            if shows_all:
+                lines.append(f"* leaves out {len(left)} of the {len(columns)} columns of {it.name}, which show where they are named: {', '.join(left[:MOST_NAMED])}"
+                             + (" .." if len(left) > MOST_NAMED else ""))
+        self.tables = statements.tables(self.schema)
+        return lines
 
     def layers_of(self, query: str) -> dict[str, Layer]:
         """Returns the tables that a query names, by their aliases in lower case."""
@@ -63,17 +92,16 @@ class Folder:
         return {alias: self.layers[it.name.lower()] for alias, it in found.items() if it.name.lower() in self.layers}
 
     def returned(self, answer: Answer, query: str) -> Returned:
-        """Returns an answer to a query in the units of the source."""
-        named = statements.references(query, self.tables)
-        return Returned(answer, [self.column(*it, named) for it in zip(answer.headers, answer.types)], self.grid)
+        """Returns an answer to a query, as sfq got it, in the units of the source."""
+        columns = statements.columns(query, self.tables) or [None] * len(answer.types)
+        return Returned(answer, [self.column(*it) for it in zip(answer.types, columns)], self.grid)
 
-    def column(self, header: str, kind: str, named: dict[str, statements.Table]) -> Column:
-        """Returns a column of an answer by its header and its type."""
-        found = statements.column_of(header, named)
-        layer = self.layers.get(found[0].name.lower()) if found else None
+    def column(self, kind: str, of: Optional[statements.Column]) -> Column:
+        """Returns a column of an answer by its type, and the column whose values it has."""
+        layer = self.layers.get(of.table.name.lower()) if of else None
         if kind in exports.GEOMETRIC:
             return Column(kind, self.text, layer.system if layer else None)
-        said = layer.columns.get(found[1].lower()) if layer and found else None
+        said = layer.columns.get(of.name.lower()) if layer and of else None
         known = exports.kind_of(said) if said else kind
         if kind == "INTEGER" and known not in ("INTEGER", "REAL", "TEXT"):
             axis = grids.Scale(known).axis

@@ -1,15 +1,14 @@
-"""Well-known binary of geometries (06-103r4, 8.2), and their well-known text on a grid: none of it is proved.
+"""Well-known binary of geometries (06-103r4, 8.2), and their well-known text on a grid.
 
-GDAL writes the binary form, in the order of bytes that is asked of it, least first. What sfq has no text for is refused here, by the
-words that the text would have.
+The library takes the binary form apart and rounds its positions. What is proved ends there: this file only writes texts. What sfq has
+no text for is refused here, by the words that the text would have.
 """
 from __future__ import annotations
 
-import struct
-from array import array
-from typing import Iterable, NamedTuple, Sequence
+from itertools import islice
+from typing import Any, Iterable, Iterator, NamedTuple, Sequence
 
-from . import grids
+from . import grids, library
 
 WORDS = {1: "POINT", 2: "LINESTRING", 3: "POLYGON", 4: "MULTIPOINT", 5: "MULTILINESTRING", 6: "MULTIPOLYGON"}
 OTHERS = {
@@ -19,7 +18,6 @@ OTHERS = {
 DIMENSIONS = ("", " Z", " M", " ZM")
 # Numbers of types are below the least flag.
 FLAGS = 1 << 29
-SWAPS = struct.pack("=H", 1) != struct.pack("<H", 1)
 
 
 class NoText(ValueError):
@@ -49,95 +47,115 @@ def most_positions(binary: bytes) -> int:
     return len(binary) // 16
 
 
-def numbers(binary: bytes, at: int, count: int) -> array[float]:
-    found = array("d")
-    found.frombytes(binary[at:at + 16 * count])
-    if SWAPS:
-        found.byteswap()
-    return found
-
-
-def head(binary: bytes, at: int) -> tuple[int, int]:
-    """Returns the number of a flat type that sfq has, and the place after it. NoText of another.
+def form_of(code: int) -> str:
+    """Returns the beginning of the text that a geometry of a type would have which sfq hasn't.
 
     A Z or an M is in the number of the type, as GDAL writes it, or in a flag, as GEOS does.
     """
-    (code,) = struct.unpack_from("<I", binary, at + 1)
     kind, dimensions = code % FLAGS % 1000, code % FLAGS // 1000 + (code >> 31) + 2 * (code >> 30 & 1)
-    if kind not in WORDS or dimensions:
-        word = WORDS.get(kind) or OTHERS.get(kind, "GEOMETRY")
-        raise NoText(f"{word}{DIMENSIONS[dimensions] if dimensions < 4 else ''} (")
-    return kind, at + 5
+    word = WORDS.get(kind) or OTHERS.get(kind, "GEOMETRY")
+    return f"{word}{DIMENSIONS[dimensions] if dimensions < 4 else ''} ("
 
 
-def lists(binary: bytes, at: int) -> tuple[list[Numbers], int]:
-    """Returns the lists of positions of a polygon, and the place after them."""
-    (count,), at = struct.unpack_from("<I", binary, at), at + 4
-    found: list[Numbers] = []
-    for _ in range(count):
-        (length,) = struct.unpack_from("<I", binary, at)
-        found.append(numbers(binary, at + 4, length))
-        at += 4 + 16 * length
-    return found, at
+class Taken:
+    """A value that was taken apart into rooms, its positions rounded to a grid, by the status of that. NoText where sfq has no text for it.
+
+    `drops_empty` leaves out empty elements.
+    """
+
+    __slots__ = ("rooms", "kind", "is_finite")
+
+    kind: int
+
+    def __init__(self, rooms: library.Rooms, status: int, drops_empty: bool) -> None:
+        self.rooms, its = rooms, rooms.pieces
+        if status == library.REFUSED:
+            raise ValueError("this is no well-known binary")
+        if status == library.UNKNOWN:
+            raise NoText(form_of(its.type))
+        self.kind, self.is_finite = its.type, status == library.OK
+        if self.kind > 3 and not drops_empty and 0 in self.elements:
+            raise NoText(f"{self.word}(EMPTY")
+
+    @property
+    def word(self) -> str:
+        """The word of the type."""
+        return WORDS[self.kind]
+
+    @property
+    def elements(self) -> list[int]:
+        """How many lines or rings each element has."""
+        return self.rooms.elements[:self.rooms.pieces.element_count]
+
+    @property
+    def lines(self) -> list[int]:
+        """How many positions each line or ring has."""
+        return self.rooms.lines[:self.rooms.pieces.line_count]
+
+    def lists(self) -> Iterator[tuple[list[float], list[float], list[int], list[int]]]:
+        """Yields the doubles of each line or ring, x and y, and their steps."""
+        its, at = self.rooms, 0
+        axes = its.xs, its.ys, its.ns, its.ms
+        for count in self.lines:
+            xs, ys, ns, ms = (of[at:at + count].tolist() for of in axes)
+            yield xs, ys, ns, ms
+            at += count
 
 
-def part(binary: bytes, at: int, kind: int) -> tuple[list[Numbers], int]:
-    """Returns a point, a line or a polygon, and the place after it. A point without coordinates has no list."""
-    if kind == 1:
-        found = numbers(binary, at, 1)
-        return ([] if found[0] != found[0] and found[1] != found[1] else [found]), at + 16
-    if kind == 2:
-        (length,) = struct.unpack_from("<I", binary, at)
-        return ([numbers(binary, at + 4, length)] if length else []), at + 4 + 16 * length
-    return lists(binary, at)
+def parted(lists: Iterable[Any], elements: Iterable[int]) -> list[list[Any]]:
+    """Returns the lists of each element that isn't empty."""
+    each = iter(lists)
+    return [list(islice(each, it)) for it in elements if it]
 
 
-POINT = struct.pack("<BI", 1, 1)
-PAIR = struct.Struct("<dd")
+def taken(binary: bytes, drops_empty: bool) -> Taken:
+    """Takes a value apart into the rooms of this thread, without a grid of its own."""
+    rooms = library.of_thread().rooms
+    return Taken(rooms, rooms.take_apart(binary, None), drops_empty)
+
+
+def kind(binary: bytes) -> int:
+    """Returns the number of the type of a geometry. NoText where sfq has no text for it."""
+    return taken(binary, True).kind
 
 
 def shape(binary: bytes, drops_empty: bool = False) -> Shape:
     """Returns the numbers of a geometry. NoText where sfq has no text for it; `drops_empty` leaves out empty elements."""
-    if binary.startswith(POINT):
-        x, y = PAIR.unpack_from(binary, 5)
-        return Shape("POINT", [] if x != x and y != y else [[(x, y)]])
-    kind, at = head(binary, 0)
-    if kind < 4:
-        found = part(binary, at, kind)[0]
-        return Shape(WORDS[kind], [found] if found else [])
-    (count,), at, parts = struct.unpack_from("<I", binary, at), at + 4, []
-    for _ in range(count):
-        found, at = part(binary, head(binary, at)[1], kind - 3)
-        if found:
-            parts.append(found)
-        elif not drops_empty:
-            raise NoText(f"{WORDS[kind]}(EMPTY")
-    return Shape(WORDS[kind], parts)
+    found = taken(binary, drops_empty)
+    lists = ([number for position in zip(xs, ys) for number in position] for xs, ys, _, _ in found.lists())
+    return Shape(found.word, parted(lists, found.elements))
 
 
-def text(given: Shape, grid: grids.Grid, shift: grids.Shift) -> str:
-    """Returns the canonical text of a geometry whose numbers are rounded to a grid. NotANumber where one of them is none."""
-    word, parts = given
-    if not parts:
+def text(binary: bytes, grid: grids.Grid, shift: grids.Shift, drops_empty: bool = False) -> str:
+    """Returns the canonical text of a geometry whose numbers are rounded to a grid.
+
+    NoText where sfq has none for it, NotANumber where a number is infinite or none. `drops_empty` leaves out empty elements.
+    """
+    its = library.of_thread().rooms
+    status, pieces = its.take_apart(binary, grid.numbers), its.pieces
+    count = pieces.positions
+    if status == library.OK and pieces.type == 1 and count:
+        n, m = its.ns[0], its.ms[0]
+        grid.measure_one(its.xs[0], its.ys[0], n, m, shift)
+        return f"POINT({n} {m})"
+    found = Taken(its, status, drops_empty)
+    if not found.is_finite:
+        raise grids.NotANumber(grids.INFINITE)
+    word = found.word
+    if found.kind == 4 and count:
+        xs, ys, ns, ms = (of[:count].tolist() for of in (its.xs, its.ys, its.ns, its.ms))
+        unique = dict.fromkeys(zip(ns, ms))
+        grid.measure(xs, ys, ns, ms, shift, count - len(unique))
+        return f"MULTIPOINT(({'),('.join('%d %d' % it for it in unique)}))"
+    lists = [f"({grids.spelled(grid.merged(*it, shift))})" for it in found.lists()]
+    spelled = [",".join(it) for it in parted(lists, found.elements)]
+    if not spelled:
         return f"{word} EMPTY"
-    if word == "POINT":
-        return "POINT(%d %d)" % grid.rounded(parts[0][0], shift)[0]
-    if word == "MULTIPOINT":
-        return f"MULTIPOINT(({'),('.join('%d %d' % it for it in points(parts, grid, shift))}))"
-    spelled = [",".join([f"({grids.spelled(grid.rounded(it, shift))})" for it in lists]) for lists in parts]
     if word == "LINESTRING":
         return f"LINESTRING{spelled[0]}"
     if word == "MULTIPOLYGON":
         return f"MULTIPOLYGON(({'),('.join(spelled)}))"
     return f"{word}({','.join(spelled)})"
-
-
-def points(parts: list[list[Numbers]], grid: grids.Grid, shift: grids.Shift) -> Iterable[tuple[int, int]]:
-    """Returns the points of a MULTIPOINT. Those that coincide are merged, wherever they are in the list."""
-    found = grid.rounded(array("d", (number for each in parts for number in each[0])), shift, merges=False)
-    unique = dict.fromkeys(found)
-    shift.merged += len(found) - len(unique)
-    return unique
 
 
 def as_multi(spelled: str) -> str:

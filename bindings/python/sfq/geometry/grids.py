@@ -2,20 +2,31 @@
 
 A coordinate x becomes the whole number n that is nearest to (x - origin) / step. Of two that are as near it is the greater one, so
 that moving the origin by whole steps moves each n by the same number. Step and origin are decimal numbers, and x is the exact value
-of a double: what a quick quotient of doubles leaves open is computed by fractions.
+of a double. The library rounds: what is here measures how far positions moved, and writes coordinates as decimal numbers.
 """
 from __future__ import annotations
 
+import functools
+import itertools
 import math
 import re
+from array import array
 from decimal import Decimal, InvalidOperation
 from fractions import Fraction
 from typing import Any, Iterable, Sequence
+
+from . import library
 
 # The greatest coordinate of sfq, either way.
 MOST = 10_000_000
 # Quotients up to here are taken by doubles.
 QUICK = 11_000_000
+# Whole numbers below this are doubles.
+EXACT = 2**53
+# The most parts of a step or a unit, and of an origin.
+MOST_PARTS, FARTHEST = 10**15, 2**63 - 1
+# What is said of a position that has no place.
+INFINITE = "a coordinate is infinite or no number"
 # A decimal number, as a double is written.
 NUMBER = re.compile(r"[+-]?(\d+\.?\d*|\.\d+)([eE][+-]?\d{1,3})?")
 
@@ -49,11 +60,22 @@ class Axis:
         # A quotient of doubles is off by less than 8 * 2**-53 of this sum.
         self.doubt = float((abs(self.origin) / self.step + QUICK) / 2**50)
 
-    def nearest(self, value: float) -> tuple[int, float]:
-        """Returns the nearest coordinate of a double, by fractions, and how many steps the double is past it."""
-        quotient = (Fraction(value) - self.origin) / self.step
-        found = math.floor(quotient + Fraction(1, 2))
-        return found, float(quotient - found)
+    def beside(self, value: float, whole: int) -> float:
+        """Returns how many steps a double is past a coordinate that it is about at: 0 where no double is nearer to that.
+
+        Such a double is written as the decimal number of the coordinate, so reading it back moves nothing.
+        """
+        step, origin = self.scaled
+        above, below = origin + whole * step, 10**self.digits
+        return 0.0 if above / below == value else float((Fraction(value) - Fraction(above, below)) / self.step)
+
+    def are_at(self, values: Any, wholes: Any) -> Any:
+        """Returns where `beside` is 0 of arrays of doubles and of whole coordinates, among those whose numbers a double holds exactly."""
+        (step, origin), below = self.scaled, 10**self.digits
+        if max(step, abs(origin), below) >= EXACT:
+            return values != values
+        steps = wholes * step
+        return (abs(steps) < EXACT - abs(origin)) & ((origin + steps) / below == values)
 
     def text(self, whole: int) -> str:
         """Returns the number of the source at a coordinate, with as many digits as the step and the origin have."""
@@ -66,14 +88,18 @@ class Axis:
 
 
 class Shift:
-    """How far positions moved when they were rounded, in units of the source. What is below the error of a double counts as 0."""
+    """How far positions moved when they were rounded, in units of the source.
+
+    A position didn't move if no doubles are nearer to its place on the grid than its own.
+    """
 
     def __init__(self) -> None:
-        self.positions, self.merged, self.greatest, self.total = 0, 0, 0.0, 0.0
+        self.positions, self.moved, self.merged, self.greatest, self.total = 0, 0, 0, 0.0, 0.0
 
-    def add(self, positions: int, merged: int, greatest: float, total: float) -> None:
+    def add(self, positions: int, moved: int, merged: int, greatest: float, total: float) -> None:
         """Takes in what some positions moved."""
         self.positions += positions
+        self.moved += moved
         self.merged += merged
         self.greatest = greatest
         self.total += total
@@ -82,6 +108,14 @@ class Shift:
     def mean(self) -> float:
         """The mean of the distances."""
         return self.total / self.positions if self.positions else 0.0
+
+    @property
+    def said(self) -> str:
+        """What a report says of it."""
+        merged = f"{self.merged:,} merged"
+        if not self.moved:
+            return f"nothing moved, {merged}"
+        return f"{self.moved:,} of {self.positions:,} positions moved by at most {self.greatest:.3g}, {self.mean:.3g} in the mean, {merged}"
 
 
 class Scale:
@@ -110,6 +144,34 @@ class Scale:
         return str(found)
 
 
+# A double of so many digits, with so many behind the point, was read from the decimal number that it is written as.
+MOST_DIGITS, MOST_PLACES = 15, 12
+
+
+class Places:
+    """How many digits behind the point the decimal numbers of a column need."""
+
+    def __init__(self) -> None:
+        self.count, self.places, self.unit, self.greatest, self.are_decimal = 0, 0, 1, 0.0, True
+
+    def add(self, value: float) -> None:
+        """Takes a number."""
+        self.count += 1
+        if not self.are_decimal or not math.isfinite(value):
+            self.are_decimal = False
+            return
+        if round(value * self.unit) / self.unit != value:
+            self.places = max(self.places, -int(Decimal(repr(value)).normalize().as_tuple().exponent))
+            self.unit = 10**self.places
+        self.greatest = max(self.greatest, abs(value))
+        self.are_decimal = self.places <= MOST_PLACES and self.greatest * self.unit < 10**MOST_DIGITS
+
+    @property
+    def step(self) -> str:
+        """The size of a step that has each of them; nothing where there is none, or where a number has too many digits."""
+        return f"{Decimal(1).scaleb(-self.places):f}" if self.count and self.are_decimal else ""
+
+
 class Grid:
     """A grid: the size of a step, and where its 0 0 is in the source."""
 
@@ -118,7 +180,11 @@ class Grid:
         if found <= 0:
             raise ValueError(f"the step {step} isn't greater than 0")
         self.spelled = step, tuple(origin)
-        self.x, self.y = (Axis(found, decimal(it)) for it in origin)
+        self.x, self.y = x, y = [Axis(found, decimal(it)) for it in origin]
+        (size, left), (_, low) = x.of_doubles, y.of_doubles
+        # What measuring needs: the step and the origin, what the quotients of doubles are sure of, and whole numbers of each axis.
+        wholes_x, wholes_y = (*x.scaled, 10**x.digits), (*y.scaled, 10**y.digits)
+        self.of_doubles = size, left, low, x.doubt, y.doubt, 0.5 - x.doubt, 0.5 - y.doubt, wholes_x, wholes_y
 
     @classmethod
     def of_file(cls, found: Any) -> Grid:
@@ -132,47 +198,103 @@ class Grid:
         step, x, y = (int(it * parts) for it in (self.x.step, self.x.origin, self.y.origin))
         return step, x, y, parts
 
+    def check(self) -> None:
+        """ValueError where the step or the origin has too many digits for the library."""
+        step, x, y, parts = self.in_parts()
+        if max(step, parts) > MOST_PARTS or max(abs(x), abs(y)) > FARTHEST:
+            raise ValueError("the step or the origin has too many digits")
+
+    @functools.cached_property
+    def numbers(self) -> Any:
+        """The grid as the library takes it. ValueError where the step or the origin has too many digits."""
+        self.check()
+        return library.grid_of(*self.in_parts())
+
+    def steps(self, numbers: Sequence[float]) -> Sequence[int]:
+        """Returns the steps that are nearest to doubles, an x and a y for each position. NotANumber where a double is none."""
+        found = library.rounded(self.numbers, array("d", numbers))
+        if found is None:
+            raise NotANumber(INFINITE)
+        return found
+
     def rounded(self, numbers: Sequence[float], shift: Shift, merges: bool = True) -> list[tuple[int, int]]:
         """Returns the positions of doubles, an x and a y for each, and counts how far they moved.
 
-        `merges` drops a position that is the same as the one before it. NotANumber where a double is none.
+        `merges` drops a position that is the same as the one before it. A coordinate past the limit is another that is past it.
+        NotANumber where a double is none.
         """
-        try:
-            return self.merged(numbers, shift, merges)
-        except (ValueError, OverflowError):
-            raise NotANumber("a coordinate is infinite or no number") from None
+        steps = self.steps(numbers)
+        return self.merged(numbers[::2], numbers[1::2], steps[::2], steps[1::2], shift, merges)
 
-    def merged(self, numbers: Sequence[float], shift: Shift, merges: bool) -> list[tuple[int, int]]:
-        """The same, with the error that Python has for a double that is no number."""
-        (step, left), (_, low) = self.x.of_doubles, self.y.of_doubles
-        doubt_x, doubt_y, floor = self.x.doubt, self.y.doubt, math.floor
-        found: list[tuple[int, int]] = []
-        before, greatest, total = None, shift.greatest / step, 0.0
-        for x, y in zip(numbers[::2], numbers[1::2]):
-            past_x, past_y = (x - left) / step, (y - low) / step
-            n, m = floor(past_x + 0.5), floor(past_y + 0.5)
-            past_x -= n
-            past_y -= m
-            # What is this near to a half, or this far away, is left to fractions; what is this near to a whole number is on the grid.
-            if doubt_x - 0.5 < past_x < 0.5 - doubt_x and -QUICK < n < QUICK:
-                past_x = past_x if past_x > doubt_x or past_x < -doubt_x else 0.0
-            else:
-                n, past_x = self.x.nearest(x)
-            if doubt_y - 0.5 < past_y < 0.5 - doubt_y and -QUICK < m < QUICK:
-                past_y = past_y if past_y > doubt_y or past_y < -doubt_y else 0.0
-            else:
-                m, past_y = self.y.nearest(y)
-            if past_x or past_y:
-                moved = math.hypot(past_x, past_y)
-                total += moved
-                greatest = max(greatest, moved)
-            position = (n, m)
-            if position != before or not merges:
-                found.append(position)
-                before = position
-        count = len(numbers) // 2
-        shift.add(count, count - len(found), greatest * step, total * step)
+    def merged(
+        self, xs: Sequence[float], ys: Sequence[float], ns: Sequence[int], ms: Sequence[int], shift: Shift, merges: bool = True,
+    ) -> list[tuple[int, int]]:
+        """Returns the positions of these steps, to which these doubles were rounded, and counts how far they moved."""
+        found = list(zip(ns, ms))
+        if merges:
+            found = [it for it, _ in itertools.groupby(found)]
+        self.measure(xs, ys, ns, ms, shift, len(ns) - len(found))
         return found
+
+    def measure(
+        self, xs: Sequence[float], ys: Sequence[float], ns: Sequence[int], ms: Sequence[int], shift: Shift, merged: int,
+    ) -> None:
+        """Counts how far doubles moved to these steps. A position that is past the limit has no place to which it moved."""
+        step, left, low, doubt_x, doubt_y, half_x, half_y, steps_x, steps_y = self.of_doubles
+        (size_x, x_0, parts_x), (size_y, y_0, parts_y) = steps_x, steps_y
+        hypot, moved, greatest, total, count = math.hypot, 0, shift.greatest / step, 0.0, len(ns)
+        if count and max(max(ns), max(ms)) > MOST:
+            within = [at for at in range(count) if ns[at] <= MOST and ms[at] <= MOST]
+            xs, ys, ns, ms = [xs[at] for at in within], [ys[at] for at in within], [ns[at] for at in within], [ms[at] for at in within]
+        for x, y, n, m in zip(xs, ys, ns, ms):
+            # What is about on the grid, or about between two places, is left to fractions.
+            past_x, past_y = (x - left) / step - n, (y - low) / step - m
+            if not (doubt_x < past_x < half_x or -half_x < past_x < -doubt_x):
+                past_x = 0.0 if (x_0 + n * size_x) / parts_x == x else self.x.beside(x, n)
+            if not (doubt_y < past_y < half_y or -half_y < past_y < -doubt_y):
+                past_y = 0.0 if (y_0 + m * size_y) / parts_y == y else self.y.beside(y, m)
+            if past_x or past_y:
+                distance = hypot(past_x, past_y)
+                moved += 1
+                total += distance
+                if distance > greatest:
+                    greatest = distance
+        shift.add(count, moved, merged, greatest * step, total * step)
+
+    def measure_one(self, x: float, y: float, n: int, m: int, shift: Shift) -> None:
+        """Counts how far a position moved to these steps, as `measure` does."""
+        if n > MOST or m > MOST:
+            shift.positions += 1
+            return
+        step, left, low, doubt_x, doubt_y, half_x, half_y, _, _ = self.of_doubles
+        past_x, past_y = (x - left) / step - n, (y - low) / step - m
+        if not (doubt_x < past_x < half_x or -half_x < past_x < -doubt_x):
+            past_x = self.x.beside(x, n)
+        if not (doubt_y < past_y < half_y or -half_y < past_y < -doubt_y):
+            past_y = self.y.beside(y, m)
+        distance = math.hypot(past_x, past_y)
+        shift.add(1, distance > 0, 0, max(shift.greatest / step, distance) * step, distance * step)
+
+
+def moves(positions: Any, grid: Grid) -> Any:
+    """Returns how far each position moves, by an array of numpy with an x and a y in each row: 0 where no doubles are nearer to its place."""
+    import numpy
+
+    steps = library.rounded(grid.numbers, array("d", positions.astype(float).tobytes()))
+    if steps is None:
+        raise NotANumber(INFINITE)
+    wholes, past = numpy.frombuffer(steps, dtype=numpy.int32).reshape(positions.shape).astype(float), numpy.zeros(positions.shape)
+    for at, axis in enumerate((grid.x, grid.y)):
+        values, whole, (step, origin) = positions[:, at], wholes[:, at], axis.of_doubles
+        found = (values - origin) / step - whole
+        # Where no doubles are nearer to a place, they don't move. What else is about on the grid, or about between two places, is left to
+        # fractions.
+        on_grid = axis.are_at(values, whole)
+        unsure = ~((abs(found) > axis.doubt) & (abs(found) < 0.5 - axis.doubt)) & ~on_grid
+        found[on_grid] = 0.0
+        found[unsure] = [axis.beside(float(it), int(n)) for it, n in zip(values[unsure], whole[unsure])]
+        past[:, at] = found * step
+    return numpy.hypot(past[:, 0], past[:, 1])
 
 
 def spelled(positions: Iterable[tuple[int, int]]) -> str:

@@ -7,16 +7,17 @@ time, by a lock of its own, which knows the process (`forks.py`), and is freed w
 """
 from __future__ import annotations
 
-import contextlib
 import ctypes
 import functools
 import operator
 import os
-from typing import Any, Callable, Iterable, Iterator, Optional, Sequence
+import threading
+from array import array
+from typing import Any, Callable, Iterator, Optional, Sequence
 
 from . import apart
 from .faults import Fault, FaultError, LibraryError, PositionFault
-from .forks import Held
+from .forks import Held, alone
 
 OK, REFUSED, OUT_OF_MEMORY, UNKNOWN, TOO_SMALL, NONE = 0, 1, 3, 4, 5, 6
 # How much one call takes of values, of geometries of a join and of pairs, so that Ctrl-C need not wait for all.
@@ -70,10 +71,13 @@ def load(name: str, declares: Callable[[ctypes.CDLL], ctypes.CDLL]) -> ctypes.CD
         except AttributeError as error:
             tried.append(f"{place} isn't the library that this package needs: {error}")
     path = "its path" if name == NAME else f"the path of {NAME} beside it"
-    raise LibraryError(
-        f"sfq: no {name}: install it by `./build --library` and `./build --install PREFIX`, "
-        f"or set SFQ_LIBRARY to {path} ({'; '.join(tried)})"
-    )
+    raise LibraryError(f"sfq: no {name}: {remedy()}, or set SFQ_LIBRARY to {path} ({'; '.join(tried)})")
+
+
+def remedy() -> str:
+    """Returns the command by which the libraries come where this package looks for them."""
+    build = os.path.normpath(os.path.join(os.path.dirname(os.path.abspath(__file__)), *[os.pardir] * 4, "build"))
+    return f"build it by `{build} --library`" if os.path.isfile(build) else "install it by `./build --library` and `./build --install PREFIX`"
 
 
 @functools.lru_cache(maxsize=None)
@@ -104,8 +108,17 @@ class CShift(ctypes.Structure):
     """The struct sfq_shift: what rounding did."""
 
     _fields_ = [
-        ("positions", ctypes.c_size_t), ("moved", ctypes.c_size_t), ("merged", ctypes.c_size_t),
-        ("greatest", ctypes.c_double), ("total", ctypes.c_double),
+        ("positions", ctypes.c_size_t), ("moved", ctypes.c_size_t), ("merged", ctypes.c_size_t), ("greatest", ctypes.c_double),
+    ]
+
+
+class CPieces(ctypes.Structure):
+    """The struct sfq_pieces: what a value of well-known binary has, and the rooms for it."""
+
+    _fields_ = [
+        *((it, ctypes.c_void_p) for it in ("coordinates", "lines", "elements")),
+        *((it, ctypes.c_size_t) for it in ("most_positions", "most_lines", "most_elements", "positions", "line_count", "element_count")),
+        ("type", ctypes.c_uint32), ("steps", ctypes.c_void_p),
     ]
 
 
@@ -140,11 +153,13 @@ def declare_many(found: ctypes.CDLL) -> ctypes.CDLL:
     many, count, number = ctypes.c_void_p, ctypes.c_size_t, ctypes.c_uint32
     found.sfq_read_binaries.argtypes = [ctypes.POINTER(CGrid), ctypes.c_void_p, many, count, many, many, many, many, many]
     found.sfq_binaries_extent.argtypes = [ctypes.c_void_p, many, count, ctypes.c_double * 4]
+    found.sfq_take_apart.argtypes = [ctypes.POINTER(CGrid), ctypes.c_char_p, count, ctypes.POINTER(CPieces), ctypes.POINTER(CFault)]
+    found.sfq_round.argtypes = [ctypes.POINTER(CGrid), many, count, many, ctypes.POINTER(count)]
     found.sfq_free_many.argtypes, found.sfq_free_many.restype = [many, count], None
     found.sfq_holds_many.argtypes = [number, many, many, count, many, many]
     found.sfq_index_geometries.argtypes = [many, count, ctypes.POINTER(CIndex)]
     found.sfq_join.argtypes = [number, many, many, count, many, count, ctypes.POINTER(CIndex), many, count, many]
-    for name in ("read_binaries", "binaries_extent", "holds_many", "index_geometries", "join"):
+    for name in ("read_binaries", "binaries_extent", "take_apart", "round", "holds_many", "index_geometries", "join"):
         getattr(found, f"sfq_{name}").restype = ctypes.c_int
     return found
 
@@ -183,8 +198,7 @@ class Kept(Held):
         """The text's first fault, or None; it is read once."""
         found = self._found
         if found is None:
-            with self:
-                found = self._find()
+            found = self.alone(self._find)
         return found[0]
 
     def _find(self) -> tuple[Optional[Fault]]:
@@ -207,8 +221,7 @@ class Kept(Held):
 
     def canonical(self) -> str:
         """Returns the canonical text of a valid geometry."""
-        with self:
-            return handed_out(lambda *room: library().sfq_text(ctypes.byref(self.geometry), *room))
+        return self.alone(lambda: handed_out(lambda *room: library().sfq_text(ctypes.byref(self.geometry), *room)))
 
     def reason(self) -> str:
         """Returns the line that says whether the geometry is valid, and where not. The text has to spell a geometry."""
@@ -279,21 +292,10 @@ def need_valid(first: Kept, second: Kept, index: Optional[int] = None) -> None:
             raise FaultError(kept.fault, which, index)
 
 
-@contextlib.contextmanager
-def held(all_kept: Iterable[Kept]) -> Iterator[None]:
-    """Has these geometries serve no other call meanwhile. All are taken in one order, so that no two calls wait for each other."""
-    with contextlib.ExitStack() as locks:
-        for kept in sorted({id(it): it for it in all_kept}.values(), key=id):
-            locks.enter_context(kept)
-        yield
-
-
 def ask(first: Kept, second: Kept, call: Callable[..., int], *words: Any) -> None:
     """Calls the library with two geometries. FaultError for the first that is refused."""
     need_valid(first, second)
-    with held((first, second)):
-        status = call(*words[:-1], ctypes.byref(first.geometry), ctypes.byref(second.geometry), words[-1])
-    need_ok(status)
+    need_ok(alone((first, second), lambda: call(*words[:-1], ctypes.byref(first.geometry), ctypes.byref(second.geometry), words[-1])))
 
 
 def need_ok(status: int) -> None:
@@ -306,9 +308,12 @@ def relate_many(pairs: Sequence[tuple[Kept, Kept]]) -> list[str]:
     for index, pair in enumerate(pairs):
         need_valid(pair[0], pair[1], index)
     count = len(pairs)
-    with held(kept for pair in pairs for kept in pair):
+
+    def call() -> list[str]:
         firsts, seconds = ((ctypes.c_void_p * count)(*(ctypes.addressof(it[side].geometry) for it in pairs)) for side in (0, 1))
         return relate_addresses(firsts, seconds, count)
+
+    return alone((kept for pair in pairs for kept in pair), call)
 
 
 def relate_points(coordinates: Any, others: Sequence[Kept]) -> list[str]:
@@ -318,9 +323,12 @@ def relate_points(coordinates: Any, others: Sequence[Kept]) -> list[str]:
             raise FaultError(kept.fault, "second", index)
     count = len(others)
     room, done = ctypes.create_string_buffer(9 * count + 1), ctypes.c_size_t()
-    with held(others):
+
+    def call() -> int:
         side = (ctypes.c_void_p * count)(*(ctypes.addressof(it.geometry) for it in others))
-        status = library().sfq_relate_points(coordinates, side, count, room, ctypes.byref(done))
+        return int(library().sfq_relate_points(coordinates, side, count, room, ctypes.byref(done)))
+
+    status = alone(others, call)
     if status == REFUSED:
         raise FaultError(PositionFault("W3", 0, 0), "first", done.value)
     need_ok(status)
@@ -337,8 +345,7 @@ def locate_many(kept: Kept, coordinates: Any, count: int, places: Any) -> None:
     if kept.fault:
         raise FaultError(kept.fault)
     done = ctypes.c_size_t()
-    with held((kept,)):
-        status = library().sfq_locate_many(ctypes.byref(kept.geometry), coordinates, count, places, ctypes.byref(done))
+    status = kept.alone(lambda: int(library().sfq_locate_many(ctypes.byref(kept.geometry), coordinates, count, places, ctypes.byref(done))))
     if status == UNKNOWN:
         raise ValueError(f"sfq: position {done.value} is past 10,000,000 either way: scale the coordinates to the grid")
     need_ok(status)
@@ -348,8 +355,7 @@ def ask_one(kept: Kept, call: Callable[..., int], found: Any) -> int:
     """Calls the library with one geometry. FaultError where it is refused."""
     if kept.fault:
         raise FaultError(kept.fault)
-    with held((kept,)):
-        return call(ctypes.byref(kept.geometry), found)
+    return kept.alone(lambda: call(ctypes.byref(kept.geometry), found))
 
 
 def dimension(kept: Kept) -> int:
@@ -391,8 +397,7 @@ def holds(relation: int, first: Kept, second: Kept) -> bool:
 def why(first: Kept, second: Kept) -> str:
     """Returns the nine lines that show the cells of the matrix. Those of large geometries are made in a process of their own."""
     need_valid(first, second)
-    with held((first, second)):
-        return bounded_why(first.geometry, second.geometry, first.most_positions() * second.most_positions())
+    return alone((first, second), lambda: bounded_why(first.geometry, second.geometry, first.most_positions() * second.most_positions()))
 
 
 def bounded_why(one: CGeometry, two: CGeometry, most_pairs: int) -> str:
@@ -432,29 +437,32 @@ class KeptIndex(Held):
 
     def close(self) -> None:
         """Frees the index. Closing it again does nothing."""
-        if self.is_lost:
-            return
-        with self:
-            if self.index.kept is not None:
-                library().sfq_index_free(ctypes.byref(self.index))
+        if not self.is_lost:
+            self.alone(self._free)
+
+    def _free(self) -> None:
+        if self.index.kept is not None:
+            library().sfq_index_free(ctypes.byref(self.index))
 
     def renew(self) -> None:
         raise ValueError("sfq: another thread was searching this index when the process was forked: make it anew")
 
     def search(self, window: Any) -> list[int]:
         """Returns the positions, ascending, of the envelopes that meet a window. ValueError where it is no window, or all is closed."""
+        return self.alone(functools.partial(self._search, window))
+
+    def _search(self, window: Any) -> list[int]:
+        if self.index.kept is None:
+            raise ValueError("sfq: the index is closed")
         found = ctypes.c_size_t()
-        with self:
-            if self.index.kept is None:
-                raise ValueError("sfq: the index is closed")
+        status = self._ask(window, found)
+        if status == TOO_SMALL:
+            self.room = (ctypes.c_size_t * found.value)()
             status = self._ask(window, found)
-            if status == TOO_SMALL:
-                self.room = (ctypes.c_size_t * found.value)()
-                status = self._ask(window, found)
-            if status == UNKNOWN:
-                raise ValueError("sfq: the window has a least bound past its greatest, or one past 10,000,000 either way")
-            need_ok(status)
-            return self.room[:found.value]
+        if status == UNKNOWN:
+            raise ValueError("sfq: the window has a least bound past its greatest, or one past 10,000,000 either way")
+        need_ok(status)
+        return self.room[:found.value]
 
     def _ask(self, window: Any, found: Any) -> int:
         index = ctypes.byref(self.index)
@@ -486,6 +494,69 @@ class Binaries:
             return None
         need_ok(status)
         return found[0], found[1], found[2], found[3]
+
+
+class Rooms:
+    """What well-known binary has: the library takes it apart. The next value overwrites the last one's pieces."""
+
+    __slots__ = ("pieces", "given", "call", "coordinates", "steps", "lines", "elements", "xs", "ys", "ns", "ms")
+
+    def __init__(self) -> None:
+        self.pieces = CPieces()
+        self.call, self.given = library().sfq_take_apart, ctypes.byref(self.pieces)
+        self.grow(2_048, 256, 256)
+
+    def grow(self, positions: int, lines: int, elements: int) -> None:
+        """Makes the rooms for so many positions, lines and elements."""
+        its = self.pieces
+        self.coordinates, self.steps = (ctypes.c_double * (2 * positions))(), (ctypes.c_int32 * (2 * positions))()
+        self.lines, self.elements = (ctypes.c_size_t * lines)(), (ctypes.c_size_t * elements)()
+        doubles: Any = memoryview(self.coordinates).cast("B").cast("d")
+        wholes: Any = memoryview(self.steps).cast("B").cast("i")
+        # The doubles and the steps of each axis.
+        self.xs, self.ys, self.ns, self.ms = doubles[::2], doubles[1::2], wholes[::2], wholes[1::2]
+        its.most_positions, its.most_lines, its.most_elements = positions, lines, elements
+        its.coordinates, its.steps = ctypes.addressof(self.coordinates), ctypes.addressof(self.steps)
+        its.lines, its.elements = ctypes.addressof(self.lines), ctypes.addressof(self.elements)
+
+    def take_apart(self, binary: bytes, grid: Any) -> int:
+        """Takes a value apart, and rounds its positions to a grid. Returns the status. The pieces say how much there is in which room."""
+        its = self.pieces
+        status = int(self.call(grid, binary, len(binary), self.given, None))
+        if status == TOO_SMALL:
+            self.grow(*(2 * it for it in (its.positions, its.line_count, its.element_count)))
+            status = int(self.call(grid, binary, len(binary), self.given, None))
+        if status == OUT_OF_MEMORY:
+            raise MemoryError("sfq: out of memory")
+        return status
+
+
+class OfThread(threading.local):
+    """The rooms of each thread."""
+
+    def __init__(self) -> None:
+        self.rooms = Rooms()
+
+
+@functools.lru_cache(maxsize=None)
+def of_thread() -> OfThread:
+    """Returns what has the rooms of this thread, made when they are first needed."""
+    return OfThread()
+
+
+def grid_of(step: int, x: int, y: int, parts: int) -> Any:
+    """Returns a grid as calls take it."""
+    return ctypes.byref(CGrid(step, x, y, parts))
+
+
+def rounded(grid: Any, numbers: array[float]) -> Optional[array[int]]:
+    """Returns the steps of a grid that are nearest to positions, an x and a y each; None where a number is infinite or none."""
+    found = array("i", bytes(4 * len(numbers)))
+    status = library().sfq_round(grid, numbers.buffer_info()[0], len(numbers) // 2, found.buffer_info()[0], None)
+    if status == REFUSED:
+        return None
+    need_ok(status)
+    return found
 
 
 class KeptMany:

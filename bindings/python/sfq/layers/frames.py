@@ -1,7 +1,9 @@
 """Columns of geometries of GeoPandas on a grid, what becomes of them, and what is said of it. None of it is proved."""
 from __future__ import annotations
 
+import contextlib
 import ctypes
+import functools
 import re
 import warnings
 from decimal import Decimal
@@ -14,14 +16,14 @@ import shapely
 
 from ..geometry import binary, grids, library
 from ..geometry.shapes import Geometry
-from . import proposing
+from . import proposing, relating
 
 # The step that stands for one that is proposed.
 AUTO = "auto"
 # A collection of nothing, which shapely before 2.0 may also write for an empty geometry of another type.
 NOTHING = b"\x01\x07\0\0\0\0\0\0\0"
 # An empty point. sfq takes no collections, and that of nothing is the same set of points.
-NO_POINT = b"\x01\x01\0\0\0" + binary.PAIR.pack(float("nan"), float("nan"))
+NO_POINT = b"\x01\x01\0\0\0" + 2 * b"\0\0\0\0\0\0\xf8\x7f"
 # How many refused rows a message names.
 NAMED = 3
 # A position in a line that says what shows something, a coordinate as n or n/d.
@@ -29,6 +31,9 @@ POSITION = re.compile(r"(-?\d+(?:/\d+)?) (-?\d+(?:/\d+)?)")
 UNITS = grids.Grid("1")
 # A point in well-known binary, least byte first (06-103r4, 8.2).
 POINT = numpy.dtype([("order", "u1"), ("kind", "<u4"), ("position", "<f8", 2)])
+
+# The number that shapely gives to a GEOMETRYCOLLECTION; those of what sfq takes are less.
+COLLECTION = 7
 
 Step = Union[str, float, None]
 Origin = Optional[Sequence[Union[str, float]]]
@@ -126,12 +131,36 @@ def empty(shape: Any) -> bytes:
     return NO_POINT if kind == 1 else b"\x01" + kind.to_bytes(4, "little") + bytes(4)
 
 
+def are_plain(shapes: Any) -> bool:
+    """Whether shapely, from 2.0 on, gives the positions of all shapes at once as they are read here: no collections, and no Z."""
+    if not hasattr(shapely, "get_coordinates"):
+        return False
+    return bool((shapely.get_type_id(shapes) < COLLECTION).all() and (shapely.get_coordinate_dimension(shapes) < 3).all())
+
+
 class Column:
     """The geometries of a GeoSeries on a grid: those that the library keeps, those that it refuses, and those that are missing."""
 
     def __init__(self, side: str, series: Any, flat: bool) -> None:
         self.side, self.series, self.shapes = side, series, numpy.asarray(series.values, dtype=object)
         self.binaries = binaries(self.shapes, flat)
+
+    def take_decimals(self, decimals: proposing.Decimals) -> None:
+        """Has the coordinates be counted, as long as one grid could have them all."""
+        if isinstance(self.binaries, Points):
+            decimals.add_all(self.binaries.points["position"])
+            return
+        if are_plain(self.shapes):
+            decimals.add_all(shapely.get_coordinates(self.shapes))
+            return
+        for at in range(len(self.binaries)):
+            if not decimals.is_exact:
+                return
+            given = self.binaries[at]
+            with contextlib.suppress(binary.NoText):
+                for part in binary.shape(given, drops_empty=True).parts if given else ():
+                    for numbers in part:
+                        decimals.add(numbers)
 
     def keep(self, grid: Optional[grids.Grid]) -> None:
         """Reads the geometries, rounded to a grid, or as they are where that is None."""
@@ -153,7 +182,7 @@ class Column:
             return "valid"
         if self.statuses[place] == library.UNKNOWN or self.kept.fault(place).code[0] == "W":
             return self.reason(place)
-        text = binary.text(binary.shape(self.binaries[place]), self.grid or UNITS, grids.Shift())
+        text = binary.text(self.binaries[place], self.grid or UNITS, grids.Shift())
         code, colon, shown = Geometry(text).reason.partition(": ")
         return code + colon + in_source(shown, self.grid)
 
@@ -169,12 +198,43 @@ class Column:
         """Whether a geometry is kept that isn't empty."""
         return any(not it.is_empty for it in self.shapes[self.is_kept])
 
+    @functools.cached_property
+    def shift(self) -> grids.Shift:
+        """How far positions moved. The library counts those that are about on the grid as on it; here a position that moved at all counts."""
+        found, shift = self.kept.shift, grids.Shift()
+        shift.add(found.positions, found.moved, found.merged, found.greatest, 0.0)
+        if self.grid is not None and found.moved < found.positions:
+            moves = grids.moves(self.coordinates(), self.grid)
+            little = moves[moves > 0]
+            if len(little) > found.moved:
+                shift.moved, shift.greatest = len(little), max(found.greatest, float(little.max()))
+        return shift
+
+    def coordinates(self) -> Any:
+        """Returns the positions of the geometries that are kept, as rows of an x and a y."""
+        if isinstance(self.binaries, Points):
+            return self.binaries.points["position"][self.is_kept]
+        if hasattr(shapely, "get_coordinates"):
+            return shapely.get_coordinates(self.shapes[self.is_kept])
+        lists = []
+        for at in numpy.flatnonzero(self.is_kept):
+            for part in binary.shape(self.binaries[at]).parts:
+                lists += [numpy.asarray(it, dtype=float) for it in part]
+        return numpy.concatenate(lists).reshape(-1, 2) if lists else numpy.zeros((0, 2))
+
+    def members(self) -> list[relating.Member]:
+        """Returns what is compared of the geometries that are kept, of which empty ones meet none."""
+        bounds = self.series.bounds.to_numpy()
+        return [
+            relating.Member(self.series.index[at], self.binaries[at], self.kept.address(int(at)), (x, right, y, top), self.grid or UNITS)
+            for at in numpy.flatnonzero(self.is_kept) for x, y, right, top in (map(float, bounds[at]),) if x == x
+        ]
+
     def said(self) -> dict[str, Any]:
         """Returns what became of the positions and of the geometries."""
-        shift = self.kept.shift
-        mean = shift.total / shift.positions if shift.positions else 0.0
+        shift = self.shift
         return {
-            "positions": shift.positions, "moved": shift.moved, "greatest": shift.greatest, "mean": mean, "merged": shift.merged,
+            "positions": shift.positions, "moved": shift.moved, "greatest": shift.greatest, "merged": shift.merged,
             "left_out": len(self.refused),
         }
 
@@ -247,7 +307,10 @@ def grid_for(columns: Sequence[Column], step: Step, origin: Origin) -> Optional[
     try:
         if spelled and given:
             return grids.Grid(spelled, given)
-        return proposing.proposed(extent_of(columns), metres(system), spelled, ",".join(given))
+        decimals = proposing.Decimals()
+        for it in columns if not spelled else ():
+            it.take_decimals(decimals)
+        return proposing.proposed(extent_of(columns), metres(system), spelled, ",".join(given), decimals)
     except ValueError as error:
         raise ValueError(f"sfq: {error}") from None
 
@@ -312,11 +375,11 @@ def report(columns: dict[str, Column], options: Options, level: int) -> dict[str
     """Returns what is said of columns on one grid, and warns the frame of this level where a position moved."""
     each = list(dict.fromkeys(columns.values()))
     step, origin = each[0].grid.spelled if each[0].grid else (None, None)
-    if any(it.kept.shift.moved for it in each):
+    if any(it.shift.moved for it in each):
         proposed = "proposed " * (options.step == AUTO)
         words = [f"rounded to the {proposed}step {step} from the origin {','.join(origin or ())}"]
         for side, it in ((column.side, column.said()) for column in each):
             words.append(f"{side}: {it['moved']:,} of {it['positions']:,} positions moved by at most {it['greatest']:.3g}, "
-                         f"{it['mean']:.3g} in the mean, {it['merged']:,} merged")
+                         f"{it['merged']:,} merged")
         warnings.warn(f"sfq: {'; '.join(words)}", RoundingWarning, stacklevel=level)
     return {"step": step, "origin": origin and list(origin), **{side: it.said() for side, it in columns.items()}}

@@ -6,6 +6,7 @@ reference system.
 from __future__ import annotations
 
 import contextlib
+import math
 import os
 import re
 import sys
@@ -144,6 +145,10 @@ class Layer:
         self.shapes = [self.own(it) for it in range(self.described.GetGeomFieldCount())]
         # The reference system, and the column that is read as geometries and is none of the others.
         self.reference, self.hidden = layer.GetSpatialRef(), ""
+        # The columns that are kept, where not all are.
+        self.kept: Sequence[str] = ()
+        # The size of a step of each column whose decimal numbers become whole ones by themselves.
+        self.steps: dict[str, str] = {}
         # The geometries that GDAL makes of texts: it only warns of a text that it can't read, from version 3.10 on.
         self.spelled = self.columns_of_texts() if source.is_of_texts else []
 
@@ -163,8 +168,9 @@ class Layer:
         return [(at, named[it.name]) for at, it in enumerate(self.shapes) if it.name in named]
 
     def columns(self) -> list[tuple[int, str]]:
-        """Returns the place and the name of each column that isn't read as geometries."""
-        return [(at, it.GetName()) for at, it in enumerate(self.fields) if it.GetName() != self.hidden]
+        """Returns the place and the name of each column that isn't read as geometries, of those that are kept."""
+        names = [(at, it.GetName()) for at, it in enumerate(self.fields) if it.GetName() != self.hidden]
+        return [it for it in names if not self.kept or it[1] in self.kept]
 
     def take_points(self, x: str, y: str) -> None:
         """Has the layer's geometries be points, whose coordinates are in these two columns."""
@@ -276,6 +282,34 @@ class Layer:
             kept.add(found)
         return None
 
+    def places(self, names: Sequence[str]) -> dict[str, grids.Places]:
+        """Returns how many digits behind the point the numbers of each of some columns need, in a pass without geometries."""
+        found = {it: grids.Places() for it in names}
+        left = [(self.double(self.described.GetFieldIndex(name)), it) for name, it in found.items()]
+        for feature in self.without_geometries() if names else ():
+            for read, places in left:
+                value = read(feature)
+                if value is not None:
+                    places.add(value)
+            if not all(it.are_decimal for _, it in left):
+                left = [it for it in left if it[1].are_decimal]
+                if not left:
+                    break
+        return found
+
+    def double(self, at: int) -> Callable[[Any], Optional[float]]:
+        """Returns what reads a number of a record, None where it has none. One of 32 bits is the decimal number that it is written as."""
+        ogr = self.modules.ogr
+        is_there, double = ogr.Feature.IsFieldSetAndNotNull, ogr.Feature.GetFieldAsDouble
+        if self.fields[at].GetSubType() != ogr.OFSTFloat32:
+            return lambda it: double(it, at) if is_there(it, at) else None
+
+        def single(it: Any) -> Optional[float]:
+            found = double(it, at) if is_there(it, at) else None
+            return found if found is None or not math.isfinite(found) else float(rules.single(found))
+
+        return single
+
     def seeming(self) -> str:
         """Returns the option that makes geometries of columns of a layer that has none, where their names look so; else nothing."""
         return "" if self.shapes else columns.seeming([name for _, name in self.columns()])
@@ -326,8 +360,8 @@ class Layer:
         return known.get(kind, (feature.GetFieldAsString, None))
 
 
-def extents(layer: Layer) -> Iterator[proposing.Extent]:
-    """Returns the extent of each geometry of a layer, but for those that have no finite one."""
+def extents(layer: Layer, decimals: Optional[proposing.Decimals] = None) -> Iterator[proposing.Extent]:
+    """Returns the extent of each geometry of a layer, but for those that have no finite one. `decimals` takes their coordinates."""
     if not layer.shapes:
         return
     for feature in layer:
@@ -340,11 +374,52 @@ def extents(layer: Layer) -> Iterator[proposing.Extent]:
                 it = proposing.Extent(*geometry.GetEnvelope())
                 if all(-FARTHEST < value < FARTHEST for value in it):
                     yield it
+                    if decimals and decimals.is_exact:
+                        take_decimals(geometry, decimals)
 
 
-def extent(layers: Iterable[Layer]) -> Optional[proposing.Extent]:
-    """Returns the extent of all geometries of some layers; None where there are none."""
-    return proposing.joined(it for layer in layers for it in extents(layer))
+def take_decimals(geometry: Any, decimals: proposing.Decimals) -> None:
+    """Has the coordinates of a geometry be counted, without its Z and M, if sfq has its type."""
+    geometry.FlattenTo2D()
+    with contextlib.suppress(binary.NoText):
+        for part in binary.shape(binary_of(geometry), drops_empty=True).parts:
+            for numbers in part:
+                decimals.add(numbers)
+
+
+def extent(layers: Iterable[Layer], decimals: Optional[proposing.Decimals] = None) -> Optional[proposing.Extent]:
+    """Returns the extent of all geometries of some layers; None where there are none. `decimals` takes their coordinates."""
+    return proposing.joined(it for layer in layers for it in extents(layer, decimals))
+
+
+def members(geometry: Any) -> Iterator[Any]:
+    """Yields the points, lines, polygons and others that a geometry consists of, but for empty ones."""
+    count = geometry.GetGeometryCount()
+    if geometry.GetGeometryName() in ("GEOMETRYCOLLECTION", "MULTIPOINT", "MULTILINESTRING", "MULTIPOLYGON"):
+        for it in range(count):
+            yield from members(geometry.GetGeometryRef(it))
+    elif not geometry.IsEmpty():
+        yield geometry
+
+
+def gathered(ogr: Any, geometry: Any, word: str) -> Optional[Any]:
+    """Returns a collection whose members are of one kind as their MULTI type, and one of nothing as an empty geometry of the column's type.
+
+    None of another geometry.
+    """
+    if ogr.GT_Flatten(geometry.GetGeometryType()) != ogr.wkbGeometryCollection:
+        return None
+    found = list(members(geometry))
+    kinds = {it.GetGeometryName() for it in found}
+    if not kinds:
+        return ogr.CreateGeometryFromWkt(f"{word if word in binary.WORDS.values() else 'POINT'} EMPTY")
+    kind = f"MULTI{kinds.pop()}"
+    if kinds or kind not in binary.WORDS.values():
+        return None
+    made = ogr.CreateGeometryFromWkt(f"{kind} EMPTY")
+    for it in found:
+        made.AddGeometry(it)
+    return made
 
 
 def flat(geometry: Any) -> bytes:
@@ -383,6 +458,6 @@ def mended(found: Modules, text: str) -> Optional[str]:
     """Returns the text of what make-valid makes of a text on the grid, rounded to the grid again, or None."""
     made = made_valid(found, text)
     try:
-        return None if made is None else binary.text(binary.shape(made, drops_empty=True), UNITS, grids.Shift())
+        return None if made is None else binary.text(made, UNITS, grids.Shift(), drops_empty=True)
     except (binary.NoText, grids.NotANumber):
         return None

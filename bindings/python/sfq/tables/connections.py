@@ -2,9 +2,12 @@
 from __future__ import annotations
 
 import collections
+import operator
 import sys
+from collections.abc import Mapping
 from typing import Any, Callable, Iterable, Iterator, Optional, Sequence, Union
 
+from ..geometry.forks import held_by
 from ..geometry.shapes import of_canonical
 from . import errors, placeholders, sources
 from .databases import Database, RefusedGeometry, Statement
@@ -13,7 +16,11 @@ from .databases import Database, RefusedGeometry, Statement
 MOST_KEPT = 16
 # How many rows are read before other threads can ask the database.
 MOST_AT_ONCE = 256
+# What a thread has that calls a method of a connection.
+OF_CONNECTION = operator.attrgetter("_database.held")
 Row = tuple[Any, ...]
+# Values for `?`, one after another, or for `:name`, by their names.
+Parameters = Union[Sequence[Any], Mapping[str, Any]]
 Description = tuple[tuple[str, str, None, None, None, None, None], ...]
 
 
@@ -51,9 +58,13 @@ class Connection:
     def load(self, *tables: str) -> None:
         """Loads tables that aren't loaded yet: those of these names, or all. DataError where one is refused."""
         for number in map(self._number, tables) if tables else range(len(self._database.tables)):
-            with self._database.lock:
-                if not self._database.is_loaded(number):
-                    self._database.load(number)
+            self._load(number)
+
+    @held_by(OF_CONNECTION)
+    def _load(self, number: int) -> None:
+        """Loads a table that isn't loaded yet."""
+        if not self._database.is_loaded(number):
+            self._database.load(number)
 
     def _number(self, table: str) -> int:
         """Returns the number of a table, whatever the case of its name."""
@@ -71,11 +82,11 @@ class Connection:
         self.need_open()
         return Cursor(self)
 
-    def execute(self, query: str, parameters: Sequence[Any] = ()) -> Cursor:
+    def execute(self, query: str, parameters: Parameters = ()) -> Cursor:
         """Returns a new cursor that executes a query."""
         return self.cursor().execute(query, parameters)
 
-    def executemany(self, query: str, parameters: Iterable[Sequence[Any]]) -> Cursor:
+    def executemany(self, query: str, parameters: Iterable[Parameters]) -> Cursor:
         """Returns a new cursor that executes a query for each of these parameters."""
         return self.cursor().executemany(query, parameters)
 
@@ -101,23 +112,25 @@ class Connection:
 
     # ---- statements ----
 
-    def begin(self, text: str, values: Sequence[Any]) -> Statement:
+    def begin(self, text: str, values: Parameters) -> Statement:
         """Returns a statement that is before its first row."""
         query = placeholders.query(text)
-        constants = [placeholders.of_value(value, at) for at, value in enumerate(placeholders.in_order(values), 1)]
-        if len(constants) != len(query.parts) - 1:
-            raise errors.ProgrammingError(f"{len(constants)} values were handed in for a query with {len(query.parts) - 1} times ?")
+        constants = query.constants_of(values)
         bound = {mark for _, mark in query.constants(constants)}
         key = (text, tuple(it.type if at in bound else it.text for at, it in enumerate(constants)))
-        with self._database.lock:
-            while self.left:
-                self.keep(self.left.popleft())
-            kept = self._kept.pop(key, None)
+        kept = self._taken(key)
         if kept and bind(kept, query, constants):
             return kept
         made = self._prepared(query, constants, bound)
         made.key = key
         return made
+
+    @held_by(OF_CONNECTION)
+    def _taken(self, key: Any) -> Optional[Statement]:
+        """Returns a statement that nobody uses, if one is kept, which isn't kept any more."""
+        while self.left:
+            self.keep(self.left.popleft())
+        return self._kept.pop(key, None)
 
     def _prepared(self, query: placeholders.Query, constants: Sequence[placeholders.Constant], bound: set[Optional[int]]) -> Statement:
         """Returns a new statement of a query. One that is longer than a query may be has short constants, for which others are bound."""
@@ -133,14 +146,14 @@ class Connection:
         except errors.ProgrammingError as error:
             raise as_written(error, query, constants) from None
 
+    @held_by(OF_CONNECTION)
     def keep(self, statement: Statement) -> None:
         """Keeps a statement that nobody uses, and lets go of the one that was unused for longest."""
-        with self._database.lock:
-            if statement.rest():
-                self._kept[statement.key] = statement
-                self._kept.move_to_end(statement.key)
-            if len(self._kept) > MOST_KEPT:
-                self._kept.popitem(last=False)
+        if statement.rest():
+            self._kept[statement.key] = statement
+            self._kept.move_to_end(statement.key)
+        if len(self._kept) > MOST_KEPT:
+            self._kept.popitem(last=False)
 
 
 def bind(statement: Statement, query: placeholders.Query, constants: Sequence[placeholders.Constant]) -> bool:
@@ -190,7 +203,7 @@ class Cursor:
         self.connection, self.arraysize, self.rowcount = connection, 1, -1
         self.rownumber: Optional[int] = None
         self.description: Optional[Description] = None
-        self._more: Iterator[Sequence[Any]]
+        self._more: Iterator[Parameters]
         self._query, self._more, self._is_executed, self._is_closed = "", iter(()), False, False
         self._statement: Optional[Statement] = None
 
@@ -198,16 +211,16 @@ class Cursor:
         if self._statement:
             self.connection.left.append(self._statement)
 
-    def execute(self, query: str, parameters: Sequence[Any] = ()) -> Cursor:
+    def execute(self, query: str, parameters: Parameters = ()) -> Cursor:
         """Prepares a query with a value for each `?`, and returns the cursor. Tables that it names are loaded if they aren't yet.
 
-        A value is an int, a str, a date or a time, a Geometry or None, which is NULL. ProgrammingError where the query is refused,
-        DataError where a value or a table is, OperationalError where a table's file can't be read, InterfaceError for a value of
-        another type, and for values by names.
+        Parameters may have names instead, as `:name`, whose values come in a dict. A value is an int, a str, a date or a time, a Geometry
+        or None, which is NULL. ProgrammingError where the query is refused, DataError where a value or a table is, OperationalError
+        where a table's file can't be read, InterfaceError for a value of another type.
         """
         return self.executemany(query, [parameters])
 
-    def executemany(self, query: str, parameters: Iterable[Sequence[Any]]) -> Cursor:
+    def executemany(self, query: str, parameters: Iterable[Parameters]) -> Cursor:
         """Prepares a query once for all these parameters, and returns the cursor: it has the rows of one after those of the other."""
         self._need_open()
         self._leave()

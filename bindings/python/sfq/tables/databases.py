@@ -10,20 +10,24 @@ from __future__ import annotations
 import collections
 import ctypes
 import functools
+import operator
 import os
 import sys
-import threading
 import time
-from typing import Any, Callable, Iterable, Optional, Union
+from typing import Any, Callable, Iterable, NamedTuple, Optional, Union
 
 from ..geometry.faults import Fault
-from ..geometry.forks import Held
-from ..geometry.library import NONE, OK, OUT_OF_MEMORY, REFUSED, TOO_SMALL, CFault, load
+from ..geometry.forks import Held, held_by
+from ..geometry.library import NONE, OK, OUT_OF_MEMORY, REFUSED, TOO_SMALL, UNKNOWN, CFault, load
 from .errors import Error, InternalError, OperationalError, ProgrammingError, of_fault
 
 BUSY, NOT_LOADED, UNREADABLE = 8, 9, 11
 # The types of columns and of constants, by the numbers of sfq_column_type. Only a constant is NULL.
 TYPES = ("INTEGER", "TEXT", "GEOMETRY", "NULL")
+# The types of geometries, by the numbers of sfq_type, with that of a column which takes them all.
+SHAPES = ("GEOMETRY", "POINT", "LINESTRING", "POLYGON", "MULTIPOINT", "MULTILINESTRING", "MULTIPOLYGON")
+# The functions of an item's column, by the numbers of sfq_origin.
+FUNCTIONS = ("", "ST_AsText", "ST_Dimension", "ST_IsEmpty")
 NAME = "libsfq_tables.so.0"
 NO_STATEMENT = ctypes.c_size_t(-1).value
 # How many candidates a step looks at: signals are seen between steps, so these have to be short, and a step costs a microsecond.
@@ -38,6 +42,18 @@ class CDatabase(ctypes.Structure):
     _fields_ = [("kept", ctypes.c_void_p)]
 
 
+class CForm(ctypes.Structure):
+    """The struct sfq_column_form."""
+
+    _fields_ = [("geometry", ctypes.c_uint32), ("is_key", ctypes.c_bool), ("is_required", ctypes.c_bool)]
+
+
+class COrigin(ctypes.Structure):
+    """The struct sfq_origin."""
+
+    _fields_ = [("reference", ctypes.c_size_t), ("column", ctypes.c_size_t), ("function", ctypes.c_uint32)]
+
+
 class CTablesFault(ctypes.Structure):
     """The struct sfq_tables_fault."""
 
@@ -50,17 +66,19 @@ class CTablesFault(ctypes.Structure):
 
 
 # The arguments of each call after the database, by a letter each: bytes with their number, a number, a number of a statement or the
-# like, room for a text, and what is written: a size, an integer, a number of 32 bits, a bool, a fault.
+# like, room for a text, and what is written: a size, an integer, a number of 32 bits, a bool, a fault, a form, an origin.
 KINDS: dict[str, list[Any]] = {
     "b": [ctypes.c_char_p, ctypes.c_size_t], "i": [ctypes.c_int64], "n": [ctypes.c_size_t], "m": [ctypes.c_uint64],
     "r": [ctypes.c_char_p, ctypes.c_size_t, ctypes.POINTER(ctypes.c_size_t)], "S": [ctypes.POINTER(ctypes.c_size_t)],
     "I": [ctypes.POINTER(ctypes.c_int64)], "T": [ctypes.POINTER(ctypes.c_uint32)], "B": [ctypes.POINTER(ctypes.c_bool)],
     "W": [ctypes.POINTER(ctypes.c_uint64)], "F": [ctypes.POINTER(CTablesFault)], "p": [ctypes.c_char_p],
+    "C": [ctypes.POINTER(CForm)], "O": [ctypes.POINTER(COrigin)],
 }
 CALLS = {
     "close": "", "table_count": "S", "table_name": "nr", "table_columns": "nS", "table_column": "nnrT", "is_loaded": "nB",
     "load": "nbF", "load_file": "npF", "prepare": "bSF", "step": "nm", "reset": "n", "columns": "nS", "column_name": "nnr",
     "column_type": "nnT", "column_integer": "nnI", "column_text": "nnr", "work": "nW", "plan_text": "nr", "finalize": "n",
+    "column_form": "nnC", "reference": "nnrS", "column_origin": "nnO",
 }
 # Calls that a library may lack: without them a query is prepared anew for other values.
 BINDING = {"constants": "nS", "constant_type": "nnT", "bind_integer": "nni", "bind_text": "nnb", "bind_geometry": "nnbF"}
@@ -71,6 +89,8 @@ def declare(found: ctypes.CDLL) -> ctypes.CDLL:
     database = ctypes.POINTER(CDatabase)
     found.sfq_open.argtypes = [*KINDS["b"], database, *KINDS["F"]]
     found.sfq_open.restype = ctypes.c_int
+    found.sfq_text_parts.argtypes = [ctypes.c_void_p, ctypes.c_size_t, ctypes.c_char_p, ctypes.c_size_t, ctypes.POINTER(ctypes.c_size_t)]
+    found.sfq_text_parts.restype = ctypes.c_int
     for name, kinds in {**CALLS, **(BINDING if hasattr(found, "sfq_constants") else {})}.items():
         call = getattr(found, f"sfq_{name}")
         call.argtypes = [database, *(it for kind in kinds for it in KINDS[kind])]
@@ -119,24 +139,46 @@ class Room:
 
 
 class Lock(Held):
-    """What a thread holds while it asks a database. OperationalError where it is lost by a fork."""
+    """What a thread has while it asks a database. OperationalError where it is lost by a fork."""
 
     __slots__ = ()
 
-    @staticmethod
-    def lock_made() -> Any:
-        """Returns a lock that a thread which has it may take again."""
-        return threading.RLock()
-
     def renew(self) -> None:
         raise OperationalError("another thread was asking this connection when the process was forked: connect again")
+
+
+# What a thread has that calls a method of a database, or of a statement of one.
+OF_DATABASE, OF_STATEMENT = operator.attrgetter("held"), operator.attrgetter("database.held")
+
+
+class Form(NamedTuple):
+    """How a schema writes a column: the word of its type, whether it is the key, and whether NOT NULL is behind it."""
+
+    type: str
+    is_key: bool
+    is_required: bool
+
+
+class Reference(NamedTuple):
+    """A table that a query names: its number, and the name by which the query knows it."""
+
+    table: int
+    name: str
+
+
+class Origin(NamedTuple):
+    """Where a column of rows comes from: the function that is called, if one is, the reference, and the number of its column."""
+
+    function: str
+    reference: Reference
+    column: int
 
 
 class Database:
     """A database that the library keeps, until it is closed. ProgrammingError where the schema is refused."""
 
     def __init__(self, schema: bytes) -> None:
-        self.kept, self.lock, self.room = CDatabase(), Lock(), Room()
+        self.kept, self.held, self.room = CDatabase(), Lock(), Room()
         # The statements that are open, and those of them that nobody needs any more, each with the generation that it is of: a new
         # one begins when a table is loaded, for which all statements are ended.
         self.opened: set[int] = set()
@@ -173,6 +215,15 @@ class Database:
             found.append((str(name), TYPES[kind.value]))
         return found
 
+    @held_by(OF_DATABASE)
+    def form(self, table: int, column: int) -> Form:
+        """Returns how the schema writes a column of a table."""
+        found = CForm()
+        self.need_open()
+        need_ok(self.calls.sfq_column_form(self.it, table, column, ctypes.byref(found)))
+        kind = self.columns[table][column][1]
+        return Form(SHAPES[found.geometry] if kind == "GEOMETRY" else kind, found.is_key, found.is_required)
+
     def _end(self, numbers: Iterable[int]) -> None:
         for number in numbers:
             self.opened.discard(number)
@@ -180,47 +231,51 @@ class Database:
 
     def close(self) -> None:
         """Ends the statements and frees the database. Closing it again does nothing."""
-        if self.lock.is_lost:
-            return
-        with self.lock:
-            if self.kept.kept is not None:
-                self._end(list(self.opened))
-                need_ok(self.calls.sfq_close(self.it))
+        if not self.held.is_lost:
+            self.held.alone(self._close)
+
+    def _close(self) -> None:
+        if self.kept.kept is not None:
+            self._end(list(self.opened))
+            need_ok(self.calls.sfq_close(self.it))
 
     def need_open(self) -> None:
         """ProgrammingError where the database is closed."""
         if self.kept.kept is None:
             raise ProgrammingError("the connection is closed")
 
+    @held_by(OF_DATABASE)
     def is_loaded(self, table: int) -> bool:
         """Whether a table is loaded."""
-        with self.lock:
-            self.need_open()
-            found = ctypes.c_bool()
-            need_ok(self.calls.sfq_is_loaded(self.it, table, ctypes.byref(found)))
-            return found.value
+        self.need_open()
+        found = ctypes.c_bool()
+        need_ok(self.calls.sfq_is_loaded(self.it, table, ctypes.byref(found)))
+        return found.value
 
     def load(self, table: int) -> None:
         """Loads a table from the text of its CSV, or from a file. DataError where it is refused, OperationalError without the file.
 
         All statements are ended before: they go on from where they were when they are asked again.
         """
-        fault, source = CTablesFault(), self.source(table)
-        with self.lock:
-            self.need_open()
-            self._end(list(self.opened))
-            self.generation += 1
-            if isinstance(source, bytes):
-                status = self.calls.sfq_load(self.it, table, source, len(source), ctypes.byref(fault))
-            else:
-                if "\0" in source:
-                    raise OperationalError(f"{source!r} has a NUL, which no path has", table=self.tables[table])
-                status = self.calls.sfq_load_file(self.it, table, os.fsencode(source), ctypes.byref(fault))
-                if status == UNREADABLE:
-                    raise OperationalError(f"{source}: {os.strerror(ctypes.get_errno())}", table=self.tables[table])
-            if status == REFUSED:
-                raise fault.error(self.tables[table])
-            need_ok(status)
+        self._load(table, self.source(table))
+
+    @held_by(OF_DATABASE)
+    def _load(self, table: int, source: Union[bytes, str]) -> None:
+        fault = CTablesFault()
+        self.need_open()
+        self._end(list(self.opened))
+        self.generation += 1
+        if isinstance(source, bytes):
+            status = self.calls.sfq_load(self.it, table, source, len(source), ctypes.byref(fault))
+        else:
+            if "\0" in source:
+                raise OperationalError(f"{source!r} has a NUL, which no path has", table=self.tables[table])
+            status = self.calls.sfq_load_file(self.it, table, os.fsencode(source), ctypes.byref(fault))
+            if status == UNREADABLE:
+                raise OperationalError(f"{source}: {os.strerror(ctypes.get_errno())}", table=self.tables[table])
+        if status == REFUSED:
+            raise fault.error(self.tables[table])
+        need_ok(status)
 
     def prepare(self, query: bytes) -> int:
         """Returns the number of a statement. The tables that the query names are loaded before."""
@@ -251,6 +306,12 @@ def no_source(_table: int) -> bytes:
     raise OperationalError("no tables were handed in")
 
 
+def status_at(call: Callable[..., int], table: Any, *words: Any) -> int:
+    """Returns the status of a call for a reference that writes the number of its table too: NONE where there is no such reference."""
+    status = call(*words, table)
+    return NONE if status == UNKNOWN else status
+
+
 # What binds a constant: the call, its number, and what it is handed.
 Bound = tuple[str, int, tuple[Any, ...]]
 
@@ -268,10 +329,13 @@ class Statement:
         self.bound: list[Bound] = []
         # Under what it is found again when the same query is executed.
         self.key: Any = None
-        with database.lock:
-            self._prepare()
-            # The types of the constants, from the left.
-            self.constants = self._constants()
+        # The types of the constants, from the left.
+        self.constants = self._begun()
+
+    @held_by(OF_STATEMENT)
+    def _begun(self) -> list[str]:
+        self._prepare()
+        return self._constants()
 
     def __del__(self) -> None:
         self.end()
@@ -302,6 +366,28 @@ class Statement:
             found.append((str(name), TYPES[kind.value]))
         return found
 
+    @held_by(OF_STATEMENT)
+    def references(self) -> list[Reference]:
+        """Returns the tables that the query names, in the order of FROM."""
+        database, table = self.database, ctypes.c_size_t()
+        found: list[Reference] = []
+        self._need()
+        call = functools.partial(status_at, database.calls.sfq_reference, ctypes.byref(table))
+        while (name := self.room.text(call, database.it, self.number, len(found))) is not None:
+            found.append(Reference(table.value, name))
+        return found
+
+    @held_by(OF_STATEMENT)
+    def origins(self) -> list[Optional[Origin]]:
+        """Returns where each column comes from: COUNT(*) and the lines of EXPLAIN come from no column."""
+        references, origin = self.references(), COrigin()
+        found: list[Optional[Origin]] = []
+        for column in range(len(self.columns)):
+            status = self.database.calls.sfq_column_origin(self.database.it, self.number, column, ctypes.byref(origin))
+            need_ok(OK if status == UNKNOWN else status)
+            found.append(Origin(FUNCTIONS[origin.function], references[origin.reference], origin.column) if status == OK else None)
+        return found
+
     def _need(self) -> None:
         """Has the statement open: where a table was loaded since, it is prepared anew, and goes on behind the rows that it gave."""
         self.database.need_open()
@@ -325,26 +411,30 @@ class Statement:
         """Returns the next rows: so many, or fewer where these are the last. Where a step finds none signals are seen, and other
         threads can ask the database."""
         found: list[tuple[Any, ...]] = []
-        step, it = self.database.calls.sfq_step, self.database.it
         while len(found) < most and not self.is_over:
-            with self.database.lock:
-                self._need()
-                begun = time.monotonic()
-                status = step(it, self.number, self.candidates)
-                while status == OK:
-                    found.append(tuple([read() for read in self.readers]))
-                    self.given += 1
-                    if len(found) == most:
-                        return found
-                    begun = time.monotonic()
-                    status = step(it, self.number, self.candidates)
+            status, seconds = self._step(found, most)
             if status == BUSY:
-                self._pace(time.monotonic() - begun)
+                self._pace(seconds)
             elif status == NONE:
                 self.is_over = True
             else:
                 need_ok(status)
         return found
+
+    @held_by(OF_STATEMENT)
+    def _step(self, found: list[tuple[Any, ...]], most: int) -> tuple[int, float]:
+        """Adds the next rows to those that were found. Returns the status of the last step, and how many seconds it took."""
+        self._need()
+        step, it = self.database.calls.sfq_step, self.database.it
+        while True:
+            begun = time.monotonic()
+            status = step(it, self.number, self.candidates)
+            if status != OK:
+                return status, time.monotonic() - begun
+            found.append(tuple([read() for read in self.readers]))
+            self.given += 1
+            if len(found) == most:
+                return OK, 0.0
 
     def _pace(self, seconds: float) -> None:
         """Sets how many candidates the next step looks at, by what the last one took."""
@@ -383,22 +473,22 @@ class Statement:
 
         return read
 
+    @held_by(OF_STATEMENT)
     def work(self) -> int:
         """Returns how many DE-9IM predicates without a NULL argument were decided so far.
 
         A pair that the probe or an earlier condition rules out costs none.
         """
         found = ctypes.c_uint64()
-        with self.database.lock:
-            self._need()
-            need_ok(self.database.calls.sfq_work(self.database.it, self.number, ctypes.byref(found)))
+        self._need()
+        need_ok(self.database.calls.sfq_work(self.database.it, self.number, ctypes.byref(found)))
         return found.value
 
+    @held_by(OF_STATEMENT)
     def plan(self) -> str:
         """Returns the lines that EXPLAIN has of the query."""
-        with self.database.lock:
-            self._need()
-            return str(self.room.text(self.database.calls.sfq_plan_text, self.database.it, self.number))
+        self._need()
+        return str(self.room.text(self.database.calls.sfq_plan_text, self.database.it, self.number))
 
     def _constants(self) -> list[str]:
         """Returns the types of the constants from the left, NULL among them; none where the library binds none."""
@@ -409,26 +499,26 @@ class Statement:
             found.append(TYPES[kind.value])
         return found
 
+    @held_by(OF_STATEMENT)
     def rest(self) -> bool:
         """Goes before the first row again, which gives back what the rows took. Returns whether the database is open."""
-        with self.database.lock:
-            if self.database.kept.kept is not None and self.generation == self.database.generation:
-                need_ok(self.database.calls.sfq_reset(self.database.it, self.number))
-            self.given, self.is_over, self.bound = 0, False, []
-            return self.database.kept.kept is not None
+        if self.database.kept.kept is not None and self.generation == self.database.generation:
+            need_ok(self.database.calls.sfq_reset(self.database.it, self.number))
+        self.given, self.is_over, self.bound = 0, False, []
+        return self.database.kept.kept is not None
 
+    @held_by(OF_STATEMENT)
     def begin(self, bound: list[Bound]) -> None:
         """Binds constants before the first row. RefusedGeometry where a text isn't that of a valid one."""
-        with self.database.lock:
-            self._need()
-            self.bound = bound
-            try:
-                for it in bound:
-                    self._bind(it)
-            except BaseException:
-                # Some are bound, and without memory the statement has no rows any more.
-                self._drop()
-                raise
+        self._need()
+        self.bound = bound
+        try:
+            for it in bound:
+                self._bind(it)
+        except BaseException:
+            # Some are bound, and without memory the statement has no rows any more.
+            self._drop()
+            raise
 
     def _bind(self, bound: Bound) -> None:
         """Binds a constant."""

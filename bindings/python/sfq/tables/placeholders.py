@@ -1,24 +1,19 @@
-"""What stands for the `?` of a query: constants as a query has them, and the places of faults in the text that the user wrote.
+"""What stands for the parameters of a query: constants as a query has them, and the places of faults in the text that the user wrote.
 
-None of it is proved. The language has no placeholder: the library gets a text in which each `?` outside of strings and comments is
+A parameter is `?`, or `:` and a name: the library says where they are, outside of strings and comments. It gets a text in which each is
 a constant of its value's type, with a blank before and behind, so that it joins no other token.
 """
 from __future__ import annotations
 
 import functools
 import operator
-import re
 from collections.abc import Mapping, Set
-from typing import Any, Iterable, NamedTuple, Optional, Sequence, SupportsIndex, cast
+from typing import Any, Iterable, NamedTuple, Optional, Sequence, SupportsIndex, Union, cast
 
 from ..geometry.faults import GridError
+from . import databases, parts
 from .errors import DataError, InterfaceError, ProgrammingError, of_fault
 from .sources import is_none, is_shape, spelled
-
-# Tokens as the engine takes them, but for symbols of two signs. A string that isn't closed goes to the end of the text.
-TOKENS = re.compile(r"--[^\n]*|'(?:[^']|'')*(?:'|\Z)|[A-Za-z_][A-Za-z0-9_]*|[0-9]+|[ \t\r\n]+|.", re.S)
-BLANK = re.compile(r"--|[ \t\r\n]")
-
 
 # The most bytes of a query.
 MOST_BYTES = 65_536
@@ -33,13 +28,15 @@ class Constant(NamedTuple):
     value: Any
 
 
-def of_value(value: Any, number: int) -> Constant:
-    """Returns the constant of a value for the `?` of this number, from 1: of a date or a time its text by ISO 8601, as tables have it.
+def of_value(value: Any, parameter: Union[int, str]) -> Constant:
+    """Returns the constant of a value for the `?` of this number, from 1, or for the parameter of this name: of a date or a time its text
+    by ISO 8601, as tables have it.
 
     InterfaceError where sfq has no such type, DataError for a text that isn't UTF-8, or a geometry that isn't on the grid.
     """
     if type(value) is int:
         return of_number(value)
+    named = f"? {parameter}" if isinstance(parameter, int) else f":{parameter}"
     if value is None:
         return Constant("NULL", "NULL", None)
     if isinstance(value, str) or (hasattr(value, "isoformat") and not is_none(value)):
@@ -47,12 +44,12 @@ def of_value(value: Any, number: int) -> Constant:
         try:
             return Constant("TEXT", quoted(text), text.encode())
         except UnicodeEncodeError as error:
-            raise DataError(f"the value for ? {number} isn't UTF-8: half of a character is at {error.start}") from None
+            raise DataError(f"the value for {named} isn't UTF-8: half of a character is at {error.start}") from None
     if is_shape(value):
         try:
             text = spelled(value)
         except GridError as error:
-            raise DataError(f"the value for ? {number}: {str(error).removeprefix('sfq: ')}") from error
+            raise DataError(f"the value for {named}: {str(error).removeprefix('sfq: ')}") from error
         return Constant("GEOMETRY", f"ST_GeomFromText({quoted(text)})", text.encode("utf-8", "surrogatepass"))
     try:
         if is_masked(value):
@@ -60,7 +57,7 @@ def of_value(value: Any, number: int) -> Constant:
         return of_number(operator.index(cast(SupportsIndex, value)))
     except TypeError:
         raise InterfaceError(
-            f"the value for ? {number} is a {type(value).__name__}: sfq has whole numbers, texts, geometries and None"
+            f"the value for {named} is a {type(value).__name__}: sfq has whole numbers, texts, geometries and None"
         ) from None
 
 
@@ -84,8 +81,7 @@ def is_masked(value: Any) -> bool:
 
 def stand_in(constant: Constant) -> Constant:
     """Returns a short constant of the same type, for which the other is bound later."""
-    short = {"TEXT": Constant("TEXT", "''", b""), "GEOMETRY": Constant("GEOMETRY", "ST_GeomFromText('POINT EMPTY')", b"POINT EMPTY")}
-    return short.get(constant.type, constant)
+    return SHORT[constant.type] if constant.type in ("TEXT", "GEOMETRY") else constant
 
 
 def quoted(text: str) -> str:
@@ -94,102 +90,119 @@ def quoted(text: str) -> str:
 
 
 class Query:
-    """A query as the user wrote it: the parts between its question marks, and where its constants are."""
+    """A query as the user wrote it: the texts between its parameters, and the parameters."""
 
     def __init__(self, text: str) -> None:
-        pieces: list[list[str]] = [[]]
-        # Of each string, number and NULL that may be a constant, and of each `?`: its type, or None, and what comes before it.
-        self.found: list[tuple[Optional[str], tuple[str, str]]] = []
+        # The texts before, between and behind the parameters, and those of the parameters themselves.
+        self.parts: list[str] = []
+        self.marks: list[str] = []
+        # Of each parameter whether it is in ST_GeomFromText, and whether a sign is before it.
+        self.is_in_shape: list[bool] = []
+        self.is_signed: list[bool] = []
         # What `constants` returns, by the types of the values.
         self.known: dict[tuple[str, ...], list[tuple[str, Optional[int]]]] = {}
-        before, opened = ("", ""), [""]
-        for token in TOKENS.findall(text):
-            if token == "?":
-                pieces.append([])
-            else:
-                pieces[-1].append(token)
-            if BLANK.match(token):
-                continue
-            word = token.upper()
-            if token == "?" or token[0] in "'0123456789" or word == "NULL":
-                self.found.append((None if token == "?" else type_of(word), before))
-            if token == "(":
-                opened.append(before[1] if before[1].startswith("ST_") else "")
-            elif token == ")" and opened:
-                # With the name of what it closes.
-                word += opened.pop()
-            before = (before[1], word)
-        self.parts = ["".join(it) for it in pieces]
+        begun, before = 0, ""
+        for it in parts.parts(text):
+            if it.kind in (parts.PARAMETER, parts.NAMED_PARAMETER):
+                self.parts.append(text[begun : it.at])
+                self.marks.append(text[it.at : it.end])
+                self.is_in_shape.append(it.constant == parts.GEOMETRY)
+                self.is_signed.append(before in ("+", "-"))
+                begun = it.end
+            before = text[it.at : it.end] if it.kind == parts.SYMBOL else ""
+        self.parts.append(text[begun:])
+
+    def values(self, given: Any) -> list[Any]:
+        """Returns the values for the parameters, in their order: those of a mapping by their names, others one after another.
+
+        ProgrammingError where there are more or fewer, InterfaceError for what has no order, or no names.
+        """
+        names = [it[1:] for it in self.marks if it != "?"]
+        if not names:
+            values = list(in_order(given))
+            if len(values) != len(self.marks):
+                raise ProgrammingError(f"{len(values)} values were handed in for a query with {len(self.marks)} times ?")
+            return values
+        if len(names) < len(self.marks):
+            raise ProgrammingError("the query has both ? and parameters by names: write all of one kind")
+        if not isinstance(given, Mapping):
+            raise InterfaceError(f"values for parameters by names come in a dict, not in a {type(given).__name__}")
+        lacking = [it for it in names if it not in given]
+        if lacking:
+            raise ProgrammingError(f"no value was handed in for :{lacking[0]}")
+        return [given[it] for it in names]
+
+    def constants_of(self, given: Any) -> list[Constant]:
+        """Returns the constants of the values that were handed in for the parameters."""
+        labels: list[Union[int, str]] = [at if it == "?" else it[1:] for at, it in enumerate(self.marks, 1)]
+        return [of_value(value, label) for value, label in zip(self.values(given), labels)]
 
     def texts(self, constants: Sequence[Constant]) -> list[str]:
-        """Returns what is written for each `?`: a blank before and behind, and of a geometry in ST_GeomFromText the text alone."""
-        marks = [before for kind, before in self.found if kind is None]
-        return [f" {quoted(it.value.decode('utf-8', 'surrogatepass')) if it.type == 'GEOMETRY' and before == SHAPE else it.text} "
-                for it, before in zip(constants, marks)]
+        """Returns what is written for each parameter: a blank before and behind, and of a geometry in ST_GeomFromText the text alone."""
+        return [f" {quoted(it.value.decode('utf-8', 'surrogatepass')) if it.type == 'GEOMETRY' and is_in_shape else it.text} "
+                for it, is_in_shape in zip(constants, self.is_in_shape)]
 
     def filled(self, constants: Sequence[Constant]) -> bytes:
-        """Returns the query with a constant for each `?`."""
-        return "".join(part + text for part, text in zip(self.parts, [*self.texts(constants), ""])).encode("utf-8", "surrogatepass")
+        """Returns the query with a constant for each parameter."""
+        return self.joined(self.texts(constants)).encode("utf-8", "surrogatepass")
+
+    def joined(self, texts: Sequence[str]) -> str:
+        """Returns the query with these texts for its parameters."""
+        return "".join(part + text for part, text in zip(self.parts, [*texts, ""]))
 
     def place(self, at: int, constants: Sequence[Constant]) -> tuple[int, bool]:
-        """Returns the byte of the user's text for one of the query with constants, and whether it is that of a `?`."""
+        """Returns the byte of the user's text for one of the query with constants, and whether it is that of a parameter."""
         written = made = 0
-        for part, text in zip(self.parts, [*self.texts(constants), ""]):
-            size, more = len(part.encode("utf-8", "surrogatepass")), len(text.encode("utf-8", "surrogatepass"))
+        for part, mark, text in zip(self.parts, [*self.marks, ""], [*self.texts(constants), ""]):
+            size, more = size_of(part), size_of(text)
             if at < made + size or not text:
                 return written + at - made, False
             if at < made + size + more:
                 return written + size, True
-            made, written = made + size + more, written + size + 1
+            made, written = made + size + more, written + size + len(mark)
         return written + at - made, False
 
     def place_of_mark(self, mark: int) -> int:
-        """Returns the byte of a `?` in the user's text."""
-        return mark + len("".join(self.parts[:mark + 1]).encode("utf-8", "surrogatepass"))
+        """Returns the byte of a parameter in the user's text."""
+        return size_of("".join([*self.parts[: mark + 1], *self.marks[:mark]]))
 
     def constants(self, constants: Sequence[Constant]) -> list[tuple[str, Optional[int]]]:
-        """Returns the constants that the bound query has, from the left: the type of each, and the number of its `?`, or None.
+        """Returns the constants that the bound query has, from the left: the type of each, and the number of its parameter, or None.
 
-        The number of LIMIT is none, nor are the 0 or 1 behind a predicate, the NULL of IS NULL and the pattern of ST_Relate, the one
-        string behind a comma. A `?` behind a sign is a part of its constant, so it has none to itself.
+        A parameter behind a sign is a part of its constant, so it has none to itself.
         """
         kinds = tuple([it.type for it in constants])
         if kinds not in self.known:
-            self.known[kinds] = self._constants(kinds)
+            self.known[kinds] = self._constants(constants)
         return self.known[kinds]
 
-    def _constants(self, kinds: Sequence[str]) -> list[tuple[str, Optional[int]]]:
-        bound: list[tuple[str, Optional[int]]] = []
-        mark = 0
-        for kind, before in self.found:
-            number = None if kind or before[1] in ("+", "-") else mark
-            mark += kind is None
-            kind = kind or kinds[mark - 1]
-            if kind == "TEXT" and before == SHAPE:
-                kind = "GEOMETRY"
-            if not is_no_constant(kind, before):
-                bound.append((kind, number))
-        return bound
+    def _constants(self, constants: Sequence[Constant]) -> list[tuple[str, Optional[int]]]:
+        texts, ends = self.texts([SHORT[it.type] for it in constants]), [0]
+        # Where each text between parameters ends, and where that of the parameter behind it does.
+        for part, text in zip(self.parts, texts):
+            ends += [ends[-1] + len(part), ends[-1] + len(part) + len(text)]
+        found: list[tuple[str, Optional[int]]] = []
+        at = 1
+        for it in parts.parts(self.joined(texts)):
+            while at < len(ends) and it.at >= ends[at]:
+                at += 1
+            if it.constant != parts.NO_CONSTANT:
+                mark = at // 2 - 1
+                is_mark = at % 2 == 0 and not self.is_signed[mark]
+                found.append((databases.TYPES[it.constant], mark if is_mark else None))
+        return found
 
 
-def type_of(word: str) -> str:
-    """Returns the type of a constant by its token."""
-    return "NULL" if word == "NULL" else "TEXT" if word[0] == "'" else "INTEGER"
+def size_of(text: str) -> int:
+    """Returns how many bytes a text has."""
+    return len(text.encode("utf-8", "surrogatepass"))
 
 
-def is_no_constant(kind: str, before: tuple[str, str]) -> bool:
-    """Whether what is behind these tokens is no constant: a number of LIMIT or behind a predicate, a pattern, the NULL of IS NULL."""
-    if kind == "TEXT":
-        return before[1] == ","
-    if kind == "NULL":
-        return before[1] == "IS" or before == ("IS", "NOT")
-    is_flag = before[1] == "=" and before[0].startswith(")ST_") and before[0] not in VALUES
-    return kind == "INTEGER" and (is_flag or before[1] == "LIMIT")
-
-
-# What comes before the text of a geometry, and behind functions that give a value: the others are predicates.
-SHAPE = ("ST_GEOMFROMTEXT", "(")
-VALUES = (")ST_ASTEXT", ")ST_DIMENSION")
+# A short constant of each type.
+SHORT = {
+    "INTEGER": Constant("INTEGER", "0", 0), "TEXT": Constant("TEXT", "''", b""), "NULL": Constant("NULL", "NULL", None),
+    "GEOMETRY": Constant("GEOMETRY", "ST_GeomFromText('POINT EMPTY')", b"POINT EMPTY"),
+}
 
 
 @functools.lru_cache(maxsize=256)

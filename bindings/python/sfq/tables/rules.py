@@ -6,7 +6,7 @@ import json
 import re
 import struct
 import unicodedata
-from typing import Any, NamedTuple, Optional
+from typing import Any, Collection, NamedTuple, Optional, Sequence
 
 RESERVED = {"select", "from", "where", "and", "or", "not", "is", "null", "join", "inner", "cross", "on", "as", "limit"}
 MOST_TABLES, MOST_COLUMNS, MOST_ROWS = 16, 32, 100_000
@@ -21,7 +21,8 @@ WHOLE = re.compile(r"([+-]?)(?=[0-9])0*([0-9]{0,19})")
 class Column(NamedTuple):
     """A column: its name, the name that the source has for it, and its type. `source` is empty where the source has none.
 
-    Of numbers with a point a TEXT column `is_real`, and an INTEGER column counts steps of the size `step`.
+    Of numbers with a point a TEXT column `is_real`, and an INTEGER column counts steps of the size `step`: it `is_decimal` where an import found
+    that size, and conditions have its numbers as the source has them.
     """
 
     name: str
@@ -29,6 +30,7 @@ class Column(NamedTuple):
     type: str
     is_real: bool = False
     step: str = ""
+    is_decimal: bool = False
 
     def described(self) -> dict[str, Any]:
         """Returns what grid.json says of it."""
@@ -123,6 +125,15 @@ def taken(columns: list[Column], key: str) -> list[Column]:
         if not is_other or room >= 0:
             found.append(it)
     return found[:MOST_COLUMNS]
+
+
+def chosen(columns: Sequence[Column], key: str, listed: Sequence[tuple[str, str]], words: Collection[str]) -> list[Column]:
+    """Returns the columns of a table that a query gets where sfq doesn't take all: the key, the geometries, those that are among its words, which
+    are in lower case, and as many as there is room for of those that a schema lists. There are too many where the query names too many."""
+    needed = {it.name for it in columns if it.name == key or it.type not in ("INTEGER", "TEXT") or it.name.lower() in words}
+    others = [it for it in columns if it.name not in needed and any(it.name.lower() == name.lower() for name, _ in listed)]
+    kept = needed | {it.name for it in others[: max(0, MOST_COLUMNS - len(needed))]}
+    return [it for it in columns if it.name in kept]
 
 
 def schema(name: str, columns: list[Column], key: str) -> str:

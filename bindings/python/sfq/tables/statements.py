@@ -1,19 +1,15 @@
-"""Where queries end in a text, and what a schema and a query name, by the language's own tokens: none of it is proved.
+"""Where queries end in a text, and what a schema and a query name: as the library reads them.
 
-A text may be anything: what can't be read is passed on, and sfq says what is wrong with it.
+A text may be anything. What the library refuses has no types and columns, and it says what is wrong with it when it is asked.
 """
 from __future__ import annotations
 
-import bisect
-import re
+import functools
 from typing import Iterator, NamedTuple, Optional
 
-from . import placeholders, rules
-
-# What is looked at of a line to find where a query ends, and the end of a string that began in a line before.
-REST_OF_STRING = re.compile(r"[^']*(?:''[^']*)*'(?!')")
-PIECE = re.compile(rf"[^;'-]+|--[^\n]*|'{REST_OF_STRING.pattern}|.", re.S)
-WORD = re.compile(r"[A-Za-z_][A-Za-z0-9_]*")
+from . import parts, placeholders
+from .databases import Database, Origin, Statement as Open
+from .errors import Error
 
 
 class Statement(NamedTuple):
@@ -36,38 +32,26 @@ class Splitter:
         return bool(self.parts)
 
     def add(self, line: str) -> Iterator[Statement]:
-        """Takes a line in, with its line end, and gives the queries that end in it."""
+        """Takes a line in, with its line end, and gives the queries that end in it.
+
+        A string that began before it is read as if it began with the line. Blanks and comments before a query aren't of it.
+        """
         self.line += 1
-        at = self.closed(line) if self.is_in_string else 0
-        while at < len(line):
-            found = PIECE.match(line, at)
-            piece = found[0] if found else ""
-            at += len(piece)
-            if piece == ";":
+        text = f"'{line}" if self.is_in_string else line
+        begin = len(text) - len(line) if self.is_begun else len(text)
+        for it in parts.parts(text):
+            if it.kind == parts.SEMICOLON:
+                self.parts.append(text[begin : it.at])
+                self.is_in_string, begin = False, len(text)
                 statement = self.taken()
                 if statement:
                     yield statement
-            elif piece == "'":
-                # A string that isn't closed in this line.
-                self.keep(line[at - 1 :])
-                self.is_in_string, at = True, len(line)
-            else:
-                self.keep(piece)
-
-    def closed(self, line: str) -> int:
-        """Takes in the line up to the end of the string that began before it, and returns the place behind that."""
-        found = REST_OF_STRING.match(line)
-        self.is_in_string = not found
-        self.parts.append(found[0] if found else line)
-        return len(self.parts[-1])
-
-    def keep(self, piece: str) -> None:
-        """Keeps a piece of a query: blanks and comments before its first token aren't of it."""
-        if not self.parts:
-            piece = "" if piece.startswith("--") else piece.lstrip(" \t\n\r")
-            self.begun = self.line
-        if piece:
-            self.parts.append(piece)
+            elif it.kind != parts.END:
+                if begin == len(text):
+                    begin, self.begun = it.at, self.line
+                self.is_in_string = it.kind == parts.OPEN_STRING
+        if text[begin:]:
+            self.parts.append(text[begin:])
 
     def taken(self) -> Optional[Statement]:
         """Returns what was kept, if there is something, and begins anew."""
@@ -78,15 +62,10 @@ class Splitter:
         return Statement(text, self.begun) if text else None
 
 
-def tokens(text: str) -> Iterator["re.Match[str]"]:
-    """Returns the tokens of a text, without blanks and comments."""
-    return (it for it in placeholders.TOKENS.finditer(text) if not placeholders.BLANK.match(it[0]))
-
-
 def is_plan(query: str) -> bool:
     """Whether a query asks for its plan."""
-    first = next(tokens(query), None)
-    return first is not None and first[0].upper() == "EXPLAIN"
+    first = next(parts.parts(query))
+    return query[first.at : first.end].upper() == "EXPLAIN"
 
 
 class Table(NamedTuple):
@@ -96,80 +75,93 @@ class Table(NamedTuple):
     columns: list[tuple[str, str]]
     text: str
 
-    def type_of(self, column: str) -> str:
-        """Returns the type of a column; TEXT where there is none."""
-        return next((kind for name, kind in self.columns if name.lower() == column.lower()), "TEXT")
-
 
 def tables(schema: str) -> list[Table]:
-    """Returns the tables of a schema, read in one pass: none of one that is longer than sfq takes, and no more than it takes."""
-    found: list[Table] = []
-    words = list(tokens(schema)) if len(schema) <= placeholders.MOST_BYTES else []
-    names, at = [it[0].upper() for it in words], 0
-    ends = [it for it, name in enumerate(names) if name == ")"]
-    while at + 2 < len(words) and len(found) < rules.MOST_TABLES:
-        place = bisect.bisect(ends, at + 2)
-        if names[at : at + 2] != ["CREATE", "TABLE"] or not WORD.match(words[at + 2][0]) or place == len(ends):
-            at += 1
-            continue
-        columns = columns_of(words[at + 4 : ends[place] + 1])
-        found.append(Table(words[at + 2][0], columns, schema[words[at].start() : words[ends[place]].end()] + ";\n"))
-        at = ends[place] + 1
-    return found
+    """Returns the tables of a schema: none of one that is refused."""
+    try:
+        database = described(schema)
+    except Error:
+        return []
+    columns = [[(name, database.form(at, column).type) for column, (name, _) in enumerate(it)] for at, it in enumerate(database.columns)]
+    return [Table(*it) for it in zip(database.tables, columns, texts(schema))]
 
 
-def columns_of(words: list["re.Match[str]"]) -> list[tuple[str, str]]:
-    """Returns the names and the types of the columns that a table's parenthesis has, which ends with the last of these tokens."""
-    columns: list[tuple[str, str]] = []
-    begins = True
-    for token, after in zip(words, words[1:]):
-        if begins and WORD.match(token[0]) and len(columns) < rules.MOST_COLUMNS:
-            kind = after[0].upper()
-            columns.append((token[0], "INTEGER" if kind in ("INT", "BIGINT") else kind))
-        begins = token[0] == ","
-    return columns
+def texts(schema: str) -> Iterator[str]:
+    """Returns the text of each table of a schema that is taken, with its `;`."""
+    begin = end = -1
+    for it in parts.parts(schema):
+        if it.kind in (parts.SEMICOLON, parts.END):
+            if begin >= 0:
+                yield schema[begin:end] + ";\n"
+            begin = -1
+        else:
+            begin, end = it.at if begin < 0 else begin, it.end
+
+
+@functools.lru_cache(maxsize=16)
+def described(schema: str) -> Database:
+    """Returns a database of a schema whose tables have no rows: it says what the schema and a query name. Error where it is refused."""
+    database = Database(schema.encode("utf-8", "surrogateescape"))
+    database.source = lambda table: ",".join(name for name, _ in database.columns[table]).encode() + b"\n"
+    return database
+
+
+def opened(query: str, known: list[Table]) -> Optional[Open]:
+    """Returns the statement of a query over tables of these definitions, which have no rows; None where it is refused."""
+    try:
+        text = placeholders.need_utf_8(query.encode("utf-8", "surrogateescape"))
+        return Open(described("".join(it.text for it in known)), text, str)
+    except Error:
+        return None
 
 
 def references(query: str, known: list[Table]) -> dict[str, Table]:
-    """Returns the tables that a query names behind FROM and JOIN and that are there, by their aliases in lower case."""
-    words, of_name = [it[0] for it in tokens(query)], {it.name.lower(): it for it in known}
+    """Returns the tables that a query names, by their aliases in lower case: of one that is refused those that it mentions."""
+    statement = opened(query, known)
+    return {it.name.lower(): known[it.table] for it in statement.references()} if statement else mentioned(query, known)
+
+
+def mentioned(text: str, known: list[Table]) -> dict[str, Table]:
+    """Returns the tables whose names are behind FROM and JOIN, by the words that seem to be their aliases: a query that sfq refuses, or
+    that isn't finished, has no others that are known."""
+    words, of_name = [(it.kind, text[it.at : it.end].lower()) for it in parts.parts(text)], {it.name.lower(): it for it in known}
     found: dict[str, Table] = {}
     is_next = is_listed = False
-    for at, word in enumerate(words):
-        is_join, is_from = word.upper() == "JOIN", word.upper() == "FROM"
-        if is_next and word.lower() in of_name:
-            behind = words[at + 1 : at + 3]
-            alias = behind[1:] if behind[:1] and behind[0].upper() == "AS" else behind[:1]
-            is_alias = alias and WORD.fullmatch(alias[0]) and alias[0].lower() not in rules.RESERVED
-            found.setdefault(alias[0].lower() if is_alias else word.lower(), of_name[word.lower()])
-        is_listed = (is_listed or is_from) and word.upper() not in ("WHERE", "ON", "LIMIT")
-        is_next = is_join or is_from or (is_listed and word == ",")
+    for at, (_, word) in enumerate(words):
+        if is_next and word in of_name:
+            behind = [it for it in words[at + 1 : at + 3] if it != (parts.RESERVED, "as")][:1]
+            found.setdefault(behind[0][1] if behind and behind[0][0] == parts.WORD else word, of_name[word])
+        is_listed = (is_listed or word == "from") and word not in ("where", "on", "limit")
+        is_next = word in ("from", "join") or (is_listed and word == ",")
     return found
 
 
-def types(headers: list[str], query: str, known: list[Table]) -> list[str]:
-    """Returns the types of an answer's columns by their headers: of ST_AsText that of its argument."""
-    named = references(query, known)
-    return [type_of(it, named) for it in headers]
+class Column(NamedTuple):
+    """A column whose values an answer has, as they are or by ST_AsText: its table, its name and its type."""
+
+    table: Table
+    name: str
+    type: str
 
 
-# A column, or a function of one: the function, the alias and the name.
-HEADER = re.compile(r"(?:(\w+)\()?(?:(\w+)\.)?(\w+|\*)\)?")
+def columns(query: str, known: list[Table]) -> list[Optional[Column]]:
+    """Returns which column each one of an answer is: None for numbers of functions and of rows, and for lines of a plan."""
+    statement = opened(query, known)
+    return [column_of(it, known) for it in statement.origins()] if statement else []
 
 
-def type_of(header: str, named: dict[str, Table]) -> str:
-    """Returns the type of a column by its header."""
-    found = HEADER.fullmatch(header)
-    if found and found[1] not in (None, "ST_AsText"):
-        return "INTEGER"
-    column = column_of(header, named)
-    return column[0].type_of(column[1]) if column else "TEXT"
-
-
-def column_of(header: str, named: dict[str, Table]) -> Optional[tuple[Table, str]]:
-    """Returns the table and the name of the column whose values a header names, as they are or by ST_AsText."""
-    found = HEADER.fullmatch(header)
-    if not found or found[1] not in (None, "ST_AsText"):
+def column_of(origin: Optional[Origin], known: list[Table]) -> Optional[Column]:
+    """Returns the column of an origin, if it is asked for as it is or by ST_AsText."""
+    if origin is None or origin.function not in ("", "ST_AsText"):
         return None
-    several = [it for name, it in named.items() if found[2] is None or name == found[2].lower()]
-    return (several[0], found[3]) if several else None
+    table = known[origin.reference.table]
+    return Column(table, *table.columns[origin.column])
+
+
+def types(headers: list[str], query: str, known: list[Table]) -> list[str]:
+    """Returns the types of an answer's columns: of ST_AsText that of its argument."""
+    statement = opened(query, known)
+    if statement is None:
+        return ["TEXT"] * len(headers)
+    found = [column_of(it, known) for it in statement.origins()]
+    return [column.type if column else kind for column, (_, kind) in zip(found, statement.columns)]

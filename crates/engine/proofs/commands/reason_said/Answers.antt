@@ -1,13 +1,17 @@
 -- The line of the reason that was found, or none.
 use Rattle.std.proofs.Common.{IfSome, Some, inr, subst}
+use Rattle.csv.specs.Records.{fields_of}
 use Rattle.record_reasons.specs.Reasons.{IsReasonOf}
 use Rattle.engine.proofs.commands.reason_said.Goals as goal
 
 pub returns : goal.returns
 returns c =
-    let known = Some c.args.text.now in
-    let table = c.args.table.now in
-    let is : IsReasonOf known table c.args.fault c.in-Some.reason =
-    subst (λ found. IfSome found (IsReasonOf known table c.args.fault)) c.in-Some.is
-    (c.in-Ok.ensures.reason known c.new-records.ensures.gives) in
-    inr (c.in-Some.reason, is, c.in-Ok-line_said.ensures)
+    let last = c.args.last.now in
+    inr (
+      c.in-Some.reason,
+      subst
+          (λ found. IfSome found (IsReasonOf (Some c.args.text.now) c.args.table.now (fields_of last.header)
+          (fields_of last.record) c.args.fault))
+          c.in-Some.is c.in-Ok.ensures,
+      c.in-Ok-line_said.ensures,
+    )

@@ -1,5 +1,6 @@
 -- Each exit: the schema isn't read, or the command over it ends so, and its end is explained or not.
 use Rattle.std.proofs.Common.{Err, Ok, refl, subst}
+use Rattle.csv.specs.Records.{fields_of}
 use Rattle.engine.specs.Commands.{ExplainsCheck}
 use Rattle.engine.proofs.ExplanationLemmas.{asked-of-file}
 use Rattle.text_commands.specs.Files.{OpensFile}
@@ -28,23 +29,27 @@ returns-in-Err-clause-serves g c = record {
 }
 
 pub returns-clause-serves : goal.returns-clause-serves
-returns-clause-serves g c = record {
-  end = c.check_over-end.result;
-  ends = record {
-    file = c.opener.result;
-    next = c.opener.new.self;
-    opened = record { shown = c.args.paths.now.schema; shows = refl; called = c.opener.ensures };
-    schema = Ok c.in-Ok.schema;
-    read = c.in-Ok.ensures.reads;
-    rest = (
-      c.check_over-end.new.opener,
-      c.check_over-end.ensures.checks,
-      subst (λ old. ExplainsCheck (OpensFile g.F.FnMut) g.R.Read.remaining g.M.Sink.taken g.M.Sink.failures old
-          c.explain_check.new.more
-          c.check_over-end.new.opener c.args.paths.now.directory.now c.args.paths.now.why c.in-Ok.schema c.check_over-end.result)
-          c.in-Ok.ensures.quiet c.explain_check.ensures.explains,
-    );
-  };
-  returned = c.ended.ensures.status;
-  reported = c.ended.ensures.line;
-}
+returns-clause-serves g c = let header = fields_of c.check_over-end.new.last.header in
+    let last = fields_of c.check_over-end.new.last.record in record {
+      end = c.check_over-end.result;
+      ends = record {
+        file = c.opener.result;
+        next = c.opener.new.self;
+        opened = record { shown = c.args.paths.now.schema; shows = refl; called = c.opener.ensures };
+        schema = Ok c.in-Ok.schema;
+        read = c.in-Ok.ensures.reads;
+        rest = (
+          c.check_over-end.new.opener,
+          header,
+          last,
+          c.check_over-end.ensures.checks,
+          subst (λ old. ExplainsCheck (OpensFile g.F.FnMut) g.R.Read.remaining g.M.Sink.taken g.M.Sink.failures old
+              c.explain_check.new.more
+              c.check_over-end.new.opener c.args.paths.now.directory.now header last c.args.paths.now.why c.in-Ok.schema
+              c.check_over-end.result)
+              c.in-Ok.ensures.quiet c.explain_check.ensures.explains,
+        );
+      };
+      returned = c.ended.ensures.status;
+      reported = c.ended.ensures.line;
+    }

@@ -1,9 +1,9 @@
 -- Each exit of the query's steps.
 use Rattle.std.proofs.Common.{ap, Ok, sym, ℕ, ◌∙◌}
 use Rattle.failures.specs.Faults.{of_put}
-use Rattle.query_runs.specs.Runs.{none_reached, planned_text}
+use Rattle.query_runs.specs.Runs.{IsOfTables, none_reached, planned_text}
 use Rattle.failures.specs.declared.run_fault.Fault.TheVariants as faults
-use Rattle.query_runs.proofs.RunLemmas.{at-fault, bound-outcome, bound-work, memory-none, no-count, of-tables, put-of-tables, put-refused, query-of-tables, unbound-runs}
+use Rattle.query_runs.proofs.RunLemmas.{at-fault, bound-outcome, bound-work, memory-none, no-count, of-fault, put-of-tables, put-refused, query-of-tables, unbound-runs}
 use Rattle.query_runs.proofs.runs.answer_query.Goals as goal
 
 pub returns-in_err-bound-clause-answer : goal.returns-in_err-bound-clause-answer
@@ -15,7 +15,7 @@ pub returns-in_err-bound-clause-work : goal.returns-in_err-bound-clause-work
 returns-in_err-bound-clause-work g c = λ matrix gives. no-count c.from_residual.result _ _ c.from_residual.ensures.1
 
 pub returns-in_err-bound-clause-table : goal.returns-in_err-bound-clause-table
-returns-in_err-bound-clause-table g c = λ count. of-tables count c.from_residual.result _ c.from_residual.ensures.1 (query-of-tables count c.in_err-bound.field-0.0)
+returns-in_err-bound-clause-table g c = λ count. of-fault c.from_residual.result _ (IsOfTables count) c.from_residual.ensures.1 (query-of-tables count c.in_err-bound.field-0.0)
 
 pub returns-in_err-plan-clause-answer : goal.returns-in_err-plan-clause-answer
 returns-in_err-plan-clause-answer g c = λ matrix gives.
@@ -26,7 +26,7 @@ pub returns-in_err-plan-clause-work : goal.returns-in_err-plan-clause-work
 returns-in_err-plan-clause-work g c = λ matrix gives. no-count c.from_residual-in_err-plan.result _ _ c.from_residual-in_err-plan.ensures.1
 
 pub returns-in_err-plan-clause-table : goal.returns-in_err-plan-clause-table
-returns-in_err-plan-clause-table g c = λ count. of-tables count c.from_residual-in_err-plan.result faults.Memory c.from_residual-in_err-plan.ensures.1 tt
+returns-in_err-plan-clause-table g c = λ count. of-fault c.from_residual-in_err-plan.result faults.Memory (IsOfTables count) c.from_residual-in_err-plan.ensures.1 tt
 
 pub returns-in_err-work-clause-answer : goal.returns-in_err-work-clause-answer
 returns-in_err-work-clause-answer g c = λ matrix gives.
@@ -42,7 +42,7 @@ returns-in_err-work-clause-work g c = λ matrix gives. no-count c.from_residual-
 
 pub returns-in_err-work-clause-table : goal.returns-in_err-work-clause-table
 returns-in_err-work-clause-table g c = λ count.
-    of-tables count c.from_residual-in_err-work.result _ c.from_residual-in_err-work.ensures.1 (put-of-tables count c.in_err-work.field-0.0)
+    of-fault c.from_residual-in_err-work.result _ (IsOfTables count) c.from_residual-in_err-work.ensures.1 (put-of-tables count c.in_err-work.field-0.0)
 
 pub returns-clause-answer : goal.returns-clause-answer
 returns-clause-answer g c = λ matrix gives.

@@ -3,12 +3,13 @@ use Rattle.std.proofs.Common.{Err, Ok, OnOk, Result, inl, inr, length, map, refl
 use Rattle.failures.specs.declared.run_fault.Fault.{Fault}
 use Rattle.feature_table.specs.Tables.{records_in}
 use Rattle.query_runs.specs.RowCounts.{CountsLoaded}
-use Rattle.query_runs.proofs.RunLemmas.{load-of-tables, loaded-counts, loaded-runs, no-count, of-tables, unloaded-runs}
+use Rattle.query_runs.specs.Runs.{IsOfTables, ShowsRun}
+use Rattle.query_runs.proofs.RunLemmas.{load-of-tables, load-shows, loaded-counts, loaded-runs, no-count, none-show, of-fault, unloaded-runs}
 use Rattle.query_runs.proofs.runs.load_and_answer.Goals as goal
 
 pub returns-in_err-database-clause-runs : goal.returns-in_err-database-clause-runs
 returns-in_err-database-clause-runs g c = λ text read.
-    let these = c.in_err-database.ensures.records in record {
+    let these = c.in_err-database.ensures.records.0 in record {
       texts = λ texts known matrix gives.
           unloaded-runs c.from_residual.result c.in_err-database.field-0.0 matrix c.args.schema.now (map records_in texts) text
           c.args.query.now
@@ -25,13 +26,13 @@ returns-in_err-database-clause-runs g c = λ text read.
         λ matrix gives. no-count c.from_residual.result _ _ c.from_residual.ensures.1,
       );
       failures = search rules;
-      table = of-tables (length c.args.schema.now) c.from_residual.result _ c.from_residual.ensures.1
+      table = of-fault c.from_residual.result _ (IsOfTables (length c.args.schema.now)) c.from_residual.ensures.1
           (load-of-tables (length c.args.schema.now) c.in_err-database.field-0.0 c.in_err-database.ensures.table);
     }
 
 pub returns-clause-runs : goal.returns-clause-runs
 returns-clause-runs g c = λ text read.
-    let these = c.in_ok-database.ensures.records in record {
+    let these = c.in_ok-database.ensures.records.0 in record {
       texts = λ texts known matrix gives.
           loaded-runs c.answer_query.result matrix c.in_ok-database.database c.args.schema.now (map records_in texts) text
           c.args.query.now
@@ -69,7 +70,7 @@ returns-clause-counts g c texts known =
 
 pub returns-in_err-database-clause-leaves : goal.returns-in_err-database-clause-leaves
 returns-in_err-database-clause-leaves g c = λ text read.
-    let these = c.in_err-database.ensures.records in record {
+    let these = c.in_err-database.ensures.records.0 in record {
       records = these.records;
       are_of = these.are_of;
       runs = λ matrix gives. unloaded-runs c.from_residual.result c.in_err-database.field-0.0 matrix c.args.schema.now
@@ -77,11 +78,13 @@ returns-in_err-database-clause-leaves g c = λ text read.
           (g.S.Sink.taken c.args.sink.now) c.from_residual.ensures.1 read these.loads
           c.in_err-database.ensures.table these.earlier;
       counts = inl refl;
+      shows = of-fault c.from_residual.result _ (ShowsRun these.records _ _) c.from_residual.ensures.1
+          (load-shows these.records _ _ c.in_err-database.field-0.0 c.in_err-database.ensures.records.1);
     }
 
 pub returns-clause-leaves : goal.returns-clause-leaves
 returns-clause-leaves g c = λ text read.
-    let these = c.in_ok-database.ensures.records in record {
+    let these = c.in_ok-database.ensures.records.0 in record {
       records = these.records;
       are_of = these.are_of;
       runs = λ matrix gives. loaded-runs c.answer_query.result matrix c.in_ok-database.database c.args.schema.now
@@ -89,4 +92,5 @@ returns-clause-leaves g c = λ text read.
           (g.S.Sink.taken c.args.sink.now) (g.S.Sink.taken c.answer_query.new.sink)
           read these.loads c.in_ok-database.ensures.schema (c.answer_query.ensures.answer matrix gives);
       counts = inr (c.in_ok-database.database.tables, these.loads, c.count_rows.ensures);
+      shows = none-show c.answer_query.result these.records _ _ (c.answer_query.ensures.table 0);
     }

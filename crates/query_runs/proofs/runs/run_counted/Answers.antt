@@ -2,7 +2,8 @@
 use Rattle.std.proofs.Common.{inl, length, map, refl, rules}
 use Rattle.feature_table.specs.Tables.{records_in}
 use Rattle.query_runs.proofs.ReaderLemmas.{some-records}
-use Rattle.query_runs.proofs.RunLemmas.{no-count, of-tables, query-of-tables, unread-runs}
+use Rattle.query_runs.proofs.RunLemmas.{no-count, none-show, of-fault, query-of-tables, unread-runs}
+use Rattle.query_runs.specs.Runs.{IsOfTables}
 use Rattle.query_runs.proofs.runs.run_counted.Goals as goal
 
 pub returns-in_err-query-clause-runs : goal.returns-in_err-query-clause-runs
@@ -22,7 +23,7 @@ returns-in_err-query-clause-runs g c =
         λ matrix gives. no-count c.from_residual.result _ _ c.from_residual.ensures.1,
       );
       failures = search rules;
-      table = of-tables (length c.args.schema.now) c.from_residual.result _ c.from_residual.ensures.1
+      table = of-fault c.from_residual.result _ (IsOfTables (length c.args.schema.now)) c.from_residual.ensures.1
           (query-of-tables (length c.args.schema.now) c.in_err-query.field-0.0);
     }
 
@@ -41,6 +42,8 @@ returns-in_err-query-clause-leaves g c =
           c.args.query.now (g.S.Sink.taken c.args.sink.now)
           c.from_residual.ensures.1 c.in_err-query.ensures.exact;
       counts = inl refl;
+      shows = none-show c.from_residual.result these.0 _ _
+          (of-fault c.from_residual.result _ (IsOfTables 0) c.from_residual.ensures.1 (query-of-tables 0 c.in_err-query.field-0.0));
     }
 
 pub returns-then-as_slice-eq1-clause-leaves : goal.returns-then-as_slice-eq1-clause-leaves

@@ -1,25 +1,26 @@
--- A key's fault by its keys, any other by its record.
-use Rattle.std.proofs.Common.{IfNone, IfOk, IfSome, subst, sym}
-use Rattle.record_reasons.specs.Reasons.{HasNoReason, IsReasonOf}
-use Rattle.record_reasons.proofs.AnyLemmas.{none-of-any, of-any}
+-- Each fault by its own kind of reason; any other is of a column.
+use Rattle.std.proofs.Common.{subst, sym}
+use Rattle.csv.specs.Records.{fields_of}
+use Rattle.record_reasons.specs.Reasons.{Finds, HasReason}
+use Rattle.record_reasons.proofs.ReasonLemmas.{of-column}
 use Rattle.record_reasons.proofs.reason.reason_of.Goals as goal
 
-pub returns-in_default-clause-reason : goal.returns-in_default-clause-reason
-returns-in_default-clause-reason g c known of =
-    of-any c.record_reason.result known c.args.table.now c.args.fault c.in_default.not-DoubleKey
-    (c.record_reason.ensures.reason known of)
+pub returns-in_default-clause-finds : goal.returns-in_default-clause-finds
+returns-in_default-clause-finds c =
+    of-column c.reason_in_columns.result c.args.table.now (fields_of c.args.header.now) (fields_of c.args.record.now) c.args.fault
+    c.in_default.not-MissingColumn c.in_default.not-DoubleHeader c.in_default.not-UnequalRecord c.in_default.not-NullNotAllowed c.reason_in_columns.ensures.finds
 
-pub returns-in_default-clause-none : goal.returns-in_default-clause-none
-returns-in_default-clause-none g c known of =
-    none-of-any c.record_reason.result known c.args.table.now c.args.fault c.in_default.not-DoubleKey
-    (c.record_reason.ensures.none known of)
+pub returns-in-MissingColumn-clause-finds : goal.returns-in-MissingColumn-clause-finds
+returns-in-MissingColumn-clause-finds c =
+    subst (λ f. Finds (HasReason c.args.table.now (fields_of c.args.header.now) (fields_of c.args.record.now) f) c.missing.result) (sym c.in-MissingColumn.is)
+    c.missing.ensures
 
-pub returns-in-DoubleKey-clause-reason : goal.returns-in-DoubleKey-clause-reason
-returns-in-DoubleKey-clause-reason g c known of =
-    subst (λ f. IfOk c.same_key.result (λ found. IfSome found (IsReasonOf known c.args.table.now f))) (sym c.in-DoubleKey.is)
-    (c.same_key.ensures.reason known of)
+pub returns-in-DoubleHeader-clause-finds : goal.returns-in-DoubleHeader-clause-finds
+returns-in-DoubleHeader-clause-finds c =
+    subst (λ f. Finds (HasReason c.args.table.now (fields_of c.args.header.now) (fields_of c.args.record.now) f) c.repeated.result) (sym c.in-DoubleHeader.is)
+    c.repeated.ensures
 
-pub returns-in-DoubleKey-clause-none : goal.returns-in-DoubleKey-clause-none
-returns-in-DoubleKey-clause-none g c known of =
-    subst (λ f. IfOk c.same_key.result (λ found. IfNone found (HasNoReason known c.args.table.now f))) (sym c.in-DoubleKey.is)
-    (c.same_key.ensures.none known of)
+pub returns-in-NullNotAllowed-clause-finds : goal.returns-in-NullNotAllowed-clause-finds
+returns-in-NullNotAllowed-clause-finds c =
+    subst (λ f. Finds (HasReason c.args.table.now (fields_of c.args.header.now) (fields_of c.args.record.now) f) c.null_field.result)
+    (sym c.in-NullNotAllowed.is) c.null_field.ensures

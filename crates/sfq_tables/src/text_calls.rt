@@ -1,0 +1,27 @@
+//! C calls that say what is in a text.
+
+ghost use Rattle.std.specs.Prelude.{◌≡◌, ◌≢◌, ◌⊎◌, ◌++◌, drop, length};
+ghost use Rattle.library_calls.specs.Kept.{status_of_room};
+ghost use Rattle.library_calls.specs.Refusals.{ok, out_of_memory, too_small};
+ghost use Rattle.sfq_tables.specs.TextParts.{text_parts};
+
+use crate::text_parts::{TextPart, write_parts};
+use std::alloc::Global;
+
+/// Writes how many parts a text has, and the parts, if `room` is large enough: its tokens, and behind them the first
+/// byte that begins no token, or the end of the text (SQL, tokens; the numbers: this project's choice).
+#[unsafe(no_mangle)]
+pub extern "C" fn sfq_proved_text_parts(
+    alloc: Global,
+    text: &[u8],
+    room: &mut [TextPart],
+    count: &mut usize,
+) -> u32
+    ensures parts { result ≡ ok → room.new ≡ text_parts text.now ++ drop (length (text_parts text.now)) room.old }
+    ensures kept { result ≢ ok → room.new ≡ room.old }
+    ensures count { (result ≡ ok) ⊎ (result ≡ too_small) → count.new ≡ length (text_parts text.now) }
+    ensures no_count { result ≢ ok → result ≢ too_small → count.new ≡ count.old }
+    ensures status { (result ≡ out_of_memory) ⊎ (result ≡ status_of_room (text_parts text.now) room.old) }
+{
+    write_parts(alloc, text, room, count)
+}

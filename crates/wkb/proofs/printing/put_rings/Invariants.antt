@@ -1,0 +1,7 @@
+use Rattle.std.proofs.Common.{◌≡◌, ◌++◌, take}
+use Rattle.std.specs.List.{flat_map}
+use Rattle.wkb.specs.BinaryPrinting.{line_bytes}
+use Rattle.wkb.proofs.printing.put_rings.Given as goal
+
+abbrev pub invariant-loop-index : goal.invariant-loop-index
+invariant-loop-index l = l.bytes.items ≡ l.initial.bytes.items ++ flat_map (line_bytes l.grid) (take l.index l.rings)
