@@ -306,6 +306,14 @@ class OneUserOfTheDoor(unittest.TestCase):
         with mock.patch.dict(os.environ, {"SFQ_QUIET": "1", "PYTHONPATH": "/x"}):
             self.assertEqual(sorted(front_door.bare_environment("/nowhere")), ["HOME", "LANG", "PATH"])
 
+    def test_the_failures_come_through(self):
+        """Of a failed ./test the gate prints the failures, which would else be lost among some hundred lines."""
+        out = "[1 of 2, 0 s] FAILED: test_x, 1 failed (0 s)\n[2 of 2, 1 s] ok: test_y, 3 passed (1 s)\n"
+        repeated = "\nFAILED: test_x.X.test_a\n2 != 3\nalone: ./test test_x\n\n"
+        closing = "failed: test_x.X.test_a\nneeds ./build: 8 tests skipped\n3 passed, 1 failed, 8 skipped\n"
+        self.assertEqual(front_door.failures(out + repeated + closing), repeated)
+        self.assertEqual(front_door.failures(out + "Killed\n"), "")
+
     def test_skips_that_a_build_ends_are_left_to_the_gate(self):
         count = lambda line: len(front_door.skips(line))
         self.assertEqual(count("[3 of 9, 1 min 2 s] skipped: test_x, 3 tests: needs the package qgis"), 3)

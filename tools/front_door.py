@@ -84,9 +84,15 @@ def walked(command: str, clone: str, home: str) -> Walked:
         return Walked("".join(lines), said.read(), child.returncode)
 
 
+def failures(out: str) -> str:
+    """Returns what ./test repeats of its failures at its end, or nothing."""
+    found = re.search(r"^\nFAILED: .*?(?=^failed: )", out, re.M | re.S)
+    return found[0] if found else ""
+
+
 def failure(it: Command, came: Walked) -> Failure:
     wanted = it.prints or "N passed, 0 failed, N skipped, in its last line"
-    last = "".join(came.out.splitlines(True)[-60:])
+    last = failures(came.out) or "".join(came.out.splitlines(True)[-60:])
     text = f"README wants that\n{it.text}\nends with status 0 and prints\n{wanted}\nIt ended with {came.status} and printed\n{last}{came.err}"
     return Failure(f"README's command {it.text.split()[0]}", text, COMMAND)
 
