@@ -67,7 +67,9 @@ class Glossary(unittest.TestCase):
             linked, text = {it.start(1) for it in LINK.finditer(page)}, prose(page)
             for word in (it for it in PLAIN if (os.path.relpath(path, ROOT), it) not in USUAL):
                 with self.subTest(path=os.path.relpath(path, ROOT), word=word):
-                    self.assertIn(first_use(text, word), linked | {None})
+                    found = first_use(text, word)
+                    line = page.count("\n", 0, found) + 1 if found is not None else 0
+                    self.assertTrue(found is None or found in linked, f"{os.path.relpath(path, ROOT)}:{line}: link this first use of {word} to the glossary")
 
 
 if __name__ == "__main__":
