@@ -2,6 +2,7 @@
 
 relations FOLDER A KEY B KEY: which rows of two tables, by their keys, are in each relation, as JSON.
 meetings SOURCE FOLDER: which records of a source intersect, by their FIDs, on the grid of the folder.
+sources SOURCE FOLDER: which records of a source are in each relation, by their FIDs, on the grid of the folder.
 wholes SOURCE FOLDER TABLE: for each record of a source by its FID, on the grid of the folder, its text and what its parts are.
 """
 import csv
@@ -29,9 +30,20 @@ def rows(folder, table, key):
 
 def relations(folder, one, key, other, other_key):
     """Returns the pairs of keys in each relation."""
+    return related(rows(folder, one, key), rows(folder, other, other_key))
+
+
+def sources(source, folder):
+    """Returns the pairs of FIDs in each relation."""
+    shapes = [(number, wkt.loads(it)) for number, it in texts(source, folder).items()]
+    return related(shapes, shapes)
+
+
+def related(ones, others):
+    """Returns the pairs of numbers of geometries in each relation."""
     found = {it: [] for it in PREDICATES}
-    others = [(number, it, it.bounds) for number, it in rows(folder, other, other_key)]
-    for a, first in rows(folder, one, key):
+    others = [(number, it, it.bounds) for number, it in others]
+    for a, first in ones:
         left, low, right, high = first.bounds
         for b, second, (west, south, east, north) in others:
             if left <= east and west <= right and low <= north and south <= high and first.intersects(second):
@@ -80,4 +92,4 @@ def wholes(source, folder, table):
 
 if __name__ == "__main__":
     csv.field_size_limit(sys.maxsize)
-    print(json.dumps({"relations": relations, "wholes": wholes, "meetings": meetings}[sys.argv[1]](*sys.argv[2:])))
+    print(json.dumps({"relations": relations, "wholes": wholes, "meetings": meetings, "sources": sources}[sys.argv[1]](*sys.argv[2:])))

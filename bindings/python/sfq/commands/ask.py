@@ -18,13 +18,13 @@ import shlex
 import shutil
 import sys
 import tempfile
-from typing import Any, Iterator, NamedTuple, Optional, TextIO
+from typing import Any, Callable, Iterator, NamedTuple, Optional, TextIO
 
 from .. import __version__
 from ..geometry.faults import LibraryError
 from ..layers import reading
 from ..tables import rules, statements
-from . import asking, caches, changes, child, constants, coverage, endings, exports, geopackage, imports, in_sqlite, left_out, showing, streams, stretches, units
+from . import asking, caches, changes, child, constants, coverage, endings, exports, geopackage, imports, in_sqlite, left_out, records, showing, streams, stretches, units
 from .asking import Refused
 from .conditions import Conditions
 from .endings import DATA, DONE, FILES, MISSING, USAGE, Stopped
@@ -116,11 +116,27 @@ def need_few(folder: units.Folder, conditions: Conditions, query: str, is_kept: 
                 f"{first}sfq-scale run {words} --scheduler tcp://HOST:PORT; sfq-export --like {shlex.quote(place)} brings its answer back", DATA)
 
 
-def asked(folder: units.Folder, conditions: Conditions, query: str, is_parted: bool) -> asking.Answer:
-    """Returns the answer to a query, which is asked in stretches of its table if that is too large for one run. Refused where there is none."""
+def asker(folder: units.Folder, conditions: Conditions, is_parted: bool) -> Callable[[str], asking.Answer]:
+    """Returns what gives the answer to a query over the tables that `conditions` names, or is Refused. A table that is too large for one run is
+    queried in stretches."""
     if is_parted:
-        return stretches.ask(NAME, folder, conditions, query)
-    return asking.Asker(NAME, [folder.schema_file, folder.path], folder.schema).ask(query)
+        return lambda query: stretches.ask(NAME, folder, conditions, query)
+    return asking.Asker(NAME, [folder.schema_file, folder.path], folder.schema).ask
+
+
+def of_wholes(folder: units.Folder, conditions: Conditions, query: str) -> Optional[records.Query]:
+    """Returns a query about records of which some are several rows, as wholes; None where it isn't one, or can't be."""
+    if not records.wanted(conditions):
+        return None
+    try:
+        found = records.Query(NAME, folder, query)
+    except records.Uncovered as reason:
+        conditions.uncovered = f"and {reason}"
+        # sfq says what is wrong with a query that SQLite hasn't more for.
+        conditions.is_faulty = reason.is_refused and not in_sqlite.wanted(conditions)
+        return None
+    conditions.is_of_wholes = True
+    return found
 
 
 def ask(options: argparse.Namespace, folder: units.Folder, is_kept: bool, output: Output) -> None:
@@ -130,6 +146,7 @@ def ask(options: argparse.Namespace, folder: units.Folder, is_kept: bool, output
     written = constants.Written(options.query, folder.grid, given.numbers(NAME))
     conditions = Conditions(options.query, folder, written.made)
     conditions.compared = given.compared
+    whole = of_wholes(folder, conditions, written.made)
     conditions.need_lawful(NAME)
     written.need_on_grid(NAME)
     is_parted = stretches.is_wanted(conditions, written.made)
@@ -138,7 +155,10 @@ def ask(options: argparse.Namespace, folder: units.Folder, is_kept: bool, output
     if not options.lenient and not statements.is_plan(options.query):
         left_out.need_whole(folder, conditions.layers)
     try:
-        found = folder.returned(asked(folder, conditions, written.made, is_parted), written.made)
+        if whole:
+            found = whole.returned(asker(folder, conditions, is_parted))
+        else:
+            found = folder.returned(asker(folder, conditions, is_parted)(written.made), written.made)
     except Refused as error:
         refused = written.refused(error, NAME)
         if not error.code.startswith("Q"):

@@ -67,6 +67,10 @@ class Conditions:
         self.begin = next((at for at, it in enumerate(self.words) if it.upper() == "FROM"), len(self.words))
         # The last tokens of the columns of decimal numbers whose conditions have them as the source has them.
         self.compared: set[int] = set()
+        # Whether records that are several rows are related as wholes, or nothing is, as in a query with a fault; else why they can't be.
+        self.is_of_wholes, self.is_faulty, self.uncovered = False, False, ""
+        # Whether the predicate at a byte says of parts what it says of records, where that was asked.
+        self.same: dict[int, bool] = {}
 
     def columns(self, first: int, last: int) -> Iterator[Named]:
         """Returns the columns of the tokens from a place on and before another. A name alone is that of each table that has it."""
@@ -99,6 +103,12 @@ class Conditions:
             before = size
         return iter(found)
 
+    def says_the_same(self, call: Call) -> bool:
+        """Whether a predicate says of the parts of each record what it says of the record."""
+        if call.at not in self.same:
+            self.same[call.at] = wholes.say_the_same(self.folder, call.name, call.layers, call.constants)
+        return self.same[call.at]
+
     def refused(self, name: str, call: Call, reason: str) -> asking.Refused:
         """Returns why a command of this name asks no call."""
         return asking.Refused(f"{name}: {reason}\n{asking.placed(encoded(self.query), call.at)}", asking.QUERY)
@@ -107,9 +117,9 @@ class Conditions:
         """Refused where a predicate is asked of parts that says nothing of the whole, or of geometries in two reference systems."""
         for call in self.calls():
             parted = [it.said["table"] for it in call.layers if it.has_parts]
-            if parted and call.name not in OF_PARTS and not wholes.say_the_same(self.folder, call.name, call.layers, call.constants):
-                raise self.refused(name, call, f"{call.name} of a part says nothing of the whole: {parted[0]} has records in parts, "
-                                   f"so it takes {' and '.join(OF_PARTS)} alone{advice(call.layers)}")
+            if parted and not (self.is_of_wholes or self.is_faulty) and call.name not in OF_PARTS and not self.says_the_same(call):
+                reason = self.uncovered or f"so it takes {' and '.join(OF_PARTS)} alone"
+                raise self.refused(name, call, f"{call.name} of a part says nothing of the whole: {parted[0]} has records in parts, {reason}{advice(call.layers)}")
             known = [it for it in call.layers if it.system]
             for it in known[1:]:
                 if not may_be_same(it.system, known[0].system):
@@ -197,8 +207,10 @@ class Conditions:
         for layer in self.layers.values():
             if layer.has_parts:
                 parted = layer.said["parted"]
-                found.append(f"{parted['records']:,} records of {layer.said['table']} are in {parted['rows']:,} parts, each a row: those of one have the "
-                             f"same number in {parted['whole']}, and one is disjoint from another where all its parts are")
+                said = f"{parted['records']:,} records of {layer.said['table']} are in {parted['rows']:,} parts"
+                found.append(f"{said}: they were put together again and related as wholes, which isn't proved" if self.is_of_wholes else
+                             f"{said}, each a row: those of one have the same number in {parted['whole']}, and one is disjoint from another "
+                             "where all its parts are")
         return list(dict.fromkeys(found))
 
 

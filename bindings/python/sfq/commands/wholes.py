@@ -12,14 +12,17 @@ from . import exports, left_out, units
 from .left_out import Box
 
 # The predicates that hold of no two geometries whose envelopes don't meet.
-MEETING = ("ST_Equals", "ST_Touches", "ST_Crosses", "ST_Within", "ST_Contains", "ST_Overlaps")
+MEETING = ("ST_Intersects", "ST_Equals", "ST_Touches", "ST_Crosses", "ST_Within", "ST_Contains", "ST_Overlaps")
 NUMBER = re.compile(r"[+-]?(?:[0-9]+\.?[0-9]*|\.[0-9]+)")
 BOUNDARY = 1
 
 
 class Whole(NamedTuple):
-    """A record that is several rows: its envelope in steps of the grid, the texts of its parts, and the points that it is compared with."""
+    """A record that is several rows: its key, the number of its first row, its envelope in steps of the grid, the texts of its parts, and the
+    points that it is compared with."""
 
+    key: str
+    first: int
     box: Box
     texts: list[str]
     points: list[tuple[int, int]]
@@ -27,21 +30,23 @@ class Whole(NamedTuple):
 
 def wholes(folder: units.Folder, layer: units.Layer) -> Optional[list[Whole]]:
     """Returns the records of a table that are several rows; None where the table doesn't say which are."""
-    whole = str(layer.said["parted"]["whole"]).lower()
+    part, whole = (str(layer.said["parted"].get(it)).lower() for it in ("part", "whole"))
     csv.field_size_limit(sys.maxsize)
     with open(f"{folder.path}/{layer.said['table']}.csv", newline="", encoding="utf-8", errors="replace") as file:
         rows = csv.reader(file)
         header = [it.lower() for it in next(rows, [])]
         shape = next((at for at, it in enumerate(header) if it in layer.columns and layer.columns[it]["type"] in exports.GEOMETRIC), None)
-        if whole not in header or shape is None:
+        if part not in header or whole not in header or shape is None:
             return None
-        at, found = header.index(whole), []
+        number, at, found = header.index(part), header.index(whole), []
         # The rows of a record are one behind another.
-        for _, its in itertools.groupby(rows, lambda row: row[at]):
-            texts = [row[shape] for row in its]
-            if len(texts) > 1:
+        for key, each in itertools.groupby(rows, lambda row: row[at]):
+            its = list(each)
+            if len(its) > 1:
+                texts = [row[shape] for row in its]
                 numbers = [int(it) for text in texts for it in left_out.NUMBER.findall(text)]
-                found.append(Whole((min(numbers[0::2]), min(numbers[1::2]), max(numbers[0::2]), max(numbers[1::2])), texts, []))
+                box = min(numbers[0::2]), min(numbers[1::2]), max(numbers[0::2]), max(numbers[1::2])
+                found.append(Whole(key, int(its[0][number]), box, texts, []))
         return found
 
 

@@ -64,8 +64,11 @@ def outer_edges(rings: Iterable[Sequence[Position]]) -> Counter[Edge]:
     return +found
 
 
-def loops(edges: Counter[Edge]) -> Iterator[Ring]:
-    """Yields the loops of edges that have areas on their left, each around one face of what is on their right: clockwise if that is enclosed."""
+def loops(edges: Counter[Edge], is_left: bool = False) -> Iterator[Ring]:
+    """Yields the loops of edges that have areas on their left, each around one face of what is on their right: clockwise if that is enclosed.
+
+    `is_left` takes the faces on the left. A loop begins anywhere, and ends when it is there again.
+    """
     behind: dict[Position, list[Position]] = defaultdict(list)
     for (a, b), count in edges.items():
         behind[a] += [b] * count
@@ -74,19 +77,22 @@ def loops(edges: Counter[Edge]) -> Iterator[Ring]:
             ring, before, at = [first], first, ends.pop()
             while at != first:
                 ring.append(at)
-                following = next_of(before, at, behind[at])
+                following = next_of(before, at, behind[at], is_left)
                 before, at = at, following
             yield ring
 
 
-def next_of(before: Position, at: Position, ends: list[Position]) -> Position:
-    """Takes the end of the next edge on the way around a face that is on the right: the first one counterclockwise from where the way came."""
+def next_of(before: Position, at: Position, ends: list[Position], is_left: bool) -> Position:
+    """Takes the end of the next edge on the way around a face that is on the right: the first one counterclockwise from where the way came.
+
+    It is the last one if the face is on the left.
+    """
     back = before[0] - at[0], before[1] - at[1]
 
     def compare(one: Position, other: Position) -> int:
         return turn(back, off(one, at), off(other, at))
 
-    found = min(ends, key=functools.cmp_to_key(compare))
+    found = (max if is_left else min)(ends, key=functools.cmp_to_key(compare))
     ends.remove(found)
     return found
 

@@ -83,22 +83,38 @@ class Figure:
         """Whether it has no point."""
         return not self.points and not self.firsts
 
+    @functools.cached_property
+    def bounds(self) -> tuple[int, int, int, int]:
+        """The least x, the greatest x, the least y and the greatest y of its edges, of which there is one at least."""
+        its = self.edges
+        return min(it.left for it in its), max(it.right for it in its), min(it.low for it in its), max(it.high for it in its)
+
+    def meeting(self, left: Any, right: Any, low: Any, high: Any) -> list[Edge]:
+        """Returns the edges whose bounds share a point with these."""
+        return [it for it in self.edges if it.left <= right and it.right >= left and it.low <= high and it.high >= low]
+
     def is_inside(self, p: Point) -> bool:
         """Whether a point that isn't on the border is in the area: a way to the right crosses the border an odd number of times."""
         x, y = p
+        left, right, low, high = self.bounds if self.edges else (x + 1, x, y, y)
         count = 0
-        for it in self.edges:
+        for it in self.edges if left <= x <= right and low <= y <= high else ():
             if it.right > x and (it.a[1] <= y) != (it.b[1] <= y):
                 count += it.left > x or (turn(it.a, it.b, p) > 0) == (it.a[1] < it.b[1])
         return count % 2 == 1
 
     def has_on_edge(self, p: Point) -> bool:
         """Whether a point is on an edge."""
-        return any(is_on(it, p) for it in self.edges)
+        return any(is_on(it, p) for it in self.meeting(p[0], p[0], p[1], p[1]))
 
     def is_end(self, p: Point) -> bool:
         """Whether a point is on the boundary of lines: an odd number of them end there (06-103r4, 6.1.6.1)."""
         return self.ends[p] % 2 == 1
+
+    @property
+    def odd_ends(self) -> Iterator[Point]:
+        """The points of the boundary of lines."""
+        return (p for p, count in self.ends.items() if count % 2)
 
 
 def positions(numbers: Sequence[Any], scale: int) -> list[Point]:
@@ -135,22 +151,9 @@ def is_on(edge: Edge, p: Point) -> bool:
 
 def near(one: Figure, other: Figure) -> Iterator[tuple[Edge, Edge]]:
     """Yields the pairs of edges of two figures whose bounds meet."""
-    first, second = ([it for it in edges if meets(it, *bounds)] for edges, bounds in (
-        (one.edges, bounds_of(other.edges)), (other.edges, bounds_of(one.edges))))
-    first.sort(key=lambda it: it.left)
-    second.sort(key=lambda it: it.left)
+    first, second = (sorted(its, key=lambda it: it.left) for its in (one.meeting(*other.bounds), other.meeting(*one.bounds)))
     yield from ((e, f) for e, f in swept(first, second, True))
     yield from ((e, f) for f, e in swept(second, first, False))
-
-
-def bounds_of(edges: list[Edge]) -> tuple[int, int, int, int]:
-    """Returns the bounds of edges, of which there is one at least."""
-    return min(it.left for it in edges), max(it.right for it in edges), min(it.low for it in edges), max(it.high for it in edges)
-
-
-def meets(edge: Edge, left: int, right: int, low: int, high: int) -> bool:
-    """Whether the bounds of an edge and others share a point."""
-    return edge.left <= right and edge.right >= left and edge.low <= high and edge.high >= low
 
 
 def swept(first: list[Edge], second: list[Edge], takes_same: bool) -> Iterator[tuple[Edge, Edge]]:
