@@ -16,7 +16,8 @@ from import_calls import WithImports
 from sfq.commands import left_out
 
 R, GEOPANDAS = "/usr/lib/R/site-library", "/usr/lib/python3/dist-packages/geopandas/datasets"
-# The sources of each package, each of one layer.
+WORLD = "/usr/share/qgis/resources/data/world_map.gpkg"
+# The sources of each package, each of one layer; else the one that is taken comes behind it.
 LAYERS = {
     "r-cran-sf": [f"{R}/sf/{it}" for it in (
         "gpkg/b_pump.gpkg", "gpkg/buildings.gpkg", "gpkg/nc.gpkg", "gpkg/tl.gpkg", "shape/nc.shp", "shape/olinda1.shp", "shape/storms_xyz_feature.shp", "shape/storms_xyzm_feature.shp")],
@@ -25,6 +26,7 @@ LAYERS = {
         "shapes/cycle_hire.geojson", "shapes/cycle_hire_osm.geojson", "shapes/eire.shp", "shapes/sids.shp", "shapes/wheat.shp", "shapes/world.gpkg", "shapes/world.shp")],
     "python3-geopandas": [f"{GEOPANDAS}/{it}" for it in (
         "naturalearth_cities/naturalearth_cities.shp", "naturalearth_lowres/naturalearth_lowres.shp", "nybb_16a.zip")],
+    "qgis-common": [(WORLD, it) for it in ("states_provinces", "countries", "disputed_borders")],
 }
 HEADER = ("layer", "package", "records", "kept", "rounded anew", "in parts", "refused", "pairs that meet", "relations changed")
 BEGIN = "| layer | package | records |"
@@ -61,11 +63,12 @@ class PublicLayers(WithImports):
     def rows(self, package):
         """Imports the layers of a package, each on the grid that is proposed, and returns what came of them."""
         found = []
-        for path in LAYERS[package]:
+        for it in LAYERS[package]:
+            path, *layers = (it,) if isinstance(it, str) else it
             if not os.path.exists(path):
                 self.skipTest(f"needs the package {package}")
             source = f"/vsizip/{path}" if path.endswith(".zip") else path
-            folder, _ = self.imported(source, "--allow-empty", grid="auto")
+            folder, _ = self.imported(source, "--allow-empty", *(f"--layer={layer}" for layer in layers), grid="auto")
             found.append(Row(package, path, folder))
         return found
 
@@ -88,6 +91,12 @@ class PublicLayers(WithImports):
     def test_geopandas(self):
         rows = self.is_shown("python3-geopandas")
         self.assertEqual(sum((it.refused for it in rows), collections.Counter()), {"W4": 2})
+
+
+    def test_qgis(self):
+        """The world map: its largest shapes are too large."""
+        rows = self.is_shown("qgis-common")
+        self.assertEqual(set(sum((it.refused for it in rows), collections.Counter())), {"W4"})
 
 
 def write_table():
