@@ -98,7 +98,7 @@ class Figure:
         x, y = p
         left, right, low, high = self.bounds if self.edges else (x + 1, x, y, y)
         count = 0
-        for it in self.edges if left <= x <= right and low <= y <= high else ():
+        for it in self.meeting(x, right, y, y) if left <= x <= right and low <= y <= high else ():
             if it.right > x and (it.a[1] <= y) != (it.b[1] <= y):
                 count += it.left > x or (turn(it.a, it.b, p) > 0) == (it.a[1] < it.b[1])
         return count % 2 == 1

@@ -15,12 +15,10 @@ from typing import Any, Iterable, Iterator, Sequence
 from ..geometry import covering, exact, library, texts
 from ..geometry.binary import Numbers, Shape
 from ..geometry.covering import Edge, Ring
-from ..geometry.shapes import Geometry
 from . import touching
 
 # From how many edges on those that meet a window are looked up in an index.
 MANY = 64
-ON_BORDER = 1
 
 
 class NotWhole(ValueError):
@@ -89,7 +87,7 @@ def walks(edges: Counter[Edge]) -> Iterator[Ring]:
 
 
 class Whole(exact.Figure):
-    """A geometry by the texts of its parts, with an index of its edges. Which points are inside is what the library says of the parts."""
+    """A geometry by the texts of its parts, with an index of its edges."""
 
     def __init__(self, parts: Sequence[str]) -> None:
         """Joins parts. NotWhole where they aren't those of one geometry."""
@@ -111,12 +109,6 @@ class Whole(exact.Figure):
         return border(itertools.chain.from_iterable(map(covering.rings_of, self.parts)))
 
     @functools.cached_property
-    def shapes(self) -> list[tuple[Geometry, tuple[int, ...]]]:
-        """The geometry of each part with its envelope: the least x, the least y, the greatest x and the greatest y."""
-        found = [Geometry(it) for it in self.parts]
-        return [(it, it.bounds) for it in found if it.bounds]
-
-    @functools.cached_property
     def index(self) -> library.KeptIndex:
         """An index of the edges by their bounds."""
         bounds = [it for edge in self.edges for it in edge[:4]]
@@ -127,11 +119,6 @@ class Whole(exact.Figure):
         if len(self.edges) < MANY:
             return super().meeting(left, right, low, high)
         return [self.edges[it] for it in self.index.search((ctypes.c_int32 * 4)(left, right, low, high))]
-
-    def is_inside(self, p: exact.Point) -> bool:
-        """Whether a point that isn't on the border is in the area. On a cut it is on the borders of parts, and inside the whole."""
-        x, y = p
-        return any(it.locate_many([p])[0] <= ON_BORDER for it, (left, low, right, high) in self.shapes if left <= x <= right and low <= y <= high)
 
 
 def figure(text: str) -> exact.Figure:
