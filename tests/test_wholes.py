@@ -352,7 +352,7 @@ class Layers(WithGeos):
     """Layers that others made, two of whose records are cut where their rings touch: as GEOS relates the rounded source."""
 
     # Where each is, and the column of its key.
-    GIVEN = [("/usr/lib/R/site-library/sf/shape/nc.shp", "fid"), ("/usr/lib/R/site-library/spData/shapes/world.gpkg", "fid")]
+    GIVEN = [("/usr/lib/R/site-library/sf/shape/nc.shp", "fid"), ("/usr/lib/R/site-library/spData/shapes/sids.shp", "fid")]
 
     def test_layers(self):
         for path, key in self.GIVEN:
