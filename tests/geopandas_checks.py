@@ -332,14 +332,64 @@ class Grids(unittest.TestCase):
             sfq.geopandas.sjoin(frame([Polygon(ring)]), frame([Point(1, 1)]))
 
 
+class OfPoints:
+    """Joins of points, which from shapely 2 on aren't kept: what is found and said is what there is of points that are."""
+
+    def test_joins_of_points_as_a_look_at_each_pair(self):
+        chance = random.Random(21)
+        points = frame([Point(chance.randint(0, 8), chance.randint(0, 8)) for _ in range(40)])
+        others = frame(shapes(chance, 40))
+        for left, right in ((points, others), (others, points), (points, points)):
+            ones, twos = (geometries(side.geometry) for side in (left, right))
+            for name in library.RELATIONS:
+                wanted = [(i, j) for i, one in enumerate(ones) for j, two in enumerate(twos) if one and two and getattr(one, name)(two)]
+                self.assertEqual(pairs(sfq.geopandas.sjoin(left, right, predicate=name)), wanted, name)
+
+    def test_the_order_of_rows_of_points(self):
+        """Rows ascend by the left frame's place, then by the right one's, which GeoPandas keeps from version 1.0 on."""
+        chance = random.Random(22)
+        points = frame([Point(chance.randint(0, 8), chance.randint(0, 8)) for _ in range(60)])
+        others = frame([it for it in shapes(chance, 60) if it is not None])
+        for predicate, left, right in (("within", points, others), ("intersects", points, others), ("covers", others, points)):
+            found = sfq.geopandas.sjoin(left, right, predicate=predicate)
+            if not geopandas.__version__.startswith("0."):
+                self.assertEqual(list(zip(found.index, found.index_right)), pairs(found))
+            self.assertGreater(len(found), 20)
+
+    def test_what_is_said_of_points(self):
+        chance, counts = random.Random(23), set()
+        for at in range(300):
+            unit, most = chance.choice([1, 0.5, 0.1, 0.01, 1e-7, 3e-9, 1e6]), chance.choice([3, 1000, 10**6])
+            by, far = chance.choice([0, 0, unit / 3, unit * chance.random()]), chance.choice([0, 0, 1e3, 564_000.5, 5_935_000])
+            points = [Point(far + chance.randint(-most, most) * unit + by, chance.randint(-most, most) * unit) for _ in range(chance.randint(1, 9))]
+            words = chance.choice([{}, {}, {"step": unit}, {"step": unit * 2}, {"step": unit, "origin": (far, 0)}, {"step": None}])
+            series = GeoSeries(points)
+            options = sfq.geopandas.Options(words.get("step", frames.AUTO), words.get("origin"), False, "warn")
+            said = []
+            for places in (True, False):
+                try:
+                    column = frames.taken({"left": series}, options, places)["left"]
+                except ValueError as error:
+                    said.append(str(error))
+                    continue
+                said.append((column.said(), column.statuses.tolist()))
+                counts.add((column.points is not None, column.shift.moved > 0))
+            self.assertEqual(*said, (at, words, points))
+        self.assertEqual(len(counts), 4 if hasattr(shapely, "to_wkb") else 2)
+
+
+class Points(OfPoints, unittest.TestCase):
+    """Joins of points with the version of shapely that is there."""
+
+
 @unittest.skipIf(hasattr(shapely, "to_wkb"), "shapely is of a later version")
-class LaterShapely(unittest.TestCase):
+class LaterShapely(OfPoints, unittest.TestCase):
     """What is asked of shapely from version 2 on, which takes whole arrays, by functions of the same names."""
 
     TYPES = ["Point", "LineString", "LinearRing", "Polygon", "MultiPoint", "MultiLineString", "MultiPolygon", "GeometryCollection"]
 
     def setUp(self):
-        for it in (self.to_wkb, self.get_type_id, self.get_coordinate_dimension, self.get_coordinates):
+        for it in (self.to_wkb, self.get_type_id, self.get_coordinate_dimension, self.get_coordinates, self.get_x, self.get_y):
             patched = mock.patch.object(shapely, it.__name__, it, create=True)
             patched.start()
             self.addCleanup(patched.stop)
@@ -355,6 +405,13 @@ class LaterShapely(unittest.TestCase):
 
     def get_coordinate_dimension(self, geometry):
         return numpy.array([-1 if it is None else 3 if it.has_z else 2 for it in geometry])
+
+    def get_x(self, geometry):
+        """No number for what isn't a point with a position."""
+        return numpy.array([it.x if isinstance(it, Point) and not it.is_empty else math.nan for it in geometry])
+
+    def get_y(self, geometry):
+        return numpy.array([it.y if isinstance(it, Point) and not it.is_empty else math.nan for it in geometry])
 
     def get_coordinates(self, geometry):
         """Nothing for an empty geometry and a missing one."""

@@ -30,18 +30,22 @@ DECIMALS = """
 import numpy, random
 from sfq.layers import proposing
 dice, found = random.Random(2), 0
-for _ in range(1500):
+for _ in range(1000):
     each, whole = proposing.Decimals(), proposing.Decimals()
     for _ in range(dice.randint(1, 3)):
         unit, most = dice.choice([1, 10, 1, 1, 0.5, 0.1, 0.01, 1e9, 1e-14]), dice.choice([3, 1000, 10**7, 10**12, 10**17])
-        rows = numpy.array([[dice.randint(-most, most) * unit for _ in "xy"] for _ in range(dice.randint(0, 4))], dtype=float).reshape(-1, 2)
+        count = dice.choice((0, 1, 2, 3, 4, proposing.FEW, proposing.FEW + 1, 2 * proposing.FEW + 50))
+        rows = numpy.array([[dice.randint(-most, most) * unit for _ in "xy"] for _ in range(count)], dtype=float).reshape(-1, 2)
+        # In long arrays some coordinates have more decimals than the first ones.
+        for _ in range(dice.choice((0, 0, 1, proposing.FEW + 3)) if count > 4 else 0):
+            rows[dice.randrange(count), 0] = dice.randint(-most, most) * dice.choice((0.1, 0.001, 0.25, 1e-9, 7))
         if dice.random() < 0.03 and len(rows):
-            rows[0, 0] = dice.choice([float("nan"), float("inf")])
+            rows[dice.randrange(count), 0] = dice.choice([float("nan"), float("inf")])
         each.add(rows.ravel().tolist())
         whole.add_all(rows)
     assert each.is_exact == whole.is_exact and (not each.is_exact or vars(each) == vars(whole)), (vars(each), vars(whole))
     found += each.is_exact
-print(found > 300)
+print(found > 150)
 """
 
 

@@ -182,6 +182,15 @@ JOINS = [
     (9, "0:0 0:1 4:0 5:0"),
     (10, "0:1 5:1"),
 ]
+# The number of a relation of the left geometries and points that aren't kept, by their coordinates, and the pairs. By hand.
+POINTS = "1,1;0,0;2,0;4,4;9,-9"
+OF_POINTS = [
+    (2, "0:0 4:1 4:2 5:0 5:1 5:2 5:3"),
+    (3, "4:1 5:1 5:2 5:3"),
+    (6, "0:0 4:2 5:0"),
+    (8, "0:0 4:1 4:2 5:0 5:1 5:2 5:3"),
+    (10, "0:0 4:2 5:0"),
+]
 
 
 def lines_of_calls():
@@ -192,6 +201,9 @@ def lines_of_calls():
     calls += [(f"extent\t{one.hex()},{other.hex()}", wanted) for one, other, wanted in EXTENTS]
     calls += [(f"join\t{relation}\t{LEFT}\t{RIGHT}", f"0 {pairs}".strip()) for relation, pairs in JOINS]
     calls += [(f"join\t2\t\t{RIGHT}", "0"), (f"join\t2\t{LEFT}\t", "0"), (f"join\t1\t{LEFT}\t;;", "0"), (f"join\t11\t{LEFT}\t{RIGHT}", "4")]
+    calls += [(f"near\t{relation}\t{LEFT}\t{POINTS}", f"0 {pairs}") for relation, pairs in OF_POINTS]
+    calls += [(f"near\t{relation}\t{LEFT}\t{POINTS}", "4") for relation in (0, 1, 4, 5, 7, 9, 11)]
+    calls += [(f"near\t2\t\t{POINTS}", "0"), (f"near\t2\t{LEFT}\t", "0"), (f"near\t2\t{LEFT}\t0,0;10000001,0", "4"), (f"near\t2\t{LEFT}\t9,9", "0 2:0")]
     # Each of eight with each of eight, by a room that has to be emptied on the way.
     points = ";".join(["POINT(1 1)"] * 8)
     return calls + [(f"join\t0\t{points}\t{points}", "0 " + " ".join(f"{i}:{j}" for i in range(8) for j in range(8)))]

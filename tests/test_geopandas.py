@@ -33,6 +33,9 @@ class GeoPandas(engine_rows.WithLibrary):
     def test_grids(self):
         self.check("Grids")
 
+    def test_points(self):
+        self.check("Points")
+
     def test_later_versions_of_shapely(self):
         self.check("LaterShapely")
 

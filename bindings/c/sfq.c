@@ -655,6 +655,22 @@ int sfq_index_geometries(sfq_geometry *geometries, size_t count, sfq_index *inde
     return status;
 }
 
+int sfq_index_points(const int32_t *coordinates, size_t count, sfq_index *index, size_t *position)
+{
+    int32_t *bounds = count <= SIZE_MAX / 16 ? malloc(count > 0 ? count * 16 : 1) : NULL;
+    int status;
+    size_t i;
+    if (bounds == NULL) {
+        return SFQ_OUT_OF_MEMORY;
+    }
+    for (i = 0; i < 2 * count; i++) {
+        bounds[2 * i] = bounds[2 * i + 1] = coordinates[i];
+    }
+    status = sfq_index_build(bounds, count, index, position);
+    free(bounds);
+    return status;
+}
+
 /* ---- joins ---- */
 
 /* One geometry of a join, and those with which it may be in a pair: the candidates, whose envelopes meet its own. */
@@ -729,6 +745,70 @@ int sfq_join(uint32_t relation, sfq_geometry *first, size_t *next, size_t end, s
         if (status == SFQ_OK) {
             it.candidates = memmove(room + 2 * size - it.count, room + 2 * found, it.count * sizeof *room);
             status = relation == SFQ_DISJOINT ? join_disjoint(&it, second_count, room, &found) : join_one(&it, room, &found);
+        }
+    }
+    if (status == SFQ_OK) {
+        *next = place;
+        *pairs = found;
+    }
+    return status;
+}
+
+/*
+ * Whether a relation holds of a geometry and a point by the place where the point lies: SFQ_UNKNOWN for a relation that also depends on
+ * the type of the geometry. A point has no boundary, so all of it is its interior (06-103r4, 6.1.4).
+ */
+static int holds_at(uint32_t relation, uint32_t place, bool *answer)
+{
+    switch (relation) {
+    case SFQ_INTERSECTS:
+    case SFQ_COVERS:
+        *answer = place != SFQ_EXTERIOR;
+        return SFQ_OK;
+    case SFQ_TOUCHES:
+        *answer = place == SFQ_BOUNDARY;
+        return SFQ_OK;
+    case SFQ_CONTAINS:
+    case SFQ_CONTAINS_PROPERLY:
+        *answer = place == SFQ_INTERIOR;
+        return SFQ_OK;
+    default:
+        return SFQ_UNKNOWN;
+    }
+}
+
+int sfq_join_points(uint32_t relation, sfq_geometry *first, size_t *next, size_t end, const int32_t *coordinates, sfq_index *index,
+                    size_t *room, size_t size, size_t *pairs)
+{
+    size_t found = 0, place;
+    bool answer = false;
+    int status = holds_at(relation, SFQ_EXTERIOR, &answer);
+    for (place = *next; status == SFQ_OK && place < end; place++) {
+        const size_t *candidates;
+        size_t count = 0, i;
+        int32_t window[4];
+        if (!is_there(&first[place])) {
+            continue;
+        }
+        write_bounds(&first[place], window);
+        status = sfq_index_search(index, window, room + 2 * found, 2 * (size - found), &count);
+        if (status == SFQ_TOO_SMALL || (status == SFQ_OK && count > size - found)) {
+            status = place > *next ? SFQ_OK : SFQ_TOO_SMALL;
+            break;
+        }
+        candidates = status == SFQ_OK ? memmove(room + 2 * size - count, room + 2 * found, count * sizeof *room) : room;
+        for (i = 0; status == SFQ_OK && i < count; i++) {
+            const size_t point = candidates[i];
+            uint32_t where = SFQ_EXTERIOR;
+            status = sfq_locate(&first[place], coordinates[2 * point], coordinates[2 * point + 1], &where);
+            if (status == SFQ_OK) {
+                status = holds_at(relation, where, &answer);
+            }
+            if (status == SFQ_OK && answer) {
+                room[2 * found] = place;
+                room[2 * found + 1] = point;
+                found++;
+            }
         }
     }
     if (status == SFQ_OK) {

@@ -358,6 +358,20 @@ int sfq_index_geometries(sfq_geometry *geometries, size_t count, sfq_index *inde
 int sfq_join(uint32_t relation, sfq_geometry *first, size_t *next, size_t end, sfq_geometry *second, size_t second_count,
              sfq_index *index, size_t *room, size_t size, size_t *pairs);
 
+/*
+ * Makes an index of `count` points, an x and a y each, for sfq_join_points. SFQ_UNKNOWN where a coordinate is past the limit; `position`
+ * is then that of the first such point, from 0. It may be null where it isn't wanted.
+ */
+int sfq_index_points(const int32_t *coordinates, size_t count, sfq_index *index, size_t *position);
+
+/*
+ * A join with points that aren't kept: as sfq_join of `first` and the points of `coordinates`, of which `index` is that of
+ * sfq_index_points. The relation is one of SFQ_INTERSECTS, SFQ_TOUCHES, SFQ_CONTAINS, SFQ_COVERS and SFQ_CONTAINS_PROPERLY, of a
+ * geometry and a point; SFQ_UNKNOWN for another. As many pairs as there are points are room enough for any geometry.
+ */
+int sfq_join_points(uint32_t relation, sfq_geometry *first, size_t *next, size_t end, const int32_t *coordinates, sfq_index *index,
+                    size_t *room, size_t size, size_t *pairs);
+
 /* ---- why ---- */
 
 /*

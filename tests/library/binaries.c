@@ -6,6 +6,7 @@
  *     apart GRID HEX           prints the status; then the fault, or the type, the positions, the sizes of lines and of elements, and the steps
  *     round GRID HEX           prints the status; then the steps of the doubles whose bytes HEX has, or which position has none
  *     join RELATION A;.. B;..  prints the status, and the pairs of the texts of A and of B, by their places
+ *     near RELATION A;.. X,Y;..  does so for the texts of A and points that aren't kept
  *
  * GRID has the four numbers of an sfq_grid with blanks between, or is empty. HEX has the bytes. Among the texts an empty one is a
  * geometry that is missing. A call whose memory was refused is made again, as in kept.c.
@@ -274,18 +275,40 @@ static size_t read_side(struct one_call *it, const char *texts, sfq_geometry *si
     return count;
 }
 
+/* The second side of a join: geometries, or the coordinates of points that aren't kept. */
+struct side {
+    sfq_geometry *geometries;
+    const int32_t *coordinates;
+    size_t count;
+};
+
+static int index_side(const struct side *it, sfq_index *index)
+{
+    if (it->coordinates != NULL)
+        return sfq_index_points(it->coordinates, it->count, index, NULL);
+    return sfq_index_geometries(it->geometries, it->count, index);
+}
+
+static int join(uint32_t relation, sfq_geometry *first, size_t *next, size_t end, const struct side *second, sfq_index *index, size_t *room,
+                size_t size, size_t *pairs)
+{
+    if (second->coordinates != NULL)
+        return sfq_join_points(relation, first, next, end, second->coordinates, index, room, size, pairs);
+    return sfq_join(relation, first, next, end, second->geometries, second->count, index, room, size, pairs);
+}
+
 /* Joins, at most three geometries of the first side at a time, and prints the pairs. */
-static void print_pairs(struct one_call *it, uint32_t relation, sfq_geometry *first, size_t count, sfq_geometry *second, size_t second_count)
+static void print_pairs(struct one_call *it, uint32_t relation, sfq_geometry *first, size_t count, const struct side *second)
 {
     sfq_index index = SFQ_EMPTY;
     size_t room[4 * SIDE], next = 0, pairs = 7, used = 1, i;
-    int status = sfq_index_geometries(second, second_count, &index);
+    int status = index_side(second, &index);
     if (again(it, status))
-        status = sfq_index_geometries(second, second_count, &index);
+        status = index_side(second, &index);
     it->out.text[0] = '0';
     while (status == SFQ_OK && next < count) {
         size_t before = next;
-        status = sfq_join(relation, first, &next, next + 3 < count ? next + 3 : count, second, second_count, &index, room, 2 * SIDE, &pairs);
+        status = join(relation, first, &next, next + 3 < count ? next + 3 : count, second, &index, room, 2 * SIDE, &pairs);
         if (again(it, status) && (status = SFQ_OK, next != before))
             it->wrong = "a join that failed went on";
         else
@@ -295,34 +318,54 @@ static void print_pairs(struct one_call *it, uint32_t relation, sfq_geometry *fi
     if (status != SFQ_OK)
         snprintf(it->out.text, sizeof it->out.text, "%d", status);
     next = 0;
-    if (count > 0 && first[0].kept != NULL && sfq_join(relation, first, &next, 1, second, second_count, NULL, room, SIDE, &pairs) == SFQ_OK)
+    if (count > 0 && first[0].kept != NULL && join(relation, first, &next, 1, second, NULL, room, SIDE, &pairs) == SFQ_OK)
         it->wrong = "a join without an index";
     sfq_index_free(&index);
+}
+
+/* Reads an x and a y of each point, with semicolons between. Returns how many there are. */
+static size_t read_points(const char *text, int32_t *coordinates)
+{
+    size_t count = 0;
+    while (count < SIDE && *text != '\0') {
+        char *behind;
+        coordinates[2 * count] = (int32_t)strtol(text, &behind, 10);
+        coordinates[2 * count + 1] = (int32_t)strtol(behind + 1, &behind, 10);
+        text = behind + (*behind == ';');
+        count++;
+    }
+    return count;
 }
 
 static void run_one_join(struct one_call *it, char *const words[WORDS])
 {
     sfq_geometry sides[2][SIDE];
-    size_t counts[2];
-    int i;
+    int32_t coordinates[2 * SIDE];
+    size_t count;
+    struct side second = { sides[1], NULL, 0 };
     memset(sides, 0, sizeof sides);
-    for (i = 0; i < 2; i++)
-        counts[i] = read_side(it, words[2 + i], sides[i]);
-    print_pairs(it, (uint32_t)strtoul(words[1], NULL, 10), sides[0], counts[0], sides[1], counts[1]);
-    for (i = 0; i < 2; i++)
-        sfq_free_many(sides[i], SIDE);
+    count = read_side(it, words[2], sides[0]);
+    if (strcmp(words[0], "join") == 0) {
+        second.count = read_side(it, words[3], sides[1]);
+    } else {
+        second.coordinates = coordinates;
+        second.count = read_points(words[3], coordinates);
+    }
+    print_pairs(it, (uint32_t)strtoul(words[1], NULL, 10), sides[0], count, &second);
+    sfq_free_many(sides[0], SIDE);
+    sfq_free_many(sides[1], SIDE);
 }
 
 bool is_binary_call(char *const words[WORDS])
 {
     return strcmp(words[0], "binary") == 0 || strcmp(words[0], "extent") == 0 || strcmp(words[0], "apart") == 0
-           || strcmp(words[0], "round") == 0 || strcmp(words[0], "join") == 0;
+           || strcmp(words[0], "round") == 0 || strcmp(words[0], "join") == 0 || strcmp(words[0], "near") == 0;
 }
 
 struct printed run_binary(char *const words[WORDS])
 {
     struct one_call it = { false, NULL, { "" } };
-    if (strcmp(words[0], "join") == 0)
+    if (strcmp(words[0], "join") == 0 || strcmp(words[0], "near") == 0)
         run_one_join(&it, words);
     else if (strcmp(words[0], "extent") == 0)
         run_extent(&it, words[1]);

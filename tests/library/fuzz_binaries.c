@@ -314,13 +314,29 @@ static void draw_geometry(sfq_geometry *geometry)
         sfq_read_positions(1 + chance(6), NULL, 0, NULL, 0, NULL, 0, geometry, NULL);
 }
 
-/* Joins by rooms of a size by chance, and compares what each has with the next pairs of the plain loop. */
-static void compare_join(uint32_t relation, sfq_geometry *first, size_t count, sfq_geometry *second, size_t second_count)
+/* The second side of a join: geometries, and for points that aren't kept their coordinates; and an index of them. */
+struct side {
+    sfq_geometry *geometries;
+    const int32_t *coordinates;
+    size_t count;
+    sfq_index index;
+};
+
+static int join(uint32_t relation, sfq_geometry *first, size_t *next, size_t end, struct side *second, size_t *room, size_t size, size_t *pairs)
 {
+    if (second->coordinates != NULL)
+        return sfq_join_points(relation, first, next, end, second->coordinates, &second->index, room, size, pairs);
+    return sfq_join(relation, first, next, end, second->geometries, second->count, &second->index, room, size, pairs);
+}
+
+/* Joins by rooms of a size by chance, and compares what each has with the next pairs of the plain loop. */
+static void compare_join(uint32_t relation, sfq_geometry *first, size_t count, sfq_geometry *second, size_t second_count, const int32_t *coordinates)
+{
+    struct side side = { second, coordinates, second_count, SFQ_EMPTY };
     size_t room[2 * SIDE * SIDE], next = 0, pairs = 0, taken = 0, size = 1 + chance(20), i, j;
-    sfq_index index = SFQ_EMPTY;
+    int status = coordinates != NULL ? sfq_index_points(coordinates, second_count, &side.index, NULL) : sfq_index_geometries(second, second_count, &side.index);
     bool held = false;
-    need(sfq_index_geometries(second, second_count, &index) == SFQ_OK, "no index", "", 0);
+    need(status == SFQ_OK, "no index", "", 0);
     for (i = 0; i < count; i++)
         for (j = 0; j < second_count; j++) {
             if (first[i].kept == NULL || second[j].kept == NULL)
@@ -330,7 +346,7 @@ static void compare_join(uint32_t relation, sfq_geometry *first, size_t count, s
                 continue;
             while (taken == pairs && next < count) {
                 size_t end = next + 1 + chance((unsigned)(count - next));
-                int status = sfq_join(relation, first, &next, end, second, second_count, &index, room, size, &pairs);
+                status = join(relation, first, &next, end, &side, room, size, &pairs);
                 taken = status == SFQ_OK ? 0 : taken;
                 need(status == SFQ_OK || (status == SFQ_TOO_SMALL && size < second_count), "another status of a join", "", 0);
                 size = status == SFQ_TOO_SMALL ? second_count : size;
@@ -341,11 +357,30 @@ static void compare_join(uint32_t relation, sfq_geometry *first, size_t count, s
     while (next < count && !wrong) {
         need(taken == pairs, "pairs too many", "", 0);
         taken = 0;
-        if (sfq_join(relation, first, &next, count, second, second_count, &index, room, SIDE * SIDE, &pairs) != SFQ_OK)
+        if (join(relation, first, &next, count, &side, room, SIDE * SIDE, &pairs) != SFQ_OK)
             wrong = 1;
     }
     need(taken == pairs, "pairs too many at the end", "", 0);
-    sfq_index_free(&index);
+    sfq_index_free(&side.index);
+}
+
+/* Joins with points by chance that aren't kept. Of other relations than these five there is no such join. */
+static void try_points(sfq_geometry *first, size_t count)
+{
+    static const uint32_t relations[] = { SFQ_INTERSECTS, SFQ_TOUCHES, SFQ_CONTAINS, SFQ_COVERS, SFQ_CONTAINS_PROPERLY };
+    sfq_geometry points[SIDE];
+    int32_t coordinates[2 * SIDE];
+    size_t second_count = chance(SIDE + 1), next = 0, room[2], pairs, i;
+    memset(points, 0, sizeof points);
+    for (i = 0; i < 2 * second_count; i++)
+        coordinates[i] = (int32_t)chance(11);
+    for (i = 0; i < second_count; i++)
+        sfq_read_positions(SFQ_POINT, coordinates + 2 * i, 1, NULL, 0, NULL, 0, &points[i], NULL);
+    compare_join(relations[chance(5)], first, count, points, second_count, coordinates);
+    for (i = 0; i < SFQ_RELATIONS + 1; i++)
+        if (i != SFQ_INTERSECTS && i != SFQ_TOUCHES && i != SFQ_CONTAINS && i != SFQ_COVERS && i != SFQ_CONTAINS_PROPERLY)
+            need(sfq_join_points((uint32_t)i, first, &next, count, coordinates, NULL, room, 1, &pairs) == SFQ_UNKNOWN, "a join by another relation", "", 0);
+    sfq_free_many(points, second_count);
 }
 
 static void try_join(void)
@@ -358,8 +393,9 @@ static void try_join(void)
         draw_geometry(&first[i]);
     for (i = 0; i < second_count; i++)
         draw_geometry(&second[i]);
-    compare_join(chance(SFQ_RELATIONS), first, count, second, second_count);
-    compare_join(chance(SFQ_RELATIONS), first, count, first, count);
+    compare_join(chance(SFQ_RELATIONS), first, count, second, second_count, NULL);
+    compare_join(chance(SFQ_RELATIONS), first, count, first, count, NULL);
+    try_points(first, count);
     sfq_free_many(first, SIDE);
     sfq_free_many(second, SIDE);
 }

@@ -47,9 +47,17 @@ WARNS_ALWAYS = geopandas.__version__.startswith("0.")
 
 # ---- the join ----
 
+# The relations of a geometry and a point that are known by the place where the point lies.
+OF_POINTS = ("intersects", "touches", "contains", "covers", "contains_properly")
+# What holds of the second and the first of a pair where these hold of the first and the second.
+TURNED = {"intersects": "intersects", "touches": "touches", "within": "contains", "covered_by": "covers"}
+# GeoPandas turns a join by "within" round, and from version 1.0 on it sorts the pairs. By another predicate it makes the same frame of
+# the pairs, which are sorted here.
+ASKED = {} if WARNS_ALWAYS else {"within": "intersects"}
+
 
 class Index:
-    """What GeoPandas asks in place of the spatial index of one column, for the geometries of the other."""
+    """What GeoPandas asks in place of the spatial index of one column, for the geometries of the other, by one predicate of these."""
 
     def __init__(self, tree: Column, others: Column, predicate: str) -> None:
         self.tree, self.others, self.predicate = tree, others, predicate
@@ -58,17 +66,36 @@ class Index:
         """Whether there is something to find. GeoPandas joins no empty geometry, by the predicates that it has."""
         return self.predicate in ("equals", "disjoint") or self.tree.has_shape()
 
-    def query(self, _geometry: Any, predicate: Optional[str] = None, **_words: Any) -> Any:
+    def query(self, _geometry: Any, **_words: Any) -> Any:
         """Returns the places of the other geometries and of those here of which the predicate holds, ascending."""
-        relation = library.RELATIONS.index(predicate or self.predicate)
-        found = [numpy.zeros((0, 2), dtype=numpy.intp)]
-        for room, count in library.joined(relation, self.others.kept, self.tree.kept):
-            found.append(numpy.frombuffer(room, dtype=numpy.uintp, count=2 * count).reshape(-1, 2).astype(numpy.intp))
-        return numpy.concatenate(found).T
+        one, two, name = self.others, self.tree, self.predicate
+        if two.points and name in OF_POINTS:
+            return numpy.stack(places(library.joined_points(library.RELATIONS.index(name), one.kept, two.points.kept)))
+        if one.points and TURNED.get(name) in OF_POINTS:
+            seconds, firsts = places(library.joined_points(library.RELATIONS.index(TURNED[name]), two.kept, one.points.kept))
+            return numpy.stack(ascending(firsts, seconds, len(two.shapes)))
+        return numpy.stack(places(library.joined(library.RELATIONS.index(name), one.kept, two.kept)))
 
     def query_bulk(self, *words: Any, **more: Any) -> Any:
         """The same by the name that it has before version 1.0."""
         return self.query(*words, **more)
+
+
+def places(rooms: Iterator[tuple[Any, int]]) -> tuple[Any, Any]:
+    """Returns the places of the first geometries of pairs, and of the second ones."""
+    found = [numpy.zeros((0, 2), dtype=numpy.intp)]
+    for room, count in rooms:
+        found.append(numpy.frombuffer(room, dtype=numpy.intp, count=2 * count).reshape(-1, 2).copy())
+    pairs = numpy.concatenate(found)
+    return pairs[:, 0], pairs[:, 1]
+
+
+def ascending(firsts: Any, seconds: Any, count: int) -> tuple[Any, Any]:
+    """Returns pairs of places in their order, by the first of each and then by the second, which is less than a number."""
+    ranks = firsts * count + seconds
+    ranks.sort()
+    found = ranks // max(1, count)
+    return found, ranks - found * count
 
 
 def with_index(frame: Any, index: Index) -> Any:
@@ -105,12 +132,14 @@ def sjoin(
     options = Options(step, origin, flat, on_invalid)
     need_one_system(left_df, right_df)
     series = left_df.geometry
-    sides = taken({"left": series, "right": series if right_df is left_df else right_df.geometry}, options)
+    sides = taken({"left": series, "right": series if right_df is left_df else right_df.geometry}, options, places_points=True)
     refuse(sides, options, 3)
     said, left, right = report(sides, options, 3), sides["left"], sides["right"]
+    # GeoPandas asks the index of the left frame where it turns "within" round, and then which of the right geometries contain which there.
+    of_left, of_right = Index(left, right, "contains"), Index(right, left, predicate)
     found = without_index(geopandas.sjoin(
-        with_index(left_df, Index(left, right, predicate)), with_index(right_df, Index(right, left, predicate)), how=how,
-        predicate=predicate, lsuffix=lsuffix, rsuffix=rsuffix, **words,
+        with_index(left_df, of_left), with_index(right_df, of_right), how=how, predicate=ASKED.get(predicate, predicate), lsuffix=lsuffix,
+        rsuffix=rsuffix, **words,
     ))
     found.attrs["sfq"] = said
     if relations:

@@ -13,7 +13,7 @@ import re
 from array import array
 from decimal import Decimal, InvalidOperation
 from fractions import Fraction
-from typing import Any, Iterable, Sequence
+from typing import Any, Iterable, Optional, Sequence
 
 from . import library
 
@@ -25,6 +25,12 @@ QUICK = 11_000_000
 EXACT = 2**53
 # The most parts of a step or a unit, and of an origin.
 MOST_PARTS, FARTHEST = 10**15, 2**63 - 1
+# The library measures how far a position moves in this part of a grid's part.
+TICKS = 2**20
+# Below this number of parts a double is less than a tick away from the decimal number that it was read from.
+SURE = 2**33
+# How many coordinates are looked at by fractions at most, where doubles can't say how far they are from their places.
+FEW = 200
 # What is said of a position that has no place.
 INFINITE = "a coordinate is infinite or no number"
 # A decimal number, as a double is written.
@@ -67,7 +73,10 @@ class Axis:
         """
         step, origin = self.scaled
         above, below = origin + whole * step, 10**self.digits
-        return 0.0 if above / below == value else float((Fraction(value) - Fraction(above, below)) / self.step)
+        if above / below == value:
+            return 0.0
+        number, parts = value.as_integer_ratio()
+        return (number * below - above * parts) / (parts * step)
 
     def are_at(self, values: Any, wholes: Any) -> Any:
         """Returns where `beside` is 0 of arrays of doubles and of whole coordinates, among those whose numbers a double holds exactly."""
@@ -276,25 +285,75 @@ class Grid:
         shift.add(1, distance > 0, 0, max(shift.greatest / step, distance) * step, distance * step)
 
 
-def moves(positions: Any, grid: Grid) -> Any:
-    """Returns how far each position moves, by an array of numpy with an x and a y in each row: 0 where no doubles are nearer to its place."""
+def steps_of(positions: Any, grid: Grid) -> Any:
+    """Returns the steps that are nearest to positions, an array of numpy with an x and a y in each row; None where a number is infinite
+    or none."""
     import numpy
 
-    steps = library.rounded(grid.numbers, array("d", positions.astype(float).tobytes()))
+    given = numpy.ascontiguousarray(positions, dtype=float)
+    found = numpy.empty(given.shape, dtype=numpy.int32)
+    return found if library.are_rounded(grid.numbers, given.ctypes.data, len(given), found.ctypes.data) else None
+
+
+def moves(positions: Any, grid: Grid, steps: Any = None) -> Any:
+    """Returns how far each position moves, by an array of numpy with an x and a y in each row: 0 where no doubles are nearer to its place.
+
+    `steps` are those of the positions, where they are known.
+    """
+    import numpy
+
+    if steps is None:
+        steps = steps_of(positions, grid)
     if steps is None:
         raise NotANumber(INFINITE)
-    wholes, past = numpy.frombuffer(steps, dtype=numpy.int32).reshape(positions.shape).astype(float), numpy.zeros(positions.shape)
+    past = numpy.zeros(positions.shape)
     for at, axis in enumerate((grid.x, grid.y)):
-        values, whole, (step, origin) = positions[:, at], wholes[:, at], axis.of_doubles
-        found = (values - origin) / step - whole
+        values, whole = positions[:, at].astype(float), steps[:, at].astype(float)
+        found = past_places(values, whole, axis)
         # Where no doubles are nearer to a place, they don't move. What else is about on the grid, or about between two places, is left to
         # fractions.
         on_grid = axis.are_at(values, whole)
         unsure = ~((abs(found) > axis.doubt) & (abs(found) < 0.5 - axis.doubt)) & ~on_grid
         found[on_grid] = 0.0
         found[unsure] = [axis.beside(float(it), int(n)) for it, n in zip(values[unsure], whole[unsure])]
-        past[:, at] = found * step
+        past[:, at] = found * axis.of_doubles[0]
     return numpy.hypot(past[:, 0], past[:, 1])
+
+
+def past_places(values: Any, wholes: Any, axis: Axis) -> Any:
+    """Returns how many steps doubles are past their places, as far as doubles know it: the doubt of the axis says how far that is."""
+    step, origin = axis.of_doubles
+    return (values - origin) / step - wholes
+
+
+def counted(positions: Any, steps: Any, grid: Grid, is_exact: bool) -> Optional[tuple[int, float]]:
+    """Returns how many positions the library counts as moved when it reads points, and by how much a coordinate moved at most, from arrays
+    of numpy with an x and a y in each row; None where more than a few of them would need fractions.
+
+    `is_exact` says that each coordinate is the double that is nearest to its place.
+    """
+    import numpy
+
+    step, *_, parts = grid.in_parts()
+    if not len(positions) or (is_exact and max(positions.max(), -positions.min()) * parts < SURE):
+        return 0, 0.0
+    are_moved, greatest = numpy.zeros(len(positions), dtype=bool), 0
+    for at, axis in enumerate((grid.x, grid.y)):
+        values, wholes = positions[:, at], steps[:, at]
+        found, doubt = abs(past_places(values, wholes, axis)), 2 * axis.doubt
+        # The library counts in ticks: what is less than one is nothing, and the greatest distance is one in whole ticks.
+        tick, farthest = 1 / (step * TICKS), float(found.max())
+        ends = [math.floor(max(0.0, it) / tick) for it in (farthest - doubt, farthest + doubt)]
+        unsure = numpy.flatnonzero(abs(found - tick) <= doubt)
+        unsure = numpy.union1d(unsure, numpy.flatnonzero(found >= farthest - 2 * doubt)) if ends[0] != ends[1] else unsure
+        if len(unsure) > FEW:
+            return None
+        moved = found >= tick
+        ticks = [math.floor(abs(Fraction(float(values[it])) - axis.origin - int(wholes[it]) * axis.step) * parts * TICKS) for it in unsure]
+        moved[unsure] = numpy.array(ticks, dtype=object) > 0
+        are_moved |= moved
+        greatest = max(greatest, *ticks) if ends[0] != ends[1] else max(greatest, ends[0])
+    return int(are_moved.sum()), greatest / TICKS / parts
 
 
 def spelled(positions: Iterable[tuple[int, int]]) -> str:

@@ -21,7 +21,7 @@ from .forks import Held, alone
 
 OK, REFUSED, OUT_OF_MEMORY, UNKNOWN, TOO_SMALL, NONE = 0, 1, 3, 4, 5, 6
 # How much one call takes of values, of geometries of a join and of pairs, so that Ctrl-C need not wait for all.
-AT_ONCE, JOINED_AT_ONCE = 20_000, 1_000
+AT_ONCE, JOINED_AT_ONCE, PAIRS_AT_ONCE = 20_000, 1_000, 65_536
 # From how many pairs of positions on it is shown in a process of its own why a matrix is what it is, and how much memory that may take.
 MANY_PAIRS, WHY_BYTES = 10_000, 1 << 30
 # The types, by the numbers of sfq_type.
@@ -159,7 +159,9 @@ def declare_many(found: ctypes.CDLL) -> ctypes.CDLL:
     found.sfq_holds_many.argtypes = [number, many, many, count, many, many]
     found.sfq_index_geometries.argtypes = [many, count, ctypes.POINTER(CIndex)]
     found.sfq_join.argtypes = [number, many, many, count, many, count, ctypes.POINTER(CIndex), many, count, many]
-    for name in ("read_binaries", "binaries_extent", "take_apart", "round", "holds_many", "index_geometries", "join"):
+    found.sfq_index_points.argtypes = [many, count, ctypes.POINTER(CIndex), ctypes.POINTER(count)]
+    found.sfq_join_points.argtypes = [number, many, many, count, many, ctypes.POINTER(CIndex), many, count, many]
+    for name in ("read_binaries", "binaries_extent", "take_apart", "round", "holds_many", "index_geometries", "join", "index_points", "join_points"):
         getattr(found, f"sfq_{name}").restype = ctypes.c_int
     return found
 
@@ -552,11 +554,16 @@ def grid_of(step: int, x: int, y: int, parts: int) -> Any:
 def rounded(grid: Any, numbers: array[float]) -> Optional[array[int]]:
     """Returns the steps of a grid that are nearest to positions, an x and a y each; None where a number is infinite or none."""
     found = array("i", bytes(4 * len(numbers)))
-    status = library().sfq_round(grid, numbers.buffer_info()[0], len(numbers) // 2, found.buffer_info()[0], None)
+    return found if are_rounded(grid, numbers.buffer_info()[0], len(numbers) // 2, found.buffer_info()[0]) else None
+
+
+def are_rounded(grid: Any, numbers: int, positions: int, steps: int) -> bool:
+    """Writes the steps of a grid that are nearest to positions, by the addresses of both; False where a number is infinite or none."""
+    status = library().sfq_round(grid, numbers, positions, steps, None)
     if status == REFUSED:
-        return None
+        return False
     need_ok(status)
-    return found
+    return True
 
 
 class KeptMany:
@@ -605,21 +612,56 @@ class KeptMany:
         return self._index
 
 
+class PlacedPoints:
+    """Points that aren't kept, by the address of 32-bit numbers, an x and a y each, and an index of them. `owner` has the numbers."""
+
+    __slots__ = ("owner", "address", "count", "_index")
+
+    def __init__(self, owner: Any, address: int, count: int) -> None:
+        self.owner, self.address, self.count, self._index = owner, address, count, CIndex()
+
+    def __del__(self) -> None:
+        if self._index.kept is not None:
+            library().sfq_index_free(ctypes.byref(self._index))
+
+    def index(self) -> CIndex:
+        """Returns the index of the points, made when it is first needed."""
+        if self._index.kept is None:
+            need_ok(library().sfq_index_points(self.address, self.count, ctypes.byref(self._index), None))
+        return self._index
+
+
 def joined(relation: int, first: KeptMany, second: KeptMany) -> Iterator[tuple[Any, int]]:
     """Yields rooms of pairs of which the relation of this number holds, and how many pairs each has: the places of both, ascending."""
-    at, pairs, size = ctypes.c_size_t(), ctypes.c_size_t(), 65_536
-    index, places = ctypes.byref(second.index()), [ctypes.addressof(it) for it in (at, pairs)]
+    call, index = library().sfq_join, ctypes.byref(second.index())
+    return rooms_of_pairs(
+        first.count, second.count,
+        lambda at, end, *room: call(relation, first.geometries, at, end, second.geometries, second.count, index, *room),
+    )
+
+
+def joined_points(relation: int, first: KeptMany, second: PlacedPoints) -> Iterator[tuple[Any, int]]:
+    """Yields rooms of pairs of a geometry and a point, as `joined` does. The relation is one that the point's place decides."""
+    call, index = library().sfq_join_points, ctypes.byref(second.index())
+    return rooms_of_pairs(
+        first.count, second.count, lambda at, end, *room: call(relation, first.geometries, at, end, second.address, index, *room)
+    )
+
+
+def rooms_of_pairs(count: int, second_count: int, call: Callable[..., int]) -> Iterator[tuple[Any, int]]:
+    """Yields rooms of pairs, and how many pairs each has, by a call that goes on from a place up to an end."""
+    at, pairs, size, at_once = ctypes.c_size_t(), ctypes.c_size_t(), PAIRS_AT_ONCE, JOINED_AT_ONCE
+    places = [ctypes.addressof(it) for it in (at, pairs)]
     room = (ctypes.c_size_t * (2 * size))()
-    while at.value < first.count:
-        end = min(at.value + JOINED_AT_ONCE, first.count)
-        status = library().sfq_join(
-            relation, first.geometries, places[0], end, second.geometries, second.count, index, room, size, places[1]
-        )
+    while at.value < count:
+        status = call(places[0], min(at.value + at_once, count), room, size, places[1])
         if status == TOO_SMALL:
-            size = second.count
+            # One geometry may have as many pairs as there are others.
+            size, at_once = second_count, 1
             room = (ctypes.c_size_t * (2 * size))()
             continue
         need_ok(status)
+        at_once = 1 if pairs.value > PAIRS_AT_ONCE else min(2 * at_once, JOINED_AT_ONCE)
         yield room, pairs.value
 
 

@@ -75,38 +75,53 @@ class Options(NamedTuple):
 
 
 class Points(library.Binaries):
-    """Points that each have a position, in well-known binary."""
+    """Points that each have a position: rows of an x and a y. Their well-known binary is written when it is first needed."""
 
     def __init__(self, positions: Any) -> None:
-        self.points = numpy.empty(len(positions), dtype=POINT)
-        self.points["order"], self.points["kind"], self.points["position"] = 1, 1, positions
-        self.lengths = numpy.full(len(positions), POINT.itemsize, dtype=numpy.uintp)
+        self.positions = numpy.ascontiguousarray(positions, dtype=float)
+
+    @functools.cached_property
+    def written(self) -> tuple[Any, Any]:
+        """Their well-known binary, and how many bytes each has."""
+        found = numpy.empty(len(self), dtype=POINT)
+        found["order"], found["kind"], found["position"] = 1, 1, self.positions
+        return found, numpy.full(len(self), POINT.itemsize, dtype=numpy.uintp)
 
     def __len__(self) -> int:
-        return len(self.points)
+        return len(self.positions)
 
     def __getitem__(self, place: int) -> bytes:
-        return bytes(self.points[place].tobytes())
+        return bytes(self.written[0][place].tobytes())
 
     def part(self, first: int, end: int) -> tuple[Any, Any]:
-        return self.points[first:].ctypes.data, self.lengths[first:].ctypes.data
-
-    def extent(self) -> Optional[tuple[float, float, float, float]]:
-        positions = self.points["position"]
-        if not len(positions) or not numpy.isfinite(positions).all():
-            return super().extent()
-        (left, low), (right, high) = positions.min(axis=0), positions.max(axis=0)
-        return float(left), float(right), float(low), float(high)
+        points, lengths = self.written
+        return points[first:].ctypes.data, lengths[first:].ctypes.data
 
 
 def positions_of(shapes: Any, flat: bool) -> Any:
     """Returns the positions of shapely's geometries, where each is a point with one; None where one isn't, or has more than an x and a y
     that isn't to be dropped.
     """
-    if not (shapely.get_type_id(shapes) == 0).all() or not (flat or (shapely.get_coordinate_dimension(shapes) == 2).all()):
+    if not flat and not (shapely.get_coordinate_dimension(shapes) == 2).all():
         return None
-    found = shapely.get_coordinates(shapes)
-    return found if len(found) == len(shapes) else None
+    found = numpy.empty((len(shapes), 2))
+    found[:, 0] = shapely.get_x(shapes)
+    # An empty point has no x, nor has anything else; but a point may have a coordinate that is no number.
+    if numpy.isnan(found[:, 0]).any():
+        if not (shapely.get_type_id(shapes) == 0).all():
+            return None
+        found = shapely.get_coordinates(shapes)
+        return found if len(found) == len(shapes) else None
+    found[:, 1] = shapely.get_y(shapes)
+    return found
+
+
+def extent_of_positions(positions: Any) -> Optional[tuple[float, float, float, float]]:
+    """Returns the least x, the greatest x, the least y and the greatest y of positions, None where there is none or one isn't finite."""
+    if not len(positions):
+        return None
+    found = [float(it) for axis in (0, 1) for it in (positions[:, axis].min(), positions[:, axis].max())]
+    return (found[0], found[1], found[2], found[3]) if numpy.isfinite(found).all() else None
 
 
 def binaries(shapes: Any, flat: bool) -> library.Binaries:
@@ -138,6 +153,14 @@ def are_plain(shapes: Any) -> bool:
     return bool((shapely.get_type_id(shapes) < COLLECTION).all() and (shapely.get_coordinate_dimension(shapes) < 3).all())
 
 
+class Placed:
+    """Points that have places on a grid: the steps, for the library, and what rounding did, as the library counts it."""
+
+    def __init__(self, steps: Any, moved: int, greatest: float) -> None:
+        self.steps, self.kept = steps, library.PlacedPoints(steps, steps.ctypes.data, len(steps))
+        self.positions, self.moved, self.merged, self.greatest = len(steps), moved, 0, greatest
+
+
 class Column:
     """The geometries of a GeoSeries on a grid: those that the library keeps, those that it refuses, and those that are missing."""
 
@@ -145,13 +168,22 @@ class Column:
         self.side, self.series, self.shapes = side, series, numpy.asarray(series.values, dtype=object)
         self.binaries = binaries(self.shapes, flat)
 
+    @functools.cached_property
+    def positions(self) -> Any:
+        """The positions of all geometries, where shapely gives them at once as they are read here; else None."""
+        if isinstance(self.binaries, Points):
+            return self.binaries.positions
+        return shapely.get_coordinates(self.shapes) if are_plain(self.shapes) else None
+
+    def extent(self) -> Optional[tuple[float, float, float, float]]:
+        """Returns the least x, the greatest x, the least y and the greatest y, None where there is no position."""
+        found = None if self.positions is None else extent_of_positions(self.positions)
+        return found or self.binaries.extent()
+
     def take_decimals(self, decimals: proposing.Decimals) -> None:
         """Has the coordinates be counted, as long as one grid could have them all."""
-        if isinstance(self.binaries, Points):
-            decimals.add_all(self.binaries.points["position"])
-            return
-        if are_plain(self.shapes):
-            decimals.add_all(shapely.get_coordinates(self.shapes))
+        if self.positions is not None:
+            decimals.add_all(self.positions)
             return
         for at in range(len(self.binaries)):
             if not decimals.is_exact:
@@ -162,12 +194,35 @@ class Column:
                     for numbers in part:
                         decimals.add(numbers)
 
-    def keep(self, grid: Optional[grids.Grid]) -> None:
-        """Reads the geometries, rounded to a grid, or as they are where that is None."""
-        self.grid, self.kept = grid, library.KeptMany(self.binaries, parts_of(grid))
-        self.statuses = numpy.array(self.kept.statuses, dtype=numpy.uint32)
+    def keep(self, proposal: Optional[proposing.Proposal], places_points: bool) -> None:
+        """Reads the geometries, rounded to a grid, or as they are where that is None.
+
+        `places_points` says that points, which are valid wherever they are, need only have their places on the grid.
+        """
+        self.grid: Optional[grids.Grid] = proposal.grid if proposal else None
+        self.is_exact = proposal.is_exact if proposal else False
+        self.parts = parts_of(self.grid)
+        self.points = self.placed() if places_points else None
+        given: Any = [library.OK] * len(self.shapes) if self.points else self.kept.statuses
+        self.statuses = numpy.array(given, dtype=numpy.uint32)
         self.is_kept = self.statuses == library.OK
         self.refused = numpy.flatnonzero(~self.is_kept & (self.statuses != library.NONE))
+
+    @functools.cached_property
+    def kept(self) -> library.KeptMany:
+        """What the library keeps of the geometries."""
+        return library.KeptMany(self.binaries, self.parts)
+
+    def placed(self) -> Optional[Placed]:
+        """Returns points on the grid; None where one has no place there, or something else is among them."""
+        if self.grid is None or not isinstance(self.binaries, Points):
+            return None
+        positions = self.binaries.positions
+        steps = grids.steps_of(positions, self.grid)
+        if steps is None or (len(steps) and steps.max() > grids.MOST):
+            return None
+        rounding = grids.counted(positions, steps, self.grid, self.is_exact)
+        return Placed(steps, *rounding) if rounding else None
 
     def reason(self, place: int) -> str:
         """Returns why a geometry is refused."""
@@ -196,15 +251,16 @@ class Column:
 
     def has_shape(self) -> bool:
         """Whether a geometry is kept that isn't empty."""
-        return any(not it.is_empty for it in self.shapes[self.is_kept])
+        return any(not self.shapes[at].is_empty for at in numpy.flatnonzero(self.is_kept))
 
     @functools.cached_property
     def shift(self) -> grids.Shift:
         """How far positions moved. The library counts those that are about on the grid as on it; here a position that moved at all counts."""
-        found, shift = self.kept.shift, grids.Shift()
+        found, shift = self.points or self.kept.shift, grids.Shift()
         shift.add(found.positions, found.moved, found.merged, found.greatest, 0.0)
-        if self.grid is not None and found.moved < found.positions:
-            moves = grids.moves(self.coordinates(), self.grid)
+        # On a grid that has all coordinates, none moved.
+        if self.grid is not None and not self.is_exact and found.moved < found.positions:
+            moves = grids.moves(self.coordinates(), self.grid, self.points.steps if self.points else None)
             little = moves[moves > 0]
             if len(little) > found.moved:
                 shift.moved, shift.greatest = len(little), max(found.greatest, float(little.max()))
@@ -212,8 +268,8 @@ class Column:
 
     def coordinates(self) -> Any:
         """Returns the positions of the geometries that are kept, as rows of an x and a y."""
-        if isinstance(self.binaries, Points):
-            return self.binaries.points["position"][self.is_kept]
+        if self.positions is not None and self.is_kept.all():
+            return self.positions
         if hasattr(shapely, "get_coordinates"):
             return shapely.get_coordinates(self.shapes[self.is_kept])
         lists = []
@@ -294,23 +350,25 @@ def need_known(options: Options) -> None:
 
 def extent_of(columns: Sequence[Column]) -> Optional[proposing.Extent]:
     """Returns the extent of columns, None where they have no position."""
-    found = (it.binaries.extent() for it in columns)
+    found = (it.extent() for it in columns)
     return proposing.joined(proposing.Extent(*it) if it else None for it in found)
 
 
-def grid_for(columns: Sequence[Column], step: Step, origin: Origin) -> Optional[grids.Grid]:
-    """Returns the grid of columns, None where nothing is rounded. ValueError where the step or the origin is none."""
+def grid_for(columns: Sequence[Column], step: Step, origin: Origin) -> Optional[proposing.Proposal]:
+    """Returns the grid of columns, and whether each coordinate is known to lie on it, None where nothing is rounded. ValueError where the
+    step or the origin is none.
+    """
     if step is None:
         return None
     spelled, given = "" if step == AUTO else str(step), [] if origin is None else [str(it) for it in origin]
     system = next((it.series.crs for it in columns if it.series.crs), None)
     try:
         if spelled and given:
-            return grids.Grid(spelled, given)
+            return proposing.Proposal(grids.Grid(spelled, given), False)
         decimals = proposing.Decimals()
         for it in columns if not spelled else ():
             it.take_decimals(decimals)
-        return proposing.proposed(extent_of(columns), metres(system), spelled, ",".join(given), decimals)
+        return proposing.proposal(extent_of(columns), metres(system), spelled, ",".join(given), None if spelled else decimals)
     except ValueError as error:
         raise ValueError(f"sfq: {error}") from None
 
@@ -319,8 +377,9 @@ def remedy_for(columns: Sequence[Column], options: Options) -> str:
     """Returns which grid takes all positions: with the same step where one does."""
     extent = extent_of(columns)
     for step in (options.step, AUTO):
-        grid = grid_for(columns, step, None)
-        if grid and extent and proposing.fits(extent, grid):
+        proposal = grid_for(columns, step, None)
+        if proposal and extent and proposing.fits(extent, proposal.grid):
+            grid = proposal.grid
             return f"; the step {grid.spelled[0]} from the origin {','.join(grid.spelled[1])} takes all positions"
     return ""
 
@@ -333,16 +392,19 @@ def need_one_system(left: Any, right: Any) -> None:
         )
 
 
-def taken(sides: dict[str, Any], options: Options) -> dict[str, Column]:
-    """Returns the columns of GeoSeries on one grid, by their sides. A GeoSeries on two sides has one column, named for the first."""
+def taken(sides: dict[str, Any], options: Options, places_points: bool = False) -> dict[str, Column]:
+    """Returns the columns of GeoSeries on one grid, by their sides. A GeoSeries on two sides has one column, named for the first.
+
+    `places_points` is as in `Column.keep`.
+    """
     need_known(options)
     found: dict[str, Column] = {}
     for side, series in sides.items():
         same = next((it for it in found.values() if it.series is series), None)
         found[side] = same or Column(side, series, options.flat)
-    grid = grid_for(list(found.values()), options.step, options.origin)
+    proposal = grid_for(list(dict.fromkeys(found.values())), options.step, options.origin)
     for column in dict.fromkeys(found.values()):
-        column.keep(grid)
+        column.keep(proposal, places_points)
     return found
 
 

@@ -19,6 +19,8 @@ from ..geometry import grids
 DEGREE, METRE = Decimal("0.0000001"), Decimal("0.01")
 # How many metres a unit has that is none of length.
 DEGREES = 0.0
+# How many positions of an array are looked at one by one before all are looked at at once.
+FEW = 200
 # The origin is a multiple of so many steps.
 ROUND = 100_000
 # No step is finer than this part of the greatest coordinate: doubles have about so many digits. Nor has a number more decimals than this.
@@ -83,19 +85,33 @@ class Decimals:
         """Takes positions, an array of numpy with an x and a y in each row."""
         import numpy
 
-        wholes = numpy.rint(positions * self.unit)
-        are_exact = (abs(wholes) < grids.EXACT) & (wholes / self.unit == positions)
-        is_small = all(abs(it) < grids.EXACT for it in (self.unit, *self.firsts))
-        if not (self.is_exact and len(positions) and is_small and are_exact.all()):
-            self.add(positions.ravel().tolist())
-            return
-        whole = wholes.astype(numpy.int64)
-        if not self.firsts:
-            self.firsts, self.least, self.greatest = whole[0].tolist(), whole[0].tolist(), whole[0].tolist()
-        for axis in (0, 1):
-            its, first = whole[:, axis], self.firsts[axis]
-            self.least[axis], self.greatest[axis] = min(self.least[axis], int(its.min())), max(self.greatest[axis], int(its.max()))
-            self.divisor = math.gcd(self.divisor, int(numpy.gcd.reduce(abs(its - first))))
+        # A few say how many decimals all have, mostly, or that no grid has them.
+        self.add(positions[:FEW].ravel().tolist())
+        rest = positions[FEW:]
+        while self.is_exact and len(rest):
+            unit = self.unit
+            with numpy.errstate(over="ignore"):
+                wholes = numpy.rint(rest if unit == 1 else rest * unit)
+            are_exact = (wholes if unit == 1 else wholes / unit) == rest
+            if are_exact.all():
+                bounds = [(float(its.min()), float(its.max())) for its in wholes.T]
+                if all(abs(it) < grids.EXACT for it in (unit, *self.firsts, *bounds[0], *bounds[1])):
+                    self.add_wholes(wholes, bounds)
+                else:
+                    self.add(rest.ravel().tolist())
+                return
+            self.add(rest[~are_exact.all(axis=1)][:FEW].ravel().tolist())
+            if self.unit == unit:
+                # These are too great for an array.
+                self.add(rest.ravel().tolist())
+                return
+
+    def add_wholes(self, wholes: Any, bounds: Sequence[tuple[float, float]]) -> None:
+        """Takes positions in units of the last decimal, after others, with the least and the greatest of each axis. All are whole doubles."""
+        for axis, (least, greatest) in enumerate(bounds):
+            self.least[axis], self.greatest[axis] = min(self.least[axis], int(least)), max(self.greatest[axis], int(greatest))
+            if self.divisor != 1:
+                self.divisor = common_divisor(self.divisor, wholes[:, axis].astype("int64") - self.firsts[axis])
         self.is_exact = max(b - a for a, b in zip(self.least, self.greatest)) <= 2 * grids.MOST * max(1, self.divisor)
 
     def wholes(self, numbers: Sequence[float]) -> list[int]:
@@ -124,6 +140,16 @@ class Decimals:
         by = 10 ** (places - self.places)
         self.places, self.unit, self.divisor = places, 10**places, self.divisor * by
         self.firsts, self.least, self.greatest = ([it * by for it in each] for each in (self.firsts, self.least, self.greatest))
+
+
+def common_divisor(known: int, numbers: Any) -> int:
+    """Returns the greatest common divisor of a number and those of an array of numpy."""
+    while known != 1 and len(numbers):
+        known = math.gcd(known, *numbers[:FEW].tolist())
+        # A few have that of all, mostly: what is a multiple of it changes nothing.
+        left = numbers[FEW:]
+        numbers = left[(left % known if 0 < known < grids.EXACT else left) != 0]
+    return known
 
 
 def usual(metres: Optional[float], found: Optional[Extent]) -> Decimal:
