@@ -76,7 +76,8 @@ class Axis:
         if above / below == value:
             return 0.0
         number, parts = value.as_integer_ratio()
-        return (number * below - above * parts) / (parts * step)
+        past: float = (number * below - above * parts) / (parts * step)
+        return past
 
     def are_at(self, values: Any, wholes: Any) -> Any:
         """Returns where `beside` is 0 of arrays of doubles and of whole coordinates, among those whose numbers a double holds exactly."""
