@@ -333,7 +333,7 @@ class Grids(unittest.TestCase):
 
 
 class OfPoints:
-    """Joins of points, which from shapely 2 on aren't kept: what is found and said is what there is of points that are."""
+    """Joins of points, which aren't kept: what is found and said is what there is of points that are."""
 
     def test_joins_of_points_as_a_look_at_each_pair(self):
         chance = random.Random(21)
@@ -375,7 +375,7 @@ class OfPoints:
                 said.append((column.said(), column.statuses.tolist()))
                 counts.add((column.points is not None, column.shift.moved > 0))
             self.assertEqual(*said, (at, words, points))
-        self.assertEqual(len(counts), 4 if hasattr(shapely, "to_wkb") else 2)
+        self.assertEqual(len(counts), 4)
 
 
 class Points(OfPoints, unittest.TestCase):

@@ -136,6 +136,11 @@ def binaries(shapes: Any, flat: bool) -> library.Binaries:
 
     writer = geos.WKBWriter(geos.lgeos, big_endian=False, output_dimension=2 if flat else 3)
     found = [b"" if it is None else writer.write(it) for it in shapes]
+    if all(len(it) == POINT.itemsize for it in found):
+        points = numpy.frombuffer(b"".join(found), dtype=POINT)
+        # An empty point has no numbers.
+        if (points["kind"] == 1).all() and not numpy.isnan(points["position"]).any():
+            return Points(points["position"])
     return library.Binaries([it if it != NOTHING else empty(shape) for it, shape in zip(found, shapes)])
 
 
