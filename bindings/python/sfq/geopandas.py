@@ -70,11 +70,11 @@ class Index:
         """Returns the places of the other geometries and of those here of which the predicate holds, ascending."""
         one, two, name = self.others, self.tree, self.predicate
         if two.points and name in OF_POINTS:
-            return numpy.stack(places(library.joined_points(library.RELATIONS.index(name), one.kept, two.points.kept)))
+            return places(library.joined_points(library.RELATIONS.index(name), one.kept, two.points.kept))
         if one.points and TURNED.get(name) in OF_POINTS:
             seconds, firsts = places(library.joined_points(library.RELATIONS.index(TURNED[name]), two.kept, one.points.kept))
-            return numpy.stack(ascending(firsts, seconds, len(two.shapes)))
-        return numpy.stack(places(library.joined(library.RELATIONS.index(name), one.kept, two.kept)))
+            return ascending(firsts, seconds, len(two.shapes))
+        return places(library.joined(library.RELATIONS.index(name), one.kept, two.kept))
 
     def query_bulk(self, *words: Any, **more: Any) -> Any:
         """The same by the name that it has before version 1.0."""

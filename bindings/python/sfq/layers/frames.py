@@ -208,8 +208,7 @@ class Column:
         self.is_exact = proposal.is_exact if proposal else False
         self.parts = parts_of(self.grid)
         self.points = self.placed() if places_points else None
-        given: Any = [library.OK] * len(self.shapes) if self.points else self.kept.statuses
-        self.statuses = numpy.array(given, dtype=numpy.uint32)
+        self.statuses = numpy.full(len(self.shapes), library.OK) if self.points else numpy.array(self.kept.statuses, dtype=numpy.uint32)
         self.is_kept = self.statuses == library.OK
         self.refused = numpy.flatnonzero(~self.is_kept & (self.statuses != library.NONE))
 

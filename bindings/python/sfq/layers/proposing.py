@@ -20,7 +20,7 @@ DEGREE, METRE = Decimal("0.0000001"), Decimal("0.01")
 # How many metres a unit has that is none of length.
 DEGREES = 0.0
 # How many positions of an array are looked at one by one before all are looked at at once.
-FEW = 200
+FEW = 50
 # The origin is a multiple of so many steps.
 ROUND = 100_000
 # No step is finer than this part of the greatest coordinate: doubles have about so many digits. Nor has a number more decimals than this.
