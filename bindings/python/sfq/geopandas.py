@@ -66,9 +66,10 @@ class Index:
         """Whether there is something to find. GeoPandas joins no empty geometry, by the predicates that it has."""
         return self.predicate in ("equals", "disjoint") or self.tree.has_shape()
 
-    def query(self, _geometry: Any, **_words: Any) -> Any:
+    def query(self, _geometry: Any, predicate: Optional[str] = None, **_words: Any) -> Any:
         """Returns the places of the other geometries and of those here of which the predicate holds, ascending."""
-        one, two, name = self.others, self.tree, self.predicate
+        # Before version 1.0 GeoPandas may have been given another predicate, as `op`.
+        one, two, name = self.others, self.tree, predicate if predicate and WARNS_ALWAYS else self.predicate
         if two.points and name in OF_POINTS:
             return places(library.joined_points(library.RELATIONS.index(name), one.kept, two.points.kept))
         if one.points and TURNED.get(name) in OF_POINTS:
