@@ -338,8 +338,8 @@ class OfPoints:
     def test_joins_of_points_as_a_look_at_each_pair(self):
         chance = random.Random(21)
         points = frame([Point(chance.randint(0, 8), chance.randint(0, 8)) for _ in range(40)])
-        others = frame(shapes(chance, 40))
-        for left, right in ((points, others), (others, points), (points, points)):
+        others, some = frame(shapes(chance, 40)), frame([Point(2, 2), Point(), Point(3, 5), Point()])
+        for left, right in ((points, others), (others, points), (points, points), (some, others), (others, some)):
             ones, twos = (geometries(side.geometry) for side in (left, right))
             for name in library.RELATIONS:
                 wanted = [(i, j) for i, one in enumerate(ones) for j, two in enumerate(twos) if one and two and getattr(one, name)(two)]

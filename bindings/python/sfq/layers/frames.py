@@ -13,6 +13,7 @@ from typing import Any, NamedTuple, Optional, Sequence, Union
 import numpy
 import pandas
 import shapely
+from shapely.errors import ShapelyError
 
 from ..geometry import binary, grids, library
 from ..geometry.shapes import Geometry
@@ -105,15 +106,16 @@ def positions_of(shapes: Any, flat: bool) -> Any:
     if not flat and not (shapely.get_coordinate_dimension(shapes) == 2).all():
         return None
     found = numpy.empty((len(shapes), 2))
-    found[:, 0] = shapely.get_x(shapes)
-    # An empty point has no x, nor has anything else; but a point may have a coordinate that is no number.
-    if numpy.isnan(found[:, 0]).any():
-        if not (shapely.get_type_id(shapes) == 0).all():
-            return None
-        found = shapely.get_coordinates(shapes)
-        return found if len(found) == len(shapes) else None
-    found[:, 1] = shapely.get_y(shapes)
-    return found
+    # What isn't a point has no x. Nor has an empty point, of which some versions of GEOS raise an error.
+    with contextlib.suppress(ShapelyError):
+        found[:, 0] = shapely.get_x(shapes)
+        if not numpy.isnan(found[:, 0]).any():
+            found[:, 1] = shapely.get_y(shapes)
+            return found
+    if not (shapely.get_type_id(shapes) == 0).all():
+        return None
+    found = shapely.get_coordinates(shapes)
+    return found if len(found) == len(shapes) else None
 
 
 def extent_of_positions(positions: Any) -> Optional[tuple[float, float, float, float]]:
