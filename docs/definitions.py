@@ -212,6 +212,8 @@ LIBRARY = [
       ("sfq_tables", "OpenColumns", ""),
       ("sfq_tables", "OpenConstants", ""),
       ("sfq_tables", "OpenQueries", "origin_at origin_by"),
+      ("sfq_tables", "QueryForms", "conjunct_form of_column of_constant argument_form operands_by_parts are_of_two"),
+      ("sfq_tables", "NamedColumns", "named_in_geometry named_in_operand named_by_parts named_in_item named_in_whole named_in_read"),
       ("sfq_tables", "WrittenColumns", ""),
       ("sfq_tables", "TextParts", ""),
       ("statements", "Constants", "+constants_of with_constant constant_type may_replace takes"),

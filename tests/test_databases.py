@@ -135,6 +135,23 @@ DESCRIBED = [
     ("EXPLAIN SELECT id FROM city", "0:0=City -"),
 ]
 
+# A query over the first table, and what is printed: the limit, what is asked for, the conjuncts, the operands, and the columns that the
+# text names. By hand, by bindings/c/sfq_tables.h.
+ASKED = [
+    ("SELECT * FROM city", "- rows"),
+    ("EXPLAIN SELECT COUNT(*) FROM city LIMIT 3", "3 plan count"),
+    ("EXPLAIN ANALYZE SELECT id FROM city LIMIT 0", "0 work 23/23+2"),
+    ("SELECT id FROM city WHERE id >= -5 AND NOT 'x' = name", "- rows 5 8 0:5.0=0/0 0:5.0=0 1:0.0=1 1:0.0=0/1 7/7+2 26/26+2 49/49+4"),
+    ("SELECT a . id FROM city a JOIN city b ON ST_Touches(b.at, a.at) = 1 AND a.id < b.id WHERE (ST_Disjoint(a.at, b.at) OR a.id = NULL)",
+     "- rows 13j 2 8 0:13.0=1/2 0:13.0=0/2 1:2.0=0/0 1:2.0=1/0 2:11.0=0/2 2:11.0=1/2 2:0.0=0/0 2:0.0=3 7/11+2 52/54+2 58/60+2 72/74+2 79/81+2 "
+     "103/105+2 109/111+2 118/120+2"),
+    ("SELECT ST_AsText(at) FROM city WHERE ST_Dimension(at) <> 2 AND (name IS NOT NULL AND ST_IsEmpty(at) = 0)",
+     "- rows 1 8 8 0:1.2=0/2 0:1.0=0 1:6.0=0/1 2:7.0=0/2 17/17+2 50/50+2 64/64+4 96/96+2"),
+    ("SELECT COUNT(*) FROM city a, city b WHERE ST_Relate(a.at, b.at, 'T********') AND ST_Relate(a.at, b.at, 'F********') "
+     "AND ST_Equals(a.at, ST_GeomFromText('POINT(1 1)'))",
+     "- rows count 9j 9 10 0:9.0=0/2 0:9.0=1/2 1:9.0=0/2 1:9.0=1/2 2:10.0=0/2 2:10.0=2 51/53+2 57/59+2 91/93+2 97/99+2 130/132+2"),
+]
+
 
 def row_calls():
     """Returns the calls over rows and constants, each with what it prints."""
@@ -153,7 +170,8 @@ def lines_of_calls():
     calls += [(f"query\t{SCHEMA}\t{text}\t{query}", wanted) for text, query, wanted in QUERIES]
     calls += [(f"parts\t{text}", wanted) for text, wanted in PARTS]
     calls += [(f"described\t{SCHEMA}\t{POINTS}\t{query}", f"{FORMS} {wanted}") for query, wanted in DESCRIBED]
-    return calls + row_calls() + [("closed", " ".join("7" * 30)), (f"numbers\t{SCHEMA}", " ".join("4" * 58))]
+    calls += [(f"asked\t{SCHEMA}\t{POINTS}\t{query}", wanted) for query, wanted in ASKED]
+    return calls + row_calls() + [("closed", " ".join("7" * 33)), (f"numbers\t{SCHEMA}", " ".join("4" * 64))]
 
 
 @needs("gcc", "cc")

@@ -339,6 +339,8 @@ class Border(unittest.TestCase):
         "KeptIndex": "struct kept", "&mut IndexSlot": "struct kept *", "&[Bounds]": "const struct bounds *, size_t",
         "&Bounds": "const struct bounds *", "&mut [usize]": "size_t *, size_t",
         "&mut [TextPart]": "sfq_text_part *, size_t", "&mut ColumnForm": "sfq_form *", "&mut Origin": "sfq_origin *",
+        "&mut QueryForm": "sfq_query_form *", "&mut ConjunctForm": "sfq_conjunct_form *",
+        "&mut [OperandForm]": "sfq_operand *, size_t", "&mut [NamedColumn]": "sfq_named_column *, size_t",
         "&GridNumbers": "const struct grid_numbers *", "&mut Notes": "struct notes *",
         "&mut Fault": "sfq_fault *", "&mut bool": "bool *", "&mut u32": "uint32_t *", "&mut u64": "uint64_t *", "&mut i64": "int64_t *", "&mut usize": "size_t *",
         "&mut [u8; 9]": "uint8_t *", "&mut [bool; 11]": "bool *", "&mut [i32; 4]": "int32_t *", "&[u8]": "const uint8_t *, size_t",

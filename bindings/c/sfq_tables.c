@@ -36,10 +36,14 @@ uint32_t sfq_proved_table_column(struct kept kept, size_t table, size_t column, 
                                  uint32_t *type, struct kept *back);
 uint32_t sfq_proved_is_loaded(struct kept kept, size_t table, bool *loaded, struct kept *back);
 uint32_t sfq_proved_text_parts(const uint8_t *text, size_t length, sfq_text_part *parts, size_t size, size_t *count);
+uint32_t sfq_proved_named_columns(const uint8_t *text, size_t length, sfq_named_column *columns, size_t size, size_t *count);
 uint32_t sfq_proved_column_form(struct kept kept, size_t table, size_t column, sfq_form *form, struct kept *back);
 uint32_t sfq_proved_reference(struct kept kept, size_t statement, size_t reference, uint8_t *room, size_t size, size_t *length,
                               size_t *table, struct kept *back);
 uint32_t sfq_proved_column_origin(struct kept kept, size_t statement, size_t column, sfq_origin *origin, struct kept *back);
+uint32_t sfq_proved_query(struct kept kept, size_t statement, sfq_query_form *form, struct kept *back);
+uint32_t sfq_proved_conjunct(struct kept kept, size_t statement, size_t conjunct, sfq_conjunct_form *form, struct kept *back);
+uint32_t sfq_proved_operands(struct kept kept, size_t statement, sfq_operand *operands, size_t size, size_t *count, struct kept *back);
 uint32_t sfq_proved_prepare(struct kept kept, const uint8_t *text, size_t length, size_t *statement, sfq_tables_fault *fault,
                             struct kept *back);
 uint32_t sfq_proved_step(struct kept kept, size_t statement, uint64_t most, struct kept *back);
@@ -134,6 +138,12 @@ int sfq_text_parts(const char *text, size_t length, sfq_text_part *parts, size_t
     return (int)sfq_proved_text_parts(bytes_of(text), count_of(text, length), parts != NULL ? parts : &nothing, count_of(parts, size), count);
 }
 
+int sfq_named_columns(const char *text, size_t length, sfq_named_column *columns, size_t size, size_t *count)
+{
+    static sfq_named_column nothing;
+    return (int)sfq_proved_named_columns(bytes_of(text), count_of(text, length), columns != NULL ? columns : &nothing, count_of(columns, size), count);
+}
+
 int sfq_open(const char *schema, size_t length, sfq_database *database, sfq_tables_fault *fault)
 {
     struct kept slot = empty_slot;
@@ -194,6 +204,22 @@ int sfq_reference(sfq_database *database, size_t statement, size_t reference, ch
 int sfq_column_origin(sfq_database *database, size_t statement, size_t column, sfq_origin *origin)
 {
     OVER(database, sfq_proved_column_origin(kept, statement, column, origin, &back));
+}
+
+int sfq_query(sfq_database *database, size_t statement, sfq_query_form *form)
+{
+    OVER(database, sfq_proved_query(kept, statement, form, &back));
+}
+
+int sfq_conjunct(sfq_database *database, size_t statement, size_t conjunct, sfq_conjunct_form *form)
+{
+    OVER(database, sfq_proved_conjunct(kept, statement, conjunct, form, &back));
+}
+
+int sfq_operands(sfq_database *database, size_t statement, sfq_operand *operands, size_t size, size_t *count)
+{
+    static sfq_operand nothing;
+    OVER(database, sfq_proved_operands(kept, statement, operands != NULL ? operands : &nothing, count_of(operands, size), count, &back));
 }
 
 int sfq_load(sfq_database *database, size_t table, const char *bytes, size_t length, sfq_tables_fault *fault)

@@ -149,6 +149,23 @@ typedef struct sfq_text_part {
  */
 int sfq_text_parts(const char *text, size_t length, sfq_text_part *parts, size_t size, size_t *count);
 
+/*
+ * A column that a query names: its first byte, from 0; the first byte of its name, which is behind the name of its reference where that is
+ * written; and how many bytes the name has.
+ */
+typedef struct sfq_named_column {
+    size_t at;
+    size_t name;
+    size_t size;
+} sfq_named_column;
+
+/*
+ * Writes how many columns the text of a query names, and the columns, if the room is for at least so many: those of the select list, of ON
+ * and of WHERE, from the left. `*` and COUNT(*) name none. SFQ_UNKNOWN where this isn't the text of a query; whether the columns are
+ * there isn't asked. A null room has room for none.
+ */
+int sfq_named_columns(const char *text, size_t length, sfq_named_column *columns, size_t size, size_t *count);
+
 /* Opens a database of the schema that a text spells, in `database`, which has to be empty. No table is loaded. */
 int sfq_open(const char *schema, size_t length, sfq_database *database, sfq_tables_fault *fault);
 
@@ -252,6 +269,66 @@ typedef struct sfq_origin {
 } sfq_origin;
 
 int sfq_column_origin(sfq_database *database, size_t statement, size_t column, sfq_origin *origin);
+
+/*
+ * What the query of a statement asks for: the number of LIMIT, 0 where `limits` is false; how many conjuncts ON and WHERE have; whether it
+ * asks for rows (0), for its plan (1, EXPLAIN) or for its plan and work (2, EXPLAIN ANALYZE); and whether it selects COUNT(*).
+ */
+typedef struct sfq_query_form {
+    uint64_t limit;
+    size_t conjuncts;
+    uint32_t explain;
+    bool counts;
+    bool limits;
+} sfq_query_form;
+
+int sfq_query(sfq_database *database, size_t statement, sfq_query_form *form);
+
+/* What a test in ON or WHERE is. A predicate is SFQ_TEST_RELATION and its `sfq_relation`. `= 1` behind it is left out, `= 0` a NOT. */
+enum sfq_test {
+    SFQ_TEST_EQUAL = 0,
+    SFQ_TEST_NOT_EQUAL = 1,
+    SFQ_TEST_LESS = 2,
+    SFQ_TEST_LESS_OR_EQUAL = 3,
+    SFQ_TEST_GREATER = 4,
+    SFQ_TEST_GREATER_OR_EQUAL = 5,
+    SFQ_TEST_IS_NULL = 6,
+    SFQ_TEST_IS_EMPTY = 7,
+    SFQ_TEST_OF_PARTS = 8, /* OR or NOT */
+    SFQ_TEST_RELATE = 9,   /* ST_Relate with a pattern */
+    SFQ_TEST_RELATION = 10
+};
+
+/*
+ * A conjunct, a part of ON or WHERE between ANDs at the top: its `sfq_test`; and whether it is a predicate of a column of each of two
+ * references that holds only where their bounding boxes meet. Those of ON come before those of WHERE. SFQ_UNKNOWN where there is none.
+ */
+typedef struct sfq_conjunct_form {
+    uint32_t test;
+    bool joins;
+} sfq_conjunct_form;
+
+int sfq_conjunct(sfq_database *database, size_t statement, size_t conjunct, sfq_conjunct_form *form);
+
+/*
+ * An operand of a test in ON or WHERE: the number of its conjunct; its reference and its column; the `sfq_test`; the `sfq_column_type` of
+ * the constant that it is, or SFQ_NO_CONSTANT where it is a column; and the function of it: 0 for none, 1 for ST_AsText, 2 for
+ * ST_Dimension. Both numbers of a constant are 0. Two operands of a comparison or a predicate follow each other.
+ */
+typedef struct sfq_operand {
+    size_t conjunct;
+    size_t reference;
+    size_t column;
+    uint32_t test;
+    uint32_t constant;
+    uint32_t function;
+} sfq_operand;
+
+/*
+ * Writes how many operands the tests in ON and WHERE have, and the operands, from the left, if the room is for at least so many. The
+ * columns among them are in the order of sfq_named_columns, and the constants in that of sfq_constants. A null room has room for none.
+ */
+int sfq_operands(sfq_database *database, size_t statement, sfq_operand *operands, size_t size, size_t *count);
 
 /* The header as the program sfq writes it, a record of CSV with its line end. EXPLAIN has none: its text is empty. */
 int sfq_header_text(sfq_database *database, size_t statement, char *room, size_t size, size_t *length);

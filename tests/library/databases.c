@@ -13,6 +13,10 @@
  *     described SCHEMA CSV QUERY  loads the first table from the text and opens a statement. It prints of each column of each table the
  *                                 number of its geometries, `k` for the key and `n` for NOT NULL; of each reference its table and name;
  *                                 and of each column of the rows its reference, its column and its function, or `-`
+ *     asked SCHEMA CSV QUERY      loads the first table from the text and opens a statement. It prints the limit or `-`, and what is asked
+ *                                 for: `rows`, `plan`, `work`, and `count`; each conjunct by its test, with `j` if it joins; each
+ *                                 operand by its conjunct, test and function, and its column or the type of its constant; and each
+ *                                 column that the text names: at/name+size
  *     closed                      makes each call of an empty database, and prints the statuses
  *     numbers SCHEMA              makes each call with numbers that nothing has, and prints the statuses
  *
@@ -317,6 +321,97 @@ static struct printed run_described(char *const words[WORDS])
     return out;
 }
 
+static void add_asked(struct printed *out, sfq_database *database, size_t statement)
+{
+    static const char *const asked[] = { "rows", "plan", "work" };
+    sfq_query_form form;
+    sfq_conjunct_form conjunct;
+    char said[100];
+    size_t i;
+    sfq_query(database, statement, &form);
+    if (form.limits)
+        snprintf(said, sizeof said, "%llu", (unsigned long long)form.limit);
+    else
+        snprintf(said, sizeof said, form.limit == 0 ? "-" : "a number without LIMIT");
+    add(out, said);
+    add(out, asked[form.explain]);
+    if (form.counts)
+        add(out, "count");
+    for (i = 0; sfq_conjunct(database, statement, i, &conjunct) == SFQ_OK; i++) {
+        snprintf(said, sizeof said, "%u%s", (unsigned)conjunct.test, conjunct.joins ? "j" : "");
+        add(out, said);
+    }
+    if (i != form.conjuncts)
+        add(out, "another number of conjuncts");
+}
+
+static void add_operands(struct printed *out, sfq_database *database, size_t statement)
+{
+    sfq_operand room[10], few[1] = { { 7, 7, 7, 7, 7, 7 } };
+    size_t count = 7, all = 7, i;
+    char said[100];
+    int status;
+    while (again(status = sfq_operands(database, statement, NULL, 1, &count)))
+        ;
+    while (again(sfq_operands(database, statement, few, 0, &all)))
+        ;
+    if (status != (count > 0 ? SFQ_TOO_SMALL : SFQ_OK) || few[0].test != 7 || all != count || count > sizeof room / sizeof room[0])
+        add(out, "no count");
+    while (again(status = sfq_operands(database, statement, room, count, &all)))
+        ;
+    for (i = 0; status == SFQ_OK && i < all; i++) {
+        if (room[i].constant == SFQ_NO_CONSTANT)
+            snprintf(said, sizeof said, "%zu:%u.%u=%zu/%zu", room[i].conjunct, (unsigned)room[i].test, (unsigned)room[i].function, room[i].reference, room[i].column);
+        else
+            snprintf(said, sizeof said, "%zu:%u.%u=%u", room[i].conjunct, (unsigned)room[i].test, (unsigned)room[i].function, (unsigned)room[i].constant);
+        add(out, said);
+    }
+}
+
+static void add_columns(struct printed *out, const char *query)
+{
+    sfq_named_column room[10], few[1] = { { 7, 7, 7 } };
+    size_t count = 7, all = 7, i;
+    char said[100];
+    int status;
+    while (again(status = sfq_named_columns(query, strlen(query), NULL, 1, &count)))
+        ;
+    while (again(sfq_named_columns(query, strlen(query), few, 0, &all)))
+        ;
+    if (status != (count > 0 ? SFQ_TOO_SMALL : SFQ_OK) || few[0].at != 7 || all != count || count > sizeof room / sizeof room[0])
+        add(out, "no count of columns");
+    while (again(status = sfq_named_columns(query, strlen(query), room, count, &all)))
+        ;
+    for (i = 0; status == SFQ_OK && i < all; i++) {
+        snprintf(said, sizeof said, "%zu/%zu+%zu", room[i].at, room[i].name, room[i].size);
+        add(out, said);
+    }
+    all = 7;
+    if (sfq_named_columns("SELECT", 6, room, 10, &all) != SFQ_UNKNOWN || sfq_named_columns("\xff", 1, room, 10, &all) != SFQ_UNKNOWN || all != 7)
+        add(out, "no query is one");
+}
+
+static struct printed run_asked(char *const words[WORDS])
+{
+    struct printed out = { "" };
+    sfq_database database = SFQ_EMPTY;
+    size_t length = 0, statement = 7;
+    char *text = lines_of(words[1], &length);
+    while (again(sfq_open(text, length, &database, NULL)))
+        ;
+    text = lines_of(words[2], &length);
+    while (again(sfq_load(&database, 0, text, length, NULL)))
+        ;
+    while (again(sfq_prepare(&database, words[3], strlen(words[3]), &statement, NULL)))
+        ;
+    add_asked(&out, &database, statement);
+    add_operands(&out, &database, statement);
+    add_columns(&out, words[3]);
+    if (sfq_finalize(&database, statement) != SFQ_OK || sfq_close(&database) != SFQ_OK)
+        add(&out, "not closed");
+    return out;
+}
+
 /* Each call of a database, with this number of a table and of a column. */
 static void add_each(struct printed *out, sfq_database *database, size_t number)
 {
@@ -325,7 +420,10 @@ static void add_each(struct printed *out, sfq_database *database, size_t number)
     uint32_t type = 7;
     bool loaded = true;
     sfq_tables_fault fault = unwritten;
-    int all[29];
+    int all[32];
+    sfq_query_form asked = { 7, 7, 7, false, false };
+    sfq_conjunct_form conjunct = { 7, false };
+    sfq_operand operand[1] = { { 7, 7, 7, 7, 7, 7 } };
     sfq_form form = { 7, false, false };
     sfq_origin origin = { 7, 7, 7 };
     uint64_t work = 7;
@@ -361,11 +459,14 @@ static void add_each(struct printed *out, sfq_database *database, size_t number)
     all[26] = sfq_column_form(database, number, 0, &form);
     all[27] = sfq_reference(database, number, 0, room, sizeof room, &length, &table);
     all[28] = sfq_column_origin(database, number, 0, &origin);
+    all[29] = sfq_query(database, number, &asked);
+    all[30] = sfq_conjunct(database, number, 0, &conjunct);
+    all[31] = sfq_operands(database, number, operand, 1, &count);
     for (size_t i = 0; i < sizeof all / sizeof all[0]; i++) {
         snprintf(words, sizeof words, "%d", all[i]);
         add(out, words);
     }
-    if (strcmp(room, "before") != 0 || count + table + length + type + work != 35 || value != 7 || form.geometry != 7 || origin.reference != 7 || !loaded || fault.letter != '-')
+    if (strcmp(room, "before") != 0 || count + table + length + type + work != 35 || value != 7 || form.geometry != 7 || origin.reference != 7 || asked.limit + asked.conjuncts + conjunct.test + operand[0].test != 28 || !loaded || fault.letter != '-')
         add(out, "but something was written");
 }
 
@@ -393,7 +494,7 @@ static struct printed run_numbers(char *const words[WORDS])
 
 bool is_database_call(char *const words[WORDS])
 {
-    static const char *const known[] = { "database", "file", "query", "parts", "described", "closed", "numbers" };
+    static const char *const known[] = { "database", "file", "query", "parts", "described", "asked", "closed", "numbers" };
     size_t i;
     for (i = 0; i < sizeof known / sizeof known[0]; i++)
         if (strcmp(words[0], known[i]) == 0)
@@ -411,6 +512,8 @@ struct printed run_database(char *const words[WORDS])
         out = run_parts(words);
     else if (strcmp(words[0], "described") == 0)
         out = run_described(words);
+    else if (strcmp(words[0], "asked") == 0)
+        out = run_asked(words);
     else
         out = strcmp(words[0], "database") == 0 || strcmp(words[0], "file") == 0 ? run_opened(words) : run_numbers(words);
     if (!ran_out)

@@ -4,6 +4,8 @@ pub mod OpenStatements
 pub mod OpenColumns
 pub mod OpenConstants
 pub mod OpenQueries
+pub mod NamedColumns
+pub mod QueryForms
 pub mod SteppedAnswers
 pub mod TextParts
 pub mod WrittenColumns

@@ -10,6 +10,7 @@
 #![tactic(auto)]
 
 mod column_calls;
+mod condition_calls;
 pub mod connections;
 mod constant_calls;
 mod found;
@@ -17,12 +18,15 @@ pub mod kept_connection;
 pub mod loading;
 pub mod missing;
 mod name_calls;
+pub mod named_columns;
 pub mod naming;
 pub mod open_columns;
 pub mod open_constants;
 pub mod open_queries;
+pub mod operands;
 pub mod preparing;
 mod query_calls;
+pub mod query_forms;
 mod slots;
 mod statement_calls;
 pub mod stepped_answers;
