@@ -26,7 +26,7 @@ import scale_tables
 import test_databases_python as databases
 from fuzz import joins
 from scale_programs import SFQ, TILES
-from sfq_scale import merging, query, schema, words
+from sfq_scale import merging, query, schema
 
 MISTAKEN = f"{ROOT}/tests/mistaken_tiles.py"
 SCALE = f"{ROOT}/bindings/python/bin/sfq-scale"
@@ -587,10 +587,12 @@ class Reading(databases.WithTables):
     def test_texts_of_parts(self):
         for text, wanted in (
             ("SELECT * FROM t", "SELECT t.id, t.id, t.w, t.g FROM one AS t"),
-            ("select W from T x limit 3;", "SELECT x.id, x.W FROM one AS x LIMIT 3"),
-            ("SELECT COUNT(*)FROM u", "SELECT COUNT (*) FROM one AS U"),
+            ("select W from T x limit 3;", "SELECT x.id, x.w FROM one AS x LIMIT 3"),
+            ("SELECT COUNT(*)FROM u", "SELECT COUNT(*) FROM one AS U"),
             ("SELECT w,h FROM t,U", "SELECT t.id, U.ID, t.w, U.h FROM one AS t, two AS U"),
             ("SELECT a.id FROM t a -- 'x\nJOIN U ON w=-5", "SELECT a.id, U.ID, a.id FROM one AS a JOIN two AS U ON a.w = - 5"),
+            ("SELECT st_astext( g ),ST_ISEMPTY(t.g) FROM t", "SELECT t.id, ST_AsText(t.g), ST_IsEmpty(t.g) FROM one AS t"),
+            ("SELECT w FROM t WHERE t -- é\n. w = 1 AND 'é' <> 'ON' AND W IS NULL -- z", "SELECT t.id, t.w FROM one AS t WHERE t.w = 1 AND 'é' <> 'ON' AND t.w IS NULL"),
             ("SELECT w FROM t WHERE 'FROM '' -- U'='x'", "SELECT t.id, t.w FROM one AS t WHERE 'FROM '' -- U' = 'x'"),
         ):
             self.assertEqual(self.read(text).text(query.NAMES), wanted)
@@ -604,7 +606,7 @@ class Reading(databases.WithTables):
             ("t a JOIN U b ON w = 1 WHERE w = 1 OR w = 2", "one AS a JOIN two AS b ON a.w = 1 AND OWNER WHERE a.w = 1 OR a.w = 2"),
             ("t a JOIN U b ON w = 1 OR w = 2 WHERE w = 1 OR w = 2", "one AS a JOIN two AS b ON a.w = 1 OR a.w = 2 WHERE (a.w = 1 OR a.w = 2) AND OWNER"),
         ):
-            self.assertEqual(self.read(f"SELECT COUNT(*) FROM {text}").text(query.NAMES, owner="OWNER"), f"SELECT COUNT (*) FROM {wanted}")
+            self.assertEqual(self.read(f"SELECT COUNT(*) FROM {text}").text(query.NAMES, owner="OWNER"), f"SELECT COUNT(*) FROM {wanted}")
         select = self.read("SELECT w FROM t a, U b")
         self.assertEqual(query.owner_condition(select.sources, [["w_", "s"], ["w", "s"]]), "(a.w_ = 0 OR b.w = 0) AND (a.s = 0 OR b.s = 0)")
 
@@ -614,15 +616,24 @@ class Reading(databases.WithTables):
             ("ST_Touches(g, g)", 0), ("ST_Touches(g, h) OR w = 1", 0), ("(ST_Touches(g, h) OR w = 1) AND w = 1", 0),
             ("w = 1 AND ((ST_Touches(g, h) AND w = 1))", 1), ("ST_Relate(g, h, 'T********') AND ST_Within(g, h)", 2),
             ("ST_Touches(g, ST_GeomFromText('POINT(0 0)'))", 0), ("ST_IsEmpty(g) AND ST_Dimension(g) = 1", 0),
+            ("ST_Disjoint(g, h)", 0), ("ST_Relate(g, h, 'FF*FF****')", 0), ("ST_Relate(g, h, '****T****')", 1), ("ST_AsText(g) = ST_AsText(h)", 0),
         ):
-            self.assertEqual(len(self.read(f"SELECT w FROM t a, U b WHERE {text}").meetings()), wanted, text)
-        self.assertEqual(len(self.read("SELECT w FROM t a JOIN U b ON ST_Within(g, h)").meetings()), 1)
-        found, = self.read("SELECT w FROM t a, U b WHERE ST_Relate(h, g, '*''*') = 1").meetings()
-        self.assertEqual((found.arguments, found.text(["x", "y"])), (((1, "h"), (0, "g")), "ST_Relate(x, y, '*''*') = 1"))
+            self.assertEqual(len(self.read(f"SELECT w FROM t a, U b WHERE {text}").meetings), wanted, text)
+        self.assertEqual(len(self.read("SELECT w FROM t a JOIN U b ON ST_Within(g, h)").meetings), 1)
+        select = self.read("SELECT w FROM t a, U b WHERE w = 1 AND st_relate(h, g, 'T********') = 1")
+        found, = select.meetings
+        self.assertEqual((found.arguments, found.text(select.sources)), (((1, "h"), (0, "g")), "ST_Relate(b.h, a.g)"))
+
+    def test_columns_that_are_used(self):
+        for text, wanted in (
+            ("SELECT COUNT(*) FROM t", [{"id"}]), ("SELECT * FROM U", [{"ID", "h"}]), ("SELECT ST_Dimension(g) FROM t a, U WHERE W = U.id", [{"id", "w", "g"}, {"ID"}]),
+            ("SELECT a.id FROM t a JOIN t b ON ST_Touches(a.g, ST_GeomFromText('POINT(0 0)')) WHERE NOT (b.w = 1 OR 2 < b.w)", [{"id", "g"}, {"id", "w"}]),
+        ):
+            self.assertEqual(self.read(text).used, wanted, text)
 
     def test_what_is_refused(self):
         for text in ("SELECT", "SELECT w FROM t a, U b, t c", "SELECT w FROM nope", "SELECT id FROM t, U", "SELECT w FROM t LIMIT 1 2", "SELECT $ FROM t", "w"):
-            with self.assertRaises((words.Unsure, ValueError), msg=text):
+            with self.assertRaises(query.Unsure, msg=text):
                 self.read(text)
 
 

@@ -93,6 +93,33 @@ class OfTheLibrary(databases.WithTables):
                 seen += bool(wanted)
         self.assertGreater(seen, 150)
 
+    def test_columns_and_operands_are_those_of_the_statement(self):
+        """Each query of the scripts that is accepted: its columns have their names in the text, and its operands the types of its constants."""
+        columns = constants = joins = limits = 0
+        for name in databases.Engine.SCRIPTS:
+            for row in engine_rows.rows_of(name):
+                if not re.match("SELECT|EXPLAIN", row.command) or row.output.startswith("!"):
+                    continue
+                with self.subTest(row.command), sfq.connect(row.files["schema"].encode(), databases.tables_of(row)) as db:
+                    it = db.begin(row.command, ())
+                    operands, references, schema = it.operands(), it.references(), it.database.columns
+                    items = [] if "*" in row.command.upper().split("FROM")[0] else [one and (one.reference, one.column) for one in it.origins()]
+                    wanted = [*items, *((references[one.reference], one.column) for one in operands if not one.constant)]
+                    named = parts.columns(row.command)
+                    # The lines of a plan come from no column.
+                    wanted = [None] * (len(named) - len(wanted)) + wanted if it.form().explains else wanted
+                    for place, column in zip(named, wanted, strict=True):
+                        spelled = parts.tokens(row.command[place.at : place.end])
+                        if column and column[0]:
+                            self.assertEqual(spelled[-1].lower(), schema[column[0].table][column[1]][0].lower())
+                            self.assertIn([word.lower() for word in spelled[:-1]], ([], [column[0].name.lower(), "."]))
+                    self.assertEqual([one.constant for one in operands if one.constant], it.constants)
+                    columns, constants, joins = columns + len(named), constants + len(it.constants), joins + sum(one.joins for one in it.conjuncts())
+                    limit = re.search(r"LIMIT (\d+)", row.command)
+                    limits += bool(limit)
+                    self.assertEqual(it.form().limit, int(limit[1]) if limit else None)
+        self.assertGreater(min(columns, constants, joins * 10, limits * 10), 150)
+
     def test_a_long_text_is_cut_in_one_pass(self):
         for text in ("?" * 60_000, ";" * 60_000, "é" * 60_000, "'" * 60_001, "a" * 60_000, "--" * 30_000, ":a" * 30_000):
             self.assertEqual("".join(it[2] for it in parts_of(text)), "" if text[0] == "-" else text)

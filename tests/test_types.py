@@ -48,7 +48,7 @@ class Types(unittest.TestCase):
                 shutil.copytree(f"{ROOT}/{it}", f"{room}/{it}", ignore=shutil.ignore_patterns("out", "build", "__pycache__"))
             for path, old, new, said in (
                 ("tools/tiles.py", "def stamp() -> None:", "def stamp():", "no-untyped-def"),
-                ("bindings/python/sfq_scale/words.py", "return one.lower() == other.lower()", "return one.lower()", "return-value"),
+                ("bindings/python/sfq_scale/query.py", "return f\"{self.name}.{name}\"", "return bool(name)", "return-value"),
                 ("bench/machine.py", "def day() -> str:", "def day():", "no-untyped-def"),
                 ("bindings/web/web_page.py", "import base64\n", "import base64\nimport nothing_of_this_name\n", "import"),
             ):

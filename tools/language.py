@@ -129,6 +129,7 @@ LISTS = [
         "bindings/python/sfq/geometry/binary.py", r"^WORDS = ", r'(\d): "(\w+)"', [(str(at), it.upper()) for at, it in enumerate(NUMBERED, 1)], r"\}\n"
     ),
     Place("bindings/python/sfq/commands/prompt.py", r"^FUNCTIONS = ", r'"(ST_\w+)"', FUNCTIONS, r"\)\n", True),
+    Place("bindings/python/sfq/tables/databases.py", r"^PREDICATES = ", r'"(ST_\w+)"', ["ST_Relate", *PREDICATES], r"\)\n"),
     Place("bindings/python/sfq/tables/rules.py", r"^RESERVED = ", r'"(\w+)"', [it.lower() for it in RESERVED], r"\}\n"),
     Place(
         "bindings/sqlite/functions.c", r'^ +\{ "ST_Equals"', r'"(\w+)", 2, relation, (\w+)',

@@ -14,7 +14,7 @@ from sfq.commands.endings import held, say
 from sfq.commands.progress import Progress
 from sfq.commands.streams import Unwritten, standard_input
 
-from . import VERSION, cluster, merging, plans, programs, query, words
+from . import VERSION, cluster, merging, plans, programs, query
 from .faults import CLUSTER, FILES, QUERY, Ended, ended
 from .schema import Table
 
@@ -106,11 +106,11 @@ class Run:
         header = self.header(tables)
         try:
             select = query.read(self.query_text(), tables)
-        except words.Unsure as error:
+        except query.Unsure as error:
             raise ended(QUERY, f"the query can't be read for sure: {error}") from error
         if select.explains:
             raise ended(QUERY, "EXPLAIN is of one run of sfq: the parts of a query have plans of their own")
-        way = plans.choose(select, self.programs)
+        way = plans.choose(select)
         keys = 0 if select.counts else len(select.sources)
         part_header = way.check(self.programs, header, keys)
         taking: Taking = merging.Rows(self.room, part_header, header, keys, select.limit)

@@ -168,20 +168,19 @@ def ordered(jobs: Iterable[Job]) -> list[Job]:
     return sorted(jobs, key=lambda it: -it.size)
 
 
-def choose(select: query.Select, programs: Programs) -> Way:
+def choose(select: query.Select) -> Way:
     """Returns the way to split a query."""
     used = select.used
     tables = [it.table.only(columns) for it, columns in zip(select.sources, used)]
     text = select.text(query.NAMES)
     parts = [Part(name, it.table, table) for name, it, table in zip(query.NAMES, select.sources, tables)]
     plain = Way("blocks" if len(parts) == 2 else "stretches", parts, (text, text))
-    meetings = [it for it in select.meetings() if programs.forces(it)] if len(parts) == 2 else []
     # Of two empty geometries ST_Equals is true, and no cut helps against many.
-    meetings.sort(key=lambda it: it.function.lower() == "st_equals")
+    meetings = sorted(select.meetings, key=lambda it: it.function == "ST_Equals")
     return tiles(select, meetings[0], used, plain) if meetings else plain
 
 
-def tiles(select: query.Select, meeting: query.Condition, used: list[set[str]], spare: Way) -> Way:
+def tiles(select: query.Select, meeting: query.Meeting, used: list[set[str]], spare: Way) -> Way:
     """Returns the way by tiles of the geometries of a predicate. `spare` is that by blocks."""
     columns = [name for _, name in sorted(meeting.arguments)]
     wholes = [it.table for it in select.sources]
@@ -200,8 +199,7 @@ def tiles(select: query.Select, meeting: query.Condition, used: list[set[str]], 
     owner = query.owner_condition(select.sources, marks)
     names = ("one", "one") if is_one else query.NAMES
     texts = select.text(names, owner=owner), select.text(query.NAMES, owner=owner)
-    said = meeting.text([f"{select.sources[place].name}.{name}" for place, name in meeting.arguments])
-    return Way("tiles", parts[: 1 if is_one else 2], texts, said, spare)
+    return Way("tiles", parts[: 1 if is_one else 2], texts, meeting.text(select.sources), spare)
 
 
 def whole_size(folder: str, table: schema.Table) -> int:

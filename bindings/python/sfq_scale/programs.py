@@ -11,11 +11,9 @@ from typing import Iterable, Optional
 
 from sfq.geometry.faults import LibraryError
 
-from . import query, schema
+from . import schema
 from .faults import CLUSTER, FILES, MEMORY, MISUSE, TABLE, Ended, ended
 
-# So many rows that a probe costs less than a scan, where a predicate may drive one.
-FEW = 10
 # What sfq-tiles says where a part can't be written.
 UNWRITABLE = b"sfq: out unwritable\n"
 # What makes each program in a checkout, and where it is then.
@@ -88,18 +86,6 @@ class Programs:
         for it in tables:
             write(f"{folder}/tables/{it.name}.csv", it.header)
         return f"{folder}/schema.sql", f"{folder}/tables"
-
-    def forces(self, meeting: query.Condition) -> bool:
-        """Whether sfq says of a predicate that it drives a probe: it is true only where envelopes meet."""
-        folder = f"{self.room}/probe"
-        columns = (schema.Column("k", "INTEGER", True), schema.Column("g", "GEOMETRY"))
-        tables = [schema.Table(it, columns) for it in query.NAMES]
-        write(f"{folder}/schema.sql", "".join(it.text for it in tables))
-        for it in tables:
-            write(f"{folder}/{it.name}.csv", it.header + "".join(f"{at},\n" for at in range(FEW)))
-        condition = meeting.text([f"{query.NAMES[place]}.g" for place, _ in meeting.arguments])
-        out, _, status = self.run(f"{folder}/schema.sql", folder, f"EXPLAIN SELECT COUNT(*) FROM one, two WHERE {condition}")
-        return status == 0 and b" probe 1\n" in out
 
     def split(self, given: str, folder: str, to: str, rows: int, parts: Iterable[str]) -> list[dict[str, str]]:
         """Runs sfq-tiles, and returns the records of its output by their names. A fault of a table ends the run as it ends sfq-tiles."""

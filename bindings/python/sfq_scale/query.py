@@ -1,11 +1,19 @@
-"""Reads a SELECT that sfq has accepted and bound, and writes the SELECT of its parts."""
-from typing import Iterable, Iterator, NamedTuple, Optional, Sequence
+"""Asks the library what is in a SELECT that sfq has accepted, and writes the SELECT of its parts."""
+from __future__ import annotations
 
-from . import schema, words
-from .words import Token, Unsure, joined, same
+from typing import Iterable, NamedTuple, Optional, Sequence
+
+from sfq.tables import databases, parts, statements
+from sfq.tables.errors import Error
+
+from . import schema
 
 # How references are named in the parts of a query.
 NAMES = ("one", "two")
+
+
+class Unsure(Exception):
+    """What the library doesn't take; the text says why."""
 
 
 class Source(NamedTuple):
@@ -14,71 +22,70 @@ class Source(NamedTuple):
     table: schema.Table
     name: str
 
+    def column(self, name: str) -> str:
+        """Returns a column with its reference."""
+        return f"{self.name}.{name}"
 
-class Condition(NamedTuple):
-    """A predicate of a geometry of each reference, as it is written: its function, its two arguments as the place of the
-    reference and the column, and the tokens behind them."""
+
+class Meeting(NamedTuple):
+    """A predicate that holds only where the bounding boxes of a geometry of each reference meet: its function, and its two arguments as the
+    place of the reference and the column."""
 
     function: str
     arguments: tuple[tuple[int, str], ...]
-    rest: tuple[Token, ...]
 
-    def text(self, names: Iterable[str]) -> str:
-        """Returns its text where these are its arguments."""
-        return f"{self.function}({', '.join(names)}{joined(self.rest)}"
+    def text(self, sources: Sequence[Source]) -> str:
+        """Returns its text, without the pattern of ST_Relate."""
+        return f"{self.function}({', '.join(sources[place].column(name) for place, name in self.arguments)})"
+
+
+class Clause(NamedTuple):
+    """The condition of ON or of WHERE: its text, in which columns are written with their reference, and whether it is an OR."""
+
+    text: str
+    is_or: bool
 
 
 class Select(NamedTuple):
-    """A SELECT of one reference or two. Its columns are written with their reference."""
+    """A SELECT of one reference or two. Its columns are written with their reference. `used` has the columns that each reference needs."""
 
     explains: bool
     counts: bool
-    items: list[Token]
+    items: str
     sources: list[Source]
-    on: Optional[list[Token]]
-    where: Optional[list[Token]]
+    on: Optional[Clause]
+    where: Optional[Clause]
     limit: Optional[int]
-
-    @property
-    def used(self) -> list[set[str]]:
-        """Returns the columns that each reference needs."""
-        found = [{it.table.key} for it in self.sources]
-        for at, name in columns_in([*self.items, *(self.on or ()), *(self.where or ())], self.sources):
-            found[at].add(name)
-        return found
-
-    def meetings(self) -> list[Condition]:
-        """Returns the predicates of a geometry of each reference that are parts of ON or WHERE between ANDs at the top."""
-        parts = [*conjuncts(self.on or ()), *conjuncts(self.where or ())]
-        return [it for it in (meeting(part, self.sources) for part in parts) if it]
+    used: list[set[str]]
+    meetings: list[Meeting]
 
     def text(self, names: Iterable[str], with_keys: bool = True, owner: Optional[str] = None) -> str:
         """Returns the query over these tables, in the order of the references.
 
         It lists the keys before the items, unless it counts, and `owner` is a condition more.
         """
-        items = joined(self.items)
+        items = self.items
         if with_keys and not self.counts:
-            items = ", ".join([*(f"{it.name}.{it.table.key}" for it in self.sources), items])
+            items = ", ".join([*(it.column(it.table.key) for it in self.sources), items])
         on, where = self.conditions(owner)
         froms = [f"{name} AS {it.name}" for name, it in zip(names, self.sources)]
-        parts = [f"SELECT {items} FROM {(' JOIN ' if on else ', ').join(froms)}"]
-        parts += [f"{word} {it}" for word, it in (("ON", on), ("WHERE", where)) if it]
-        parts += [f"LIMIT {self.limit}"] if self.limit is not None else []
-        return " ".join(parts)
+        found = [f"SELECT {items} FROM {(' JOIN ' if on else ', ').join(froms)}"]
+        found += [f"{word} {it}" for word, it in (("ON", on), ("WHERE", where)) if it]
+        found += [f"LIMIT {self.limit}"] if self.limit is not None else []
+        return " ".join(found)
 
     def conditions(self, owner: Optional[str]) -> tuple[Optional[str], Optional[str]]:
         """Returns the texts of ON and WHERE, with one condition more where that nests nothing deeper, if it may."""
-        on, where = (joined(it) if it else None for it in (self.on, self.where))
+        on, where = (it.text if it else None for it in (self.on, self.where))
         if not owner:
             return on, where
-        if not on:
+        if not self.on:
             return owner, where
-        if not where:
+        if not self.where:
             return on, owner
-        if not has_or(self.where or ()):
+        if not self.where.is_or:
             return on, f"{where} AND {owner}"
-        if not has_or(self.on or ()):
+        if not self.on.is_or:
             return f"{on} AND {owner}", where
         return on, f"({where}) AND {owner}"
 
@@ -90,143 +97,70 @@ def owner_condition(sources: Iterable[Source], marks: Iterable[Iterable[str]]) -
 
 
 def read(text: str, tables: Sequence[schema.Table]) -> Select:
-    """Reads the query over tables of a schema."""
-    reading = words.Reading(words.tokens(text))
-    explains = reading.take("explain")
-    if explains:
-        reading.take("analyze")
-    reading.want("select")
-    items = reading.until("from")
-    reading.want("from")
-    sources, on = [source(reading, tables)], None
-    if reading.take(","):
-        sources.append(source(reading, tables))
-    elif reading.take("cross"):
-        reading.want("join")
-        sources.append(source(reading, tables))
-    elif reading.peek("inner", "join"):
-        reading.take("inner")
-        reading.want("join")
-        sources.append(source(reading, tables))
-        reading.want("on")
-        on = reading.until("where", "limit", ";")
-    where = reading.until("limit", ";") if reading.take("where") else None
-    limit = int(joined(reading.until(";"))) if reading.take("limit") else None
-    reading.take(";")
-    reading.end()
-    counts = [it.text.lower() for it in items] == ["count", "(", "*", ")"]
-    if [it.text for it in items] == ["*"]:
-        items = all_columns(sources)
-    elif not counts:
-        items = qualified(items, sources)
-    on, where = (it and qualified(it, sources) for it in (on, where))
-    return Select(explains, counts, items, sources, on, where, limit)
+    """Returns what the library says of the query over tables of a schema. Unsure where it refuses the query."""
+    try:
+        asked = databases.Statement(statements.described("".join(it.text for it in tables)), text.encode(), str)
+        return of_statement(text, asked, tables)
+    except Error as error:
+        raise Unsure(str(error)) from error
 
 
-def source(reading: words.Reading, tables: Iterable[schema.Table]) -> Source:
-    """Reads a reference of FROM."""
-    name = reading.name()
-    table = next((it for it in tables if same(it.name, name)), None)
-    if not table:
-        raise Unsure(f"there is no table {name}")
-    alias = reading.name() if reading.take("as") else reading.maybe_name()
-    return Source(table, alias or table.name)
+def of_statement(text: str, asked: databases.Statement, tables: Sequence[schema.Table]) -> Select:
+    """Returns what the library says of an open statement of this text."""
+    form, operands, references = asked.form(), asked.operands(), asked.references()
+    sources = [Source(tables[it.table], it.name) for it in references]
+    names = [[it.name for it in source.table.columns] for source in sources]
+    used = [{it.table.key} for it in sources]
+    items = []
+    # The number of COUNT(*) and the lines of a plan come from no column.
+    for it in filter(None, asked.origins()):
+        place = references.index(it.reference)
+        name = names[place][it.column]
+        used[place].add(name)
+        items.append(f"{it.function}({sources[place].column(name)})" if it.function else sources[place].column(name))
+    tested = [(it.conjunct, it.reference, names[it.reference][it.column]) for it in operands if not it.constant]
+    for _, place, name in tested:
+        used[place].add(name)
+    found = clauses(text, [sources[place].column(name) for _, place, name in tested])
+    meetings = [
+        Meeting(databases.PREDICATES[it.test - databases.FIRST_PREDICATE], tuple((place, name) for number, place, name in tested if number == at))
+        for at, it in enumerate(asked.conjuncts()) if it.joins
+    ]
+    listed = "COUNT(*)" if form.counts else ", ".join(items)
+    return Select(form.explains, form.counts, listed, sources, found.get("on"), found.get("where"), form.limit, used, meetings)
 
 
-def column(name: str, of: Source) -> list[Token]:
-    """Returns the tokens of a column of a reference."""
-    return [Token("word", of.name), Token("symbol", "."), Token("word", name)]
+def clauses(text: str, columns: Sequence[str]) -> dict[str, Clause]:
+    """Returns the conditions of a query by the word before them, with these texts in place of the columns that they name."""
+    named = parts.columns(text)
+    # Those of the select list come first.
+    made = {it.at: (it.end, column) for it, column in zip(named[len(named) - len(columns) :], columns)}
+    found: dict[str, list[str]] = {}
+    word, end = "", 0
+    for it in parts.parts(text):
+        token = text[it.at : it.end]
+        if it.kind == parts.RESERVED and token.lower() in ("on", "where", "limit"):
+            word = token.lower()
+        elif it.kind not in (parts.SEMICOLON, parts.END) and it.at >= end:
+            end, token = made.get(it.at, (it.end, token))
+            found.setdefault(word, []).append(token)
+    return {word: Clause(joined(found[word]), has_or(found[word])) for word in ("on", "where") if word in found}
 
 
-def all_columns(sources: Iterable[Source]) -> list[Token]:
-    """Returns the items that `*` means."""
-    found: list[Token] = []
-    for it in sources:
-        for each in it.table.columns:
-            found += [*([Token("symbol", ",")] if found else []), *column(each.name, it)]
-    return found
-
-
-def qualified(tokens: Sequence[Token], sources: Sequence[Source]) -> list[Token]:
-    """Returns the tokens with each column written with its reference."""
-    found: list[Token] = []
-    at = 0
-    while at < len(tokens):
-        after = tokens[at + 1].text if at + 1 < len(tokens) else ""
-        if not tokens[at].is_name or after == "(":
-            found.append(tokens[at])
-            at += 1
-        elif after == ".":
-            found += column(tokens[at + 2].text, named(tokens[at].text, tokens[at + 2].text, sources))
-            at += 3
-        else:
-            found += column(tokens[at].text, named(None, tokens[at].text, sources))
-            at += 1
-    return found
-
-
-def named(reference: Optional[str], name: str, sources: Iterable[Source]) -> Source:
-    """Returns the only reference that has this column, or that of this name."""
-    found = [it for it in sources if (not reference or same(it.name, reference)) and it.table.column(name)]
-    if len(found) != 1:
-        raise Unsure(f"the column {name} is of {len(found)} tables")
-    return found[0]
-
-
-def columns_in(tokens: Sequence[Token], sources: Sequence[Source]) -> Iterator[tuple[int, str]]:
-    """Yields each column of qualified tokens: the place of its reference, and its name in the schema."""
-    places = {it.name.lower(): at for at, it in enumerate(sources)}
-    for at, it in enumerate(tokens):
-        if it.text == "." and it.kind == "symbol":
-            place = places[tokens[at - 1].text.lower()]
-            found = sources[place].table.column(tokens[at + 1].text)
-            if not found:
-                raise Unsure(f"there is no column {tokens[at + 1].text}")
-            yield place, found.name
-
-
-def split(tokens: Iterable[Token], word: str) -> list[list[Token]]:
-    """Returns the parts of the tokens between this word outside parentheses."""
-    parts: list[list[Token]] = [[]]
+def has_or(tokens: Iterable[str]) -> bool:
+    """Whether an OR is outside parentheses."""
     depth = 0
     for it in tokens:
-        depth += it.has("(") - it.has(")")
-        if depth == 0 and it.has(word):
-            parts.append([])
-        else:
-            parts[-1].append(it)
-    return parts
+        depth += (it == "(") - (it == ")")
+        if depth == 0 and it.lower() == "or":
+            return True
+    return False
 
 
-def has_or(tokens: Iterable[Token]) -> bool:
-    return len(split(tokens, "or")) > 1
-
-
-def conjuncts(tokens: Sequence[Token]) -> Iterator[list[Token]]:
-    """Yields the parts between ANDs at the top, also within parentheses."""
-    if not tokens or has_or(tokens):
-        return
-    for part in split(tokens, "and"):
-        inside = part[1:-1]
-        if part[0].has("(") and part[-1].has(")"):
-            yield from conjuncts(inside)
-        else:
-            yield part
-
-
-def meeting(part: list[Token], sources: Sequence[Source]) -> Optional[Condition]:
-    """Returns the predicate that a part is, if it is one of a column of each of two references."""
-    kinds = [it.text if it.kind == "symbol" else it.kind for it in part]
-    if kinds[:9] != ["word", "(", "word", ".", "word", ",", "word", ".", "word"]:
-        return None
-    rest, after = kinds[9:], part[9:]
-    if rest[-2:] == ["=", "integer"]:
-        if int(part[-1].text) != 1:
-            return None
-        rest = rest[:-2]
-    if rest not in ([")"], [",", "string", ")"]):
-        return None
-    arguments = tuple(columns_in(part[:9], sources))
-    if len(sources) != 2 or arguments[0][0] == arguments[1][0]:
-        return None
-    return Condition(part[0].text, arguments, tuple(after))
+def joined(tokens: Iterable[str]) -> str:
+    """Returns a text of these tokens: a space between each two, but within a parenthesis and before a comma."""
+    text = ""
+    for it in tokens:
+        is_close = not text or it in (",", ")") or text[-1] == "("
+        text += it if is_close else f" {it}"
+    return text

@@ -1,11 +1,9 @@
 """Reads a schema that sfq has accepted, and writes the schemas of tiles."""
 from __future__ import annotations
 
-from typing import Iterable, Iterator, NamedTuple, Optional
+from typing import Iterable, Iterator, NamedTuple
 
 from sfq.tables import databases
-
-from . import words
 
 MOST_COLUMNS = 32
 
@@ -32,10 +30,6 @@ class Table(NamedTuple):
     @property
     def key(self) -> str:
         return next(it.name for it in self.columns if it.is_key)
-
-    def column(self, name: str) -> Optional[Column]:
-        """Returns the column of this name, or None."""
-        return next((it for it in self.columns if words.same(it.name, name)), None)
 
     def only(self, names: Iterable[str]) -> Table:
         """Returns the table with these columns and the key alone."""

@@ -10,14 +10,12 @@ from decimal import Decimal
 from fractions import Fraction
 from typing import Any, Callable, Iterator, NamedTuple, Optional
 
-from ..tables import parts
+from ..tables import databases, parts
 from . import asking, constants, exports, units, wholes
 from .asking import encoded
 
 # The predicates by their names in capitals; those of parts that say what they say of the whole.
-PREDICATES = {it.upper(): it for it in (
-    "ST_Equals", "ST_Disjoint", "ST_Intersects", "ST_Touches", "ST_Crosses", "ST_Within", "ST_Contains", "ST_Overlaps", "ST_Relate",
-)}
+PREDICATES = {it.upper(): it for it in databases.PREDICATES}
 OF_PARTS = ("ST_Intersects", "ST_Disjoint")
 # What comes behind a column that is compared with a number, and before one, in tokens without blanks between.
 BEHIND, BEFORE = re.compile(r"[=<>!]+[+-]?[0-9]"), re.compile(r"[0-9][=<>!]+\Z")

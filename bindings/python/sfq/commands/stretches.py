@@ -7,7 +7,7 @@ from __future__ import annotations
 import itertools
 from typing import Callable, Iterable, Iterator, NamedTuple, Optional
 
-from ..tables import parts, rules, statements
+from ..tables import rules, statements
 from . import asking, units
 from .conditions import Conditions
 from .endings import DATA, Stopped
@@ -74,10 +74,10 @@ def need_ascending(path: str, part: list[bytes], before: int, last: Optional[int
     return last
 
 
-def limit_of(query: str) -> Optional[int]:
-    """Returns how many rows a query has at most, None where it says nothing of that."""
-    words = [query[it.at : it.end] for it in parts.parts(query) if it.kind not in (parts.SEMICOLON, parts.END)]
-    return int(words[-1]) if words[-2:-1] and words[-2].upper() == "LIMIT" else None
+def limit_of(query: str, known: list[statements.Table]) -> Optional[int]:
+    """Returns how many rows a query over tables of these definitions has at most, None where it says nothing of that or is refused."""
+    statement = statements.opened(query, known)
+    return statement.form().limit if statement else None
 
 
 class Parted:
@@ -135,4 +135,4 @@ def is_wanted(conditions: Conditions, query: str) -> bool:
 
 def ask(name: str, folder: units.Folder, conditions: Conditions, query: str) -> asking.Answer:
     """Returns the answer to such a query. Refused where there is none."""
-    return Parted(name, folder, next(iter(conditions.layers.values())), query).answer(limit_of(query))
+    return Parted(name, folder, next(iter(conditions.layers.values())), query).answer(limit_of(query, folder.tables))

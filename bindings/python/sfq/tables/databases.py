@@ -28,6 +28,9 @@ TYPES = ("INTEGER", "TEXT", "GEOMETRY", "NULL")
 SHAPES = ("GEOMETRY", "POINT", "LINESTRING", "POLYGON", "MULTIPOINT", "MULTILINESTRING", "MULTIPOLYGON")
 # The functions of an item's column, by the numbers of sfq_origin.
 FUNCTIONS = ("", "ST_AsText", "ST_Dimension", "ST_IsEmpty")
+# The predicates, by the numbers of sfq_test from SFQ_TEST_RELATE on.
+PREDICATES = ("ST_Relate", "ST_Equals", "ST_Disjoint", "ST_Intersects", "ST_Touches", "ST_Crosses", "ST_Within", "ST_Contains", "ST_Overlaps")
+FIRST_PREDICATE, NO_CONSTANT = 9, 4
 NAME = "libsfq_tables.so.0"
 NO_STATEMENT = ctypes.c_size_t(-1).value
 # How many candidates a step looks at: signals are seen between steps, so these have to be short, and a step costs a microsecond.
@@ -54,6 +57,29 @@ class COrigin(ctypes.Structure):
     _fields_ = [("reference", ctypes.c_size_t), ("column", ctypes.c_size_t), ("function", ctypes.c_uint32)]
 
 
+class CQueryForm(ctypes.Structure):
+    """The struct sfq_query_form."""
+
+    _fields_ = [
+        ("limit", ctypes.c_uint64), ("conjuncts", ctypes.c_size_t), ("explain", ctypes.c_uint32), ("counts", ctypes.c_bool), ("limits", ctypes.c_bool),
+    ]
+
+
+class CConjunct(ctypes.Structure):
+    """The struct sfq_conjunct_form."""
+
+    _fields_ = [("test", ctypes.c_uint32), ("joins", ctypes.c_bool)]
+
+
+class COperand(ctypes.Structure):
+    """The struct sfq_operand."""
+
+    _fields_ = [
+        ("conjunct", ctypes.c_size_t), ("reference", ctypes.c_size_t), ("column", ctypes.c_size_t),
+        ("test", ctypes.c_uint32), ("constant", ctypes.c_uint32), ("function", ctypes.c_uint32),
+    ]
+
+
 class CTablesFault(ctypes.Structure):
     """The struct sfq_tables_fault."""
 
@@ -66,19 +92,21 @@ class CTablesFault(ctypes.Structure):
 
 
 # The arguments of each call after the database, by a letter each: bytes with their number, a number, a number of a statement or the
-# like, room for a text, and what is written: a size, an integer, a number of 32 bits, a bool, a fault, a form, an origin.
+# like, room for a text, and what is written: a size, an integer, a number of 32 bits, a bool, a fault, a form, an origin,
+# the form of a query, a conjunct, operands with their room and their number.
 KINDS: dict[str, list[Any]] = {
     "b": [ctypes.c_char_p, ctypes.c_size_t], "i": [ctypes.c_int64], "n": [ctypes.c_size_t], "m": [ctypes.c_uint64],
     "r": [ctypes.c_char_p, ctypes.c_size_t, ctypes.POINTER(ctypes.c_size_t)], "S": [ctypes.POINTER(ctypes.c_size_t)],
     "I": [ctypes.POINTER(ctypes.c_int64)], "T": [ctypes.POINTER(ctypes.c_uint32)], "B": [ctypes.POINTER(ctypes.c_bool)],
     "W": [ctypes.POINTER(ctypes.c_uint64)], "F": [ctypes.POINTER(CTablesFault)], "p": [ctypes.c_char_p],
-    "C": [ctypes.POINTER(CForm)], "O": [ctypes.POINTER(COrigin)],
+    "C": [ctypes.POINTER(CForm)], "O": [ctypes.POINTER(COrigin)], "Q": [ctypes.POINTER(CQueryForm)], "J": [ctypes.POINTER(CConjunct)],
+    "A": [ctypes.POINTER(COperand), ctypes.c_size_t, ctypes.POINTER(ctypes.c_size_t)],
 }
 CALLS = {
     "close": "", "table_count": "S", "table_name": "nr", "table_columns": "nS", "table_column": "nnrT", "is_loaded": "nB",
     "load": "nbF", "load_file": "npF", "prepare": "bSF", "step": "nm", "reset": "n", "columns": "nS", "column_name": "nnr",
     "column_type": "nnT", "column_integer": "nnI", "column_text": "nnr", "work": "nW", "plan_text": "nr", "finalize": "n",
-    "column_form": "nnC", "reference": "nnrS", "column_origin": "nnO",
+    "column_form": "nnC", "reference": "nnrS", "column_origin": "nnO", "query": "nQ", "conjunct": "nnJ", "operands": "nA",
 }
 # Calls that a library may lack: without them a query is prepared anew for other values.
 BINDING = {"constants": "nS", "constant_type": "nnT", "bind_integer": "nni", "bind_text": "nnb", "bind_geometry": "nnbF"}
@@ -89,8 +117,9 @@ def declare(found: ctypes.CDLL) -> ctypes.CDLL:
     database = ctypes.POINTER(CDatabase)
     found.sfq_open.argtypes = [*KINDS["b"], database, *KINDS["F"]]
     found.sfq_open.restype = ctypes.c_int
-    found.sfq_text_parts.argtypes = [ctypes.c_void_p, ctypes.c_size_t, ctypes.c_char_p, ctypes.c_size_t, ctypes.POINTER(ctypes.c_size_t)]
-    found.sfq_text_parts.restype = ctypes.c_int
+    for of_text in (found.sfq_text_parts, found.sfq_named_columns):
+        of_text.argtypes = [ctypes.c_void_p, ctypes.c_size_t, ctypes.c_char_p, ctypes.c_size_t, ctypes.POINTER(ctypes.c_size_t)]
+        of_text.restype = ctypes.c_int
     for name, kinds in {**CALLS, **(BINDING if hasattr(found, "sfq_constants") else {})}.items():
         call = getattr(found, f"sfq_{name}")
         call.argtypes = [database, *(it for kind in kinds for it in KINDS[kind])]
@@ -171,6 +200,35 @@ class Origin(NamedTuple):
 
     function: str
     reference: Reference
+    column: int
+
+
+class QueryForm(NamedTuple):
+    """What a query asks for: whether for its plan, whether for the number of rows, at most how many rows, and by how many conjuncts."""
+
+    explains: bool
+    counts: bool
+    limit: Optional[int]
+    conjuncts: int
+
+
+class Conjunct(NamedTuple):
+    """A part of ON or WHERE between ANDs at the top: its test, and whether it holds only where the bounding boxes of a geometry of each of
+    two references meet."""
+
+    test: int
+    joins: bool
+
+
+class Operand(NamedTuple):
+    """An operand of a test in ON or WHERE: the number of its conjunct; its test; the type of the constant that it is, empty of a column;
+    the function of it, if one is called; the numbers of its reference and its column."""
+
+    conjunct: int
+    test: int
+    constant: str
+    function: str
+    reference: int
     column: int
 
 
@@ -387,6 +445,36 @@ class Statement:
             need_ok(OK if status == UNKNOWN else status)
             found.append(Origin(FUNCTIONS[origin.function], references[origin.reference], origin.column) if status == OK else None)
         return found
+
+    @held_by(OF_STATEMENT)
+    def form(self) -> QueryForm:
+        """Returns what the query asks for."""
+        found = CQueryForm()
+        self._need()
+        need_ok(self.database.calls.sfq_query(self.database.it, self.number, ctypes.byref(found)))
+        return QueryForm(found.explain != 0, found.counts, found.limit if found.limits else None, found.conjuncts)
+
+    def conjuncts(self) -> list[Conjunct]:
+        """Returns the conjuncts of ON, then those of WHERE."""
+        return [self._conjunct(it) for it in range(self.form().conjuncts)]
+
+    @held_by(OF_STATEMENT)
+    def _conjunct(self, number: int) -> Conjunct:
+        found = CConjunct()
+        self._need()
+        need_ok(self.database.calls.sfq_conjunct(self.database.it, self.number, number, ctypes.byref(found)))
+        return Conjunct(found.test, found.joins)
+
+    @held_by(OF_STATEMENT)
+    def operands(self) -> list[Operand]:
+        """Returns the operands of the tests in ON and WHERE, from the left."""
+        count, room = ctypes.c_size_t(), (COperand * 0)()
+        self._need()
+        while (status := self.database.calls.sfq_operands(self.database.it, self.number, room, len(room), ctypes.byref(count))) == TOO_SMALL:
+            room = (COperand * count.value)()
+        need_ok(status)
+        return [Operand(it.conjunct, it.test, "" if it.constant == NO_CONSTANT else TYPES[it.constant], FUNCTIONS[it.function], it.reference, it.column)
+                for it in room[: count.value]]
 
     def _need(self) -> None:
         """Has the statement open: where a table was loaded since, it is prepared anew, and goes on behind the rows that it gave."""

@@ -7,7 +7,7 @@ from __future__ import annotations
 import codecs
 import ctypes
 import struct
-from typing import Iterator, NamedTuple, Union
+from typing import Callable, Iterator, NamedTuple, Union
 
 from ..geometry.library import TOO_SMALL
 from . import databases
@@ -20,6 +20,8 @@ INTEGER, TEXT, GEOMETRY, NULL, NO_CONSTANT = range(5)
 FIRST_PARTS = 64
 # A struct sfq_text_part.
 LAYOUT = struct.Struct("@IINN")
+# A struct sfq_named_column.
+NAMED = struct.Struct("@NNN")
 # What a character beyond ASCII is handed over as: one byte that begins no token, so that places count characters.
 BEYOND = "sfq_beyond"
 
@@ -47,25 +49,31 @@ class Part(NamedTuple):
     end: int
 
 
-class Room:
-    """Room for the parts that the library writes, which grows as needed."""
+class Named(NamedTuple):
+    """A column that a query names: its first character, and the one behind it."""
 
-    def __init__(self) -> None:
-        self.count = ctypes.c_size_t()
+    at: int
+    end: int
+
+
+class Room:
+    """Room for what the library writes of a text, each as a struct, which grows as needed."""
+
+    def __init__(self, layout: struct.Struct = LAYOUT) -> None:
+        self.layout, self.count = layout, ctypes.c_size_t()
         self.grow(FIRST_PARTS)
 
     def grow(self, size: int) -> None:
-        self.bytes, self.size = ctypes.create_string_buffer(size * LAYOUT.size), size
+        self.bytes, self.size = ctypes.create_string_buffer(size * self.layout.size), size
 
-    def filled(self, text: int, length: int) -> Iterator[tuple[int, ...]]:
-        """Returns the parts that the library writes of a text at an address."""
-        call = databases.library().sfq_text_parts
+    def filled(self, call: Callable[..., int], text: int, length: int) -> Iterator[tuple[int, ...]]:
+        """Returns what a call of the library writes of a text at an address."""
         status = call(text, length, self.bytes, self.size, ctypes.byref(self.count))
         if status == TOO_SMALL:
             self.grow(self.count.value)
             status = call(text, length, self.bytes, self.size, ctypes.byref(self.count))
         databases.need_ok(status)
-        return LAYOUT.iter_unpack(memoryview(self.bytes)[: self.count.value * LAYOUT.size])
+        return self.layout.iter_unpack(memoryview(self.bytes)[: self.count.value * self.layout.size])
 
 
 def parts(text: str) -> Iterator[Part]:
@@ -75,10 +83,20 @@ def parts(text: str) -> Iterator[Part]:
     is_over = False
     while not is_over:
         at = begun
-        for kind, constant, place, size in list(room.filled(address + at, len(given) - at)):
+        for kind, constant, place, size in list(room.filled(databases.library().sfq_text_parts, address + at, len(given) - at)):
             begun = at + place + size
             is_over = kind == END
             yield Part(kind, constant, at + place, begun)
+
+
+def columns(query: str) -> list[Named]:
+    """Returns the columns that a query names, in its select list, in ON and in WHERE, with their references. InternalError of another text.
+
+    A character beyond ASCII is within a string or a comment, where any other does as well.
+    """
+    given = query.encode("ascii", "replace")
+    address = ctypes.cast(ctypes.c_char_p(given), ctypes.c_void_p).value or 0
+    return [Named(at, name + size) for at, name, size in Room(NAMED).filled(databases.library().sfq_named_columns, address, len(given))]
 
 
 def tokens(text: str) -> list[str]:
