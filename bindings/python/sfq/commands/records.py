@@ -24,7 +24,6 @@ from .conditions import OF_PARTS, PREDICATES, Conditions
 from .endings import DATA, Stopped
 from .progress import Progress
 
-COUNT = ["COUNT", "(", "*", ")"]
 # How many single geometries are kept in memory for further pairs.
 KEPT = 4_096
 
@@ -134,13 +133,13 @@ class Query:
         self.sources = [source_of(folder, it.name, folder.tables[it.table]) for it in opened.references()]
         self.need_no_parts()
         where, on = self.behind("WHERE"), self.behind("ON")
-        self.limit = stretches.limit_of(query)
+        form = opened.form()
+        self.limit, self.is_count = form.limit, form.counts
         self.end = next((at for at in range(self.given.begin, len(self.words)) if self.word(at) in ("LIMIT", ";")), len(self.words))
         ends = (where - 1 if where else self.end, self.end)
         self.conditions = [it for begin, end in zip((on, where), ends) if begin for it in self.conjuncts(begin, end)]
         # One that names both tables comes first.
         self.driver = max((it for it in self.conditions if it.forces_meeting), key=lambda it: len(it.sources), default=None)
-        self.is_count = [self.word(at) for at in range(1, 5)] == COUNT
         self.take_items(opened)
 
     def word(self, at: int) -> str:
