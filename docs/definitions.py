@@ -181,7 +181,8 @@ LIBRARY = [
       ("wkb", "Grids", ""),
       ("library_calls", "Rounding", "")]),
     ("Well-known binary",
-     "Each reader reads a part of the bytes, one after another. A call reads them, then checks the geometry.",
+     "Each reader reads a part of the bytes, one after another. A call reads them, then checks the geometry. "
+     "[LIBRARY](LIBRARY.md#what-is-proved) has in one sentence what is proved from the bytes of two shapes to their matrix.",
      [("wkb", "BinaryReading", "+number_of type_of_code has_system head is_empty_pair placed located settle element point lone read_binary rounding_of"),
       ("wkt", "ReadingSteps", "+repeats"),
       ("library_calls", "Binaries", "+grid_in IsGrid unread_of valid_binary IsReadAs notes_of IsReadFrom IsRefusedBinary")]),
