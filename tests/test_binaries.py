@@ -247,6 +247,7 @@ class ByTheModel(test_library.WithLibrary):
     and what is valid is what shapely reads."""
 
     GRIDS = [None, (1, 0, 0, 4), (1, 3, -7, 100), (3, 1, 1, 7)]
+    SEED, COUNT = 70, 8_000
 
     @classmethod
     def setUpClass(cls):
@@ -254,7 +255,7 @@ class ByTheModel(test_library.WithLibrary):
         os.environ["SFQ_LIBRARY"] = library.SHARED
 
     def test_values_by_chance(self):
-        values = [it for it in wkb_model.drawn(70, 8_000) if 0 < len(it) < 1_000]
+        values = [it for it in wkb_model.drawn(self.SEED, self.COUNT) if 0 < len(it) < 1_000]
         program = self.shared()
         for grid in self.GRIDS:
             numbers = " ".join(map(str, grid or ()))
@@ -266,7 +267,7 @@ class ByTheModel(test_library.WithLibrary):
                 with self.subTest(grid=grid, value=value.hex()):
                     self.compare(value, grid, by_c, self.by_python(kept, at))
                 found[by_c[0]] += 1
-            self.assertGreater(min(found.values()), 500)
+            self.assertGreater(min(found.values()), self.COUNT // 16)
 
     @staticmethod
     def by_python(kept, at):
@@ -311,6 +312,13 @@ class ByTheModel(test_library.WithLibrary):
             return line(of)[0] if of.geom_type == "Point" else parts(of)
 
         return wkb_model.text_of(kind, one(geometry) if kind == 1 and not geometry.is_empty else parts(geometry))
+
+
+class ManyByTheModel(ByTheModel):
+    """A hundred thousand others."""
+
+    IS_LONG = True
+    SEED, COUNT = 71, 100_000
 
 
 class Rounding(engine_rows.WithLibrary):

@@ -31,8 +31,8 @@ def combs(teeth):
     return ", ".join(f"'POLYGON(({it}))'" for it in shown)
 
 
-class Postgresql(engine_rows.WithLibrary):
-    """A server that has the extensions, over the library that ./build --library made."""
+class WithServer(engine_rows.WithLibrary):
+    """A test case of a server that has the extensions, over the library that ./build --library made."""
 
     @classmethod
     def setUpClass(cls):
@@ -59,6 +59,10 @@ class Postgresql(engine_rows.WithLibrary):
         out, err, status = self.server.run(f"\\pset format csv\nSET search_path = sfq, public;\n{text}")
         self.assertEqual((err, status), ("", 0), text)
         return out
+
+
+class Postgresql(WithServer):
+    """What the extensions give."""
 
     def regress(self, name):
         """Runs one test of the folder postgresql by `make installcheck`, in a copy."""
