@@ -657,16 +657,17 @@ int sfq_index_geometries(sfq_geometry *geometries, size_t count, sfq_index *inde
 
 int sfq_index_points(const int32_t *coordinates, size_t count, sfq_index *index, size_t *position)
 {
-    int32_t *bounds = count <= SIZE_MAX / 16 ? malloc(count > 0 ? count * 16 : 1) : NULL;
+    const size_t points = count_of(coordinates, count);
+    int32_t *bounds = points <= SIZE_MAX / 16 ? malloc(points > 0 ? points * 16 : 1) : NULL;
     int status;
     size_t i;
     if (bounds == NULL) {
         return SFQ_OUT_OF_MEMORY;
     }
-    for (i = 0; i < 2 * count; i++) {
+    for (i = 0; i < 2 * points; i++) {
         bounds[2 * i] = bounds[2 * i + 1] = coordinates[i];
     }
-    status = sfq_index_build(bounds, count, index, position);
+    status = sfq_index_build(bounds, points, index, position);
     free(bounds);
     return status;
 }
@@ -787,7 +788,7 @@ int sfq_join_points(uint32_t relation, sfq_geometry *first, size_t *next, size_t
         const size_t *candidates;
         size_t count = 0, i;
         int32_t window[4];
-        if (!is_there(&first[place])) {
+        if (coordinates == NULL || !is_there(&first[place])) {
             continue;
         }
         write_bounds(&first[place], window);

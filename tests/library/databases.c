@@ -387,7 +387,9 @@ static void add_columns(struct printed *out, const char *query)
         add(out, said);
     }
     all = 7;
-    if (sfq_named_columns("SELECT", 6, room, 10, &all) != SFQ_UNKNOWN || sfq_named_columns("\xff", 1, room, 10, &all) != SFQ_UNKNOWN || all != 7)
+    while (again(status = sfq_named_columns("SELECT", 6, room, 10, &all)))
+        ;
+    if (status != SFQ_UNKNOWN || sfq_named_columns("\xff", 1, room, 10, &all) != SFQ_UNKNOWN || all != 7)
         add(out, "no query is one");
 }
 

@@ -95,6 +95,23 @@ uint32_t sfq_proved_index_search(struct kept kept, const struct bounds *window, 
     return SFQ_TOO_SMALL;
 }
 
+/* Nothing here asks for these, but one compiler keeps what does. */
+uint32_t sfq_proved_envelope(struct kept kept, int32_t *bounds, struct kept *back)
+{
+    (void)bounds;
+    *back = kept;
+    return SFQ_UNKNOWN;
+}
+
+uint32_t sfq_proved_locate(struct kept kept, int32_t x, int32_t y, uint32_t *place, struct kept *back)
+{
+    (void)x;
+    (void)y;
+    (void)place;
+    *back = kept;
+    return SFQ_UNKNOWN;
+}
+
 int main(void)
 {
     static const int32_t window[4] = { 0, 1, 0, 1 };
@@ -114,6 +131,7 @@ int main(void)
     sfq_text(&first, NULL, 9, &length);
     sfq_reason(NULL, 9, NULL, 9, &length, NULL);
     sfq_index_build(NULL, 9, &no_index, NULL);
+    sfq_index_points(NULL, 9, &no_index, NULL);
     sfq_index_search(&index, window, NULL, 9, &length);
     printf("%zu", handed);
     handed = 0;
@@ -121,6 +139,7 @@ int main(void)
     sfq_relate_texts("P", 1, "L", 1, matrix, NULL);
     sfq_relate_pattern(&first, &second, "T********", 9, answers);
     sfq_index_build(window, 1, &no_index, &length);
+    sfq_index_points(window, 2, &no_index, &length);
     printf(" %zu\n", handed);
     return 0;
 }
