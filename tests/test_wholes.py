@@ -277,7 +277,7 @@ class Forms(WithFolder):
     def test_faults_of_the_query(self):
         """A fault is that of sfq, with its place in what the user wrote."""
         for query, line in (
-            ("SELECT fid FROM a WHERE ST_Within(geom, ST_GeomFromText('POINT(50 50)')) AND nme = 'n1'", "sfq: Q4 at 77\n"),
+            ("SELECT fid FROM a WHERE ST_Within(geom, ST_GeomFromText('POINT(50 50)')) AND nme = 'n1'", "sfq: Q5 at 77\n"),
             ("SELECT fid FROM a WHERE ST_Within(geom, ST_GeomFromText('POINT(50)'))", "sfq: Q8 at "),
             ("SELECT fid FROM a WHERE ST_Within(geom) AND fid = 1", "sfq: Q"),
         ):
