@@ -121,7 +121,7 @@ class Snapped(WithImports):
         folder, _ = self.imported([feature(it) for it in (BOW, crossing)], "--invalid", "mend")
         self.assertEqual(self.column(folder, "whole"), ["0", "0", "1"])
 
-    def test_which_predicates_are_taken(self):
+    def test_predicates_over_areas_whose_rings_touch(self):
         """The area with the hole has the envelope from 0 0 to 9 9."""
         areas, spots = [feature(HOLE), feature(("Polygon", square(90, 0)))], [feature(("Point", [91, 1])), feature(("Point", [92, 2]))]
         one, other = self.source(areas, "area"), self.source(spots, "spot")
@@ -131,27 +131,27 @@ class Snapped(WithImports):
         for name in ("ST_Within", "ST_Intersects"):
             self.assertEqual(self.ask(folder, join.format(name))[::2], ("a.fid,s.fid\n1,0\n1,1\n", 0), name)
         self.assertEqual(self.ask(folder, "SELECT fid FROM area WHERE ST_Contains(geom, ST_GeomFromText('POINT(91 1)'))")[::2], ("fid\n1\n", 0))
-        refused = "of a part says nothing of the whole: area has records in parts, so it takes ST_Intersects and ST_Disjoint alone; " \
-                  "--invalid leave-out leaves out the 1 whose rings touch"
-        for query in (
-            "SELECT fid FROM area WHERE ST_Contains(geom, ST_GeomFromText('LINESTRING(5 5,6 6)'))", "SELECT a.fid FROM area a JOIN area b ON ST_Touches(a.geom, b.geom)",
-            "SELECT a.fid FROM area a JOIN spot s ON ST_Relate(s.geom, a.geom, 'T********')", "SELECT fid FROM area WHERE ST_Within(geom, geom)",
+        for query, wanted in (
+            ("SELECT fid FROM area WHERE ST_Contains(geom, ST_GeomFromText('LINESTRING(5 5,6 6)'))", "fid\n0\n"),
+            ("SELECT a.fid FROM area a JOIN area b ON ST_Touches(a.geom, b.geom)", "a.fid\n"),
+            ("SELECT a.fid FROM area a JOIN spot s ON ST_Relate(s.geom, a.geom, 'T********')", "a.fid\n1\n1\n"),
+            ("SELECT fid FROM area WHERE ST_Within(geom, geom)", "fid\n0\n1\n"),
         ):
             out, err, status = self.ask(folder, query)
-            self.assertEqual((out, status), ("", 5), err)
-            self.assertIn(refused, err)
+            self.assertEqual((out, status), (wanted, 0), f"{query}: {err}")
         # The cut goes from 0 0 to 2 2, and the rings touch in 0 4. Points elsewhere are in one part, on its boundary or in none.
-        for number, (spot, wanted) in enumerate((([18, 18], ("", "0,0")), ([5, 5], ("0,0", "")), ([0, 7], ("", "0,0")), ([1, 4], ("", "")), ([1, 1], None), ([0, 4], None))):
+        for number, (spot, wanted) in enumerate((([18, 18], ("", "0,0")), ([5, 5], ("0,0", "")), ([0, 7], ("", "0,0")), ([1, 4], ("", "")), ([1, 1], ("0,0", "")),
+                                                 ([0, 4], ("", "0,0")))):
             close, near = self.source([feature(("Point", spot))], "spot"), f"{os.path.dirname(one)}/near{number}"
             self.assertEqual(self.command("sfq-import", self.source([feature(WIDE)], "area"), close, "--grid", "1", "--out", near).returncode, 0)
-            for name, rows in zip(("ST_Within", "ST_Touches"), wanted or ("", "")):
+            for name, rows in zip(("ST_Within", "ST_Touches"), wanted):
                 out, err, status = self.ask(near, join.format(name))
-                self.assertEqual((out, status), ("a.fid,s.fid\n" + (f"{rows}\n" if rows else ""), 0) if wanted else ("", 5), err)
+                self.assertEqual((out, status), ("a.fid,s.fid\n" + (f"{rows}\n" if rows else ""), 0), err)
             constant = f"SELECT fid FROM area WHERE ST_Touches(geom, ST_GeomFromText('POINT({spot[0]} {spot[1]})'))"
-            self.assertEqual(self.ask(near, constant)[2], 0 if wanted else 5)
+            self.assertEqual(self.ask(near, constant)[::2], ("fid\n0\n" if wanted[1] else "fid\n", 0))
         beside = self.source([feature(("LineString", [[9, 9], [12, 12]]))], "spot")
         self.assertEqual(self.command("sfq-import", one, beside, "--grid", "1", "--out", f"{folder}2").returncode, 0)
-        self.assertEqual(self.ask(f"{folder}2", join.format("ST_Touches"))[2], 5)
+        self.assertEqual(self.ask(f"{folder}2", join.format("ST_Touches"))[::2], ("a.fid,s.fid\n0,0\n", 0))
         self.assertEqual(self.ask(f"{folder}2", join.format("ST_Intersects"))[::2], ("a.fid,s.fid\n0,0\n", 0))
 
 
