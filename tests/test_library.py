@@ -376,7 +376,7 @@ class Border(unittest.TestCase):
             subprocess.run(["cc", *flags, f"{ROOT}/tests/library/nulls.c", "-o", f"{room}/nulls"], check=True)
             ran = subprocess.run([f"{room}/nulls"], capture_output=True, text=True)
         # Of nulls nothing is handed on, and of texts that are there all their bytes.
-        self.assertEqual((ran.returncode, ran.stdout), (0, "0 17\n"))
+        self.assertEqual((ran.returncode, ran.stdout), (0, "0 19\n"))
 
 
 class PlayedCalls:
