@@ -9,6 +9,9 @@ use crate::explained::hand_out;
 use rtree::{CurveTree, EnvelopeIndex};
 use std::alloc::Global;
 
+/// How many envelopes most windows meet at most. There is room for so many before a search, so that the room grows only for more.
+const MOST_WINDOWS_FIND: usize = 64;
+
 /// The index of the envelopes with these bounds, or the position of the first ones that are invalid.
 pub fn build_index(alloc: Global, bounds: &[Bounds]) -> Result<CurveTree, Unbuilt>
     ensures built { IfOk result (λ index. index ≡ map bounded bounds.now) }
@@ -42,7 +45,9 @@ pub fn write_found(
     let Some(asked) = window.envelope() else {
         return 4;
     };
-    let mut found = Vec::new(alloc);
+    let Ok(mut found) = Vec::with_capacity(alloc, MOST_WINDOWS_FIND) else {
+        return 3;
+    };
     match index.search(asked, &mut found) {
         Ok(()) => hand_out(found.as_slice(), room, count),
         Err(_) => 3,

@@ -60,7 +60,7 @@ impl PackedTree {
         found.clear();
         let searched = match asked {
             None => found.extend_from_slice(self.absent.as_slice()),
-            Some(envelope) => self.push_meeting(&envelope, found),
+            Some(envelope) => self.push_meeting(envelope, found),
         };
         if searched.is_err() {
             found.clear();
@@ -69,10 +69,10 @@ impl PackedTree {
     }
 
     /// Fills an empty vector with the positions, ascending, of the envelopes that meet the one asked for.
-    fn push_meeting(&self, asked: &Envelope, found: &mut Vec<usize>) -> Result<(), AllocError>
+    fn push_meeting(&self, asked: Envelope, found: &mut Vec<usize>) -> Result<(), AllocError>
         requires packs { Packs self.now (listed self.now) }
         requires empty { found.old.items ≡ [] }
-        ensures { OnOk result (found.new.items ≡ meeting_places (listed self.now) (Some asked.now)) }
+        ensures { OnOk result (found.new.items ≡ meeting_places (listed self.now) (Some asked)) }
     {
         push_below(
             self.levels.as_slice(),
@@ -92,18 +92,18 @@ fn push_below(
     levels: &[Vec<Envelope>],
     places: &[usize],
     first: usize,
-    asked: &Envelope,
+    asked: Envelope,
     found: &mut Vec<usize>,
 ) -> Result<(), AllocError>
     requires levels { AreLevels places.now (map vec_items levels.now) }
     requires first { first ≤ length (level_at (map vec_items levels.now) (length levels.now - 1)) }
     ensures { OnOk result (found.new.items
-        ≡ found.old.items ++ found_below places.now (map vec_items levels.now) first asked.now) }
+        ≡ found.old.items ++ found_below places.now (map vec_items levels.now) first asked) }
 {
     let top = levels.len() - 1;
     let level = levels[top].as_slice();
     for node in first..level.len().min(first + NODE_SIZE) {
-        if overlap(level[node], *asked) {
+        if overlap(level[node], asked) {
             if top == 0 {
                 found.push(places[node])?;
             } else {

@@ -32,7 +32,7 @@ pub loop-node-preserved : goal.loop-node-preserved
 loop-node-preserved t c =
     let vs = c.args.levels.now in
     let places = c.args.places.now in
-    let asked = c.args.asked.now in
+    let asked = c.args.asked in
     let top = length vs - 1 in
     let levels = map vec_items vs in
     let r = c.requires.levels in
@@ -59,7 +59,7 @@ pub returns : goal.returns
 returns t c =
     let vs = c.args.levels.now in
     let places = c.args.places.now in
-    let asked = c.args.asked.now in
+    let asked = c.args.asked in
     let top = length vs - 1 in
     let levels = map vec_items vs in
     let r = c.requires.levels in

@@ -16,7 +16,7 @@ push_below-requires-clause-levels c =
 pub returns : goal.returns
 returns c =
     let tree = c.args.self.now in
-    let asked = c.args.asked.now in
+    let asked = c.args.asked in
     let found : c.push_below.new.found.items ≡ places_found asked (tree_entries tree) =
     c.in_ok-push_below.ensures ∙ ap (λ l. l ++ found_below c.as_slice-2.result.now (map vec_items c.as_slice.result.now) 0 asked) c.requires.empty
     ∙ ap (λ places. found_below places (map vec_items c.as_slice.result.now) 0 asked) c.as_slice-2.ensures.value
