@@ -4,5 +4,5 @@ pub mod PatternTexts
 pub mod Parts
 pub mod FilterLemmas
 mod FreeConditionLemmas
-mod IdleRowLemmas
+pub mod IdleRowLemmas
 mod SoughtValueLemmas
