@@ -38,7 +38,7 @@ PAGE = [
      [(G, "PointSets", ""),
       (G, "Locations", "is_at last_after on_some is_odd_end in_points in_lines in_rings")]),
     ("Dimension and the DE-9IM matrix",
-     "The dimension of a set of points is the largest kind of piece that it holds: a triangle, a segment,"
+     "The dimension of a set of points is that of the largest piece that it holds: a triangle, a segment,"
      " a point, nothing.",
      [(G, "Dimensions", "weighted_three matrix_of transposed"),
       (G, "GivenMatrix", "")]),
@@ -47,12 +47,12 @@ PAGE = [
      [(G, "Patterns", "character_of characters_of pattern_of dimension_character"),
       (G, "Predicates", "like wants_point wants_common_point forces_meeting")]),
     ("Validity",
-     "Each fault, V1 to V8, is a fact about rational points. A geometry without fault is valid. Of several faults"
-     " the first in the order of `in_order` is reported.",
+     "Each fault, V1 to V8, is a fact about rational points. A geometry without fault is valid. Of several the first by"
+     " `in_order` is reported.",
      [(G, "Validity", "Element elements_from numbered_elements IsRing"),
       (G, "FirstFaults", "+numbers of_pairs of_every_two of_elements in_order validity_fault")]),
     ("Well-known text",
-     "A relation for each rule of the grammar, between a text and what it spells. Refusals are stated"
+     "A relation for each rule, between a text and what it spells. Refusals are stated"
      " without a reader, by the bytes before them.",
      [(G, "WellKnownText", "begins_with Blank Space Padded Enclosed Separated is_white Byte Rule"
        " same_position written_positions written_parts Begins"),
@@ -70,8 +70,7 @@ PAGE = [
       (T, "SchemaRefusals", "Written IsColumn IsCreateTable IsWritten BeforeTable BeforeColumns BeforeColumn"
        " BeforeKey BeforeClose IsName is_among has_key names_of AppliesAt AppliesIn is_at_token")]),
     ("Queries",
-     "A relation for each rule of the grammar, between a tree and the tokens that are written for it; then the"
-     " faults Q10 and Q12.",
+     "A relation for each rule, between a tree and its tokens; then the faults Q10 and Q12.",
      [(T, "QueryReading", "+most_levels"),
       (T, "QueryGrammar", "IsDigits IsCall IsOperandFunction IsNumber IsPair IsPredicate IsChain IsCondition"
        " IsNegation IsRowCount IsCrossed IsJoined IsItemFunction ReturnsQuery"),
@@ -79,8 +78,8 @@ PAGE = [
        " ThroughFrom BeforeWhere IsAnyWhere BeforeLimit AreParts BeforeNegation BeforeOperand AppliesAt"
        " AppliesIn is_at_token")]),
     ("Binding: what names mean",
-     "Rules that say what each name, condition and query is bound to, and where it is refused. Laws prove"
-     " that the functions of binding, which contracts name, follow them.",
+     "Rules say what each name, condition and query is bound to, and where it is refused. Laws prove that the"
+     " functions that contracts name follow them.",
      [(T, "BindingRules", "IsColumnNamed IsNowhere IsSomewhere IsTwice IsFirst IsOnly Then FirstFault AreOneName"
        " IsBoundPredicate IsRefusedPredicate IsRefusedOperand GeometryRules IsGeometryPart"),
       (T, "QueryRules", "IsTableNamed IsTaken IsFromAfter IsRefusedAfter IsThere AppliesBefore IsListed"
@@ -181,8 +180,7 @@ LIBRARY = [
       ("wkb", "Grids", ""),
       ("library_calls", "Rounding", "")]),
     ("Well-known binary",
-     "Each reader reads a part of the bytes, one after another. A call reads them, then checks the geometry. "
-     "[LIBRARY](LIBRARY.md#what-is-proved) has in one sentence what is proved from the bytes of two shapes to their matrix.",
+     "Each reader reads a part of the bytes, one after another. A call reads them, then checks the geometry.",
      [("wkb", "BinaryReading", "+number_of type_of_code has_system head is_empty_pair placed located settle element point lone read_binary rounding_of"),
       ("wkt", "ReadingSteps", "+repeats"),
       ("library_calls", "Binaries", "+grid_in IsGrid unread_of valid_binary IsReadAs notes_of IsReadFrom IsRefusedBinary")]),
@@ -197,8 +195,10 @@ LIBRARY = [
      [("wkb", "NearestDoubles", "+exponent_of goes_up nearest_size nearest_double place_of IsNear double_at"),
       ("wkb", "BinaryPrinting", "+count_bytes head_bytes no_number position_bytes line_bytes rings_bytes printed")]),
     ("Relations",
-     "Eleven relations have a number: the eight named predicates, and three that are this project's choice.",
-     [("library_calls", "Relations", "")]),
+     "Eleven relations have a number: the eight named predicates, and three that are this project's choice."
+     " Five of them hold of a geometry and a point by the point's place alone.",
+     [("library_calls", "Relations", ""),
+      ("library_calls", "PointRelations", "IsHeldAt")]),
     ("Faults in numbers, and statuses",
      "A fault is its letter, its number and two places.",
      [("library_calls", "Refusals", "numbers status_of_second")]),
@@ -283,24 +283,29 @@ SHOWN = ["IsPoint", "side", "on", "IsInterior", "IsBoundary", "IsExterior", "Has
          "truth", "search_condition", "filtered", "meaning", "answer", "outcome", "ByEveryMatrix", "RunsOver", "in_order",
          "HoldsStretch", "IsFacePoint", "IsOff", "IsShownBy", "ShowsAll", "IsMeeting", "IsClashOf", "IsMeetingOf",
          "IsPlaceOf", "IsVerdictOn", "IsFirstWitness", "IsFirstPlaceOf", "HasMatrix", "HasRelation", "covers", "covered_by", "contains_properly",
-         "text_fault_in_numbers", "validity_fault_in_numbers", "fault_in_numbers", "IsMade", "IsTaken", "fits", "LiesAt", "bounds_of", "IsSpelled",
+         "text_fault_in_numbers", "validity_fault_in_numbers", "fault_in_numbers", "IsMade", "IsTaken", "fits", "LiesAt", "HoldsAt", "bounds_of", "IsSpelled",
          "overlap", "meets", "placed_meets", "meeting_places", "are_of_none", "are_of_some", "bounded", "places_in",
           "CutsGrid", "IsMedian", "IsCutAtMedians", "TiledAnswersAreMeant", "AnswersAreMeant", "AreMade", "IsWritten", "SplitsParts", "Returns", "ok", "first_refused", "second_refused", "out_of_memory", "unknown", "too_small", "none_there"]
 # Names that the crates of definitions have twice, on one page, each with its file beside it.
 TWICE = ["takes", "ReturnsFirst"]
+# What is proved of the library from bytes on. PROVED, DEFINITIONS and DEFINITIONS-LIBRARY have it word for word.
+FROM_BYTES = ("For the bytes of two shapes and a grid, the library returns the DE-9IM matrix, as point sets, of the valid geometries with"
+              " the grid's nearest coordinates, or the first fault.")
 HEAD = """# Definitions
 
-For whoever doubts the proof. The machine proves that the program does what the definitions say, not
-that they say what the standards mean. People have to judge that, by reading this page.
+For whoever doubts the proof. The machine proves that the program does what the definitions say.
+Whether these say what the standards mean is for readers to judge.
 
 Each row is a definition: its name, what it says, and where a standard has it. A number alone, such
-as 6.1.4, is a clause of OGC 06-103r4. Where no standard is named, or a row says 'our choice', this
+as 6.1.4, is a clause of OGC 06-103r4. If a row names no standard, or says 'our choice', this
 project chose. The definitions that matter most are printed whole. [PROVED](PROVED.md) lists the ten
 that carry the headline.
 
+""" + textwrap.fill(FROM_BYTES.replace("library", "[library](DEFINITIONS-LIBRARY.md)"), 100, break_on_hyphens=False) + """
+
 Left out are helpers, which are beside their definition in its file, and what nobody has to believe:
-functions that a law ties to a definition here; and labels, cut points and pieces, by which the
-proof goes. `src/*_examples.rt` of both models has worked examples, proved by computing.
+functions that a law ties to a definition here, and the labels, cut points and pieces of the proof.
+`src/*_examples.rt` of both models has worked examples, proved by computing.
 
 `abbrev pub` begins a definition. What ends in `Type 0` is a fact, and so is a `record`, whose parts
 all hold; what ends in `Bool` computes. `A × B` says both, `A → B` that A implies B, `(x : T) → ..`
@@ -309,9 +314,8 @@ says it of every x, `{T : Type 0} → ..` of every type, `¬ A` that A isn't so;
 the whole numbers from 0 on and ℤ those with a sign; `<ℤ` and the like are of ℤ, and `pos n` is n in
 ℤ. `codes "T*"` are a text's bytes. `fold-Cond` goes through a condition from the inside out.
 
-`docs/definitions.py` makes this page and those for [`why`](DEFINITIONS-WHY.md), the
-[library](DEFINITIONS-LIBRARY.md) and [tiles](DEFINITIONS-TILES.md) from the comments in the
-specifications: change them there.
+`docs/definitions.py` makes this page and those for [`why`](DEFINITIONS-WHY.md), the library and
+[tiles](DEFINITIONS-TILES.md) from the comments in the specifications: change them there.
 """
 REST = """
 [DEFINITIONS](DEFINITIONS.md) explains the rows and the symbols, and has what these definitions name:
@@ -326,7 +330,8 @@ LIBRARY_HEAD = """# Definitions for the library
 
 For whoever doubts what the calls of [`sfq.h`](../bindings/c/sfq.h) return: what the contracts of
 `sfq_c` mean, where the proof ends. [C](C.md#what-is-proved) lists these contracts.
-""" + REST
+
+""" + textwrap.fill(f"{FROM_BYTES} [LIBRARY](LIBRARY.md#what-is-proved) says it in full, with the clauses.", 100, break_on_hyphens=False) + "\n" + REST
 TILES_HEAD = """# Definitions for tiles
 
 For whoever doubts what `sfq-tiles` writes: what a tile or a stretch of a table is, when the rows of

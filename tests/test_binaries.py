@@ -191,6 +191,12 @@ OF_POINTS = [
     (8, "0:0 4:1 4:2 5:0 5:1 5:2 5:3"),
     (10, "0:0 4:2 5:0"),
 ]
+# Points in each part of a geometry of each kind, all within its envelope: the triangle has 1 1 inside and 3 3 and 4 4 outside it, the lines
+# have one end at 0 0 and at 4 0, two at 4 4 and 3 1 off them (06-103r4, 6.1.8.1), and only 0 0 and 4 4 are listed.
+PARTED = "POLYGON((0 0,4 0,0 4,0 0));MULTILINESTRING((0 0,4 4),(4 4,4 0));MULTIPOINT((0 0),(4 4))"
+IN_PARTS = "1,1;2,2;3,3;0,0;4,4;4,0;3,1"
+NOT_OUTSIDE, INSIDE = "0:0 0:1 0:3 0:5 0:6 1:0 1:1 1:2 1:3 1:4 1:5 2:3 2:4", "0:0 1:0 1:1 1:2 1:4 2:3 2:4"
+BY_PARTS = [(2, NOT_OUTSIDE), (3, "0:1 0:3 0:5 0:6 1:3 1:5"), (6, INSIDE), (8, NOT_OUTSIDE), (10, INSIDE)]
 
 
 def lines_of_calls():
@@ -202,6 +208,7 @@ def lines_of_calls():
     calls += [(f"join\t{relation}\t{LEFT}\t{RIGHT}", f"0 {pairs}".strip()) for relation, pairs in JOINS]
     calls += [(f"join\t2\t\t{RIGHT}", "0"), (f"join\t2\t{LEFT}\t", "0"), (f"join\t1\t{LEFT}\t;;", "0"), (f"join\t11\t{LEFT}\t{RIGHT}", "4")]
     calls += [(f"near\t{relation}\t{LEFT}\t{POINTS}", f"0 {pairs}") for relation, pairs in OF_POINTS]
+    calls += [(f"near\t{relation}\t{PARTED}\t{IN_PARTS}", f"0 {pairs}") for relation, pairs in BY_PARTS]
     calls += [(f"near\t{relation}\t{LEFT}\t{POINTS}", "4") for relation in (0, 1, 4, 5, 7, 9, 11)]
     calls += [(f"near\t2\t\t{POINTS}", "0"), (f"near\t2\t{LEFT}\t", "0"), (f"near\t2\t{LEFT}\t0,0;10000001,0", "4"), (f"near\t2\t{LEFT}\t9,9", "0 2:0")]
     # Each of eight with each of eight, by a room that has to be emptied on the way.

@@ -94,6 +94,7 @@ uint32_t sfq_proved_dimension(struct kept kept, struct kept *back);
 bool sfq_proved_is_empty(struct kept kept, struct kept *back);
 uint32_t sfq_proved_envelope(struct kept kept, int32_t *bounds, struct kept *back);
 uint32_t sfq_proved_locate(struct kept kept, int32_t x, int32_t y, uint32_t *place, struct kept *back);
+uint32_t sfq_proved_holds_at(uint32_t relation, uint32_t place, bool *answer);
 uint32_t sfq_proved_index_build(const struct bounds *bounds, size_t count, struct kept *slot, size_t *position);
 uint32_t sfq_proved_index_search(struct kept kept, const struct bounds *window, size_t *room, size_t size, size_t *count,
                                  struct kept *back);
@@ -755,35 +756,26 @@ int sfq_join(uint32_t relation, sfq_geometry *first, size_t *next, size_t end, s
     return status;
 }
 
-/*
- * Whether a relation holds of a geometry and a point by the place where the point lies: SFQ_UNKNOWN for a relation that also depends on
- * the type of the geometry. A point has no boundary, so all of it is its interior (06-103r4, 6.1.4).
- */
-static int holds_at(uint32_t relation, uint32_t place, bool *answer)
+/* How many places of sfq_place a point can have. */
+enum { PLACES = SFQ_EXTERIOR + 1 };
+
+/* For each place of a point in a geometry, whether a relation holds of the two. */
+static int find_answers(uint32_t relation, bool answers[PLACES])
 {
-    switch (relation) {
-    case SFQ_INTERSECTS:
-    case SFQ_COVERS:
-        *answer = place != SFQ_EXTERIOR;
-        return SFQ_OK;
-    case SFQ_TOUCHES:
-        *answer = place == SFQ_BOUNDARY;
-        return SFQ_OK;
-    case SFQ_CONTAINS:
-    case SFQ_CONTAINS_PROPERLY:
-        *answer = place == SFQ_INTERIOR;
-        return SFQ_OK;
-    default:
-        return SFQ_UNKNOWN;
+    int status = SFQ_OK;
+    uint32_t place;
+    for (place = 0; status == SFQ_OK && place < PLACES; place++) {
+        status = (int)sfq_proved_holds_at(relation, place, &answers[place]);
     }
+    return status;
 }
 
 int sfq_join_points(uint32_t relation, sfq_geometry *first, size_t *next, size_t end, const int32_t *coordinates, sfq_index *index,
                     size_t *room, size_t size, size_t *pairs)
 {
     size_t found = 0, place;
-    bool answer = false;
-    int status = holds_at(relation, SFQ_EXTERIOR, &answer);
+    bool answers[PLACES] = { false, false, false };
+    int status = find_answers(relation, answers);
     for (place = *next; status == SFQ_OK && place < end; place++) {
         const size_t *candidates;
         size_t count = 0, i;
@@ -802,10 +794,7 @@ int sfq_join_points(uint32_t relation, sfq_geometry *first, size_t *next, size_t
             const size_t point = candidates[i];
             uint32_t where = SFQ_EXTERIOR;
             status = sfq_locate(&first[place], coordinates[2 * point], coordinates[2 * point + 1], &where);
-            if (status == SFQ_OK) {
-                status = holds_at(relation, where, &answer);
-            }
-            if (status == SFQ_OK && answer) {
+            if (status == SFQ_OK && answers[where]) {
                 room[2 * found] = place;
                 room[2 * found + 1] = point;
                 found++;

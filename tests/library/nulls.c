@@ -112,6 +112,14 @@ uint32_t sfq_proved_locate(struct kept kept, int32_t x, int32_t y, uint32_t *pla
     return SFQ_UNKNOWN;
 }
 
+uint32_t sfq_proved_holds_at(uint32_t relation, uint32_t place, bool *answer)
+{
+    (void)relation;
+    (void)place;
+    (void)answer;
+    return SFQ_UNKNOWN;
+}
+
 int main(void)
 {
     static const int32_t window[4] = { 0, 1, 0, 1 };

@@ -9,3 +9,4 @@ pub mod PointerMoves
 pub mod BinaryFacts
 pub mod BoundsFacts
 pub mod CoverFacts
+pub mod PointFacts

@@ -4,6 +4,7 @@ pub mod Binaries
 pub mod Explained
 pub mod Extents
 pub mod Kept
+pub mod PointRelations
 pub mod Numbers
 pub mod Refusals
 pub mod Relations

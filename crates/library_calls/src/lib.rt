@@ -21,6 +21,7 @@ mod kept;
 mod kept_geometry;
 mod kept_index;
 pub mod parts;
+mod point_relations;
 mod relations;
 mod rounding;
 mod sizes;
@@ -41,6 +42,7 @@ pub use kept::{
 };
 pub use kept_geometry::{KeptGeometry, Slot};
 pub use kept_index::{IndexSlot, KeptIndex};
+pub use point_relations::write_holds_at;
 pub use relations::{Relation, all_hold, holds};
 pub use rounding::round_positions;
 pub use sizes::fitting_type;
