@@ -149,6 +149,19 @@ class Page(unittest.TestCase):
         self.assertEqual(len(proved_page.wrong_headlines({**places, "docs/DATA.md": places["docs/DATA.md"] + said}, readme)), 1)
         self.assertEqual(len(proved_page.wrong_headlines(places, readme.replace("LIMIT n", "LIMIT"))), len(proved_page.HEADLINES))
 
+    def test_three_pages_say_what_is_proved_from_bytes_on(self):
+        pages = {it: proved_page.read(f"{ROOT}/{it}") for it in proved_page.FROM_BYTES}
+        self.assertEqual(proved_page.wrong_from_bytes(pages), [])
+        first, *others = proved_page.FROM_BYTES
+        for path in others:
+            for old, new in (("nearest", "next"), ("For the bytes", "By the bytes")):
+                wrong = {**pages, path: pages[path].replace(old, new)}
+                self.assertEqual(proved_page.wrong_from_bytes(wrong), [f"{path} doesn't say of the library, from bytes on, what {first} says"])
+        self.assertEqual(len(proved_page.wrong_from_bytes({**pages, first: ""})), 3)
+        # What they say is what the clauses say that LIBRARY names, of the two calls.
+        calls = proved_page.plain_words(proved_page.read(f"{ROOT}/docs/LIBRARY.md"))
+        self.assertRegex(calls, r"For any bytes and any grid, sfq_read_binary .* sfq_relate returns their DE-9IM matrix")
+
     def test_no_text_says_what_is_not_so(self):
         texts = {**proved_page.places_of_headlines(), **{it: proved_page.read(f"{ROOT}/{it}") for it in ("README.md", "docs/PROVED.md")}}
         self.assertLess({"bindings/c/sfq.h", "bindings/sqlite/sfq0.c", "bindings/python/sfq/__init__.py"}, set(texts))

@@ -7,7 +7,7 @@ usage: python3 tools/proved_page.py
 Each clause of the pages' tables has to be one of the call beside it, and each theorem a function. Each call has to be of a crate
 that is named above its table, and has a star exactly if it has a `requires`. The list of tests has to have each public
 function that may run out of memory, and each test has to call the functions that are listed with it. What other places say of the
-headline has to be the README's, word for word.
+headline has to be the README's, word for word, and three pages have the sentence about the library, from bytes to the matrix.
 """
 import functools
 import glob
@@ -274,6 +274,11 @@ HEADLINES = ["packaging/man/sfq.1", "bindings/web/tables.html"]
 SAYS_ROWS = re.compile(r"\brows (?:of the product )?for which WHERE is true\b")
 
 
+# The pages that have, word for word, what is proved of the library from the bytes of two shapes to their matrix.
+FROM_BYTES = ["docs/PROVED.md", "docs/DEFINITIONS.md", "docs/DEFINITIONS-LIBRARY.md"]
+SAYS_BYTES = re.compile(r"For the bytes of two shapes and a grid, [^.]*\.")
+
+
 # What texts said once and isn't so, and what is.
 NOT_SO = [
     (r"proved[^.]*down to this interface", "the proof ends at the calls of the crate sfq_c"),
@@ -327,6 +332,13 @@ def wrong_headlines(texts: dict[str, str], readme: str) -> list[str]:
     return found
 
 
+def wrong_from_bytes(texts: dict[str, str]) -> list[str]:
+    """Returns the pages, by their paths, that don't have the sentence about the library once and as the first page has it."""
+    said = {it: SAYS_BYTES.findall(re.sub(r"\[([^\]]*)\]\([^)]*\)", r"\1", plain_words(texts[it]))) for it in FROM_BYTES}
+    wanted = said[FROM_BYTES[0]][:1]
+    return [f"{path} doesn't say of the library, from bytes on, what {FROM_BYTES[0]} says" for path in FROM_BYTES if not wanted or said[path] != wanted]
+
+
 def places_of_headlines() -> dict[str, str]:
     """Returns the texts for users, without the README and PROVED, whose chain takes the headline apart."""
     kinds = ("docs/*.md", "SECURITY.md", "packaging/**/*", "bindings/**/*.html", "bindings/**/*.py", "bindings/**/*.[ch]", "examples/**/*.md", "bench/*.md")
@@ -364,6 +376,7 @@ def main() -> int:
     found += [it for page in PAGES for it in wrong_rows(read(page), functions, list(repository.read_crates()))]
     readme = read(f"{repository.ROOT}/README.md")
     found += wrong_headlines(places_of_headlines(), readme)
+    found += wrong_from_bytes({it: read(f"{repository.ROOT}/{it}") for it in FROM_BYTES})
     found += wrong_sentences({**places_of_headlines(), "README.md": readme, "docs/PROVED.md": read(PAGES[0])})
     for it in found:
         print(it)
