@@ -128,6 +128,16 @@ class Refused(unittest.TestCase):
             self.refused("bindings/one.py", f'ONE = r"{token}"\n', 1, "ask sfq_text_parts")
             self.assertEqual(self.found("tests/one.py", f'ONE = r"{token}"\n'), (0, []))
 
+    def test_a_reader_of_tokens_and_of_well_known_text(self):
+        for code, instead in (
+            ("parts.parts(query)", "ask sfq_query"), (r"[ \t]+|[(),]", "call sfq_read"), (r"[^()]*\d", "call sfq_read"), ("text.partition('(')[2]", "call sfq_read"),
+            ("text.replaceAll('(', '[')", "call sfq_read"), ("0123456789 abcxyz0123456789_", "ask sfq_text_parts"),
+        ):
+            self.refused("bindings/one.py", f'ONE = r"{code}"\n', 1, instead)
+            self.assertEqual(self.found("tests/one.py", f'ONE = r"{code}"\n'), (0, []))
+        # The name of a type is no reading of a text.
+        self.assertEqual(self.found("bindings/one.py", "ONE = text.partition('(')[0]\n"), (0, []))
+
     def test_code_that_rounds_or_takes_a_binary_form_apart(self):
         for code, instead in (
             ("math.floor(x / step + 0.5)", "sfq_round"), ("math.floor(x + Fraction(1, 2))", "sfq_round"), ("Math.round(x)", "sfq_round"),

@@ -176,8 +176,8 @@ static char *spelled_name(sfq_database *database, size_t table)
 }
 
 /* Finds the table in an open database and loads it: of a folder from the file with its name. */
-static int find_and_load(struct rows *rows, sfq_database *database, const struct options *options, const struct bytes *schema,
-                         const char *schema_path, char **error)
+static int find_and_load(struct rows *rows, sfq_database *database, const struct options *options, const char *schema_path,
+                         char **error)
 {
     char *const *values = options->values;
     size_t table;
@@ -190,7 +190,6 @@ static int find_and_load(struct rows *rows, sfq_database *database, const struct
     if (status != SFQ_OK) {
         return without_fault(status, error);
     }
-    rows->key = key_column(schema->at, schema->count, table);
     name = spelled_name(database, table);
     path = name == NULL ? NULL
         : values[FOLDER] == NULL ? sqlite3_mprintf("%s", values[CSV]) : sqlite3_mprintf("%s/%s.csv", values[FOLDER], name);
@@ -213,7 +212,7 @@ int load_rows(struct rows *rows, const struct options *options, char **error)
         if (opened == SFQ_REFUSED) {
             status = refused(path, &fault, error);
         } else {
-            status = opened != SFQ_OK ? without_fault(opened, error) : find_and_load(rows, &database, options, &schema, path, error);
+            status = opened != SFQ_OK ? without_fault(opened, error) : find_and_load(rows, &database, options, path, error);
         }
         sfq_close(&database);
     }

@@ -188,7 +188,10 @@ int name_columns(struct rows *rows, sfq_database *database, size_t table)
         status = rows->columns == NULL ? SFQ_OUT_OF_MEMORY : SFQ_OK;
     }
     for (; asked.column < rows->column_count && status == SFQ_OK; asked.column++) {
+        sfq_form form = { 0, false, false };
         status = name_column(&asked, &rows->columns[asked.column]);
+        status = status == SFQ_OK ? sfq_column_form(database, table, asked.column, &form) : status;
+        rows->key = form.is_key ? asked.column : rows->key;
     }
     return status;
 }
@@ -237,41 +240,4 @@ int take_rows(struct rows *rows, sfq_database *database, size_t table)
         }
     }
     return status == SFQ_NONE ? SFQ_OK : status;
-}
-
-size_t word_length(const char *text, size_t length)
-{
-    static const char of_words[] = "ABCDEFGHIJKLMNOPQRSTUVWXYZabcdefghijklmnopqrstuvwxyz0123456789_";
-    size_t at = 0;
-    while (at < length && text[at] != '\0' && strchr(of_words, text[at]) != NULL) {
-        at++;
-    }
-    return at;
-}
-
-size_t key_column(const char *schema, size_t length, size_t table)
-{
-    static const char primary[] = "PRIMARY";
-    size_t at, size, opened = 0, column = 0, word = 0;
-    for (at = 0; at < length; at += size) {
-        size = word_length(schema + at, length - at);
-        if (size > 0) {
-            bool is_mark = opened == table + 1 && word++ >= 2;
-            if (is_mark && size == sizeof primary - 1 && sqlite3_strnicmp(schema + at, primary, (int)size) == 0) {
-                return column;
-            }
-            continue;
-        }
-        size = 1;
-        if (schema[at] == '-') {
-            while (at + size < length && schema[at + size] != '\n') {
-                size++;
-            }
-        } else if (schema[at] == '(' || schema[at] == ',') {
-            opened += schema[at] == '(';
-            column = schema[at] == '(' ? 0 : column + 1;
-            word = 0;
-        }
-    }
-    return 0;
 }

@@ -63,19 +63,10 @@ struct text *text_at(const struct rows *rows, const char *address);
 /* Makes room for so many items more. */
 bool has_room(void **items, size_t size, size_t count, size_t more, size_t *room);
 
-/* Takes the names and types of a table's columns from an open database. */
+/* Takes the names and types of a table's columns from an open database, and which of them is the key. */
 int name_columns(struct rows *rows, sfq_database *database, size_t table);
 
 /* Takes all rows from a database in which the table is loaded, and whose columns are named. They are to be freed in any case. */
 int take_rows(struct rows *rows, sfq_database *database, size_t table);
-
-/* How many bytes of the front of a text are of a word. */
-size_t word_length(const char *text, size_t length);
-
-/*
- * The number of the column that has PRIMARY KEY in a table with this number, of a schema that sfq_open takes: in it a column is a
- * name, a type, and then the marks NOT NULL and PRIMARY KEY. No call of the library says it.
- */
-size_t key_column(const char *schema, size_t length, size_t table);
 
 #endif

@@ -6,6 +6,17 @@
 /* The first version in whose source a table on the left of an outer join was seen to be offered no relation of ON. */
 #define OFFERS_NO_ON 3053004
 
+/* How many bytes of the front of a text of SQLite are of a word. */
+static size_t word_length(const char *text, size_t length)
+{
+    static const char of_words[] = "ABCDEFGHIJKLMNOPQRSTUVWXYZabcdefghijklmnopqrstuvwxyz0123456789_";
+    size_t at = 0;
+    while (at < length && strchr(of_words, text[at]) != NULL) {
+        at++;
+    }
+    return at;
+}
+
 /* Whether a text has a word without which no outer join is written. It may be a name or a part of a literal too. */
 static bool has_outer_word(const char *sql)
 {

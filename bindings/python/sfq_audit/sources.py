@@ -3,7 +3,6 @@ from __future__ import annotations
 
 import csv
 import os
-import re
 import shutil
 import sqlite3
 import subprocess
@@ -15,6 +14,7 @@ from typing import Iterable, Iterator
 from sfq.commands.endings import DATA, FILES, MISSING, Stopped, say
 from sfq.commands.streams import standard_input
 from sfq.geometry import texts
+from sfq.geometry.shapes import Geometry
 
 from .asking import LACKING, environment
 from .families import Pair
@@ -123,13 +123,8 @@ def placed(source: str, grid: str) -> list[Placed]:
                 with open(f"{room}/tables/{name}", encoding="utf-8", newline="") as file:
                     for row in csv.reader(file):
                         # The geometry is the last column.
-                        if "(" in row[-1] and row[-1].partition("(")[0].strip().upper() in texts.OF_WORD:
-                            found.append(bounded(row[-1]))
+                        is_geometry = row[-1].partition("(")[0].strip().upper() in texts.OF_WORD
+                        bounds = Geometry(row[-1]).bounds if is_geometry else None
+                        if bounds:
+                            found.append((bounds[0], bounds[2], bounds[1], bounds[3], row[-1]))
         return found
-
-
-def bounded(text: str) -> Placed:
-    """Returns a text that sfq takes, with its envelope."""
-    numbers = [int(it) for it in re.findall(r"-?\d+", text)]
-    xs, ys = numbers[::2], numbers[1::2]
-    return min(xs), max(xs), min(ys), max(ys), text
