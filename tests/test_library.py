@@ -445,6 +445,18 @@ class Library(PlayedCalls, WithLibrary):
         self.assertEqual(ran.returncode, 0, ran.stdout)
         self.assertIn(" 0 differ", ran.stdout)
 
+    def test_the_memory_of_an_index_and_of_a_search(self):
+        program = self.program("memory", *SHARED, of=["memory"])
+        for count in (0, 1, 64, 65, 1_000, 65_537):
+            with self.subTest(count=count):
+                ran = subprocess.run([program, str(count)], capture_output=True, text=True, check=True)
+                built, kept, searched = map(int, ran.stdout.split())
+                # What LIBRARY says, and a page for what an index has at any size.
+                self.assertLessEqual(built, 112 * count + 4_096)
+                self.assertLessEqual(kept, 28 * count + 4_096)
+                self.assertLessEqual(searched, max(512, 24 * count))
+                self.assertGreaterEqual(searched, max(512, 8 * count))
+
     @needs("libc6-dev", "nm")
     def test_only_the_calls_of_the_header_can_be_seen(self):
         for words in (["nm", "-D", "--defined-only", library.SHARED], ["nm", "-g", "--defined-only", f"{library.OUT}/libsfq.a"]):
