@@ -22,6 +22,7 @@ pub mod ScanLemmas
 mod StepLemmas
 mod CountLemmas
 mod EqualGroupLemmas
+mod RowRunLemmas
 mod TurnLemmas
 mod ValueLemmas
 mod WalkedPlanLemmas

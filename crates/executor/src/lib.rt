@@ -17,6 +17,7 @@ mod paused_rows;
 mod places;
 mod referenced_tables;
 pub mod row_pairs;
+mod row_runs;
 mod stages;
 mod steps;
 mod value_order;

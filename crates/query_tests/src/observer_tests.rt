@@ -188,6 +188,18 @@ fn pairs_of_equal_rows_are_reported_together(rt: HostRuntime) -> Result<(), Fail
 }
 
 #[test]
+fn pairs_in_an_order_are_reported_together(rt: HostRuntime) -> Result<(), Fail> {
+    let counted = reported(
+        rt.alloc(),
+        "SELECT COUNT(*) FROM halves a, halves b WHERE a.n < b.n",
+    )?;
+    assert!(rt; counted.count.candidates == 1120 && counted.count.rows == 1024);
+    assert!(rt; counted.count.first_left == 63 && counted.count.last_left == 0);
+    assert!(rt; counted.reports.get() == 128);
+    Ok(())
+}
+
+#[test]
 fn the_first_pairs_are_found_without_the_others(rt: HostRuntime) -> Result<(), Fail> {
     let first = observed(rt.alloc(), "SELECT a.id, b.id FROM many a, few b LIMIT 3")?;
     assert!(rt; first.candidates == 3 && first.rows == 3);

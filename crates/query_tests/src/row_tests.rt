@@ -46,6 +46,8 @@ const JOINED: &str =
 const EQUAL_DIMENSIONS: &str = "SELECT COUNT(*) FROM big a JOIN big b \
     ON ST_Dimension(a.geom) = ST_Dimension(b.geom)";
 
+const ASCENDING_KEYS: &str = "SELECT COUNT(*) FROM big a JOIN big b ON a.id < b.id";
+
 /// Adds the way in which the rows of a reference are found to a text.
 fn write_access(text: &mut String, access: &Access) -> Result<(), AllocError> {
     let reference = access.reference;
@@ -398,15 +400,28 @@ fn counted_by_looks(
     Ok(counted(alloc, database, bound, &plan, 1)?)
 }
 
-/// Pairs of equal rows are counted together: there are 10,000, and `counted` makes at most 1,000 looks.
+/// The number of pairs that a query over 100 points counts, and the work after the last, by at most 1,000 steps of one look.
+fn counted_of_points(alloc: Global, text: &str) -> Result<(usize, u64), Fail> {
+    let points = points_up_to(alloc, 100)?;
+    let schema = read_schema(alloc, POINTS_SCHEMA.as_bytes())?;
+    let database = database_of(alloc, &schema, &[points.as_bytes()])?;
+    let query = read_query(alloc, text)?;
+    let bound = bind(alloc, &query, &database)?;
+    counted_by_looks(alloc, &database, &bound)
+}
+
+/// Pairs of equal rows are counted together: there are 10,000.
 #[test]
 fn pairs_of_equal_rows_are_counted_together(rt: HostRuntime) -> Result<(), Fail> {
-    let points = points_up_to(rt.alloc(), 100)?;
-    let schema = read_schema(rt.alloc(), POINTS_SCHEMA.as_bytes())?;
-    let database = database_of(rt.alloc(), &schema, &[points.as_bytes()])?;
-    let query = read_query(rt.alloc(), EQUAL_DIMENSIONS)?;
-    let bound = bind(rt.alloc(), &query, &database)?;
-    let counted = counted_by_looks(rt.alloc(), &database, &bound)?;
+    let counted = counted_of_points(rt.alloc(), EQUAL_DIMENSIONS)?;
     assert!(rt; counted == (10_000, 0));
+    Ok(())
+}
+
+/// Pairs of rows in an order are counted together: there are 4,950.
+#[test]
+fn pairs_in_an_order_are_counted_together(rt: HostRuntime) -> Result<(), Fail> {
+    let counted = counted_of_points(rt.alloc(), ASCENDING_KEYS)?;
+    assert!(rt; counted == (4_950, 0));
     Ok(())
 }
