@@ -23,6 +23,8 @@ mod StepLemmas
 mod CountLemmas
 mod EqualGroupLemmas
 mod RowRunLemmas
+mod KeyRangeLemmas
+mod RangePartnerLemmas
 mod TurnLemmas
 mod ValueLemmas
 mod WalkedPlanLemmas

@@ -9,6 +9,7 @@ mod execution;
 mod found_pairs;
 mod inner_rows;
 mod iteration;
+mod key_ranges;
 mod keys;
 mod order_keys;
 mod orders;
