@@ -136,7 +136,7 @@ class Refused(unittest.TestCase):
             self.refused("bindings/one.py", f'ONE = r"{code}"\n', 1, instead)
             self.assertEqual(self.found("tests/one.py", f'ONE = r"{code}"\n'), (0, []))
         # The name of a type is no reading of a text.
-        self.assertEqual(self.found("bindings/one.py", "ONE = text.partition('(')[0]\n"), (0, []))
+        self.assertEqual(self.found("bindings/one.py", "ONE = 'POINT(1 2)'.partition('(')[0]\n"), (0, []))
 
     def test_code_that_rounds_or_takes_a_binary_form_apart(self):
         for code, instead in (
