@@ -97,6 +97,12 @@ def held(is_last: bool = False) -> Iterator[None]:
         signal.pthread_sigmask(signal.SIG_SETMASK, before)
 
 
+def too_late() -> None:
+    """Has signals that end the command be too late from now on: what it is to do is done. It is called by the main thread."""
+    for it in (signal.SIGINT, *SAID):
+        signal.signal(it, signal.SIG_IGN)
+
+
 def ended(name: str, run: Callable[[], int], of_files: tuple[type[Exception], ...] = (OSError,)) -> int:
     """Runs a command, and returns its status. Where it ends early a line says why. `of_files` is what files raise."""
     ending: tuple[type[BaseException], ...] = (Stopped, MemoryError, KeyboardInterrupt, Signalled, *of_files)

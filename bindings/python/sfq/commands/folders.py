@@ -22,7 +22,7 @@ from ..geometry import grids
 from ..layers import systems
 from ..tables import parts, rules, statements
 from . import outputs
-from .endings import DATA, FILES, USAGE, Stopped, held
+from .endings import DATA, FILES, USAGE, Stopped, held, too_late
 
 # The file of the pairs whose relation rounding changed. No table has its name.
 CHANGED = "changed-relations.csv"
@@ -137,8 +137,9 @@ class Folder:
             os.remove(path)
         return path
 
-    def put(self) -> None:
-        """Has the room take the place of the folder, in one step, which a signal comes before or is too late for."""
+    def put(self, is_last: bool = False) -> None:
+        """Has the room take the place of the folder, in one step, which a signal comes before or is too late for. `is_last` says that all
+        signals behind it are too late, as nothing is to be done then."""
         self.sync()
         os.chmod(self.room, self.mode)
         with held(is_last=True):
@@ -153,6 +154,8 @@ class Folder:
                         raise
                     raise Stopped(f"{self.name} was made by another meanwhile", FILES) from None
             self.room = ""
+            if is_last:
+                too_late()
 
     def sync(self) -> None:
         """Waits until the files that are new are on the disk: those that stay are links to files that were there before."""
