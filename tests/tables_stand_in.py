@@ -217,6 +217,12 @@ class Calls:
         found = self.value(number, column)
         return NONE if found is None else self.write(found, *room)
 
+    def sfq_row_text(self, _database, number, *room):
+        fields = ["" if (it := self.value(number, column)) is None else str(it) for column in range(len(self.statements[number].columns))]
+        text = io.StringIO()
+        csv.writer(text, lineterminator="\n").writerow(fields)
+        return self.write(text.getvalue(), *room)
+
     def sfq_work(self, _database, number, work):
         return self.number(work, self.statements[number].at)
 

@@ -2,6 +2,7 @@
 from __future__ import annotations
 
 import collections.abc
+import csv
 import os
 import re
 import shutil
@@ -106,7 +107,10 @@ class Asker:
         finally:
             progress.clear()
         headers = [it for it, _ in statement.columns]
-        return Answer(headers, statements.types(headers, query, self.tables), self.rows(statement), statements.is_plan(query))
+        is_plan = statements.is_plan(query)
+        if not is_plan:
+            statement.as_records()
+        return Answer(headers, statements.types(headers, query, self.tables), self.rows(statement, is_plan), is_plan)
 
     def large(self, query: str) -> list[str]:
         """Returns the tables that a query names, that aren't loaded yet, and that take some time."""
@@ -114,13 +118,17 @@ class Asker:
         return [name for name, path in named.items() if name in self.database.tables and os.path.isfile(path)
                 and os.path.getsize(path) > LARGE and not self.database.is_loaded(self.database.tables.index(name))]
 
-    def rows(self, statement: databases.Statement) -> Iterator[list[str]]:
-        """Returns the rows of a statement."""
+    def rows(self, statement: databases.Statement, is_plan: bool) -> Iterator[list[str]]:
+        """Returns the rows of a statement: lines of a plan, or records of CSV."""
         try:
             # The first row comes as soon as it is found.
             most, found = 1, statement.take(1)
             while found:
-                yield from (["" if it is None else str(it) for it in row] for row in found)
+                if is_plan:
+                    yield from map(list, found)
+                else:
+                    # Nothing is in the record of one NULL.
+                    yield from (it or [""] for it in csv.reader(line for line, in found))
                 most = min(2 * most, MOST_AT_ONCE)
                 found = statement.take(most)
         except MemoryError:

@@ -1,7 +1,7 @@
 """Writes an answer as a GeoPackage, by GDAL. None of it is proved."""
 from __future__ import annotations
 
-from typing import Any, Callable
+from typing import Any, Callable, NamedTuple
 
 from ..geometry import texts
 from ..layers import reading, systems
@@ -68,26 +68,41 @@ class Writer:
         """Writes the columns and the rows, and returns how many rows there are."""
         setters, count = [self.setter(layer, at) for at in range(len(self.names))], 0
         source.StartTransaction()
+        # One feature serves all rows: making one takes as long as writing it. `before` says which of its fields are set.
+        feature, before = self.found.ogr.Feature(layer.GetLayerDefn()), [""] * len(self.names)
+        create, set_fid = layer.CreateFeature, feature.SetFID
         for fields in self.returned.shown().rows:
-            feature = self.found.ogr.Feature(layer.GetLayerDefn())
-            for sets, text in zip(setters, fields):
+            for setter, text, old in zip(setters, fields, before):
                 if text:
-                    sets(feature, text)
-            layer.CreateFeature(feature)
+                    setter.sets(feature, text)
+                elif old:
+                    setter.unsets(feature)
+            set_fid(-1)
+            create(feature)
+            before = fields
             count += 1
         source.CommitTransaction()
         return count
 
-    def setter(self, layer: Any, at: int) -> Callable[[Any, str], Any]:
+    def setter(self, layer: Any, at: int) -> Setter:
         """Makes the column at a place, and returns what sets a field of it."""
         ogr, kind = self.found.ogr, self.returned.columns[at].kind
         if at == self.returned.place:
-            return lambda feature, text: feature.SetGeometryDirectly(ogr.CreateGeometryFromWkt(text))
+            return Setter(lambda it, text: it.SetGeometryDirectly(ogr.CreateGeometryFromWkt(text)), lambda it: it.SetGeometry(None))
         number = layer.GetLayerDefn().GetFieldCount()
         layer.CreateField(ogr.FieldDefn(self.names[at], {"INTEGER": ogr.OFTInteger64, "REAL": ogr.OFTReal}.get(kind, ogr.OFTString)))
-        if kind == "INTEGER":
-            return lambda feature, text: feature.SetFieldInteger64(number, int(text))
-        return lambda feature, text: feature.SetField(number, float(text) if kind == "REAL" else text)
+        feature = ogr.Feature
+        ways: dict[str, tuple[str, Callable[[str], Any]]] = {"INTEGER": ("SetFieldInteger64", int), "REAL": ("SetFieldDouble", float)}
+        name, of = ways.get(kind, ("SetFieldString", str))
+        sets = getattr(feature, name, feature.SetField)
+        return Setter(lambda it, text: sets(it, number, of(text)), lambda it: it.UnsetField(number))
+
+
+class Setter(NamedTuple):
+    """What sets a field of a feature to a text that isn't empty, and what has it be unset."""
+
+    sets: Callable[[Any, str], Any]
+    unsets: Callable[[Any], Any]
 
 
 def unique(names: list[str]) -> list[str]:

@@ -194,6 +194,11 @@ def boxes(folder: units.Folder, layer: units.Layer) -> Iterator[Box]:
         columns = [at for at, it in enumerate(next(rows, [])) if it in places]
         for row in rows:
             for at in columns:
-                numbers = list(map(int, NUMBER.findall(row[at]))) if at < len(row) else []
+                text = row[at] if at < len(row) else ""
+                if text.startswith("POINT("):
+                    x, _, y = text[6:-1].partition(" ")
+                    yield int(x), int(y), int(x), int(y)
+                    continue
+                numbers = list(map(int, NUMBER.findall(text)))
                 if numbers:
                     yield min(numbers[0::2]), min(numbers[1::2]), max(numbers[0::2]), max(numbers[1::2])

@@ -12,12 +12,12 @@ import functools
 import heapq
 import itertools
 import sys
-from typing import Callable, Iterator, NamedTuple, Optional
+from typing import Callable, Collection, Iterator, NamedTuple, Optional, Sequence
 
 from ..geometry import matrices
 from ..geometry.shapes import Geometry
 from ..layers import rejoining
-from ..tables import databases, parts, statements
+from ..tables import databases, parts, rules, statements
 from . import exports, stretches, units, wholes
 from .asking import Answer
 from .conditions import OF_PARTS, PREDICATES, Conditions
@@ -26,6 +26,8 @@ from .progress import Progress
 
 # How many single geometries are kept in memory for further pairs.
 KEPT = 4_096
+# How many records a query of candidates names at most.
+FEW = 200
 
 
 class Uncovered(Exception):
@@ -255,15 +257,21 @@ class Query:
 
     # ---- what sfq is asked ----
 
-    def text(self, is_of_candidates: bool) -> str:
-        """Returns the query whose rows begin with the keys of the records: as it is, or that of the candidates."""
+    def text(self, is_of_candidates: bool, parted: Sequence[Collection[str]] = ()) -> str:
+        """Returns the query whose rows begin with the keys of the records: as it is, or that of the candidates.
+
+        `parted` has the records of each table that are several rows: if they are few, the candidates are rows of them alone.
+        """
+        some = [f"{it.alias}.{it.whole} = {key}" for it, its in zip(self.sources, parted) for key in its if it.whole]
+        few = f" AND ({' OR '.join(some)})" if 0 < len(some) <= FEW and all(map(rules.WHOLE.fullmatch, (it.rpartition(" ")[2] for it in some))) else ""
         keys = [key for it in self.sources for key in it.keys]
         found = [f"SELECT {', '.join([*keys, *([self.items] if self.items else [])])} "]
         at = self.tokens[self.given.begin].at
         for it in self.conditions if is_of_candidates else ():
             key = self.sources[0].keys[0]
             instead = f"ST_Intersects({it.arguments[0].written}, {it.arguments[1].written})" if it is self.driver else f"{key} = {key}"
-            found += [self.query[at : self.tokens[it.first].at], instead]
+            found += [self.query[at : self.tokens[it.first].at], instead + few]
+            few = ""
             at = self.tokens[it.end - 1].end
         end = self.tokens[self.end].at if self.end < len(self.tokens) else len(self.query)
         return "".join(found) + self.query[at:end]
@@ -311,6 +319,7 @@ class Run:
         for it in query.sources:
             if it.whole and it.table not in self.parted:
                 self.parted[it.table] = {whole.key: whole for whole in wholes.wholes(query.folder, it.layer) or ()}
+        self.of_sources = [self.parted.get(it.table, {}) for it in query.sources]
         # The texts of geometries of records that are one row.
         self.single: dict[Handle, str] = {}
         self.figure = functools.lru_cache(maxsize=KEPT)(lambda it: rejoining.figure(self.text(it)))
@@ -333,31 +342,33 @@ class Run:
 
     def shown(self, row: Row) -> list[str]:
         """Returns the fields of a row: of a record that is several rows the geometry that they are together."""
+        if not self.has_parts(row):
+            return row.items
         return [field if number is None or not self.is_parted(number, row.records[number]) else self.text_of_whole(number, row.records[number])
                 for field, number in zip(row.items, self.query.shown)]
 
     def of(self, answer: Answer) -> Iterator[Row]:
         """Yields the rows of an answer of sfq."""
+        keys, records, at = [], [], 0
+        for it in self.query.sources:
+            keys.append(at)
+            records.append(at + 1 if it.whole else at)
+            at += len(it.keys)
         for fields in answer.rows:
-            rank, records, at = [], [], 0
-            for it in self.query.sources:
-                rank.append(int(fields[at]))
-                records.append(fields[at + 1] if it.whole else fields[at])
-                at += len(it.keys)
-            yield Row(tuple(rank), tuple(records), fields[at:])
+            yield Row(tuple([int(fields[it]) for it in keys]), tuple([fields[it] for it in records]), fields[at:])
 
     def is_parted(self, number: int, record: str) -> bool:
         """Whether a record of a table is several rows."""
-        return number >= 0 and record in self.parted.get(self.query.sources[number].table, ())
+        return number >= 0 and record in self.of_sources[number]
 
     def has_parts(self, row: Row) -> bool:
         """Whether one of the records of a row is several rows."""
-        return any(self.is_parted(*it) for it in enumerate(row.records))
+        return any([record in its for its, record in zip(self.of_sources, row.records)])
 
     def of_wholes(self) -> Iterator[Row]:
         """Yields the rows with records that are several, in the order of the keys, each once."""
         found: dict[Records, Row] = {}
-        for it in self.of(self.run(self.query.text(True))):
+        for it in self.of(self.run(self.query.text(True, self.of_sources))):
             if self.has_parts(it):
                 found.setdefault(it.records, it)
         rows = sorted(it._replace(rank=self.rank(it)) for it in found.values())

@@ -111,6 +111,9 @@ class Folder:
     def text(self, field: str) -> str:
         """Returns the text of a geometry with the coordinates of the source."""
         x, y = self.grid.x.text, self.grid.y.text
+        if field.startswith("POINT("):
+            first, _, second = field[6:-1].partition(" ")
+            return f"POINT({x(int(first))} {y(int(second))})"
         return POSITION.sub(lambda it: f"{x(int(it[1]))} {y(int(it[2]))}", field)
 
 
@@ -120,10 +123,16 @@ class Returned:
     def __init__(self, answer: Answer, columns: list[Column], grid: grids.Grid) -> None:
         self.answer, self.columns, self.grid, self.headers = answer, columns, grid, answer.headers
         self.place = next((at for at, it in enumerate(columns) if it.kind in exports.GEOMETRIC), None)
+        # The columns whose fields are written in another way than sfq writes them.
+        self.others = [(at, it.write) for at, it in enumerate(columns) if it.write is not str]
 
     def fields(self, row: list[str]) -> list[str]:
         """Returns the fields of a row."""
-        return [column.write(it) if it else "" for column, it in zip(self.columns, row)]
+        found = row[:]
+        for at, write in self.others:
+            if found[at]:
+                found[at] = write(found[at])
+        return found
 
     def rows(self) -> Iterator[exports.Row]:
         """Returns the rows, each with its geometry on the grid."""

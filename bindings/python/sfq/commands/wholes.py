@@ -68,19 +68,24 @@ def say_the_same(folder: units.Folder, name: str, layers: Sequence[units.Layer],
         return False
     for at, layer in enumerate(layers):
         found = wholes(folder, layer) if layer.has_parts else []
-        others: Iterable[Box] = left_out.boxes(folder, layers[1 - at]) if not constants else of_text(constants[0], folder)
-        if found is None or not all(takes(it, other) for other in (others if found else ()) for it in found):
+        if found is None:
+            return False
+        others: list[Box] = list(left_out.boxes(folder, layers[1 - at]) if not constants else of_text(constants[0], folder)) if found else []
+        if not all(takes(it, other) for it in found for other in meeting(it.box, others)):
             return False
         if any(is_on_cut(it) for it in found if it.points):
             return False
     return True
 
 
+def meeting(box: Box, others: Sequence[Box]) -> list[Box]:
+    """Returns the envelopes that meet one."""
+    left, low, right, high = box
+    return [it for it in others if it[0] <= right and it[2] >= left and it[1] <= high and it[3] >= low]
+
+
 def takes(whole: Whole, other: Box) -> bool:
-    """Whether a geometry with this envelope doesn't meet a record, or is a point, which the record keeps."""
-    left, low, right, high = whole.box
-    if other[0] > right or other[2] < left or other[1] > high or other[3] < low:
-        return True
+    """Whether a geometry whose envelope meets that of a record is a point, which the record keeps."""
     if other[0] < other[2] or other[1] < other[3]:
         return False
     whole.points.append((int(other[0]), int(other[1])))

@@ -105,7 +105,7 @@ KINDS: dict[str, list[Any]] = {
 CALLS = {
     "close": "", "table_count": "S", "table_name": "nr", "table_columns": "nS", "table_column": "nnrT", "is_loaded": "nB",
     "load": "nbF", "load_file": "npF", "prepare": "bSF", "step": "nm", "reset": "n", "columns": "nS", "column_name": "nnr",
-    "column_type": "nnT", "column_integer": "nnI", "column_text": "nnr", "work": "nW", "plan_text": "nr", "finalize": "n",
+    "column_type": "nnT", "column_integer": "nnI", "column_text": "nnr", "row_text": "nr", "work": "nW", "plan_text": "nr", "finalize": "n",
     "column_form": "nnC", "reference": "nnrS", "column_origin": "nnO", "query": "nQ", "conjunct": "nnJ", "operands": "nA",
 }
 # Calls that a library may lack: without them a query is prepared anew for other values.
@@ -385,6 +385,7 @@ class Statement:
         self.generation, self.number = -1, -1
         self.room, self.given, self.candidates, self.is_over = Room(), 0, FIRST_CANDIDATES, False
         self.bound: list[Bound] = []
+        self.gives_records = False
         # Under what it is found again when the same query is executed.
         self.key: Any = None
         # The types of the constants, from the left.
@@ -413,7 +414,12 @@ class Statement:
         self.generation = self.database.generation
         self.columns = self._columns()
         readers = {"INTEGER": self._integer, "TEXT": self._text, "GEOMETRY": self._geometry}
-        self.readers = [readers[kind](column) for column, (_, kind) in enumerate(self.columns)]
+        self.readers = [self._record()] if self.gives_records else [readers[kind](column) for column, (_, kind) in enumerate(self.columns)]
+
+    @held_by(OF_STATEMENT)
+    def as_records(self) -> None:
+        """Has each row be one text from now on: a record of CSV with its line end, as `run` writes it."""
+        self.gives_records, self.readers = True, [self._record()]
 
     def _columns(self) -> list[tuple[str, str]]:
         """Returns the name, as in the header of `run`, and the type of each column."""
@@ -550,6 +556,11 @@ class Statement:
         """Returns what reads a text of the row, or None where it is NULL."""
         text, call, it, number = self.room.text, self.database.calls.sfq_column_text, self.database.it, self.number
         return lambda: text(call, it, number, column)
+
+    def _record(self) -> Callable[[], Any]:
+        """Returns what reads the row as a record of CSV."""
+        text, call, it, number = self.room.text, self.database.calls.sfq_row_text, self.database.it, self.number
+        return lambda: text(call, it, number)
 
     def _geometry(self, column: int) -> Callable[[], Any]:
         """Returns what makes a geometry of the row, or None where it is NULL."""
