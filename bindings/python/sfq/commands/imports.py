@@ -25,7 +25,7 @@ from ..layers import proposing, reading, snapping, systems
 from ..tables import rules
 from . import changes, checking, endings, folders, left_out, rejects, reports, stepping
 from .endings import DATA, DONE, MISSING, USAGE, Stopped
-from .passes import HasParts, Key, Means, NotAscending, Pass, type_of, written_as_multi
+from .passes import Again, HasParts, Key, Means, NotAscending, Pass, type_of, written_as_multi
 
 NAME = "sfq-import"
 # The step or the origin that is to be proposed.
@@ -159,6 +159,8 @@ class Import:
                 try:
                     found.run()
                     break
+                except Again:
+                    continue
                 except NotAscending:
                     key = self.next_key(layer)
                 except HasParts:
@@ -398,8 +400,8 @@ def made(layers: Sequence[reading.Layer], names: Sequence[str], means: Means, fo
     return work, said
 
 
-def imported(sources: Sequence[str], folder: folders.Folder, options: Options, means: tuple[str, Say]) -> Imported:
-    """Imports sources into a folder, which takes its place at the end."""
+def imported(sources: Sequence[str], folder: folders.Folder, options: Options, means: tuple[str, Say], is_last: bool) -> Imported:
+    """Imports sources into a folder, which takes its place at the end. `is_last` says that a signal behind that is too late."""
     (name, say), found = means, reading.modules()
     with reading.warnings_said(found, say):
         checking.Checker()
@@ -423,7 +425,7 @@ def imported(sources: Sequence[str], folder: folders.Folder, options: Options, m
             stepping.need_fine(work.broken, shaped, grid.grid, say, options.takes_anyway)
         if options.changed:
             changes.as_layer(found, work.compared, system, options.changed)
-        folder.put()
+        folder.put(is_last)
         return Imported(work.means.grid, work.layers)
 
 
@@ -438,12 +440,13 @@ def shown_steps(sources: Sequence[str], options: Options, name: str, say: Say) -
 
 
 def import_sources(
-    sources: Sequence[str], out: str, options: Options = Options(), name: str = NAME, say: Optional[Say] = None,
+    sources: Sequence[str], out: str, options: Options = Options(), name: str = NAME, say: Optional[Say] = None, is_last: bool = False,
 ) -> Imported:
     """Imports sources into one folder, which is new, or one that an import made and that gets more tables.
 
     The folder is there as a whole at the end, or is as it was. What there is to say goes to `say`, by default a line each on standard
-    error that begins with `name`, as the line of progress does. Stopped, with the status that a command would end with, where an option
+    error that begins with `name`, as the line of progress does. `is_last` says that nothing is done behind it: signals are too late then, once
+    the folder is there. Stopped, with the status that a command would end with, where an option
     is wrong, or what it needs isn't there; OSError and RuntimeError where a file can't be read or written.
     """
     try:
@@ -454,7 +457,7 @@ def import_sources(
         need_apart(sources)
         folder = folders.Folder(out)
         with contextlib.closing(folder):
-            return imported(sources, folder, options, (name, say or functools.partial(endings.say, name)))
+            return imported(sources, folder, options, (name, say or functools.partial(endings.say, name)), is_last)
     except (reading.Missing, LibraryError) as error:
         raise Stopped(str(error).removeprefix("sfq: "), MISSING) from None
 
@@ -593,7 +596,7 @@ def run(given: argparse.Namespace, options: Options) -> int:
         except (reading.Missing, LibraryError) as error:
             raise Stopped(str(error).removeprefix("sfq: "), MISSING) from None
         return DONE
-    found = import_sources(given.source, given.out, options)
+    found = import_sources(given.source, given.out, options, is_last=True)
     if not given.allow_empty and not found.count("rows"):
         why = f"{given.out}/left-out.csv says why" if found.count("records") else "the source has none"
         raise Stopped(f"no record was kept: {why}; --allow-empty takes that", DATA)

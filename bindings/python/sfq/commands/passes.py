@@ -2,18 +2,19 @@
 from __future__ import annotations
 
 import csv
+import functools
 import os
 import re
 import sys
 from collections import Counter
-from typing import Any, Callable, Mapping, NamedTuple, Optional, Sequence
+from typing import Any, Callable, Iterator, Mapping, NamedTuple, Optional, Sequence
 
 from ..geometry import binary, grids
 from ..geometry.faults import MEANINGS
-from ..layers import parting, proposing, reading, relating, snapping, touching
+from ..layers import batches, parting, proposing, reading, relating, snapping, touching
 from ..layers.columns import Refused
 from ..tables import rules
-from . import checking, left_out, rejects
+from . import batched, checking, left_out, rejects
 from .endings import DATA, Stopped
 from .progress import Progress
 
@@ -35,6 +36,10 @@ class NotAscending(Exception):
 
 class HasParts(Exception):
     """A record has to be parted, and its table has no columns for that."""
+
+
+class Again(Exception):
+    """The records have to be read anew, one by one."""
 
 
 class Record:
@@ -151,54 +156,80 @@ class Pass:
         return self.layer.whole(self.layer.described.GetFieldIndex(self.key.source)) if self.key.source else None
 
     def run(self) -> None:
-        """Reads all records. NotAscending where the key hasn't been looked at and doesn't ascend."""
+        """Reads all records. NotAscending where the key hasn't been looked at and doesn't ascend, Again where they have to be read one by one."""
         progress, total = Progress(self.means.name, wait=0.5), self.layer.count()
         of = f" of {total:,}" if total >= 0 else ""
-        self.table.write(",".join(it.name for it in self.columns).encode() + b"\n")
-        batch, size = [], 0
         try:
-            for feature in self.layer:
-                self.records += 1
-                record = self.taken(feature, feature.GetFID())
-                batch.append(record)
-                for text in record.texts:
-                    size += len(text) if text else 0
-                if size > BATCH_SIZE or len(batch) == BATCH:
-                    self.write(batch)
-                    batch, size = [], 0
-                    progress.show(f"{self.layer.label} {self.records:,}{of}")
-            self.write(batch)
+            way: Iterator[int] = batched.Batched(self).run()
+        except batches.NotInColumns:
+            way = self.singly()
+        self.table.write(",".join(it.name for it in self.columns).encode() + b"\n")
+        try:
+            for count in way:
+                progress.show(f"{self.layer.label} {count:,}{of}")
+        except batches.NotInColumns:
+            self.layer.is_single = True
+            raise Again() from None
         finally:
             progress.clear()
+
+    def singly(self) -> Iterator[int]:
+        """Takes all records, which are read one by one, and yields how many there are so far."""
+        batch, size = [], 0
+        for feature in self.layer:
+            self.records += 1
+            record = self.taken(feature, feature.GetFID())
+            batch.append(record)
+            for text in record.texts:
+                size += len(text) if text else 0
+            if size > BATCH_SIZE or len(batch) == BATCH:
+                self.write(batch)
+                batch, size = [], 0
+                yield self.records
+        self.write(batch)
+
+    def need_ascending(self, fids: Sequence[int]) -> None:
+        """NotAscending where the FIDs of some records can't be keys and haven't been looked at: none is less than 0, or than one before it."""
+        if self.key.is_checked:
+            return
+        for fid in fids:
+            if fid < 0 or fid <= self.last_key:
+                raise NotAscending()
+            self.last_key = fid
 
     def taken(self, feature: Any, fid: int) -> Record:
         """Returns the record of a feature, its geometries not yet checked."""
         key = self.key_of(feature) if self.key_of else fid
-        if not self.key.is_checked:
-            if fid < 0 or fid <= self.last_key:
-                raise NotAscending()
-            self.last_key = fid
-        fields = [str(key)]
-        record = Record(self.records, fid, fields, [])
+        self.need_ascending((fid,))
+        record = self.new_record(fid, [str(key)])
+        fields = record.fields
         try:
             for read in self.readers:
                 fields.append(read(feature))
         except Refused as it:
             record.reasons, record.fields = (("", str(it)),), []
         for at, read in enumerate(self.takes):
-            try:
-                geometry = read(feature)
-                if geometry is None:
-                    record.texts.append(None)
-                    record.sources.append(None)
-                else:
-                    record.texts.append(self.text(geometry, record, at))
-            except Refused as it:
-                if record.fields or record.texts:
-                    record.reasons += ((self.column(at), str(it)),)
-                record.texts.append(None)
-                record.fields = []
+            self.take_shape(record, at, functools.partial(read, feature))
         return record
+
+    def new_record(self, fid: int, fields: list[str]) -> Record:
+        """Returns the last record, without geometries."""
+        return Record(self.records, fid, fields, [])
+
+    def take_shape(self, record: Record, at: int, read: Callable[[], Any]) -> None:
+        """Has a record have the text of the geometry that `read` returns, or what it is refused for."""
+        try:
+            geometry = read()
+            if geometry is None:
+                record.texts.append(None)
+                record.sources.append(None)
+            else:
+                record.texts.append(self.text(geometry, record, at))
+        except Refused as it:
+            if record.fields or record.texts:
+                record.reasons += ((self.column(at), str(it)),)
+            record.texts.append(None)
+            record.fields = []
 
     def column(self, at: int) -> str:
         """Returns what a reason begins with: the column, where a layer has several geometries."""
@@ -268,6 +299,10 @@ class Pass:
         for its, source, text in zip(members, record.sources, record.texts):
             if source and text and not text.endswith("EMPTY"):
                 its.append(relating.Member(record.fields[0], source[0], checking.Asked(text), source[1], self.means.grid))
+        self.need_few()
+
+    def need_few(self) -> None:
+        """Has no relations be compared of a table of too many rows."""
         if self.kept > rules.MOST_ROWS:
             self.members = None
 

@@ -8,7 +8,7 @@ from ..geometry import grids
 from ..layers import proposing, reading
 from . import changes
 from .endings import DATA, Stopped
-from .passes import Key, Means, Pass
+from .passes import Again, Key, Means, Pass
 
 # How many steps a table has, each so many times as coarse as the one before.
 ROWS, FACTOR = 6, 10
@@ -46,14 +46,24 @@ def tried(layers: Sequence[reading.Layer], means: Means) -> Row:
     refused, records, greatest = 0, 0, 0.0
     tables: list[changes.Table] = []
     for number, it in enumerate(layers):
-        found = Pass(means, it, Key("", True), str(number), (Sink(), Sink()), has_parts=True)
-        found.run()
+        found = ran(means, it, str(number))
         refused, records, greatest = refused + found.records - found.kept, records + found.records, max(greatest, found.shift.greatest)
         tables += changes.tables(it, str(number), found)
     if not means.compares:
         return Row(means.grid, refused, records, greatest, None)
     compared = changes.compared(tables, means.checker, means.modules, means.grid, means.name)
     return Row(means.grid, refused, records, greatest, sum(len(it.found.changes) for it in compared))
+
+
+def ran(means: Means, layer: reading.Layer, name: str) -> Pass:
+    """Returns a pass over a layer that has run, of which nothing is written."""
+    while True:
+        found = Pass(means, layer, Key("", True), name, (Sink(), Sink()), has_parts=True)
+        try:
+            found.run()
+            return found
+        except Again:
+            continue
 
 
 def rows(layers: Sequence[reading.Layer], means: Means, extent: Optional[proposing.Extent]) -> Iterator[Row]:

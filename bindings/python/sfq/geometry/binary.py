@@ -148,7 +148,13 @@ def text(binary: bytes, grid: grids.Grid, shift: grids.Shift, drops_empty: bool 
         grid.measure(xs, ys, ns, ms, shift, count - len(unique))
         return f"MULTIPOINT(({'),('.join('%d %d' % it for it in unique)}))"
     lists = [f"({grids.spelled(grid.merged(*it, shift))})" for it in found.lists()]
-    spelled = [",".join(it) for it in parted(lists, found.elements)]
+    return text_of(word, lists, found.elements)
+
+
+def text_of(word: str, lists: Sequence[str], elements: Iterable[int]) -> str:
+    """Returns the text of a geometry of a type, other than a point with a position and points, by the texts of its lines or rings and by how
+    many of them each element has."""
+    spelled = [",".join(it) for it in parted(lists, elements)]
     if not spelled:
         return f"{word} EMPTY"
     if word == "LINESTRING":

@@ -93,6 +93,9 @@ class Axis:
         value = origin + whole * step
         if not self.digits:
             return str(value)
+        digits = str(value)
+        if len(digits) > self.digits + (value < 0):
+            return f"{digits[:-self.digits]}.{digits[-self.digits:]}"
         sign, digits = "-" if value < 0 else "", str(abs(value)).rjust(self.digits + 1, "0")
         return f"{sign}{digits[:-self.digits]}.{digits[-self.digits:]}"
 
@@ -175,6 +178,23 @@ class Places:
             self.unit = 10**self.places
         self.greatest = max(self.greatest, abs(value))
         self.are_decimal = self.places <= MOST_PLACES and self.greatest * self.unit < 10**MOST_DIGITS
+
+    def add_all(self, values: Any) -> None:
+        """Takes numbers, an array of numpy."""
+        import numpy
+
+        left, few = values, FEW
+        while self.are_decimal and len(left):
+            with numpy.errstate(all="ignore"):
+                left = left[~(numpy.rint(left * self.unit) / self.unit == left)]
+            for it in left[:few].tolist():
+                self.add(it)
+            # The first ones have mostly what all have.
+            self.count, left, few = self.count - len(left[:few]), left[few:], 2 * few
+        if self.are_decimal and len(values):
+            self.count += len(values)
+            self.greatest = max(self.greatest, float(abs(values).max()))
+            self.are_decimal = self.greatest * self.unit < 10**MOST_DIGITS
 
     @property
     def step(self) -> str:
@@ -307,6 +327,14 @@ def moves(positions: Any, grid: Grid, steps: Any = None) -> Any:
         steps = steps_of(positions, grid)
     if steps is None:
         raise NotANumber(INFINITE)
+    past = past_steps(positions, steps, grid)
+    return numpy.hypot(*(past[:, at] * axis.of_doubles[0] for at, axis in enumerate((grid.x, grid.y))))
+
+
+def past_steps(positions: Any, steps: Any, grid: Grid) -> Any:
+    """Returns how many steps each coordinate of positions is past its place, by arrays of numpy: 0 where no doubles are nearer to that."""
+    import numpy
+
     past = numpy.zeros(positions.shape)
     for at, axis in enumerate((grid.x, grid.y)):
         values, whole = positions[:, at].astype(float), steps[:, at].astype(float)
@@ -317,8 +345,20 @@ def moves(positions: Any, grid: Grid, steps: Any = None) -> Any:
         unsure = ~((abs(found) > axis.doubt) & (abs(found) < 0.5 - axis.doubt)) & ~on_grid
         found[on_grid] = 0.0
         found[unsure] = [axis.beside(float(it), int(n)) for it, n in zip(values[unsure], whole[unsure])]
-        past[:, at] = found * axis.of_doubles[0]
-    return numpy.hypot(past[:, 0], past[:, 1])
+        past[:, at] = found
+    return past
+
+
+def measure_all(positions: Any, steps: Any, grid: Grid, shift: Shift, merged: int) -> None:
+    """Counts how far positions moved to their steps, as `Grid.measure` does, by arrays of numpy. No position is past the limit."""
+    import numpy
+
+    size, greatest, total, moved = grid.of_doubles[0], shift.greatest / grid.of_doubles[0], 0.0, 0
+    if len(positions):
+        past = past_steps(positions, steps, grid)
+        distances = numpy.hypot(past[:, 0], past[:, 1])
+        moved, greatest, total = int(numpy.count_nonzero(distances)), max(greatest, float(distances.max())), float(distances.sum())
+    shift.add(len(positions), moved, merged, greatest * size, total * size)
 
 
 def past_places(values: Any, wholes: Any, axis: Axis) -> Any:

@@ -153,7 +153,7 @@ def declare_many(found: ctypes.CDLL) -> ctypes.CDLL:
     many, count, number = ctypes.c_void_p, ctypes.c_size_t, ctypes.c_uint32
     found.sfq_read_binaries.argtypes = [ctypes.POINTER(CGrid), ctypes.c_void_p, many, count, many, many, many, many, many]
     found.sfq_binaries_extent.argtypes = [ctypes.c_void_p, many, count, ctypes.c_double * 4]
-    found.sfq_take_apart.argtypes = [ctypes.POINTER(CGrid), ctypes.c_char_p, count, ctypes.POINTER(CPieces), ctypes.POINTER(CFault)]
+    found.sfq_take_apart.argtypes = [ctypes.POINTER(CGrid), ctypes.c_void_p, count, ctypes.POINTER(CPieces), ctypes.POINTER(CFault)]
     found.sfq_round.argtypes = [ctypes.POINTER(CGrid), many, count, many, ctypes.POINTER(count)]
     found.sfq_free_many.argtypes, found.sfq_free_many.restype = [many, count], None
     found.sfq_holds_many.argtypes = [number, many, many, count, many, many]

@@ -6,16 +6,17 @@ reference system.
 from __future__ import annotations
 
 import contextlib
+import copy
 import math
 import os
 import re
 import sys
 from collections import Counter
-from typing import Any, Callable, Iterable, Iterator, NamedTuple, Optional, Sequence
+from typing import Any, Callable, Generator, Iterable, Iterator, NamedTuple, Optional, Sequence
 
 from ..geometry import binary, grids
 from ..tables import rules
-from . import columns, offline, proposing, systems
+from . import batches, columns, offline, proposing, systems
 from .columns import Refused
 
 # Words of a source that are nobody's business but its own.
@@ -151,6 +152,8 @@ class Layer:
         self.steps: dict[str, str] = {}
         # The geometries that GDAL makes of texts: it only warns of a text that it can't read, from version 3.10 on.
         self.spelled = self.columns_of_texts() if source.is_of_texts else []
+        # Whether geometries are those that GDAL has, and whether records are read one by one though they could be read in columns.
+        self.is_own, self.is_single = True, False
 
     def own(self, at: int) -> Geometries:
         """Returns the geometries of a column that GDAL has of the layer."""
@@ -174,12 +177,13 @@ class Layer:
 
     def take_points(self, x: str, y: str) -> None:
         """Has the layer's geometries be points, whose coordinates are in these two columns."""
+        self.is_own = False
         places = [self.described.GetFieldIndex(it) for it in (x, y)]
         self.shapes = [Geometries("geom", "POINT", columns.points(self.modules.ogr, self.fields, places))]
 
     def take_texts(self, column: str) -> None:
         """Has the layer's geometries be those that a column has as well-known text."""
-        self.hidden = column
+        self.hidden, self.is_own = column, False
         self.shapes = [Geometries(column, "GEOMETRY", columns.texts(self.modules.ogr, column, self.described.GetFieldIndex(column)))]
 
     def take_reference(self, system: Any) -> None:
@@ -188,6 +192,7 @@ class Layer:
 
     def move(self, target: Any) -> None:
         """Has the geometries be moved to another reference system."""
+        self.is_own = False
         moved, name = systems.mover(self.modules.osr, self.reference, target), systems.label(target)
 
         def moving(read: Callable[[Any], Any]) -> Callable[[Any], Any]:
@@ -225,6 +230,12 @@ class Layer:
                 if feature.GetGeomFieldRef(shape) is None and (text := feature.GetFieldAsString(column)):
                     raise self.unreadable(count, f"{self.fields[column].GetName()} isn't well-known text: {text[:60]!r}")
             yield feature
+
+    def batches(self, fields: Sequence[int], has_shapes: bool = True) -> contextlib.closing[Generator[batches.Batch, None, None]]:
+        """Reads the records in batches of columns: the fields at these places. NotInColumns where they have to be read one by one."""
+        if self.is_single:
+            raise batches.NotInColumns("it is read one by one")
+        return contextlib.closing(batches.Reader(self, fields, has_shapes).batches())
 
     def unreadable(self, record: int, why: str) -> OSError:
         """Returns the error of a record that GDAL can't read."""
@@ -285,6 +296,12 @@ class Layer:
     def places(self, names: Sequence[str]) -> dict[str, grids.Places]:
         """Returns how many digits behind the point the numbers of each of some columns need, in a pass without geometries."""
         found = {it: grids.Places() for it in names}
+        with contextlib.suppress(batches.NotInColumns):
+            at = {name: self.described.GetFieldIndex(name) for name in names}
+            if names:
+                self.add_places(at, found)
+            return found
+        found = {it: grids.Places() for it in names}
         left = [(self.double(self.described.GetFieldIndex(name)), it) for name, it in found.items()]
         for feature in self.without_geometries() if names else ():
             for read, places in left:
@@ -296,6 +313,15 @@ class Layer:
                 if not left:
                     break
         return found
+
+    def add_places(self, at: dict[str, int], found: dict[str, grids.Places]) -> None:
+        """Counts the digits of the numbers of columns, which are at these places, in batches."""
+        with self.batches(list(at.values()), False) as its:
+            for batch in its:
+                for name, places in found.items():
+                    places.add_all(batch.fields[at[name]].there())
+                if not any(it.are_decimal for it in found.values()):
+                    return
 
     def double(self, at: int) -> Callable[[Any], Optional[float]]:
         """Returns what reads a number of a record, None where it has none. One of 32 bits is the decimal number that it is written as."""
@@ -370,12 +396,18 @@ def extents(layer: Layer, decimals: Optional[proposing.Decimals] = None) -> Iter
                 geometry = column.read(feature)
             except Refused:
                 continue
-            if geometry is not None and not geometry.IsEmpty():
-                it = proposing.Extent(*geometry.GetEnvelope())
-                if all(-FARTHEST < value < FARTHEST for value in it):
-                    yield it
-                    if decimals and decimals.is_exact:
-                        take_decimals(geometry, decimals)
+            if geometry is not None:
+                yield from extents_of_geometry(geometry, decimals)
+
+
+def extents_of_geometry(geometry: Any, decimals: Optional[proposing.Decimals]) -> Iterator[proposing.Extent]:
+    """Yields the extent of a geometry that has a finite one. `decimals` takes its coordinates."""
+    if not geometry.IsEmpty():
+        it = proposing.Extent(*geometry.GetEnvelope())
+        if all(-FARTHEST < value < FARTHEST for value in it):
+            yield it
+            if decimals and decimals.is_exact:
+                take_decimals(geometry, decimals)
 
 
 def take_decimals(geometry: Any, decimals: proposing.Decimals) -> None:
@@ -389,7 +421,41 @@ def take_decimals(geometry: Any, decimals: proposing.Decimals) -> None:
 
 def extent(layers: Iterable[Layer], decimals: Optional[proposing.Decimals] = None) -> Optional[proposing.Extent]:
     """Returns the extent of all geometries of some layers; None where there are none. `decimals` takes their coordinates."""
-    return proposing.joined(it for layer in layers for it in extents(layer, decimals))
+    return proposing.joined(extent_of(layer, decimals) for layer in layers)
+
+
+def extent_of(layer: Layer, decimals: Optional[proposing.Decimals]) -> Optional[proposing.Extent]:
+    """Returns the extent of the geometries of a layer; None where there are none. `decimals` takes their coordinates."""
+    with contextlib.suppress(batches.NotInColumns):
+        trial = copy.deepcopy(decimals)
+        if not layer.shapes:
+            return None
+        with layer.batches([]) as its:
+            found = proposing.joined(it for batch in its for it in extents_of(layer, batch, trial))
+        if decimals is not None:
+            vars(decimals).update(vars(trial))
+        return found
+    return proposing.joined(extents(layer, decimals))
+
+
+def extents_of(layer: Layer, batch: batches.Batch, decimals: Optional[proposing.Decimals]) -> Iterator[proposing.Extent]:
+    """Yields extents of the geometries of a batch, but for those that have no finite one. `decimals` takes their coordinates."""
+    shapes = batch.shapes
+    assert shapes is not None
+    apart = batches.Apart(shapes, None)
+    positions = apart.positions
+    if len(positions):
+        least, greatest = positions.min(axis=0).tolist(), positions.max(axis=0).tolist()
+        its = proposing.Extent(least[0], greatest[0], least[1], greatest[1])
+        if not all(-FARTHEST < value < FARTHEST for value in its):
+            raise batches.NotInColumns("a position has no finite place")
+        yield its
+        if decimals and decimals.is_exact:
+            decimals.add_all(positions)
+    # Geometries of other types, and points without numbers.
+    missing = ~apart.are_there if shapes.is_there is None else ~apart.are_there & shapes.is_there
+    for at in missing.nonzero()[0].tolist():
+        yield from extents_of_geometry(batches.geometry_of(layer.modules.ogr, shapes.bytes_at(at) or b""), decimals)
 
 
 def members(geometry: Any) -> Iterator[Any]:

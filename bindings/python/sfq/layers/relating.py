@@ -29,10 +29,15 @@ class Member:
 
     __slots__ = ("key", "binary", "asked", "source", "box", "geos", "found_dimension")
 
-    def __init__(self, key: Any, given: bytes, asked: Any, source: meeting.Box, grid: grids.Grid) -> None:
+    def __init__(
+        self, key: Any, given: bytes, asked: Any, source: meeting.Box, grid: grids.Grid, box: Optional[tuple[int, int, int, int]] = None,
+    ) -> None:
+        """`box` is the one on the grid, where it is known."""
         self.key, self.binary, self.asked, self.source = key, given, asked, source
-        left, low, right, high = grid.steps((source[0], source[2], source[1], source[3]))
-        self.box = left, right, low, high
+        if box is None:
+            left, low, right, high = grid.steps((source[0], source[2], source[1], source[3]))
+            box = left, right, low, high
+        self.box = box
         # The geometry of GEOS, made when it is first asked.
         self.geos: Any = None
         self.found_dimension = -1
