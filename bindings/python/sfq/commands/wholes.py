@@ -5,7 +5,7 @@ import csv
 import itertools
 import re
 import sys
-from typing import Iterable, Iterator, NamedTuple, Optional, Sequence
+from typing import Iterator, NamedTuple, Optional, Sequence
 
 from ..geometry.shapes import Geometry
 from . import exports, left_out, units
