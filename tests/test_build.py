@@ -379,7 +379,7 @@ class SideBySide(WithBuild):
         ran = self.build("--jobs", "2")
         self.assertEqual(ran.returncode, 0, ran.stderr)
         text = read(f"{self.checkout.room}/bin/notes")
-        self.assertRegex(text, r"begin layer_0_([ab]) --jobs 1\n(read .*\n)*begin layer_0_(?!\1)[ab] ")
+        self.assertRegex(text, r"begin layer_0_([ab]) --jobs 1\n((?!end layer_0_).*\n)*begin layer_0_(?!\1)[ab] ")
         self.assertEqual(sorted(it[0] for it in self.notes("begin")), sorted([*self.checkout.CRATES, *self.LAYERS]))
 
     def test_the_longest_chain_comes_first_and_a_crate_alone_gets_all_processes(self):
