@@ -119,8 +119,14 @@ class Unproved(WithCheckout):
                     time.sleep(0.05)
                 child.send_signal(number)
                 self.assertEqual(child.wait(timeout=20), 128 + number)
+            builder = int(read(path))
+            # On a busy machine it takes a moment until the process that adopted it takes its end.
+            for _ in range(400):
+                if not os.path.isdir(f"/proc/{builder}"):
+                    break
+                time.sleep(0.05)
             with self.assertRaises(ProcessLookupError):
-                os.kill(int(read(path)), 0)
+                os.kill(builder, 0)
             os.remove(path)
             self.assertEqual(os.listdir(self.kept), [])
 
