@@ -725,9 +725,11 @@ def growth_of(before: tuple[int, Optional[float]], now: tuple[int, Optional[floa
 
 def answer_of_query(query: Query, who: str, printed: bytes) -> list[list[str]]:
     """The rows that a program printed, each of its fields, in an order of ours. `sfq` and the program over GEOS print a header, and the
-    latter prints the rows where it is asked for their number."""
+    latter prints the rows where it is asked for their number, and those of the geometry that the predicate names first before the other's."""
     rows = [[in_one_form(it) for it in row] for row in csv.reader(io.StringIO(printed.decode("utf-8", "replace"), newline=""))]
     rows = rows[1:] if who in ("sfq", "GEOS") else rows
+    if who == "GEOS" and geos_words(query, "")[3:4] == ["b.pairs"]:
+        rows = [row[::-1] for row in rows]
     return [[str(len(rows))]] if who == "GEOS" and query.items == "COUNT(*)" else sorted(rows)
 
 

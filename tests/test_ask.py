@@ -509,6 +509,21 @@ class Kept(WithRoom):
         folder = units.Folder(path)
         self.assertEqual(list(left_out.notes(folder, folder.layers.values())), [f"t: 1 record is left out: fid 1; {path}/left-out.csv says why"])
 
+    def test_envelopes_of_a_table(self):
+        """Points at the ends of plain lines are found at once; each other row is a record of CSV."""
+        points = ["1,a,POINT(1 2)", "2,,POINT(-3 4)", '3,b POINT(9 9),POINT(-10000000 10000000)']
+        others = ['4,"x\ny,POINT(7 7)\n",POINT(5 6)', "5,c,", "6,d,POINT EMPTY", '7,e,"POLYGON((0 0,4 0,4 -4,0 0))"', '8,"POINT(8 8)\r\n",', "9,,POINT(0 0)"]
+        plain, mixed = [(1, 2, 1, 2), (-3, 4, -3, 4), (-10_000_000, 10_000_000, -10_000_000, 10_000_000)], [(5, 6, 5, 6), (0, -4, 4, 0), (0, 0, 0, 0)]
+        said = {"table": "t", "rows": 0, "records": 0, "left_out": 0, "coordinate_system": None, "columns": [
+            {"name": "id", "type": "INTEGER"}, {"name": "name", "type": "TEXT"}, {"name": "geom", "type": "GEOMETRY"}]}
+        folder, layer = mock.Mock(path=self.room), units.layer_of(said)
+        for lines, wanted in ((points, plain), ([*points, *others], [*plain, *mixed]), ([*others, *points], [*mixed, *plain]), ([], [])):
+            for end, behind, at_once in ((end, behind, at_once) for end in ("\n", "\r\n") for behind in (end, "") for at_once in (1, 30, 1 << 20)):
+                with open(f"{self.room}/t.csv", "wb") as file:
+                    file.write((end.join(["id,name,geom", *lines]) + behind).encode())
+                with mock.patch.object(left_out, "AT_ONCE", at_once):
+                    self.assertEqual(list(left_out.boxes(folder, layer)), wanted)
+
     def test_too_few_records(self):
         folder_of(self.room, t={"records": 6, "left_out": 2})
         self.assertEqual(self.made()[1], True)
@@ -562,6 +577,31 @@ class WithProgram(WithRoom):
         how = {"stdin": subprocess.DEVNULL, **how} if "input" not in how else how
         ran = subprocess.run(self.words(*words, python=python), env=self.environment(), cwd=self.room, text=True, stdout=subprocess.PIPE, stderr=subprocess.PIPE, timeout=300, **how)
         return ran.stdout, ran.stderr, ran.returncode
+
+
+class Blocks(unittest.TestCase):
+    """Rows that are there at once."""
+
+    def test_columns_are_those_of_the_rows(self):
+        plain, quoted = "1,a,POINT(1 2)\n2,,\n,é,POINT EMPTY\n", '1,a,"POLYGON((0 0,1 0,1 1,0 0))"\n2,"x\r\n,""y""",\n'
+        for records, number, wanted in (
+            (plain, 3, [["1", "a", "POINT(1 2)"], ["2", "", ""], ["", "é", "POINT EMPTY"]]), ("\n", 1, [[""]]), ("\n\na\n", 3, [[""], [""], ["a"]]), ("1,\n", 1, [["1", ""]]),
+            (quoted, 2, [["1", "a", "POLYGON((0 0,1 0,1 1,0 0))"], ["2", 'x\r\n,"y"', ""]]), (plain + quoted, 5, None),
+        ):
+            for it in (asking.Block(number, len(records), [], records), asking.Block(number, len(records), list(csv.reader(io.StringIO(records, newline=""))))):
+                if records[0] == "\n" and it.records is None:
+                    continue
+                self.assertEqual(list(map(list, zip(*it.columns(len(it.rows[0]))))), it.rows)
+                self.assertEqual((len(it.rows), it.rows), (number, wanted or it.rows))
+
+    def test_rows_come_in_blocks_that_take_little_memory(self):
+        rows = [[str(at), "x" * size] for at, size in enumerate([1] * 600 + [200_000] * 5)]
+        blocks = list(asking.blocks_of(iter(rows)))
+        self.assertEqual([row for it in blocks for row in it.rows], rows)
+        self.assertEqual([it.number for it in blocks], [256, 256, 90, 2, 1])
+        self.assertEqual([row for it in blocks for row in zip(*it.columns(2))], list(map(tuple, rows)))
+        answer = asking.Answer(["a"], ["TEXT"], iter([["x"]]), False)
+        self.assertEqual([it.rows for it in answer.blocks()], [[["x"]]])
 
 
 @over_library
@@ -903,7 +943,7 @@ class Layers(OverLayers):
         constant = f"SELECT name_long FROM world WHERE ST_Contains(geom, ST_GeomFromText('POINT({x} {y})'))"
         out, err, status = self.run_words(folder, constant)
         self.assertEqual((out, status), ("name_long\nAustralia\n", 0))
-        self.assertIn("note: 1 records of world are in 2 parts, each a row: ", err)
+        self.assertIn("note: 1 record of world is in 2 parts, each a row: ", err)
 
     def test_two_reference_systems(self):
         one, other = self.need(("spData", "shapes/world.gpkg"), ("spData", "shapes/boston_tracts.shp"))

@@ -133,6 +133,8 @@ class Parts(unittest.TestCase):
         counting = self.QUERY._replace(items="COUNT(*)")
         self.assertEqual(attack.answer_of_query(counting, "GEOS", b"a.id,b.id\n1,2\n2,2\n"), attack.answer_of_query(counting, "sfq", b"COUNT(*)\n2\n"))
         self.assertEqual(attack.answer_of_query(self.QUERY, "GEOS", b"a.id,b.id\n1,2\n"), [["1", "2"]])
+        turned = self.QUERY._replace(conjuncts=["ST_Touches(b.g, a.g)"])
+        self.assertEqual(attack.answer_of_query(turned, "GEOS", b"a.id,b.id\n2,1\n"), [["1", "2"]])
 
     def test_an_answer_of_shapes(self):
         self.assertEqual(attack.answer_of_shapes("GEOS", b"FF2FF1212\n"), ["FF2FF1212"])

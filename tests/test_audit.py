@@ -430,7 +430,7 @@ class Ends(WithRoom):
             ("echo 'sfq: no' >&2; exit 3", "{} pairs ended with status 3: sfq: no", 8),
             ("kill -9 $$", "{} pairs ended with status -9", 8),
             ("exit 7", "out of memory", 7),
-            ("exit 0", "sfq pairs printed 0 lines for 1 pairs", 8),
+            ("exit 0", "sfq pairs printed 0 lines for 1 pair", 8),
         )):
             with self.subTest(how=how):
                 self.setUp()

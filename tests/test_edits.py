@@ -98,6 +98,19 @@ class Edits(unittest.TestCase):
         # A check calls a method by the module that has the type.
         self.assertEqual(self.functions(("self.digit - 1", "0")), {"low::digits::Digit::before"})
 
+    def test_a_method_of_a_type_that_the_root_shows(self):
+        source = SOURCE.replace("use crate::digits::{Digit, Place};", "use crate::{Digit, Sign};")
+        self.assertNotEqual(source, SOURCE)
+        edit = self.edit("one", ("self.digit - 1", "0"))
+        self.assertEqual(edit.functions("low", source, "mod digits;\npub use digits::{Digit, Other};\n"), {"low::digits::Digit::before"})
+        self.assertEqual(edit.functions("low", source, "pub use digits::Digit;\n"), {"low::digits::Digit::before"})
+        self.assertEqual(edit.functions("low", source), {"low::numbers::Digit::before"})
+
+    def test_the_text_of_the_root(self):
+        self.assertEqual(edits.root_of(self.folder), "")
+        write(f"{self.folder}/src/lib.rt", "mod numbers;\n")
+        self.assertEqual(edits.root_of(self.folder), "mod numbers;\n")
+
     def test_a_change_outside_of_functions_or_of_what_is_there_twice(self):
         self.assertEqual(self.functions(("u32 = 7", "u32 = 8")), set())
         self.assertEqual(self.functions(("result ≡ self.now", "result ≡ 1")), set())

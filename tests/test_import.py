@@ -16,6 +16,7 @@ import tempfile
 import unittest
 import xml.etree.ElementTree as tree
 from fractions import Fraction
+from unittest import mock
 
 from made_libraries import over_library
 from support import ROOT, needs, needs_build, over_program, python_command, read, read_terminal, write
@@ -29,7 +30,7 @@ import postgresql_server
 import repository
 import sfq
 from import_calls import PYTHON, WithImports, collection, feature, square
-from sfq.commands import endings, exports, imports
+from sfq.commands import endings, exports, imports, passes
 from sfq.geometry import binary, grids
 from sfq.layers import reading
 from sfq.tables import rules
@@ -201,6 +202,23 @@ class Texts(unittest.TestCase):
         self.assertEqual(binary.as_multi("POLYGON((0 0,1 0,1 1,0 0))"), "MULTIPOLYGON(((0 0,1 0,1 1,0 0)))")
         self.assertEqual([binary.as_multi(it) for it in ("POINT(1 2)", "LINESTRING EMPTY", "MULTIPOINT((1 2))")],
                          ["MULTIPOINT((1 2))", "MULTILINESTRING EMPTY", "MULTIPOINT((1 2))"])
+
+    def test_tables_written_as_multi(self):
+        """By lines and by records alike, whatever the texts of other columns have."""
+        names = ["a", "", "x\ny", 'x,"POLYGON((0 0,1 0,1 1,0 0))"', ',"POLYGON((0 0,1 1))"\n,"LINESTRING(0 0,1 1)"', '"', "POLYGON((0 0,1 0,1 1,0 0))", "POLYGON EMPTY", "é\n\n", ",POINT(1 2)\n"]
+        areas = ["POLYGON((0 0,4 0,4 4,0 0))", "MULTIPOLYGON(((0 0,4 0,4 4,0 0)))", "", "POLYGON((0 0,9 0,9 9,0 0),(5 1,6 1,6 2,5 1))", "LINESTRING(0 0,1 1)"]
+        empty = ["POLYGON EMPTY", "MULTIPOLYGON EMPTY", "POINT(1 2)", "POINT EMPTY"]
+        with tempfile.TemporaryDirectory(prefix="sfq-multi-") as room:
+            for shapes in (areas, [*areas, *empty]):
+                rows = [[str(at), name, names[-at % len(names)], shape] for at, (name, shape) in enumerate((name, shape) for name in names for shape in shapes)]
+                given = "id,a,b,geom\n" + "".join(",".join(map(rules.quoted, it)) + "\n" for it in rows)
+                for at_once in (1, 40, 1 << 20):
+                    write(f"{room}/t.csv", given)
+                    with mock.patch.object(passes, "AT_ONCE", at_once):
+                        passes.written_as_multi(f"{room}/t.csv", {3}, {it.partition("(")[0] for it in shapes if it})
+                    wanted = [[*it[:3], binary.as_multi(it[3]) if it[3] else ""] for it in rows]
+                    self.assertEqual(list(csv.reader(io.StringIO(read(f"{room}/t.csv"), newline=""))), [["id", "a", "b", "geom"], *wanted])
+                    self.assertEqual(os.listdir(room), ["t.csv"])
 
     def test_no_password_is_kept(self):
         for given, kept in (
@@ -430,7 +448,7 @@ class Imports(WithImports):
         for words in ([], ["--flat"]):
             folder, said = self.imported(features, *words)
             self.assertEqual((self.column(folder), self.left_out(folder)), (["POINT(1 2)", "POINT(4 5)"], []))
-            self.assertIn("sfq-import: t: 1 geometries without their Z or M", said)
+            self.assertIn("sfq-import: t: 1 geometry without its Z or M", said)
 
     def test_mended(self):
         spike = [[[0, 0], [6, 0], [6, 6], [3, 6], [3, 9], [3, 6], [0, 6], [0, 0]]]
@@ -444,7 +462,7 @@ class Imports(WithImports):
         self.assertEqual([it[3] for it in found], ["mended", "mended", "left out"])
         self.assertTrue(found[2][2].endswith("; make-valid leaves nothing of it; valid in the source, broken by the grid"), found[2][2])
         self.assertIn("2 mended: V3: this ring touches or crosses itself", said)
-        self.assertIn("1 records are parted into 2 rows, 1 of them since their rings touch", said)
+        self.assertIn("1 record is parted into 2 rows, 1 of them since their rings touch", said)
 
     def test_stop(self):
         features = [feature(("Point", [1, 1])), feature(("Polygon", REFUSED["V3 0: "])), feature(("Point", [1, 1, 1]))]
@@ -473,7 +491,7 @@ class Imports(WithImports):
         folder, said = self.imported(features)
         self.assertEqual(self.column(folder, "text"), [it or "" for it in texts])
         self.assertEqual(self.column(folder), ["POINT(1 2)", ""] * 4 + ["POINT(1 2)"])
-        self.assertIn("sfq-import: t: 1 empty texts in text: sfq reads an empty field as NULL", said)
+        self.assertIn("sfq-import: t: 1 empty text in text: sfq reads an empty field as NULL", said)
         self.assertEqual(json.loads(read(f"{folder}/grid.json"))["layers"][0]["empty_texts"], {"text": 1})
 
     def test_a_text_that_is_not_utf_8(self):
@@ -523,7 +541,7 @@ class Imports(WithImports):
         folder, said = self.imported(features, "--scale", "width=0.01", "n=7")
         self.assertEqual((self.column(folder, "width"), self.columns(folder)["width"]), (["325", "326", "", "-50"], "INTEGER"))
         self.assertEqual(self.column(folder, "n"), ["1"] * 4)
-        self.assertIn("t: width counts steps of 0.01: 1 numbers moved by at most 0.005\n", said)
+        self.assertIn("t: width counts steps of 0.01: 1 number moved by at most 0.005\n", said)
         self.assertNotIn("TEXT", said)
         ran = self.command("sfq-export", f"{folder}/t.csv", "--like", folder, "--to", f"{folder}/o.geojson")
         self.assertEqual((ran.returncode, ran.stderr), (0, ""))
@@ -532,7 +550,7 @@ class Imports(WithImports):
         folder, _ = self.imported([feature(None, w=1e30), feature(None, w=1.5)], "--scale", "w=0.5")
         self.assertEqual(self.left_out(folder), [("t", "1", "L5: w: '1e+30' is past 64 bits in steps of 0.5", "left out")])
         ran = self.command("sfq-import", self.source(features), "--grid", "1", "--out", "none", "--scale", "depth=1")
-        self.assertEqual((ran.returncode, ran.stderr), (2, "sfq-import: --scale: no layer has a column depth\n"))
+        self.assertEqual((ran.returncode, ran.stderr), (2, "sfq-import: --scale: no layer has a column depth: there are width, n\n"))
 
     def test_an_import_that_keeps_nothing(self):
         for features, said in (([feature(("LineString", [[1, 2], [1, 2]]))], "no record was kept: empty/left-out.csv says why; --allow-empty takes that"),
@@ -571,7 +589,7 @@ class Imports(WithImports):
         _, found = self.imported([feature(None, nr="a")], "--key", "nr")
         self.assertIn("nr isn't a column of whole numbers: the key is the FID", found)
         ran = self.command("sfq-import", self.source(features), "--grid", "1", "--out", "keyless", "--key", "nope")
-        self.assertEqual((ran.returncode, ran.stderr), (2, "sfq-import: no layer has a column nope\n"))
+        self.assertEqual((ran.returncode, ran.stderr), (2, "sfq-import: --key: no layer has a column nope: there is nr\n"))
 
     def test_fids_that_do_not_ascend(self):
         features = [{**feature(("Polygon", REFUSED["V3 0: "] if it == 3 else square(0, 0))), "id": it} for it in (7, 3, 5)]
@@ -597,7 +615,7 @@ class Imports(WithImports):
         self.assertEqual(self.table(folder, "lines"), [["fid", "nr", "geom"]])
         self.assertEqual(sorted(os.listdir(folder)), ["changed-relations.csv", "grid.json", "left-out.csv", "lines.csv", "schema.sql"])
         ran = self.command("sfq-import", path, "--grid", "1", "--out", "x", "--layer", "nope")
-        self.assertEqual((ran.returncode, ran.stderr), (2, "sfq-import: no layer nope; there are Größe 1, lines\n"))
+        self.assertEqual((ran.returncode, ran.stderr), (2, "sfq-import: there is no layer nope: there are Größe 1, lines\n"))
 
     @needs("gdal-bin", "ogr2ogr")
     def test_a_shapefile(self):
@@ -654,7 +672,7 @@ class Imports(WithImports):
         self.assertEqual(self.table(folder), [["fid", "c3", "c39", "geom"], ["0", "3", "39", "POINT(1 2)"]])
         self.assertNotIn("columns", said)
         ran = self.command("sfq-import", self.source([feature(None, a=1)]), "--grid", "1", "--out", "none", "--columns", "b")
-        self.assertEqual((ran.returncode, ran.stderr), (2, "sfq-import: --columns: no layer has a column b\n"))
+        self.assertEqual((ran.returncode, ran.stderr), (2, "sfq-import: --columns: no layer has a column b: there is a\n"))
         folder, said = self.imported([feature(None, a="x" * 1_048_577), feature(None, a="y" * 1_048_576), feature(None, a='"' * 524_288)])
         self.assertIn("sfq-import: t: 2 left out: L11: a has more than 1,048,576 bytes", said)
         self.assertEqual([it[2] for it in self.left_out(folder)], ["L11: a has more than 1,048,576 bytes"] * 2)

@@ -299,7 +299,7 @@ class Sources(WithImports):
     def test_layers_that_are_asked_for(self):
         one, other = self.points("a", (1, 2)), self.points("b", (3, 4))
         self.folder("chosen", one, other, words=("--grid", "1", "--layer", "b", "a"))
-        self.assertIn("no layer c; there are a, b\n", self.ran(2, one, other, "--out", "none", "--layer", "c", "a", "b"))
+        self.assertIn("there is no layer c: there are a, b\n", self.ran(2, one, other, "--out", "none", "--layer", "c", "a", "b"))
         self.assertIn(f"{other} has no layer a; it has b\n", self.ran(2, one, other, "--out", "none", "--layer", "a"))
 
     def in_system(self, name, code, *texts):

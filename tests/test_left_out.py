@@ -148,7 +148,7 @@ class LeftOut(WithImports):
                 {"type": "GeometryCollection", "geometries": [{"type": "Point", "coordinates": [4, 5]}, {"type": "LineString", "coordinates": [[4, 5], [6, 7]]}]},
             )])
         self.assertEqual(self.column(folder), ["MULTIPOINT((1 2))", "MULTIPOINT EMPTY", "MULTIPOINT((4 5),(6 7))"])
-        self.assertIn("1 geometries without their Z or M", said)
+        self.assertIn("1 geometry without its Z or M", said)
         self.assertIn("2 collections became geometries of a MULTI type, or empty ones", said)
         self.assertEqual([it[2] for it in self.left_out(folder)], ["W1 at 0: GEOMETRYCOLLECTION"])
 

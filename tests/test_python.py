@@ -484,6 +484,21 @@ class Installation(unittest.TestCase):
         first, *others = (read(f"{self.PROJECT}/bin/{it}").replace(it, "NAME").splitlines()[2:] for it, _ in listed)
         self.assertEqual(others, [first] * len(others))
 
+    @unittest.skipUnless(os.path.isfile("/usr/bin/python3"), "needs /usr/bin/python3")
+    def test_compiled_modules_are_kept_in_a_checkout_alone(self):
+        known = {name: it for name, it in environment().items() if not name.startswith("PYTHON")}
+        with tempfile.TemporaryDirectory(prefix="sfq-python-") as room:
+            for kept, prefix, package in ((True, f"{room}/checkout/bindings/python", ""), (False, f"{room}/prefix", "/share/sfq")):
+                for name in ("sfq", "__main__.py"):
+                    os.makedirs(f"{prefix}{package}", exist_ok=True)
+                    (shutil.copytree if name == "sfq" else shutil.copy)(
+                        f"{self.PROJECT}/{name}", f"{prefix}{package}/{name}", **({"ignore": shutil.ignore_patterns("__pycache__")} if name == "sfq" else {}))
+                os.makedirs(f"{prefix}/bin")
+                shutil.copy(f"{self.PROJECT}/bin/sfq-export", f"{prefix}/bin/sfq-export")
+                ran = subprocess.run([f"{prefix}/bin/sfq-export", "--version"], env=known, capture_output=True, text=True)
+                self.assertEqual((ran.returncode, ran.stderr), (0, ""))
+                self.assertEqual(any("__pycache__" in its for _, its, _ in os.walk(prefix)), kept)
+
     def test_where_the_library_is_looked_for(self):
         """In the lib of the prefix, whether the package is in site-packages or in share/sfq; in a checkout; then where the system has it."""
         text = "from sfq.geometry import library; print(*library.places())"

@@ -257,7 +257,7 @@ class Algorithms(WithQgis):
             self.assertEqual((row["code"], row["shape"]), (code, shape), kind)
             self.assertIn(sentence or "10,000", row["sentence"])
         self.assertEqual(self.rows("flat", "FAULTS"), [])
-        self.assertIn("layer: 1 geometries without their Z or M", self.found["flat"]["info"])
+        self.assertIn("layer: 1 geometry without its Z or M", self.found["flat"]["info"])
         self.assertEqual(self.results("nothing", "VALID_COUNT", "FAULT_COUNT", "NULL_COUNT"), [0, 0, 0])
 
     def test_join(self):

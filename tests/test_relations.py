@@ -122,7 +122,7 @@ class Changes(WithImports):
     def test_what_was_mended_is_not_compared(self):
         spike = ring((0, 20), (4, 20), (4, 24), (6, 24), (4, 24), (0, 24))
         _, said = self.imported([feature(it) for it in (*CASES["sliver"][:2], spike)], "--invalid", "mend")
-        self.assertIn("sfq-import: t: relations of 1 mended or parted records aren't compared\n", said)
+        self.assertIn("sfq-import: t: relations of 1 mended or parted record aren't compared\n", said)
 
     def test_an_ending_that_is_no_format(self):
         ran = self.command("sfq-import", self.source([]), "--out", f"{self.room}/none", "--changed", "x.txt")
@@ -247,7 +247,7 @@ class Steps(WithImports):
         out = f"{os.path.dirname(path)}/out"
         ran = self.command("sfq-import", path, "--grid", "1", "--out", out)
         self.assertEqual((ran.returncode, ran.stdout), (4, ""))
-        self.assertIn("sfq-import: t: 1 of 2 records are valid in the source, and broken by the step 1: --grid 0.000001 --origin 0,0 is finer, "
+        self.assertIn("sfq-import: t: 1 of 2 records is valid in the source, and broken by the step 1: --grid 0.000001 --origin 0,0 is finer, "
                       "--steps compares steps, and --anyway imports the others\n", ran.stderr)
         self.assertFalse(os.path.exists(out))
         folder, said = self.imported(path, "--anyway", "--invalid", "leave-out")

@@ -482,7 +482,7 @@ class Library(unittest.TestCase):
     def test_faults(self):
         asker = self.asker()
         for query, wanted, status in (
-            ("SELECT id FROM nothing", "sfq: Q3 at 15\n  1 | SELECT id FROM nothing\n    |                ^\nsfq: the schema has no table of this name: name a table of the schema\n", 5),
+            ("SELECT id FROM nothing", "sfq: Q3 at 15\n  1 | SELECT id FROM nothing\n    |                ^\nsfq: there is no table nothing: there are t, u\n", 5),
             ("SELECT id FROM u", f"sfq: u unreadable\nsfq: {self.room}/u.csv: No such file or directory\n", 6),
         ):
             with self.assertRaises(asking.Refused) as met:

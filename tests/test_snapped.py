@@ -90,7 +90,7 @@ class Snapped(WithImports):
     def test_a_step_that_breaks_much_is_asked_for_all_the_same(self):
         ran = self.command("sfq-import", self.source([feature(SLOT)]), "--grid", "1", "--out", f"{self.room}/broken")
         self.assertEqual(ran.returncode, 4)
-        self.assertIn("t: 1 of 1 records are valid in the source, and broken by the step 1: ", ran.stderr)
+        self.assertIn("t: 1 of 1 record is valid in the source, and broken by the step 1: ", ran.stderr)
 
     def test_a_line_that_loses_a_piece(self):
         folder, _ = self.imported([feature(("MultiLineString", [[[0, 0], [0.2, 0.1]], [[0, 0], [5, 5.5]]])), feature(("LineString", [[0, 0], [0.1, 0.2]]))], "--anyway")

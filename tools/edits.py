@@ -46,21 +46,32 @@ class Edit:
             text = text.replace(old, new)
         return text
 
-    def functions(self, crate: str, text: str) -> set[str]:
-        """Returns the functions that it changes, by the names that a check gives them; none where it changes something else too."""
+    def functions(self, crate: str, text: str, root: str = "") -> set[str]:
+        """Returns the functions that it changes, by the names that a check gives them; none where it changes something else too.
+
+        `root` is the text of the module at the crate's root.
+        """
         found = set()
         for old, _ in self.pairs:
             name = function_at(text, text.find(old)) if text.count(old) == 1 else ""
             if not name:
                 return set()
-            module = home_of(text, name.rpartition("::")[0]) or re.sub(r"^src/|\.rt$", "", self.file).replace("/", "::")
+            module = home_of(text, name.rpartition("::")[0], root) or re.sub(r"^src/|\.rt$", "", self.file).replace("/", "::")
             found.add("::".join(it for it in (crate, "" if module in ("lib", "main") else module, name) if it))
         return found
 
 
-def home_of(text: str, owner: str) -> str:
-    """Returns the module of a type that a source has from another module of its crate, or an empty text. A check calls methods by it."""
-    used = re.search(rf"^use crate::([\w:]+)::(?:{owner};|\{{[^}}]*\b{owner}\b)", text, re.M) if owner else None
+def home_of(text: str, owner: str, root: str = "") -> str:
+    """Returns the module of a type that a source has from another module of its crate, or an empty text. A check calls methods by it.
+
+    The source may have it from the root of the crate, whose text is given, which has it from the module.
+    """
+    if not owner:
+        return ""
+    named = rf"(?:{owner};|\{{[^}}]*\b{owner}\b)"
+    used = re.search(rf"^use crate::([\w:]+)::{named}", text, re.M)
+    if used is None and re.search(rf"^use crate::{named}", text, re.M):
+        used = re.search(rf"^pub use ([\w:]+)::{named}", root, re.M)
     return used[1] if used else ""
 
 
@@ -96,7 +107,7 @@ def parted(crate: str, folder: str, edits: Iterable[Edit]) -> tuple[list[list[Ed
     groups: list[tuple[set[str], list[Edit]]] = []
     alone = []
     for edit in edits:
-        functions = edit.functions(crate, texts_of(folder, [edit])[edit.file])
+        functions = edit.functions(crate, texts_of(folder, [edit])[edit.file], root_of(folder))
         if not functions:
             alone.append(edit)
             continue
@@ -120,6 +131,15 @@ def texts_of(folder: str, edits: Iterable[Edit]) -> dict[str, str]:
     return texts
 
 
+def root_of(folder: str) -> str:
+    """Returns the text of the module at the root of a crate."""
+    for path in (f"{folder}/src/lib.rt", f"{folder}/src/main.rt"):
+        if os.path.isfile(path):
+            with open(path, encoding="utf-8") as text:
+                return text.read()
+    return ""
+
+
 def changed(texts: dict[str, str], edits: Iterable[Edit]) -> Optional[dict[str, str]]:
     """Returns these texts as the edits change them, or None where one can't be applied."""
     found = dict(texts)
@@ -136,7 +156,9 @@ def check(root: str) -> list[tuple[str, int, str]]:
     found = []
     for path in sorted(glob.glob(f"{root}/crates/*/edits/*.edit")):
         edit, folder = Edit(path), os.path.dirname(os.path.dirname(path))
-        if edit.is_marked and os.path.isfile(f"{folder}/{edit.file}") and not edit.functions("", texts_of(folder, [edit])[edit.file]):
+        if not edit.is_marked or not os.path.isfile(f"{folder}/{edit.file}"):
+            continue
+        if not edit.functions("", texts_of(folder, [edit])[edit.file], root_of(folder)):
             found.append((os.path.relpath(path, root), 1, "the gate can't try this edit: it changes more than functions"))
     return found
 

@@ -47,9 +47,9 @@ def try_crate(crate: str, tried: list[edits.Edit]) -> parts.Report:
             if os.path.isdir(f"{ROOT}/crates/{crate}/{it}"):
                 shutil.copytree(f"{ROOT}/crates/{crate}/{it}", f"{place}/{it}")
         groups, left = edits.parted(crate, place, tried)
-        texts = edits.texts_of(place, tried)
+        texts, root = edits.texts_of(place, tried), edits.root_of(place)
         failures = [failure(crate, it, "It changes no function, so the gate can't try it.") for it in left]
-        status, said = check(crate, place, set[str]().union(*(it.functions(crate, texts[it.file]) for it in tried)))
+        status, said = check(crate, place, set[str]().union(*(it.functions(crate, texts[it.file], root) for it in tried)))
         if status:
             return parts.Report(failures=[*failures, *(failure(crate, it, f"Without an edit:\n{said}") for group in groups for it in group)])
         # A check of several functions may say of one only that it calls another: such an edit is tried alone.
@@ -63,7 +63,8 @@ def try_crate(crate: str, tried: list[edits.Edit]) -> parts.Report:
 def unrefused(crate: str, place: str, group: list[edits.Edit]) -> tuple[list[edits.Edit], str]:
     """Returns those of a group of edits that a check doesn't refuse, and what the check wrote. The copy of the crate stays as it was."""
     known = edits.texts_of(place, group)
-    names = {edit.path: edit.functions(crate, known[edit.file]) for edit in group}
+    root = edits.root_of(place)
+    names = {edit.path: edit.functions(crate, known[edit.file], root) for edit in group}
     edits.write(place, edits.changed(known, group) or {})
     _, said = check(crate, place, set[str]().union(*names.values()))
     edits.write(place, known)

@@ -327,7 +327,7 @@ def try_edits_of(counts: Counts, crate: str, paths: Iterable[str], folder: str) 
 
 def tried_together(crate: str, folder: str, group: list[edits.Edit]) -> tuple[list[edits.Edit], float]:
     """Returns those of a group of edits that one check refuses, and how long that took."""
-    known = edits.texts_of(folder, group)
+    known, root = edits.texts_of(folder, group), edits.root_of(folder)
     changed = edits.changed(known, group)
     if changed is None:
         return [], 0.0
@@ -336,6 +336,6 @@ def tried_together(crate: str, folder: str, group: list[edits.Edit]) -> tuple[li
     _, out, err = run(["rt", "check"], folder)
     edits.write(folder, known)
     refused = edits.refused_in(out + err)
-    return [it for it in group if it.functions(crate, known[it.file]) & refused], time.monotonic() - begun
+    return [it for it in group if it.functions(crate, known[it.file], root) & refused], time.monotonic() - begun
 
 

@@ -13,6 +13,7 @@ import time
 from typing import IO, Any, NamedTuple, Optional, Sequence, Union
 
 from sfq.commands.endings import Stopped
+from sfq.geometry.counts import number_of
 
 from . import proved
 from .engines import AT_ONCE, ENGINES, JTS, JTS_NG, Lacking, Two, jts_words, listed
@@ -260,7 +261,7 @@ class Sfq:
             file.seek(0)
             found = self.run("pairs", "-", given=file).stdout.splitlines()
         if len(found) != len(pairs):
-            raise Stopped(f"sfq pairs printed {len(found)} lines for {len(pairs)} pairs", LACKING)
+            raise Stopped(f"sfq pairs printed {number_of(len(found), 'line')} for {number_of(len(pairs), 'pair')}", LACKING)
         return found
 
     def faults(self, texts: Sequence[str]) -> list[str]:

@@ -12,6 +12,7 @@ from typing import Any, Callable, Iterable, Iterator, NamedTuple, Optional, Type
 from sfq.commands.endings import FILES, Stopped, outcome
 from sfq.commands.outputs import Output
 from sfq.commands.progress import Progress
+from sfq.geometry.counts import number_of
 
 from . import comparing
 from .asking import Engine, Failure, Sfq
@@ -199,7 +200,7 @@ class Finding:
                     self.take(batch)
                     took = time.monotonic() - began
                     size = min(2 * size, MOST) if took < SHORT else max(size // 2, FEWEST) if took > LONG else size
-                    self.progress.show(f"{self.pairs}{f' of {of}' if of else ''} pairs, {self.differing} differ")
+                    self.progress.show(f"{f'{self.pairs:,} of ' if of else ''}{number_of(of or self.pairs, 'pair')}, {number_of(self.differing, 'differs', 'differ')}")
         except EARLY as error:
             self.end(error)
         finally:

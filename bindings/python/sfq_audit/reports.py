@@ -5,6 +5,8 @@ import json
 from typing import Any
 from xml.sax.saxutils import escape
 
+from sfq.geometry.counts import number_of
+
 from .engines import OF_PREDICATES
 from .finding import Finding
 from .predicates import NAMES as PREDICATES
@@ -64,12 +66,17 @@ def remarks(it: dict[str, Any]) -> list[str]:
     return [*lines, it["note"]] if it["note"] else lines
 
 
+def said(it: dict[str, Any]) -> str:
+    """Returns what an engine was asked of how many pairs, and how many of its answers differ."""
+    return f"{it['asked']} of {number_of(it['pairs'], 'pair')}, differing: {it['differ']:,}"
+
+
 def as_text(finding: Finding, source: str, cases: list[Small]) -> str:
     """Returns the report as text."""
     found = described(finding, source)
     lines = [f"pairs {source}", *introduced(found)]
     for it in found["engines"]:
-        lines += ["", f"{it['engine']}: {it['version']}", f"  {it['asked']} of {it['pairs']} pairs, differing: {it['differ']}"]
+        lines += ["", f"{it['engine']}: {it['version']}", f"  {said(it)}"]
         lines += [f"  {line}" for line in remarks(it)]
         for name, key in (("family", "families"), ("cell", "cells"), ("predicate", "predicates")):
             lines += counted(name, it[key])
@@ -97,8 +104,7 @@ def as_html(finding: Finding, source: str, cases: list[Small]) -> str:
     found = described(finding, source)
     body = [f"<h1>sfq-audit</h1><p>pairs {escape(source)}</p>", *(f"<p>{escape(it)}</p>" for it in introduced(found))]
     for it in found["engines"]:
-        body.append(f"<h2>{escape(it['engine'])}</h2><p>{escape(it['version'])}: {it['asked']} of {it['pairs']} pairs, "
-                    f"differing: {it['differ']}</p>")
+        body.append(f"<h2>{escape(it['engine'])}</h2><p>{escape(it['version'])}: {said(it)}</p>")
         body += [f"<p>{escape(line)}</p>" for line in remarks(it)]
         for name, key in (("family", "families"), ("cell", "cells"), ("predicate", "predicates")):
             body += table(name, it[key])

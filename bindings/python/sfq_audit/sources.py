@@ -14,6 +14,7 @@ from typing import Iterable, Iterator
 from sfq.commands.endings import DATA, FILES, MISSING, Stopped, say
 from sfq.commands.streams import standard_input
 from sfq.geometry import texts
+from sfq.geometry.counts import number_of
 from sfq.geometry.shapes import Geometry
 
 from .asking import LACKING, environment
@@ -30,7 +31,7 @@ def numbered(rows: Iterable[list[str]]) -> Iterator[Pair]:
     try:
         for number, row in enumerate(rows, 1):
             if len(row) != 2:
-                raise Stopped(f"record {number} has {len(row)} field{'s' * (len(row) != 1)}: two geometries make a pair", DATA)
+                raise Stopped(f"record {number} has {number_of(len(row), 'field')}: two geometries make a pair", DATA)
             yield Pair(number - 1, GIVEN, *(" ".join(it.split()) for it in row))
     except UnicodeDecodeError:
         raise Stopped("the pairs aren't UTF-8", DATA) from None

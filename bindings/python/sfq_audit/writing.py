@@ -18,6 +18,7 @@ from sfq.commands import exports
 from sfq.commands.outputs import Output
 from sfq.commands.progress import Progress
 from sfq.geometry import texts
+from sfq.geometry.counts import number_of
 
 from . import families
 from .asking import Sfq
@@ -174,7 +175,7 @@ def write(cases: Iterable[Case], form: Form, progress: Progress) -> None:
     for count, it in enumerate(cases, 1):
         form.add(it)
         if count % BATCH == 0:
-            progress.show(f"{count:,} pairs written")
+            progress.show(f"{number_of(count, 'pair')} written")
     form.end()
     progress.clear()
 

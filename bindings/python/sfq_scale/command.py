@@ -13,6 +13,7 @@ from sfq.commands import endings
 from sfq.commands.endings import held, say
 from sfq.commands.progress import Progress
 from sfq.commands.streams import Unwritten, standard_input
+from sfq.geometry.counts import number_of
 
 from . import VERSION, cluster, merging, plans, programs, query
 from .faults import CLUSTER, FILES, QUERY, Ended, ended
@@ -155,7 +156,7 @@ class Run:
         for job, (output, seconds, own) in connected.outcomes(jobs, call):
             self.took.append((seconds, own))
             taking.add(self.kept(output, len(self.took)))
-            self.progress.show(f"{len(self.took)} of {len(jobs)} parts done", len(self.took) == len(jobs))
+            self.progress.show(f"{len(self.took):,} of {number_of(len(jobs), 'part')} done", len(self.took) == len(jobs))
         return way
 
     def kept(self, output: Union[bytes, tuple[str, int]], number: int) -> str:

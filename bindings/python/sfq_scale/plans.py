@@ -6,6 +6,8 @@ import os
 import shutil
 from typing import Iterable, NamedTuple, Optional
 
+from sfq.geometry.counts import number_of
+
 from . import query, schema
 from .faults import CLUSTER, QUERY, ended
 from .programs import Programs
@@ -93,7 +95,7 @@ class Way:
                 raise ended(
                     QUERY,
                     f"no part of ON or WHERE between ANDs is a predicate that holds only where two geometries are near each other, so the "
-                    f"query looks at {self.pairs} pairs of rows; --most-pairs {self.pairs} allows that",
+                    f"query looks at {number_of(self.pairs, 'pair')} of rows; --most-pairs {self.pairs} allows that",
                 )
             return self, ordered(self.blocks(to, records, self.parts))
         spare = self.spare

@@ -13,6 +13,7 @@ from qgis.PyQt.QtGui import QIcon
 
 from sfq import Index, LibraryError
 from sfq.geometry import library
+from sfq.geometry.counts import number_of
 from sfq.geometry.grids import Grid
 from sfq.layers import proposing
 
@@ -211,7 +212,7 @@ class Sink:
         if self.place and os.path.isfile(self.place.partition("|")[0]):
             count = QgsVectorLayer(self.place, "", "ogr").featureCount()
             if count < self.count:
-                lacking = f"{self.place}: only {max(count, 0):,} of {self.count:,} features could be written"
+                lacking = f"{self.place}: only {max(count, 0):,} of {number_of(self.count, 'feature')} could be written"
                 raise QgsProcessingException(f"{lacking}: look whether the disk is full")
         return self.place
 

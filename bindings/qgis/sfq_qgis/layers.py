@@ -13,6 +13,7 @@ from qgis.core import QgsCoordinateTransform, QgsCsException, QgsFeatureRequest,
 from sfq import Geometry
 from sfq.commands.passes import kind
 from sfq.geometry import binary, grids
+from sfq.geometry.counts import number_of
 from sfq.layers import proposing
 
 from .progress import counted
@@ -159,14 +160,14 @@ class Layer:
     def lines(self) -> Iterator[tuple[str, bool]]:
         """Yields what there is to say of the layer, each line with whether it is a warning."""
         shift, empty = self.shift, sum(not it.reason and not it.geometry for it in self.rows)
-        yield (f"{self.name}: {len(self.taken):,} of {len(self.rows):,} features; {shift.positions:,} positions moved by at most "
+        yield (f"{self.name}: {len(self.taken):,} of {number_of(len(self.rows), 'feature')}; {number_of(shift.positions, 'position')} moved by at most "
                f"{shift.greatest:.3g}, {shift.mean:.3g} in the mean, {shift.merged:,} merged"), False
         for what, count in sorted(Counter(kind(it.reason) for it in self.rows if it.reason).items()):
             yield f"{self.name}: {count:,} left out: {what}", True
         if empty:
             yield f"{self.name}: {empty:,} without a geometry", False
         if self.flattened:
-            yield f"{self.name}: {self.flattened:,} geometries without their Z or M", False
+            yield f"{self.name}: {number_of(self.flattened, 'geometry', 'geometries')} without {'its' if self.flattened == 1 else 'their'} Z or M", False
 
     def report(self, feedback: Any) -> None:
         """Says in the log what became of the layer."""

@@ -60,7 +60,7 @@ W4: the text of a geometry (status 5, or 4 in a table's field)
 
 sfq: first W4
   means: more than 10,000 positions, or more than 1,000 rings or elements
-  to do: split the geometry
+  to do: split the geometry; sfq-import does with --part
 
 Bytes count within the geometry's own text. Bytes count from 0.
 ";

@@ -21,6 +21,7 @@ import tempfile
 from typing import Any, Callable, Iterator, NamedTuple, Optional, TextIO
 
 from .. import __version__
+from ..geometry.counts import number_of
 from ..geometry.faults import LibraryError
 from ..layers import reading
 from ..tables import rules, statements
@@ -280,7 +281,7 @@ def need_kept(options: argparse.Namespace, folder: units.Folder) -> None:
     if not rows and not options.allow_empty:
         raise Stopped(f"no record was kept{'' if records else ': the sources have none'}; --allow-empty takes that", DATA)
     if options.strict and without:
-        raise Stopped(f"{without:,} of {records:,} records were left out", DATA)
+        raise Stopped(f"{without:,} of {number_of(records, 'record')} {'was' if without == 1 else 'were'} left out", DATA)
 
 
 def tables(options: argparse.Namespace, place: Place) -> tuple[units.Folder, bool]:

@@ -3,17 +3,18 @@ from __future__ import annotations
 
 import collections.abc
 import csv
+import io
 import os
 import re
 import shutil
 import subprocess
 import sys
 import tempfile
-from typing import IO, Iterator, Optional, Sequence
+from typing import IO, Callable, Iterator, NamedTuple, Optional, Sequence
 
 from ..geometry.faults import MEANINGS
 from ..geometry.shapes import Geometry
-from ..tables import databases, errors, placeholders, sources, statements
+from ..tables import databases, errors, near_names, placeholders, sources, statements
 from .endings import DATA, FILES, MEMORY, spelled
 from .progress import Progress
 
@@ -50,19 +51,77 @@ def encoded(text: str) -> bytes:
     return text.encode("utf-8", "surrogateescape")
 
 
+class Block(NamedTuple):
+    """Rows that are there at once, an empty field for NULL: how many they are, about how many bytes they take, and their fields, or their
+    records of CSV as the library writes them."""
+
+    number: int
+    size: int
+    fields: list[list[str]]
+    records: Optional[str] = None
+
+    @property
+    def rows(self) -> list[list[str]]:
+        """The fields of each row."""
+        if self.records is None:
+            return self.fields
+        # Nothing is in the record of one NULL.
+        return [it or [""] for it in csv.reader(io.StringIO(self.records, newline=""))]
+
+    def columns(self, width: int) -> list[Sequence[str]]:
+        """Returns the fields of each of so many columns."""
+        text = self.records
+        if text is None or '"' in text or text.count(",") != self.number * (width - 1) or text.count("\n") != self.number:
+            return list(zip(*self.rows))
+        # No field has a comma or a line end, and each record has one behind it.
+        fields = text[:-1].replace("\n", ",").split(",")
+        return [fields[at::width] for at in range(width)]
+
+
 class Answer:
     """An answer: the headers and the types of its columns, and its rows as they come, an empty field for NULL.
 
-    A plan has one column of its lines.
+    A plan has one column of its lines. The rows come one by one, or in blocks, which has to be chosen before the first one is taken.
     """
 
-    def __init__(self, headers: list[str], types: list[str], rows: Iterator[list[str]], is_plan: bool) -> None:
-        self.headers, self.types, self.rows, self.is_plan = headers, types, rows, is_plan
+    def __init__(
+        self, headers: list[str], types: list[str], rows: Iterator[list[str]], is_plan: bool, blocks: Optional[Iterator[Block]] = None,
+    ) -> None:
+        self.headers, self.types, self.rows, self.is_plan, self.given = headers, types, rows, is_plan, blocks
+
+    @classmethod
+    def of_blocks(cls, headers: list[str], types: list[str], blocks: Iterator[Block], is_plan: bool) -> Answer:
+        """Returns the answer whose rows come in blocks."""
+        return cls(headers, types, rows_of(blocks), is_plan, blocks)
+
+    def blocks(self) -> Iterator[Block]:
+        """Returns the rows in blocks."""
+        return blocks_of(self.rows) if self.given is None else self.given
 
     def close(self) -> None:
         """Ends it where rows are left."""
-        if isinstance(self.rows, collections.abc.Generator):
-            self.rows.close()
+        for it in (self.rows, self.given):
+            if isinstance(it, collections.abc.Generator):
+                it.close()
+
+
+def rows_of(blocks: Iterator[Block]) -> Iterator[list[str]]:
+    """Yields the rows of blocks."""
+    for it in blocks:
+        yield from it.rows
+
+
+def blocks_of(rows: Iterator[list[str]]) -> Iterator[Block]:
+    """Yields rows in blocks that take little memory."""
+    found, size = list[list[str]](), 0
+    for it in rows:
+        found.append(it)
+        size += sum(map(len, it))
+        if len(found) == MOST_AT_ONCE or size >= databases.PAGE:
+            yield Block(len(found), size, found)
+            found, size = [], 0
+    if found:
+        yield Block(len(found), size, found)
 
 
 def query_file(query: str) -> IO[bytes]:
@@ -101,16 +160,15 @@ class Asker:
             error.at = error.at and error.at + self.before
             raise refused(error, query) from None
         except errors.Error as error:
-            raise refused(error, query) from None
+            raise refused(error, query, self.tables) from None
         except MemoryError:
             raise Refused(OUT_OF_MEMORY, MEMORY) from None
         finally:
             progress.clear()
         headers = [it for it, _ in statement.columns]
         is_plan = statements.is_plan(query)
-        if not is_plan:
-            statement.as_records()
-        return Answer(headers, statements.types(headers, query, self.tables), self.rows(statement, is_plan), is_plan)
+        types = statements.types(headers, query, self.tables)
+        return Answer.of_blocks(headers, types, self.blocks(statement, self.lines if is_plan else self.records), is_plan)
 
     def large(self, query: str) -> list[str]:
         """Returns the tables that a query names, that aren't loaded yet, and that take some time."""
@@ -118,23 +176,31 @@ class Asker:
         return [name for name, path in named.items() if name in self.database.tables and os.path.isfile(path)
                 and os.path.getsize(path) > LARGE and not self.database.is_loaded(self.database.tables.index(name))]
 
-    def rows(self, statement: databases.Statement, is_plan: bool) -> Iterator[list[str]]:
-        """Returns the rows of a statement: lines of a plan, or records of CSV."""
+    def blocks(self, statement: databases.Statement, take: Callable[[databases.Statement, int], Block]) -> Iterator[Block]:
+        """Yields the rows of a statement. `take` takes so many of them, or fewer."""
         try:
             # The first row comes as soon as it is found.
-            most, found = 1, statement.take(1)
-            while found:
-                if is_plan:
-                    yield from map(list, found)
-                else:
-                    # Nothing is in the record of one NULL.
-                    yield from (it or [""] for it in csv.reader(line for line, in found))
+            most, found = 1, take(statement, 1)
+            while found.number:
+                yield found
                 most = min(2 * most, MOST_AT_ONCE)
-                found = statement.take(most)
+                found = take(statement, most)
         except MemoryError:
             raise Refused(OUT_OF_MEMORY, MEMORY) from None
         finally:
             statement.end()
+
+    @staticmethod
+    def lines(statement: databases.Statement, most: int) -> Block:
+        """Takes lines of a plan."""
+        found: list[list[str]] = list(map(list, statement.take(most)))
+        return Block(len(found), 0, found)
+
+    @staticmethod
+    def records(statement: databases.Statement, most: int) -> Block:
+        """Takes records of CSV."""
+        number, given = statement.records(most)
+        return Block(number, len(given), [], given.decode("utf-8", "replace"))
 
     def why(self, query: str, fault: Refused) -> str:
         """Returns what the last fault means: what the program says of the same query and files, where it is beside this command."""
@@ -143,15 +209,16 @@ class Asker:
         return (said if said and fault.code in said else fault.text) + (page(fault.code) if fault.code else "")
 
 
-def refused(error: errors.Error, text: str) -> Refused:
-    """Returns the refusal of an error of the library: the line of `sfq run`, the place in the text, and what to do."""
+def refused(error: errors.Error, text: str, known: Sequence[statements.Table] = ()) -> Refused:
+    """Returns the refusal of an error of the library: the line of `sfq run`, the place in the text, and what to do. `known` are the tables that
+    a query may name."""
     if error.code is None:
         unreadable = error.table or ("query" if isinstance(error, errors.ProgrammingError) else "")
         head = f"sfq: {unreadable} unreadable\n" if unreadable else ""
         return Refused(f"{head}sfq: {error.reason}\n", FILES)
     status = {"S": SCHEMA, "L": FILES if error.code == "L11" else DATA, "Q": QUERY}[error.code[0]]
     shown = "" if error.code[0] == "L" or error.at is None else placed(encoded(text), error.at)
-    return Refused(f"sfq: {error.place}\n{shown}sfq: {error.reason}\n", status)
+    return Refused(f"sfq: {error.place}\n{shown}sfq: {near_names.reason(error, error.at, text, known)}\n", status)
 
 
 def placed(text: bytes, at: int) -> str:

@@ -27,6 +27,8 @@ class Shapes(NamedTuple):
     alone: set[int]
     sources: Sequence[Any]
     boxes: Sequence[Any]
+    # Whether each is a point with a position.
+    are_points: bool = False
 
 
 class Batched:
@@ -98,14 +100,14 @@ class Batched:
             # A position past the limit isn't counted as moved.
             past = numpy.flatnonzero((apart.steps > grids.MOST).any(axis=1))
             are_plain[numpy.searchsorted(ends[:, 0], past, side="right")] = False
-        for at in numpy.flatnonzero(are_plain & (apart.types > 3)).tolist():
-            last = int(ends[at, 2])
-            if not apart.elements[last - int(apart.counts[at, 2]) : last].all():
-                are_plain[at] = False
+        # Geometries of several elements of which one is empty.
+        lacking = numpy.searchsorted(ends[:, 2], numpy.flatnonzero(apart.elements == 0), side="right")
+        are_plain[lacking[apart.types[lacking] > 3]] = False
         texts, merged, kept = self.texts(apart, are_plain, ends)
         grids.measure_all(apart.positions[kept], apart.steps[kept], grid, self.found.shift, merged)
         sources, boxes = boxes_of(apart, numpy) if self.found.members is not None else ([], [])
-        return Shapes(texts, set(numpy.flatnonzero(is_there & ~are_plain).tolist()), sources, boxes)
+        alone = set(numpy.flatnonzero(is_there & ~are_plain).tolist())
+        return Shapes(texts, alone, sources, boxes, not alone and len(texts) == len(apart.positions) and bool((apart.types == 1).all()))
 
     def texts(self, apart: batches.Apart, are_plain: Any, ends: Any) -> tuple[list[Optional[str]], int, Any]:
         """Returns the texts of plain geometries, None of the others, how many positions were merged, and which positions are those of plain
@@ -114,16 +116,18 @@ class Batched:
         texts: list[Optional[str]] = [None] * len(are_plain)
         kept = numpy.repeat(are_plain, apart.counts[:, 0])
         if (apart.counts == 1).all() and (apart.types == 1).all():
-            return list(map("POINT(%d %d)".__mod__, zip(steps[:, 0].tolist(), steps[:, 1].tolist()))), 0, kept
+            whole, starts = grids.spelled_all(steps)
+            places = starts.tolist()
+            return [f"POINT({whole[a:b - 1]})" for a, b in zip(places, places[1:])], 0, kept
         # Which positions are others than the ones before them on their lines, and how many these are up to each place.
         differ = numpy.ones(len(steps), dtype=bool)
-        differ[1:] = (steps[1:] != steps[:-1]).any(axis=1)
+        differ[1:] = (steps[1:, 0] != steps[:-1, 0]) | (steps[1:, 1] != steps[:-1, 1])
         line_ends = apart.lines.astype("i8").cumsum()
         starts = line_ends - apart.lines.astype("i8")
         differ[starts[starts < len(steps)]] = True
         before = numpy.concatenate([[0], differ.cumsum()])
-        spelled = list(map("%d %d".__mod__, zip(steps[differ, 0].tolist(), steps[differ, 1].tolist())))
-        from_, to, elements = before[starts].tolist(), before[line_ends].tolist(), apart.elements.tolist()
+        whole, places = grids.spelled_all(steps[differ])
+        from_, to, elements = places[before[starts]].tolist(), places[before[line_ends]].tolist(), apart.elements.tolist()
         merged = int((kept & ~differ).sum())
         wholes = list(zip(apart.types.tolist(), apart.counts.tolist(), ends.tolist()))
         for at in numpy.flatnonzero(are_plain).tolist():
@@ -134,7 +138,7 @@ class Batched:
                 merged += len(each) - len(unique) - int((~differ[last - positions : last]).sum())
                 texts[at] = f"MULTIPOINT(({'),('.join(unique)}))"
                 continue
-            its = [f"({','.join(spelled[a:b])})" for a, b in zip(from_[last_line - lines : last_line], to[last_line - lines : last_line])]
+            its = [f"({whole[a:b - 1]})" if a < b else "()" for a, b in zip(from_[last_line - lines : last_line], to[last_line - lines : last_line])]
             texts[at] = f"POINT{its[0]}" if kind == 1 and its else binary.text_of(binary.WORDS[kind], its, elements[last_part - parts : last_part])
         return texts, merged, kept
 
@@ -149,7 +153,8 @@ class Batched:
         shapes = self.shapes(batch.shapes) if batch.shapes is not None else NO_SHAPES
         rows, done = list(zip(*columns)), 0
         lines = self.lines(rows, shapes)
-        alone = shapes.alone | {at for at, reason in self.reasons(shapes.texts) if reason} | {at for at, it in enumerate(lines) if len(it) > SHORT}
+        faulty = {at for at, reason in self.reasons(shapes.texts) if reason} if not shapes.are_points else set()
+        alone = shapes.alone | faulty | {at for at, it in enumerate(lines) if len(it) > SHORT}
         for at in (*sorted(alone), batch.records):
             self.write(batch, shapes, rows[done:at], lines[done:at], done)
             if at < batch.records:
@@ -165,7 +170,7 @@ class Batched:
         """Returns the line of each record, whatever becomes of it."""
         if not self.layer.shapes:
             return [f"{','.join(row)}\n" for row in rows]
-        fields = ["" if it is None else f'"{it}"' if "," in it else it for it in shapes.texts]
+        fields = shapes.texts if shapes.are_points else ["" if it is None else f'"{it}"' if "," in it else it for it in shapes.texts]
         return [f"{','.join(row)},{text}\n" for row, text in zip(rows, fields)]
 
     def write(self, batch: batches.Batch, shapes: Shapes, rows: Sequence[tuple[str, ...]], lines: Sequence[str], first: int) -> None:
@@ -177,7 +182,7 @@ class Batched:
         found.table.write("".join(lines).encode())
         found.records, found.rows, found.kept = found.records + len(rows), found.rows + len(rows), found.kept + len(rows)
         for words in found.words:
-            words.update(it.partition("(")[0] for it in texts if it is not None)
+            words.update(["POINT"] if shapes.are_points and texts else {it.partition("(")[0] for it in texts if it is not None})
         if found.members is not None and batch.shapes is not None:
             for at, row in enumerate(rows, first):
                 text = shapes.texts[at]

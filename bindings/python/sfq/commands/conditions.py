@@ -10,6 +10,7 @@ from decimal import Decimal
 from fractions import Fraction
 from typing import Any, Callable, Iterator, NamedTuple, Optional
 
+from ..geometry.counts import number_of
 from ..tables import databases, parts
 from . import asking, constants, exports, units, wholes
 from .asking import encoded
@@ -205,7 +206,7 @@ class Conditions:
         for layer in self.layers.values():
             if layer.has_parts:
                 parted = layer.said["parted"]
-                said = f"{parted['records']:,} records of {layer.said['table']} are in {parted['rows']:,} parts"
+                said = f"{number_of(parted['records'], 'record')} of {layer.said['table']} {'is' if parted['records'] == 1 else 'are'} in {number_of(parted['rows'], 'part')}"
                 found.append(f"{said}: they were put together again and related as wholes, which isn't proved" if self.is_of_wholes else
                              f"{said}, each a row: those of one have the same number in {parted['whole']}, and one is disjoint from another "
                              "where all its parts are")

@@ -14,7 +14,9 @@ from fractions import Fraction
 from typing import Iterator, NamedTuple, Optional, Sequence
 
 from ..geometry import covering
+from ..geometry.counts import number_of
 from ..geometry.shapes import Geometry, Index, relate_many
+from ..tables import near_names
 from . import exports, left_out, units
 from .asking import Answer
 from .endings import USAGE, Stopped
@@ -69,14 +71,9 @@ class Found(NamedTuple):
 
     def line(self, name: str) -> str:
         """Returns what is said of it."""
-        counts = ", ".join(plural(self.count(it), it) for it in (OVERLAP, BORDER, GAP))
-        more = f", and {plural(self.unverified, 'enclosed part')} not verified as a gap" if self.unverified else ""
-        return f"{name}: {self.areas:,} areas, {self.pairs:,} pairs that meet: {counts}{more}; it {'is' if self.is_coverage else 'is not'} a coverage"
-
-
-def plural(count: int, word: str) -> str:
-    """Returns a number with a word."""
-    return f"{count:,} {word}{'' if count == 1 else 's'}"
+        counts = ", ".join(number_of(self.count(it), it) for it in (OVERLAP, BORDER, GAP))
+        more = f", and {number_of(self.unverified, 'enclosed part')} not verified as a gap" if self.unverified else ""
+        return f"{name}: {number_of(self.areas, 'area')}, {number_of(self.pairs, 'pair that meets', 'pairs that meet')}: {counts}{more}; it {'is' if self.is_coverage else 'is not'} a coverage"
 
 
 # ---- the table ----
@@ -87,7 +84,7 @@ def layer_named(folder: units.Folder, name: str) -> units.Layer:
     for it in folder.layers.values():
         if name.lower() == str(it.said["table"]).lower() or name == it.said["layer"]:
             return it
-    raise Stopped(f"there is no layer {name}: there are {', '.join(str(it.said['table']) for it in folder.layers.values())}", USAGE)
+    raise Stopped(near_names.said(f"there is no layer {name}", name, [str(it.said["table"]) for it in folder.layers.values()]), USAGE)
 
 
 def areas_of(folder: units.Folder, layer: units.Layer) -> Iterator[Area]:

@@ -20,6 +20,7 @@ from typing import IO, Any, Callable, Iterator, NamedTuple, Optional, Sequence, 
 
 from .. import __version__
 from ..geometry import grids, texts
+from ..geometry.counts import number_of
 from ..layers import reading, systems
 from ..tables import rules
 from . import endings, streams
@@ -115,7 +116,7 @@ def rows(records: Iterator[list[str]], place: int, width: int) -> Iterator[Row]:
     """Reads the rows below the header. Stopped at a record of another length or whose geometry isn't one."""
     for number, fields in enumerate(records, 1):
         if len(fields) != width:
-            raise Stopped(f"record {number} has {len(fields)} fields, the header {width}", DATA)
+            raise Stopped(f"record {number} has {number_of(len(fields), 'field')}, the header {width}", DATA)
         try:
             yield Row(fields, texts.coordinates(fields[place]) if fields[place] else None)
         except (KeyError, IndexError, ValueError):

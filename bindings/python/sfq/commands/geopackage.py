@@ -1,16 +1,20 @@
 """Writes an answer as a GeoPackage, by GDAL. None of it is proved."""
 from __future__ import annotations
 
-from typing import Any, Callable, NamedTuple
+import itertools
+from typing import Any, Callable, Iterator, NamedTuple, Sequence
 
 from ..geometry import texts
-from ..layers import reading, systems
+from ..layers import arrays, reading, systems
 from . import outputs, units
+from .asking import Block
 from .endings import DATA, Stopped
 
 LAYER = "answer"
 # When GDAL writes that the contents changed: the same answer has the same bytes.
 DATE = "1970-01-01T00:00:00.000Z"
+# Fewer rows than these are written one by one: loading numpy takes longer. How many rows are written at once, and about how many bytes.
+FEWEST, MOST, BYTES = 1_000, 4_000, 4 << 20
 
 
 def write(returned: units.Returned, output: outputs.Output) -> None:
@@ -24,6 +28,10 @@ def write(returned: units.Returned, output: outputs.Output) -> None:
             module.DontUseExceptions()
         found.gdal.PushErrorHandler("CPLQuietErrorHandler")
         raise OSError(f"{output.path}: GDAL can't write it{f': {error}' if str(error) else ''}") from None
+
+
+# The fields of some rows, by their columns.
+Columns = list[list[str]]
 
 
 class Writer:
@@ -66,36 +74,96 @@ class Writer:
 
     def rows(self, source: Any, layer: Any) -> int:
         """Writes the columns and the rows, and returns how many rows there are."""
-        setters, count = [self.setter(layer, at) for at in range(len(self.names))], 0
+        ogr = self.found.ogr
+        types = {"INTEGER": ogr.OFTInteger64, "REAL": ogr.OFTReal}
+        for at, name in enumerate(self.names):
+            if at != self.returned.place:
+                layer.CreateField(ogr.FieldDefn(name, types.get(self.kind(at), ogr.OFTString)))
         source.StartTransaction()
-        # One feature serves all rows: making one takes as long as writing it. `before` says which of its fields are set.
-        feature, before = self.found.ogr.Feature(layer.GetLayerDefn()), [""] * len(self.names)
-        create, set_fid = layer.CreateFeature, feature.SetFID
-        for fields in self.returned.shown().rows:
-            for setter, text, old in zip(setters, fields, before):
-                if text:
-                    setter.sets(feature, text)
-                elif old:
-                    setter.unsets(feature)
-            set_fid(-1)
-            create(feature)
-            before = fields
-            count += 1
+        many, count = batches(self.returned.answer.blocks(), len(self.names)), 0
+        first: Columns = next(many, [[]])
+        writes = self.in_columns(layer) if len(first[0]) >= FEWEST and arrays.can_write(ogr) else self.one_by_one(layer)
+        for it in itertools.chain([first], many):
+            writes(it)
+            count += len(it[0])
         source.CommitTransaction()
         return count
 
-    def setter(self, layer: Any, at: int) -> Setter:
-        """Makes the column at a place, and returns what sets a field of it."""
-        ogr, kind = self.found.ogr, self.returned.columns[at].kind
+    def kind(self, at: int) -> str:
+        """Returns the type of a column."""
+        return self.returned.columns[at].kind
+
+    # ---- rows in columns ----
+
+    def in_columns(self, layer: Any) -> Callable[[Columns], None]:
+        """Returns what writes rows by their columns."""
+        place, formats = self.returned.place, {"INTEGER": arrays.WHOLES, "REAL": arrays.DOUBLES}
+        columns = [(it, arrays.BYTES if at == place else formats.get(self.kind(at), arrays.TEXTS)) for at, it in enumerate(self.names)]
+        writer = arrays.Writer(self.found.ogr, layer, columns, "" if place is None else self.names[place])
+        return lambda rows: writer.write(len(rows[0]), [self.values(at, it) for at, it in enumerate(rows)])
+
+    def values(self, at: int, fields: Sequence[str]) -> arrays.Values:
+        """Returns the column of some rows at a place."""
+        column = self.returned.columns[at]
         if at == self.returned.place:
+            ogr = self.found.ogr
+            return arrays.shape_values(fields, self.returned.grid, lambda it: bytes(ogr.CreateGeometryFromWkt(column.write(it)).ExportToIsoWkb(ogr.wkbNDR)))
+        if column.axis:
+            return arrays.counted_values(fields, column.axis)
+        if column.write is not str:
+            fields = [it and column.write(it) for it in fields]
+        return {"INTEGER": arrays.whole_values, "REAL": arrays.double_values}.get(column.kind, arrays.text_values)(fields)
+
+    # ---- rows one by one ----
+
+    def one_by_one(self, layer: Any) -> Callable[[Columns], None]:
+        """Returns what writes rows each as a feature."""
+        setters = [self.setter(at) for at in range(len(self.names))]
+        # One feature serves all rows: making one takes as long as writing it. `before` says which of its fields are set.
+        feature, before = self.found.ogr.Feature(layer.GetLayerDefn()), [""] * len(self.names)
+        create, set_fid, fields_of = layer.CreateFeature, feature.SetFID, self.returned.fields
+
+        def write(rows: Columns) -> None:
+            nonlocal before
+            for row in zip(*rows):
+                fields = fields_of(list(row))
+                for setter, text, old in zip(setters, fields, before):
+                    if text:
+                        setter.sets(feature, text)
+                    elif old:
+                        setter.unsets(feature)
+                set_fid(-1)
+                create(feature)
+                before = fields
+
+        return write
+
+    def setter(self, at: int) -> Setter:
+        """Returns what sets a field of the column at a place."""
+        ogr, place = self.found.ogr, self.returned.place
+        if at == place:
             return Setter(lambda it, text: it.SetGeometryDirectly(ogr.CreateGeometryFromWkt(text)), lambda it: it.SetGeometry(None))
-        number = layer.GetLayerDefn().GetFieldCount()
-        layer.CreateField(ogr.FieldDefn(self.names[at], {"INTEGER": ogr.OFTInteger64, "REAL": ogr.OFTReal}.get(kind, ogr.OFTString)))
+        number = at - (place is not None and place < at)
         feature = ogr.Feature
         ways: dict[str, tuple[str, Callable[[str], Any]]] = {"INTEGER": ("SetFieldInteger64", int), "REAL": ("SetFieldDouble", float)}
-        name, of = ways.get(kind, ("SetFieldString", str))
+        name, of = ways.get(self.kind(at), ("SetFieldString", str))
         sets = getattr(feature, name, feature.SetField)
         return Setter(lambda it, text: sets(it, number, of(text)), lambda it: it.UnsetField(number))
+
+
+def batches(blocks: Iterator[Block], width: int) -> Iterator[Columns]:
+    """Yields the rows of blocks, many at once, by the fields of each of so many columns."""
+    found: Columns = [[] for _ in range(width)]
+    size = 0
+    for it in blocks:
+        for column, fields in zip(found, it.columns(width)):
+            column += fields
+        size += it.size
+        if len(found[0]) >= MOST or size >= BYTES:
+            yield found
+            found, size = [[] for _ in range(width)], 0
+    if found[0]:
+        yield found
 
 
 class Setter(NamedTuple):

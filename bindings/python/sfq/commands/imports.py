@@ -20,9 +20,10 @@ from typing import Any, Callable, Iterator, Mapping, NamedTuple, Optional, Seque
 
 from .. import __version__
 from ..geometry import grids
+from ..geometry.counts import number_of
 from ..geometry.faults import LibraryError
 from ..layers import proposing, reading, snapping, systems
-from ..tables import rules
+from ..tables import near_names, rules
 from . import changes, checking, endings, folders, left_out, rejects, reports, stepping
 from .endings import DATA, DONE, MISSING, USAGE, Stopped
 from .passes import Again, HasParts, Key, Means, NotAscending, Pass, type_of, written_as_multi
@@ -127,7 +128,7 @@ class Import:
             self.say(f"{it.label}: {it.line}")
         for table in self.tables:
             if table.others:
-                self.say(f"{table.label}: relations of {table.others:,} mended or parted records aren't compared")
+                self.say(f"{table.label}: relations of {number_of(table.others, 'mended or parted record')} aren't compared")
             if table.members is None:
                 self.say(f"{table.label}: relations aren't compared in tables of more than {rules.MOST_ROWS:,} rows")
         if self.tables and self.folder.layers:
@@ -154,7 +155,7 @@ class Import:
         while True:
             self.left_out.seek(place)
             self.left_out.truncate()
-            with open(self.folder.new(f"{name}.csv"), "wb", buffering=1 << 20) as table:
+            with open(self.folder.new(f"{name}.csv"), "w+b", buffering=1 << 20) as table:
                 found = Pass(self.means, layer, key, name, (table, self.left_out), has_parts)
                 try:
                     found.run()
@@ -185,7 +186,7 @@ class Import:
             if found.columns[first + at].type.startswith("MULTI") and any(not it.startswith("MULTI") for it in words):
                 multi.add(first + at)
         if multi:
-            written_as_multi(f"{self.folder.room}/{name}.csv", multi)
+            written_as_multi(f"{self.folder.room}/{name}.csv", multi, set().union(*found.words))
         self.schemas.append(rules.schema(name, found.columns, found.columns[0].name))
         self.rejected += found.rejected
         self.layers.append(reports.described(layer, name, found))
@@ -211,10 +212,10 @@ def need_apart(sources: Sequence[str]) -> None:
 def chosen(sources: Sequence[reading.Source], options: Options) -> list[reading.Layer]:
     """Returns the layers that are asked for. Stopped where one isn't there, a source has none of them, or a column is in none."""
     found, names = [it.layers(options.layers) for it in sources], set(options.layers)
-    there = ", ".join(name for it in sources for name in it.names()) or "none"
+    there = list(dict.fromkeys(name for it in sources for name in it.names()))
     for name in options.layers:
         if not any(it.name == name or it.layer.GetName() == name for each in found for it in each):
-            raise Stopped(f"no layer {name}; there are {there}", USAGE)
+            raise Stopped(near_names.said(f"there is no layer {name}", name, there), USAGE)
     for source, each in zip(sources, found):
         if names and not each:
             raise Stopped(f"{source.name} has no layer {' or '.join(options.layers)}; it has {', '.join(source.names()) or 'none'}", USAGE)
@@ -223,15 +224,19 @@ def chosen(sources: Sequence[reading.Source], options: Options) -> list[reading.
     for it in layers:
         if it.name in many:
             it.label = f"{os.path.basename(it.source.name)}: {it.name}"
-    if options.key and not any(it.has(options.key) for it in layers):
-        raise Stopped(f"no layer has a column {options.key}", USAGE)
-    for option, columns in (("--scale", options.steps), ("--columns", options.columns)):
+    for option, columns in (("--key", [options.key] if options.key else []), ("--scale", options.steps), ("--columns", options.columns)):
         for column in columns:
-            if not any(it.has(column) for it in layers):
-                raise Stopped(f"{option}: no layer has a column {column}", USAGE)
+            need_column(option, column, layers)
     for it in layers:
         it.kept = options.columns
     return layers
+
+
+def need_column(option: str, name: str, layers: Sequence[reading.Layer]) -> None:
+    """Stopped where no layer has a column that an option names."""
+    if not any(it.has(name) for it in layers):
+        there = dict.fromkeys(column for it in layers for column in it.named())
+        raise Stopped(near_names.said(f"{option}: no layer has a column {name}", name, list(there)), USAGE)
 
 
 def take_columns(layers: Sequence[reading.Layer], options: Options) -> None:
@@ -248,14 +253,19 @@ def take_columns(layers: Sequence[reading.Layer], options: Options) -> None:
         it.take_texts(options.wkt)
 
 
+def to_count(layer: reading.Layer, options: Options) -> list[str]:
+    """Returns the columns of decimal numbers that may become whole ones."""
+    names = dict.fromkeys(name for _, name in layer.columns() if layer.is_real(name) and name not in options.steps)
+    return list(names) if options.scales else []
+
+
 def take_decimals(layers: Sequence[reading.Layer], options: Options) -> None:
     """Has columns of decimal numbers become whole ones: those of one name in several layers with the same step, so that they can be compared."""
     if not options.scales:
         return
     found: list[tuple[reading.Layer, str, grids.Places]] = []
-    for it in layers:
-        names = [name for _, name in it.columns() if it.is_real(name) and name not in options.steps]
-        found += [(it, name, places) for name, places in it.places(names).items() if places.step]
+    for layer in layers:
+        found += [(layer, name, places) for name, places in layer.places(to_count(layer, options)).items() if places.step]
     for it, name, own in found:
         its = (places for _, other, places in found if other.lower() == name.lower())
         finest = max(its, key=lambda places: places.places)
@@ -407,8 +417,16 @@ def imported(sources: Sequence[str], folder: folders.Folder, options: Options, m
         checking.Checker()
         layers, shaped, system = opened(sources, folder, options, found, say)
         names, replaced = names_of(layers, folder, options)
+        for layer in shaped:
+            layer.to_count = to_count(layer, options)
+        lines: list[str] = []
+        grid = grid_of(shaped, folder, system, options, lines.append)
         take_decimals(layers, options)
-        grid = grid_of(shaped, folder, system, options, say)
+        # Both may read the records, of which GDAL may warn: the line on the grid comes after that, whichever of them does.
+        for it in lines:
+            say(it)
+        for layer in shaped:
+            layer.to_count = ()
         folder.begin(replaced)
         with_grid = means_of(found, grid.grid, options, name)
         work, said = made(layers, names, with_grid, folder, options.key)
@@ -602,7 +620,7 @@ def run(given: argparse.Namespace, options: Options) -> int:
         raise Stopped(f"no record was kept: {why}; --allow-empty takes that", DATA)
     if given.strict and found.count("left_out"):
         count = found.count("left_out")
-        raise Stopped(f"{count:,} record{'s were' if count > 1 else ' was'} left out: {given.out}/left-out.csv says why", DATA)
+        raise Stopped(f"{number_of(count, 'record was', 'records were')} left out: {given.out}/left-out.csv says why", DATA)
     return DONE
 
 

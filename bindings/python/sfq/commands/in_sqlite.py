@@ -95,6 +95,5 @@ def column(header: str, value: Any, conditions: Conditions, folder: units.Folder
         system = next((it.system for it in (*of, *conditions.layers.values())), None)
         return units.Column("GEOMETRY", folder.text, system)
     if said and said.get("step") and isinstance(value, int):
-        axis = grids.Scale(said["step"]).axis
-        return units.Column("REAL", lambda it: axis.text(int(it)))
+        return units.counted(grids.Scale(said["step"]).axis)
     return units.Column("INTEGER" if isinstance(value, int) else "REAL" if isinstance(value, float) else "TEXT", str)

@@ -2,15 +2,17 @@
 from __future__ import annotations
 
 import csv
+import io
 import itertools
 import math
 import os
 import re
 import sys
 from fractions import Fraction
-from typing import Any, Iterable, Iterator, NamedTuple, Optional, Sequence
+from typing import IO, Any, Iterable, Iterator, NamedTuple, Optional, Sequence
 
 from ..geometry import grids
+from ..geometry.counts import number_of
 from ..layers import reading
 from . import exports, units
 from .endings import DATA, Stopped
@@ -25,6 +27,9 @@ BROKEN = "; valid in the source, broken by the grid"
 AT = re.compile(r"\b(?:share|at|from) (-?\d+(?:/\d+)?) (-?\d+(?:/\d+)?)(?= to |;|$)")
 PLACES = re.compile(r"\b(share|at|from|around) (-?\d+(?:/\d+)?) (-?\d+(?:/\d+)?)(?: to (-?\d+(?:/\d+)?) (-?\d+(?:/\d+)?))?$")
 NUMBER = re.compile(r"-?\d+")
+# A point at the end of a line of CSV, and about how many bytes of a table are read at once.
+LAST_POINT = re.compile(rb",POINT\((-?[0-9]+) (-?[0-9]+)\)$", re.M)
+AT_ONCE = 1 << 20
 # How many records are named.
 NAMED = 3
 
@@ -93,7 +98,7 @@ class LeftOut(NamedTuple):
     @property
     def name(self) -> str:
         """What it is called."""
-        return f"fid {self.fid}" + (f" ({self.positions:,} positions)" if self.positions else "")
+        return f"fid {self.fid}" + (f" ({number_of(self.positions, 'position')})" if self.positions else "")
 
 
 def read(folder: str) -> dict[str, list[LeftOut]]:
@@ -128,9 +133,9 @@ def named(records: Sequence[LeftOut]) -> str:
     return ", ".join(it.name for it in records[:NAMED]) + (" .." if len(records) > NAMED else "")
 
 
-def counted(count: int) -> str:
+def subject(count: int) -> str:
     """Returns the subject of what is said of so many records."""
-    return f"{count:,} record{' is' if count == 1 else 's are'} left out"
+    return number_of(count, "record is left out", "records are left out")
 
 
 def notes(folder: units.Folder, layers: Iterable[units.Layer]) -> Iterator[str]:
@@ -140,7 +145,7 @@ def notes(folder: units.Folder, layers: Iterable[units.Layer]) -> Iterator[str]:
         records = found.get(it.lower(), [])
         if records:
             largest = "" if len(records) == 1 else "the largest "
-            yield f"{it}: {counted(len(records))}: {largest}{named(records)}; {folder.path}/left-out.csv says why"
+            yield f"{it}: {subject(len(records))}: {largest}{named(records)}; {folder.path}/left-out.csv says why"
 
 
 def need_whole(folder: units.Folder, layers: dict[str, units.Layer]) -> None:
@@ -153,7 +158,7 @@ def need_whole(folder: units.Folder, layers: dict[str, units.Layer]) -> None:
         if meeting:
             whose = "other rows of it" if second == table else f"rows of {second}"
             raise Stopped(
-                f"the join may lack rows: {counted(len(meeting))} of {table} whose envelope{'s' * (len(meeting) > 1)} "
+                f"the join may lack rows: {subject(len(meeting))} of {table} whose envelope{'s' * (len(meeting) > 1)} "
                 f"meet{'s' * (len(meeting) == 1)} {whose}: {named(meeting)}; {folder.path}/left-out.csv says why, and --lenient asks all the same{advice(meeting)}", DATA)
 
 
@@ -189,16 +194,40 @@ def boxes(folder: units.Folder, layer: units.Layer) -> Iterator[Box]:
     """Yields the envelope of each geometry in a table, in steps of the grid."""
     places = {it["name"] for it in layer.said["columns"] if it["type"] in exports.GEOMETRIC}
     csv.field_size_limit(sys.maxsize)
-    with open(f"{folder.path}/{layer.said['table']}.csv", newline="", encoding="utf-8", errors="replace") as file:
-        rows = csv.reader(file)
-        columns = [at for at, it in enumerate(next(rows, [])) if it in places]
-        for row in rows:
-            for at in columns:
-                text = row[at] if at < len(row) else ""
-                if text.startswith("POINT("):
-                    x, _, y = text[6:-1].partition(" ")
-                    yield int(x), int(y), int(x), int(y)
-                    continue
-                numbers = list(map(int, NUMBER.findall(text)))
-                if numbers:
-                    yield min(numbers[0::2]), min(numbers[1::2]), max(numbers[0::2]), max(numbers[1::2])
+    with open(f"{folder.path}/{layer.said['table']}.csv", "rb") as file:
+        header: list[str] = next(csv.reader([file.readline().decode("utf-8", "replace")]), [])
+        columns = [at for at, it in enumerate(header) if it in places]
+        left = b""
+        if columns == [len(header) - 1]:
+            for left in lines_of(file):
+                points = LAST_POINT.findall(left)
+                if b'"' in left or b"\r" in left or len(points) != left.count(b"\n"):
+                    break
+                yield from ((x, y, x, y) for x, y in ((int(x), int(y)) for x, y in points))
+                left = b""
+        yield from boxes_in(csv.reader(itertools.chain(text_of(io.BytesIO(left)), text_of(file))), columns)
+
+
+def lines_of(file: IO[bytes]) -> Iterator[bytes]:
+    """Yields whole lines of a file, many at once."""
+    while found := file.read(AT_ONCE):
+        yield found + file.readline()
+
+
+def text_of(file: IO[bytes]) -> io.TextIOWrapper:
+    """Returns the text of the rest of a file, for a reader of CSV."""
+    return io.TextIOWrapper(file, encoding="utf-8", errors="replace", newline="")
+
+
+def boxes_in(rows: Iterator[list[str]], columns: Sequence[int]) -> Iterator[Box]:
+    """Yields the envelopes of the geometries in some columns of rows."""
+    for row in rows:
+        for at in columns:
+            text = row[at] if at < len(row) else ""
+            if text.startswith("POINT("):
+                x, _, y = text[6:-1].partition(" ")
+                yield int(x), int(y), int(x), int(y)
+                continue
+            numbers = list(map(int, NUMBER.findall(text)))
+            if numbers:
+                yield min(numbers[0::2]), min(numbers[1::2]), max(numbers[0::2]), max(numbers[1::2])

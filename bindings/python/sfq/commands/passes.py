@@ -3,11 +3,14 @@ from __future__ import annotations
 
 import csv
 import functools
+import io
 import os
 import re
+import shutil
 import sys
+import tempfile
 from collections import Counter
-from typing import Any, Callable, Iterator, Mapping, NamedTuple, Optional, Sequence
+from typing import IO, Any, Callable, Iterator, Mapping, NamedTuple, Optional, Sequence
 
 from ..geometry import binary, grids
 from ..geometry.faults import MEANINGS
@@ -28,6 +31,11 @@ MENDED, SNAPPED = "mended", "snapped"
 SETTLES = ("snap", "mend")
 # What a reason ends with that is the record's own: the value of a field.
 VALUE = re.compile(r": (['\"]).*\1$", re.S)
+# The types whose texts have a comma, so that they are in quotes, and such a text at the end of a record: no quote is in it, and a quote within
+# a text of another column is doubled. About how many bytes of a table are read at once.
+QUOTED_TYPES = {"LINESTRING", "POLYGON", "MULTILINESTRING", "MULTIPOLYGON"}
+LAST_SHAPE = re.compile(rb',"(LINESTRING|POLYGON)(\([^"\n]*)"$', re.M)
+AT_ONCE = 1 << 20
 
 
 class NotAscending(Exception):
@@ -35,7 +43,7 @@ class NotAscending(Exception):
 
 
 class HasParts(Exception):
-    """A record has to be parted, and its table has no columns for that."""
+    """A record has to be parted, and its table can't get columns for that any more."""
 
 
 class Again(Exception):
@@ -163,7 +171,7 @@ class Pass:
             way: Iterator[int] = batched.Batched(self).run()
         except batches.NotInColumns:
             way = self.singly()
-        self.table.write(",".join(it.name for it in self.columns).encode() + b"\n")
+        self.table.write(self.header())
         try:
             for count in way:
                 progress.show(f"{self.layer.label} {count:,}{of}")
@@ -366,11 +374,37 @@ class Pass:
             return None
 
     def take_parts(self, record: Record, found: parting.Parted) -> None:
-        """Has a record be several rows, since its rings touch. HasParts where the table has no columns for parts."""
+        """Has a record be several rows, since its rings touch."""
         if not self.has_parts:
-            raise HasParts()
+            self.begin_parts()
         record.parts = found.texts
         self.parted, self.parts, self.touching = self.parted + 1, self.parts + len(found.texts), self.touching + 1
+
+    def begin_parts(self) -> None:
+        """Gives the table the columns of parts: each row so far is one record. HasParts where one gets too long, so that all are read anew."""
+        self.has_parts, self.columns = True, columns(self.layer, self.key, self.means.steps, True)
+        number, size, is_open = 0, 0, False
+        with tempfile.TemporaryFile() as spool:
+            self.table.seek(0)
+            self.table.readline()
+            for line in self.table:
+                if not is_open:
+                    number += 1
+                    size = spool.write(b"%d,%s," % (number, line.partition(b",")[0]))
+                size += spool.write(line)
+                if size > rules.MOST_OF_RECORD:
+                    raise HasParts()
+                # A line end may be within quotes.
+                is_open ^= line.count(b'"') % 2 == 1
+            spool.seek(0)
+            self.table.seek(0)
+            self.table.truncate()
+            self.table.write(self.header())
+            shutil.copyfileobj(spool, self.table)
+
+    def header(self) -> bytes:
+        """Returns the first line of the table."""
+        return ",".join(it.name for it in self.columns).encode() + b"\n"
 
     def mended(self, text: str) -> tuple[Optional[str], str]:
         """Returns what make-valid makes of a text, on the grid, and what is said of it where that isn't valid there; None where it makes nothing."""
@@ -387,7 +421,7 @@ class Pass:
         return made, behind
 
     def part(self, record: Record, reason: str) -> None:
-        """Parts a record, or refuses it. HasParts where the table has no columns for parts."""
+        """Parts a record, or refuses it."""
         text = record.texts[0] or ""
         found, behind = self.parts_of(text)
         if found is None and self.means.invalid == "mend":
@@ -400,7 +434,7 @@ class Pass:
             record.fields = []
             return
         if not self.has_parts:
-            raise HasParts()
+            self.begin_parts()
         record.parts = found.texts
         self.parted, self.parts = self.parted + 1, self.parts + len(found.texts)
         self.put_in, self.bend = self.put_in + found.put_in, max(self.bend, found.greatest)
@@ -524,12 +558,23 @@ def type_of(words: set[str], said: str) -> str:
     return next(iter(words if len(words) == 1 else of_many)) if len(of_many) == 1 else "GEOMETRY"
 
 
-def written_as_multi(path: str, places: set[int]) -> None:
-    """Writes a table anew, with each geometry in these columns as one of its MULTI type."""
-    csv.field_size_limit(sys.maxsize)
-    with open(path, newline="", encoding="utf-8") as old, open(f"{path}.new", "w", newline="", encoding="utf-8") as new:
-        for row in csv.reader(old):
-            for at in places:
-                row[at] = binary.as_multi(row[at]) if row[at] and "(" in row[at] or row[at].endswith(" EMPTY") else row[at]
-            new.write(",".join(map(rules.quoted, row)) + "\n")
+def written_as_multi(path: str, places: set[int], words: set[str]) -> None:
+    """Writes a table anew, with each geometry in these columns as one of its MULTI type. `words` are those of the types that are there."""
+    with open(path, "rb") as old, open(f"{path}.new", "wb") as new:
+        last = old.readline().count(b",")
+        old.seek(0)
+        if places == {last} and words <= QUOTED_TYPES:
+            while lines := old.read(AT_ONCE):
+                new.write(LAST_SHAPE.sub(rb',"MULTI\1(\2)"', lines + old.readline()))
+        else:
+            written_singly(old, new, places)
     os.replace(f"{path}.new", path)
+
+
+def written_singly(old: IO[bytes], new: IO[bytes], places: set[int]) -> None:
+    """Writes a table anew record by record, as `written_as_multi` does."""
+    csv.field_size_limit(sys.maxsize)
+    for row in csv.reader(io.TextIOWrapper(old, newline="", encoding="utf-8")):
+        for at in places:
+            row[at] = binary.as_multi(row[at]) if row[at] and "(" in row[at] or row[at].endswith(" EMPTY") else row[at]
+        new.write((",".join(map(rules.quoted, row)) + "\n").encode())

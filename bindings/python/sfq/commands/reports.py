@@ -4,6 +4,7 @@ from __future__ import annotations
 from typing import Any, Callable
 
 from ..geometry import grids
+from ..geometry.counts import number_of
 from ..layers import reading, systems
 from ..tables import rules
 from . import passes
@@ -45,19 +46,19 @@ def bend(found: passes.Pass) -> float:
 def report(layer: reading.Layer, name: str, found: passes.Pass, say: Callable[[str], None]) -> None:
     """Says what became of a layer: a line for the table, and one for each kind of thing that isn't as in the source."""
     label = layer.label
-    say(f"{label}: {found.kept:,} of {found.records:,} records in {name}.csv; {found.shift.said}")
+    say(f"{label}: {found.kept:,} of {number_of(found.records, 'record')} in {name}.csv; {found.shift.said}")
     for (done, what), count in sorted(found.counts.items()):
         say(f"{label}: {count:,} {done}: {what}{beyond(layer, found.means.grid) if what.startswith('W3') else ''}")
     own = {it.source: it.step for it in found.columns if it.is_decimal}
     if own:
         say(f"{label}: decimal numbers are whole ones, which count steps: {', '.join(f'{name} of {step}' for name, step in own.items())}")
     for column, scale in ((name, it) for name, it in found.scales.items() if name not in own):
-        say(f"{label}: {column} counts steps of {scale.spelled}: {scale.moved:,} numbers moved by at most {float(scale.greatest):.3g}")
+        say(f"{label}: {column} counts steps of {scale.spelled}: {number_of(scale.moved, 'number')} moved by at most {float(scale.greatest):.3g}")
     reals = [it.source for it in found.columns if it.is_real]
     if reals:
         say(f"{label}: numbers with a point are TEXT, which sfq compares as texts: {', '.join(reals)}; --scale {reals[0]}=STEP makes whole ones")
     for column, count in found.empty.items():
-        say(f"{label}: {count:,} empty texts in {column}: sfq reads an empty field as NULL")
+        say(f"{label}: {number_of(count, 'empty text')} in {column}: sfq reads an empty field as NULL")
     renamed = [f"{it.source} is {it.name}" for it in found.columns if it.source and it.source != it.name]
     renamed = [f"the layer is {name}"] * (name != label) + renamed
     if renamed:
@@ -71,15 +72,15 @@ def further(layer: reading.Layer, found: passes.Pass) -> list[str]:
     lines = []
     if found.has_parts:
         why = f", {found.touching:,} of them since their rings touch" if found.touching else ""
-        lines.append(f"{found.parted:,} records are parted into {found.parts:,} rows{why}: {found.columns[0].name} is the key, {found.columns[1].name} that "
-                     f"of the record; {found.put_in:,} positions were put in at cuts, at most {bend(found):.3g} from their edges; of parts "
+        lines.append(f"{number_of(found.parted, 'record is', 'records are')} parted into {number_of(found.parts, 'row')}{why}: {found.columns[0].name} is the key, {found.columns[1].name} that "
+                     f"of the record; {number_of(found.put_in, 'position was', 'positions were')} put in at cuts, at most {bend(found):.3g} from the edges; of parts "
                      "ST_Intersects and ST_Disjoint alone say what they say of the whole")
     if found.unsnapped:
-        lines.append(f"{found.unsnapped:,} records would be rounded anew by GEOS 3.10 or later, which neither GDAL 3.9 nor shapely 2 nor libgeos_c has here")
+        lines.append(f"{number_of(found.unsnapped, 'record')} would be rounded anew by GEOS 3.10 or later, which neither GDAL 3.9 nor shapely 2 nor libgeos_c has here")
     if found.flattened:
-        lines.append(f"{found.flattened:,} geometries without their Z or M")
+        lines.append(f"{number_of(found.flattened, 'geometry without its Z or M', 'geometries without their Z or M')}")
     if found.gathered:
-        lines.append(f"{found.gathered:,} collections became geometries of a MULTI type, or empty ones")
+        lines.append(f"{number_of(found.gathered, 'collection became a geometry of a MULTI type, or an empty one', 'collections became geometries of a MULTI type, or empty ones')}")
     if not found.means.parts and any(what.startswith("W4") for _, what in found.counts):
         lines.append("--part splits records with too many positions into several rows")
     if len(found.columns) > rules.MOST_COLUMNS:

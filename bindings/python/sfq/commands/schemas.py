@@ -17,6 +17,7 @@ from typing import Iterator, NamedTuple, Optional
 
 from .. import __version__
 from ..geometry import texts
+from ..geometry.counts import number_of
 from ..tables import rules
 from . import endings
 from .endings import DATA, DONE, Stopped
@@ -37,9 +38,9 @@ PART = re.compile(r"\.0*[1-9]|[0-9][eE]")
 say = functools.partial(endings.say, NAME)
 
 
-def counted(number: int, noun: str) -> str:
+def some(number: int, noun: str) -> str:
     """Returns a number with its noun: `1 field`, `2 fields`, `no field`."""
-    return f"no {noun}" if not number else f"{number:,} {noun}{'s' if number > 1 else ''}"
+    return number_of(number, noun) if number else f"no {noun}"
 
 
 class Column:
@@ -107,14 +108,14 @@ class Column:
         behind = f", {self.empty:,} empty" if self.empty else ", none empty"
         if self.is_whole:
             zeros = f", {self.padded:,} with a 0 in front, which TEXT keeps" if self.padded else ""
-            return f"{counted(self.filled, 'whole number')}{behind}" + (", none twice" if is_key else "") + zeros
+            return f"{some(self.filled, 'whole number')}{behind}" + (", none twice" if is_key else "") + zeros
         if self.is_shape:
             words = " and ".join(sorted(self.words))
             parts = ": a coordinate isn't whole, so sfq-import has to bring them to a grid" if self.has_parts else ""
-            return f"{counted(self.filled, 'text')} of {words}{behind}{parts}"
+            return f"{some(self.filled, 'text')} of {words}{behind}{parts}"
         if self.is_real:
-            return f"{counted(self.filled, 'number')}{behind}, not all whole ones of 64 bits: TEXT compares them as texts"
-        return f"{counted(self.filled, 'date' if self.is_date else 'text')}{behind}"
+            return f"{some(self.filled, 'number')}{behind}, not all whole ones of 64 bits: TEXT compares them as texts"
+        return f"{some(self.filled, 'date' if self.is_date else 'text')}{behind}"
 
 
 class Table(NamedTuple):
@@ -164,7 +165,7 @@ def read_table(path: str, name: str) -> Table:
     try:
         for number, fields in enumerate(records, 1):
             if len(fields) != len(header):
-                raise Stopped(f"{path} record {number} has {counted(len(fields), 'field')}, the header {len(header)}", DATA)
+                raise Stopped(f"{path} record {number} has {some(len(fields), 'field')}, the header {len(header)}", DATA)
             for column, field in zip(columns, fields):
                 if column:
                     if not field.isascii() and SURROGATE.search(field):

@@ -20,7 +20,7 @@ from typing import Iterable, Iterator, NamedTuple, Optional
 
 from .. import __version__
 from ..geometry.faults import LibraryError
-from ..tables import statements
+from ..tables import near_names, statements
 from . import asking, endings, exports, left_out, outputs, prompt, showing, streams
 from .asking import Refused
 from .endings import DONE, MISSING, USAGE, Stopped
@@ -160,7 +160,7 @@ class Shell:
         for it in self.tables:
             if it.name.lower() == name.lower():
                 return it
-        raise Stopped(f"there is no table {name}: there are {', '.join(it.name for it in self.tables)}", USAGE)
+        raise Stopped(near_names.said(f"there is no table {name}", name, [it.name for it in self.tables]), USAGE)
 
     def do_help(self, _rest: str) -> None:
         width = max(len(f"{it.name} {it.takes}") for it in COMMANDS)
@@ -230,7 +230,7 @@ class Shell:
         if not found:
             self.print(f"{self.mode}\n")
         elif found[0] not in showing.MODES:
-            raise Stopped(f"there is no mode {found[0]}: there are {', '.join(showing.MODES)}", USAGE)
+            raise Stopped(near_names.said(f"there is no mode {found[0]}", found[0], list(showing.MODES)), USAGE)
         else:
             self.mode = found[0]
 

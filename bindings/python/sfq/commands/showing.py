@@ -12,7 +12,7 @@ from ..tables import rules
 from . import exports
 from .asking import Answer
 from .endings import USAGE, Stopped
-from .schemas import counted
+from .schemas import some
 
 # How many rows of a table are looked at at a time to find how wide its columns are.
 BLOCK = 1_000
@@ -131,7 +131,7 @@ def as_table(answer: Answer, place: Place) -> None:
         count += len(block)
         if len(block) < BLOCK:
             break
-    place.file.write(f"({counted(count, 'row')})\n")
+    place.file.write(f"({some(count, 'row')})\n")
 
 
 # ---- JSON and GeoJSON ----

@@ -5,6 +5,7 @@ from decimal import Decimal
 from typing import Callable, Iterator, NamedTuple, Optional, Sequence
 
 from ..geometry import grids
+from ..geometry.counts import number_of
 from ..layers import proposing, reading
 from . import changes
 from .endings import DATA, Stopped
@@ -103,7 +104,7 @@ def need_fine(broken: Sequence[Broken], layers: Sequence[reading.Layer], grid: g
         decimals = proposing.Decimals()
         extent = reading.extent(layers, decimals)
         finer = proposing.proposed(extent, None, decimals=decimals) if extent else grid
-        said = f"{it.label}: {it.broken:,} of {it.records:,} records are valid in the source, and broken by the step {grid.spelled[0]}"
+        said = f"{it.label}: {it.broken:,} of {number_of(it.records, 'record')} {'is' if it.broken == 1 else 'are'} valid in the source, and broken by the step {grid.spelled[0]}"
         if Decimal(finer.spelled[0]) >= Decimal(grid.spelled[0]):
             say(f"{said}; no finer one reaches all")
         elif takes:

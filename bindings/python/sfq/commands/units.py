@@ -38,11 +38,20 @@ def layer_of(said: Any) -> Layer:
 
 
 class Column(NamedTuple):
-    """A column of an answer in the units of the source: its type, which may be REAL, and what makes a field that isn't empty one of these."""
+    """A column of an answer in the units of the source: its type, which may be REAL, and what makes a field that isn't empty one of these.
+
+    `axis` is that of a column of whole numbers that count steps.
+    """
 
     kind: str
     write: Callable[[str], str]
     system: Any = None
+    axis: Optional[grids.Axis] = None
+
+
+def counted(axis: grids.Axis) -> Column:
+    """Returns a column of whole numbers that count the steps of an axis."""
+    return Column("REAL", lambda it: axis.text(int(it)), None, axis)
 
 
 class Folder:
@@ -104,8 +113,7 @@ class Folder:
         said = layer.columns.get(of.name.lower()) if layer and of else None
         known = exports.kind_of(said) if said else kind
         if kind == "INTEGER" and known not in ("INTEGER", "REAL", "TEXT"):
-            axis = grids.Scale(known).axis
-            return Column("REAL", lambda it: axis.text(int(it)))
+            return counted(grids.Scale(known).axis)
         return Column(known if kind == "TEXT" and known == "REAL" else kind, str)
 
     def text(self, field: str) -> str:

@@ -16,6 +16,7 @@ from fractions import Fraction
 from typing import Any, Iterable, Optional, Sequence
 
 from . import library
+from .counts import number_of
 
 # The greatest coordinate of sfq, either way.
 MOST = 10_000_000
@@ -31,6 +32,10 @@ TICKS = 2**20
 SURE = 2**33
 # How many coordinates are looked at by fractions at most, where doubles can't say how far they are from their places.
 FEW = 200
+# Takes the upper half of a double's digits, by which a product can be had exactly.
+HALVES = float(2**27 + 1)
+# How much of itself a distance is off at most, where that is found without fractions.
+DOUBT = 2.0**-40
 # What is said of a position that has no place.
 INFINITE = "a coordinate is infinite or no number"
 # A decimal number, as a double is written.
@@ -79,13 +84,44 @@ class Axis:
         past: float = (number * below - above * parts) / (parts * step)
         return past
 
-    def are_at(self, values: Any, wholes: Any) -> Any:
-        """Returns where `beside` is 0 of arrays of doubles and of whole coordinates, among those whose numbers a double holds exactly."""
+    def all_beside(self, values: Any, wholes: Any) -> list[float]:
+        """Returns `beside` of each of an array of doubles, and of whole coordinates."""
+        return [self.beside(value, int(whole)) for value, whole in zip(values.tolist(), wholes.tolist())]
+
+    def is_held(self, wholes: Any) -> Any:
+        """Returns where doubles hold the numbers of an array of whole coordinates exactly, counted in the last digit of step and origin."""
         (step, origin), below = self.scaled, 10**self.digits
         if max(step, abs(origin), below) >= EXACT:
-            return values != values
-        steps = wholes * step
-        return (abs(steps) < EXACT - abs(origin)) & ((origin + steps) / below == values)
+            return wholes != wholes
+        return abs(wholes * step) < EXACT - abs(origin)
+
+    def near(self, values: Any, wholes: Any) -> Any:
+        """Returns about what `beside` is of arrays of doubles and of whole coordinates whose numbers doubles hold exactly, none of them 0:
+        each is off by less than DOUBT of itself."""
+        (step, origin), below = self.scaled, float(10**self.digits)
+        above = origin + wholes * step
+        place = above / below
+        # What rounding took from the place: the product of the two doubles is a double and a rest (Dekker 1971).
+        product = place * below
+        high, top = (it * HALVES - (it * HALVES - it) for it in (place, below))
+        low, rest = place - high, below - top
+        lost = (above - product) - (((high * top - product) + high * rest + low * top) + low * rest)
+        return ((values - place) - lost / below) * (below / step)
+
+    def are_at(self, values: Any, wholes: Any) -> Any:
+        """Returns where `beside` is 0 of arrays of doubles and of whole coordinates, among those whose numbers doubles hold exactly."""
+        (step, origin), below = self.scaled, 10**self.digits
+        held = self.is_held(wholes)
+        return held & ((origin + wholes * step) / below == values) if held.any() else held
+
+    def doubles(self, wholes: Any) -> Any:
+        """Returns the double that is nearest to the number of the source at each of an array of whole coordinates of 64 bits."""
+        (step, origin), below = self.scaled, 10**self.digits
+        about = wholes.astype(float)
+        found = (origin + about * step) / below if max(step, abs(origin), below) < EXACT else about
+        for at in (~self.is_held(about)).nonzero()[0].tolist():
+            found[at] = float(self.text(int(wholes[at])))
+        return found
 
     def text(self, whole: int) -> str:
         """Returns the number of the source at a coordinate, with as many digits as the step and the origin have."""
@@ -128,7 +164,7 @@ class Shift:
         merged = f"{self.merged:,} merged"
         if not self.moved:
             return f"nothing moved, {merged}"
-        return f"{self.moved:,} of {self.positions:,} positions moved by at most {self.greatest:.3g}, {self.mean:.3g} in the mean, {merged}"
+        return f"{self.moved:,} of {number_of(self.positions, 'position')} moved by at most {self.greatest:.3g}, {self.mean:.3g} in the mean, {merged}"
 
 
 class Scale:
@@ -316,10 +352,10 @@ def steps_of(positions: Any, grid: Grid) -> Any:
     return found if library.are_rounded(grid.numbers, given.ctypes.data, len(given), found.ctypes.data) else None
 
 
-def moves(positions: Any, grid: Grid, steps: Any = None) -> Any:
-    """Returns how far each position moves, by an array of numpy with an x and a y in each row: 0 where no doubles are nearer to its place.
+def moved(positions: Any, grid: Grid, steps: Any = None) -> tuple[int, float]:
+    """Returns how many positions move, of an array of numpy with an x and a y in each row, and how far one moves at most.
 
-    `steps` are those of the positions, where they are known.
+    One to whose place no doubles are nearer doesn't move. `steps` are those of the positions, where they are known.
     """
     import numpy
 
@@ -327,8 +363,38 @@ def moves(positions: Any, grid: Grid, steps: Any = None) -> Any:
         steps = steps_of(positions, grid)
     if steps is None:
         raise NotANumber(INFINITE)
-    past = past_steps(positions, steps, grid)
-    return numpy.hypot(*(past[:, at] * axis.of_doubles[0] for at, axis in enumerate((grid.x, grid.y))))
+    if not len(positions):
+        return 0, 0.0
+    sides = [Side(positions[:, at], steps[:, at], axis) for at, axis in enumerate((grid.x, grid.y))]
+    doubtful = sides[0].unsure | sides[1].unsure
+    least, most = (numpy.hypot(*(it.reach(sign) for it in sides)) for sign in (-DOUBT, DOUBT))
+    # Fractions are for those whose distance may be the greatest.
+    asked = doubtful & (most * (1 + DOUBT) >= least.max())
+    for side in sides:
+        side.ask(asked & side.unsure)
+    distances = numpy.hypot(*(it.past * it.axis.of_doubles[0] for it in sides))
+    count = int(numpy.count_nonzero((sides[0].past != 0) | (sides[1].past != 0)))
+    return count, float(distances[asked | ~doubtful].max(initial=0.0))
+
+
+class Side:
+    """How far doubles are past their places on an axis, as arrays of numpy: `past` in steps, 0 where no doubles are nearer to a place, and
+    `unsure` where that is off by less than DOUBT of itself."""
+
+    def __init__(self, values: Any, wholes: Any, axis: Axis) -> None:
+        self.axis, self.values, self.wholes = axis, values.astype(float), wholes.astype(float)
+        self.past, unsure = about_past(self.values, self.wholes, axis)
+        self.unsure = unsure & axis.is_held(self.wholes)
+        self.past[self.unsure] = axis.near(self.values[self.unsure], self.wholes[self.unsure])
+        self.ask(unsure & ~self.unsure)
+
+    def ask(self, which: Any) -> None:
+        """Finds by fractions how far some of them are."""
+        self.past[which] = self.axis.all_beside(self.values[which], self.wholes[which])
+
+    def reach(self, share: float) -> Any:
+        """Returns how far they are either way, in the source's unit, with this share of it for those that aren't sure."""
+        return abs(self.past) * (1 + self.unsure * share) * self.axis.of_doubles[0]
 
 
 def past_steps(positions: Any, steps: Any, grid: Grid) -> Any:
@@ -338,15 +404,19 @@ def past_steps(positions: Any, steps: Any, grid: Grid) -> Any:
     past = numpy.zeros(positions.shape)
     for at, axis in enumerate((grid.x, grid.y)):
         values, whole = positions[:, at].astype(float), steps[:, at].astype(float)
-        found = past_places(values, whole, axis)
-        # Where no doubles are nearer to a place, they don't move. What else is about on the grid, or about between two places, is left to
-        # fractions.
-        on_grid = axis.are_at(values, whole)
-        unsure = ~((abs(found) > axis.doubt) & (abs(found) < 0.5 - axis.doubt)) & ~on_grid
-        found[on_grid] = 0.0
-        found[unsure] = [axis.beside(float(it), int(n)) for it, n in zip(values[unsure], whole[unsure])]
+        found, unsure = about_past(values, whole, axis)
+        found[unsure] = axis.all_beside(values[unsure], whole[unsure])
         past[:, at] = found
     return past
+
+
+def about_past(values: Any, wholes: Any, axis: Axis) -> tuple[Any, Any]:
+    """Returns how many steps doubles are past their places, and where that isn't sure, by arrays of numpy. Those that are about on the
+    grid, or about between two places, are left to fractions; where no doubles are nearer to a place, it is 0."""
+    found = past_places(values, wholes, axis)
+    on_grid = axis.are_at(values, wholes)
+    found[on_grid] = 0.0
+    return found, ~((abs(found) > axis.doubt) & (abs(found) < 0.5 - axis.doubt)) & ~on_grid
 
 
 def measure_all(positions: Any, steps: Any, grid: Grid, shift: Shift, merged: int) -> None:
@@ -400,3 +470,26 @@ def counted(positions: Any, steps: Any, grid: Grid, is_exact: bool) -> Optional[
 def spelled(positions: Iterable[tuple[int, int]]) -> str:
     """Returns positions as well-known text has them."""
     return ",".join(["%d %d" % it for it in positions])
+
+
+def spelled_all(steps: Any) -> tuple[str, Any]:
+    """Returns positions as well-known text has them, of an array of numpy with an x and a y in each row, a comma behind each; and where
+    each begins in that text, and the end of the last."""
+    import numpy
+
+    values = steps.reshape(-1)
+    left = abs(values.astype("i8")).astype("u4")
+    width = len(str(left.max(initial=0)))
+    # A sign, the digits, and what is behind the number, with those of them that are written.
+    letters, are_written = numpy.empty((len(values), width + 2), dtype="u1"), numpy.ones((len(values), width + 2), dtype=bool)
+    for at in range(width, 0, -1):
+        if at < width:
+            are_written[:, at] = left > 0
+        tenth = left // 10
+        letters[:, at] = left - 10 * tenth + ord("0")
+        left = tenth
+    are_written[:, 0], letters[:, 0] = values < 0, ord("-")
+    letters[0::2, -1], letters[1::2, -1] = ord(" "), ord(",")
+    starts = numpy.zeros(len(steps) + 1, dtype="i8")
+    numpy.cumsum(are_written.reshape(len(steps), 2 * (width + 2)).sum(axis=1), out=starts[1:])
+    return letters[are_written].tobytes().decode("ascii"), starts

@@ -13,6 +13,7 @@ from typing import Any, Callable, Generator, NamedTuple, Optional, Sequence
 
 from ..geometry import library
 from ..tables import rules
+from .arrow import CArray, CSchema
 
 # A layer of fewer records is read one by one: loading numpy takes longer.
 FEWEST = 1_000
@@ -29,26 +30,6 @@ SPECIAL = (b'"', b",", b"\r", b"\n")
 
 class NotInColumns(Exception):
     """A layer can't be read in columns, or has what only its single records show."""
-
-
-class CSchema(ctypes.Structure):
-    """The struct ArrowSchema, as far as it is read."""
-
-
-CSchema._fields_ = [
-    ("format", ctypes.c_char_p), ("name", ctypes.c_char_p), ("metadata", ctypes.c_void_p), ("flags", ctypes.c_int64), ("count", ctypes.c_int64),
-    ("children", ctypes.POINTER(ctypes.POINTER(CSchema))), ("dictionary", ctypes.c_void_p),
-]
-
-
-class CArray(ctypes.Structure):
-    """The struct ArrowArray, as far as it is read."""
-
-
-CArray._fields_ = [
-    *((it, ctypes.c_int64) for it in ("length", "nulls", "offset", "buffer_count", "count")),
-    ("buffers", ctypes.POINTER(ctypes.c_void_p)), ("children", ctypes.POINTER(ctypes.POINTER(CArray))),
-]
 
 
 class Values:
@@ -319,7 +300,7 @@ class Apart:
     def take_points(self, positions: Any, grid: Any, is_there: Any) -> None:
         """Takes points."""
         numpy = self.numpy
-        are_finite = numpy.isfinite(positions).all(axis=1)
+        are_finite = numpy.isfinite(positions[:, 0]) & numpy.isfinite(positions[:, 1])
         self.are_there[:] = True if is_there is None else is_there
         self.are_there[self.are_there] = are_finite
         self.positions = positions[are_finite]

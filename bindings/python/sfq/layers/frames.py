@@ -16,6 +16,7 @@ import shapely
 from shapely.errors import ShapelyError
 
 from ..geometry import binary, grids, library
+from ..geometry.counts import number_of
 from ..geometry.shapes import Geometry
 from . import proposing, relating
 
@@ -266,10 +267,9 @@ class Column:
         shift.add(found.positions, found.moved, found.merged, found.greatest, 0.0)
         # On a grid that has all coordinates, none moved.
         if self.grid is not None and not self.is_exact and found.moved < found.positions:
-            moves = grids.moves(self.coordinates(), self.grid, self.points.steps if self.points else None)
-            little = moves[moves > 0]
-            if len(little) > found.moved:
-                shift.moved, shift.greatest = len(little), max(found.greatest, float(little.max()))
+            count, greatest = grids.moved(self.coordinates(), self.grid, self.points.steps if self.points else None)
+            if count > found.moved:
+                shift.moved, shift.greatest = count, max(found.greatest, greatest)
         return shift
 
     def coordinates(self) -> Any:
@@ -447,7 +447,7 @@ def report(columns: dict[str, Column], options: Options, level: int) -> dict[str
         proposed = "proposed " * (options.step == AUTO)
         words = [f"rounded to the {proposed}step {step} from the origin {','.join(origin or ())}"]
         for side, it in ((column.side, column.said()) for column in each):
-            words.append(f"{side}: {it['moved']:,} of {it['positions']:,} positions moved by at most {it['greatest']:.3g}, "
+            words.append(f"{side}: {it['moved']:,} of {number_of(it['positions'], 'position')} moved by at most {it['greatest']:.3g}, "
                          f"{it['merged']:,} merged")
         warnings.warn(f"sfq: {'; '.join(words)}", RoundingWarning, stacklevel=level)
     return {"step": step, "origin": origin and list(origin), **{side: it.said() for side, it in columns.items()}}

@@ -1,8 +1,9 @@
 """What rounding did to relations: which pairs of geometries have another exact relation on the grid than in the source.
 
-The pairs are those whose boxes meet on the grid: rounding keeps the order of numbers, so no others can meet before or after. The relation
-on the grid is the one that the library proves. GEOS is asked if the geometries of the source have it too. If it says no, the relation of
-the source is computed exactly, from its doubles. None of it is proved.
+The pairs are those whose boxes meet on the grid: rounding keeps the order of numbers, so no others can meet before or after. Nothing is
+computed of areas that meet in the same way wherever their vertices are within half a step (`steady`). Else the relation on the grid is the
+one that the library proves. GEOS is asked if the geometries of the source have it too. If it says no, the relation of the source is
+computed exactly, from its doubles. None of it is proved.
 """
 from __future__ import annotations
 
@@ -12,10 +13,14 @@ from collections import Counter
 from typing import Any, Callable, Iterator, NamedTuple, Optional, Sequence
 
 from ..geometry import binary, exact, grids
-from . import meeting, workers
+from ..geometry.counts import number_of
+from . import meeting, steady, workers
 
-# How many pairs are asked at once, and from how many on several processes compare them.
-AT_ONCE, SHARED = 500, 4_000
+# How many pairs are asked at once, of how many it is found at once whether they are steady, and from how many pairs on several processes
+# compare them.
+AT_ONCE, STEADY, SHARED = 500, 4_000, 4_000
+# From how many pairs on it is worth while to find those that are steady.
+MANY = 500
 # How many pairs of a change a line names.
 NAMED = 3
 # How many pairs of one table, or of two, are compared at most, and how many more for each row: where everything meets everything there are
@@ -27,7 +32,7 @@ class Member:
     """A geometry of a table that has the same form in the source and on the grid: what a message calls it, its well-known binary in the
     source, and what is asked on the grid. It has the boxes of both."""
 
-    __slots__ = ("key", "binary", "asked", "source", "box", "geos", "found_dimension")
+    __slots__ = ("key", "binary", "asked", "source", "box", "geos", "is_valid", "found_dimension")
 
     def __init__(
         self, key: Any, given: bytes, asked: Any, source: meeting.Box, grid: grids.Grid, box: Optional[tuple[int, int, int, int]] = None,
@@ -38,8 +43,9 @@ class Member:
             left, low, right, high = grid.steps((source[0], source[2], source[1], source[3]))
             box = left, right, low, high
         self.box = box
-        # The geometry of GEOS, made when it is first asked.
+        # The geometry of GEOS, and whether it is valid, both found when they are first asked.
         self.geos: Any = None
+        self.is_valid: Optional[bool] = None
         self.found_dimension = -1
 
     @property
@@ -139,10 +145,12 @@ class Geos:
 
     def is_valid(self, member: Member) -> bool:
         """Whether GEOS says that a geometry is valid."""
-        try:
-            return bool(self.valid(self.geometry(member)))
-        except Exception:
-            return False
+        if member.is_valid is None:
+            try:
+                member.is_valid = bool(self.valid(self.geometry(member)))
+            except Exception:
+                member.is_valid = False
+        return member.is_valid
 
 
 def of_gdal(modules: Any) -> Geos:
@@ -204,9 +212,10 @@ class Comparison:
             count += len(places)
             rows.append((at, places))
         self.begin(len(rows))
+        outlines = self.outlines(first, others) if count >= MANY else None
 
         def work(part: Sequence[tuple[int, list[int]]], tell: Callable[[int], None]) -> Found:
-            return self.of_rows(first, others, part, tell)
+            return self.of_rows(first, others, part, tell, outlines)
 
         if count < SHARED or self.workers < 2:
             parts = [work(rows, self.show)]
@@ -217,17 +226,51 @@ class Comparison:
             found.join(it)
         return found
 
+    def outlines(self, first: Sequence[Member], others: Sequence[Member]) -> Optional[steady.Pairs]:
+        """Returns what finds steady pairs of two tables, or of one; None without numpy."""
+        if not steady.is_there():
+            return None
+        both = [steady.Outlines([it.binary for it in its], [it.box for it in its], self.grid) for its in ([first] if first is others else [first, others])]
+        return steady.Pairs(both[0], both[-1])
+
+    def unsteady(
+        self, outlines: steady.Pairs, first: Sequence[Member], others: Sequence[Member], ones: list[int], twos: list[int],
+    ) -> tuple[list[int], list[int]]:
+        """Returns the pairs, by the places of both, whose relation has to be computed: the others meet, and rounding didn't change how."""
+        import numpy
+
+        firsts, seconds = (numpy.array(it, dtype=numpy.int64) for it in (ones, twos))
+        found = outlines.steady(firsts, seconds)
+        for its, members in ((firsts, first), (seconds, others)):
+            places = numpy.unique(its[found])
+            invalid = [it for it in places.tolist() if not self.geos.is_valid(members[it])]
+            found &= ~numpy.isin(its, invalid)
+        return firsts[~found].tolist(), seconds[~found].tolist()
+
     def of_rows(
         self, first: Sequence[Member], others: Sequence[Member], rows: Sequence[tuple[int, list[int]]], tell: Callable[[int], None],
+        outlines: Optional[steady.Pairs] = None,
     ) -> Found:
         """Compares the pairs of some members of the first table, each with the places of those of the other. `tell` gets how many are done."""
-        found, batch = Found(), []
-        for done, (at, places) in enumerate(rows):
-            for other in places:
-                batch.append((first[at], others[other]))
+        found = Found()
+        ones: list[int] = []
+        twos: list[int] = []
+        batch: list[tuple[Member, Member]] = []
+        for done, (at, places) in enumerate(rows, 1):
+            ones += [at] * len(places)
+            twos += places
+            if len(ones) < STEADY and done < len(rows):
+                continue
+            if outlines:
+                count = len(ones)
+                ones, twos = self.unsteady(outlines, first, others, ones, twos)
+                found.meeting += count - len(ones)
+            for one, other in zip(ones, twos):
+                batch.append((first[one], others[other]))
                 if len(batch) == AT_ONCE:
                     self.compare(batch, found)
                     batch = []
+            ones, twos = [], []
             tell(done)
         self.compare(batch, found)
         return found
@@ -296,7 +339,7 @@ def line(found: Found) -> str:
     """Returns what rounding did to relations, in a sentence: the pairs of a change that closes nothing are named, each with a place."""
     unknown = f"; {found.unknown:,} more with a geometry that isn't valid in the source" if found.unknown else ""
     unknown += f"; only {found.most:,} of the pairs whose envelopes meet were compared" if found.most is not None else ""
-    pairs = f"{found.meeting:,} pairs that meet" if found.meeting != 1 else "1 pair that meets"
+    pairs = number_of(found.meeting, "pair that meets", "pairs that meet")
     if not found.changes:
         return f"rounding changed no relation of {pairs}{unknown}"
     kinds = sorted(found.counts.items(), key=lambda it: (not it[0].closes, -it[1], it[0]))

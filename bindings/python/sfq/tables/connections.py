@@ -9,7 +9,7 @@ from typing import Any, Callable, Iterable, Iterator, Optional, Sequence, Union
 
 from ..geometry.forks import held_by
 from ..geometry.shapes import of_canonical
-from . import errors, placeholders, sources
+from . import errors, near_names, placeholders, sources, statements
 from .databases import Database, RefusedGeometry, Statement
 
 # How many statements that nobody uses are kept, so that the same query isn't read and planned again.
@@ -144,7 +144,8 @@ class Connection:
                         return made
             return Statement(self._database, filled, self._makes)
         except errors.ProgrammingError as error:
-            raise as_written(error, query, constants) from None
+            known = [statements.Table(*it, "") for it in zip(self._database.tables, self._database.columns)]
+            raise as_written(error, query, constants, known) from None
 
     @held_by(OF_CONNECTION)
     def keep(self, statement: Statement) -> None:
@@ -178,14 +179,16 @@ def bind(statement: Statement, query: placeholders.Query, constants: Sequence[pl
     return True
 
 
-def as_written(error: errors.Error, query: placeholders.Query, constants: Sequence[placeholders.Constant]) -> errors.Error:
-    """Returns the error of a query with its place in the text that the user wrote. A value that is refused is a DataError."""
+def as_written(
+    error: errors.Error, query: placeholders.Query, constants: Sequence[placeholders.Constant], known: Sequence[statements.Table]
+) -> errors.Error:
+    """Returns the error of a query over these tables with its place in the text that the user wrote. A value that is refused is a DataError."""
     if error.at is None or error.code is None or error.code[0] != "Q":
         return error
     at, is_value = query.place(error.at, constants)
     if is_value and error.code in ("Q8", "Q12"):
         return errors.DataError(error.reason, error.code, at, error.table, error.fault)
-    return errors.ProgrammingError(error.reason, error.code, at, error.table, error.fault)
+    return errors.ProgrammingError(near_names.reason(error, at, query.text, known), error.code, at, error.table, error.fault)
 
 
 class Cursor:

@@ -37,6 +37,8 @@ NO_STATEMENT = ctypes.c_size_t(-1).value
 FIRST_CANDIDATES, MOST_CANDIDATES = 16, 256
 # A step that takes longer than this, in seconds, is followed by a shorter one.
 LONG_STEP = 0.02
+# From how many bytes on a page of records is full.
+PAGE = 1 << 18
 
 
 class CDatabase(ctypes.Structure):
@@ -92,11 +94,12 @@ class CTablesFault(ctypes.Structure):
 
 
 # The arguments of each call after the database, by a letter each: bytes with their number, a number, a number of a statement or the
-# like, room for a text, and what is written: a size, an integer, a number of 32 bits, a bool, a fault, a form, an origin,
-# the form of a query, a conjunct, operands with their room and their number.
+# like, room for a text, the address of such room, and what is written: a size, an integer, a number of 32 bits, a bool, a fault, a form,
+# an origin, the form of a query, a conjunct, operands with their room and their number.
 KINDS: dict[str, list[Any]] = {
     "b": [ctypes.c_char_p, ctypes.c_size_t], "i": [ctypes.c_int64], "n": [ctypes.c_size_t], "m": [ctypes.c_uint64],
-    "r": [ctypes.c_char_p, ctypes.c_size_t, ctypes.POINTER(ctypes.c_size_t)], "S": [ctypes.POINTER(ctypes.c_size_t)],
+    "r": [ctypes.c_char_p, ctypes.c_size_t, ctypes.POINTER(ctypes.c_size_t)],
+    "a": [ctypes.c_void_p, ctypes.c_size_t, ctypes.POINTER(ctypes.c_size_t)], "S": [ctypes.POINTER(ctypes.c_size_t)],
     "I": [ctypes.POINTER(ctypes.c_int64)], "T": [ctypes.POINTER(ctypes.c_uint32)], "B": [ctypes.POINTER(ctypes.c_bool)],
     "W": [ctypes.POINTER(ctypes.c_uint64)], "F": [ctypes.POINTER(CTablesFault)], "p": [ctypes.c_char_p],
     "C": [ctypes.POINTER(CForm)], "O": [ctypes.POINTER(COrigin)], "Q": [ctypes.POINTER(CQueryForm)], "J": [ctypes.POINTER(CConjunct)],
@@ -105,7 +108,7 @@ KINDS: dict[str, list[Any]] = {
 CALLS = {
     "close": "", "table_count": "S", "table_name": "nr", "table_columns": "nS", "table_column": "nnrT", "is_loaded": "nB",
     "load": "nbF", "load_file": "npF", "prepare": "bSF", "step": "nm", "reset": "n", "columns": "nS", "column_name": "nnr",
-    "column_type": "nnT", "column_integer": "nnI", "column_text": "nnr", "row_text": "nr", "work": "nW", "plan_text": "nr", "finalize": "n",
+    "column_type": "nnT", "column_integer": "nnI", "column_text": "nnr", "row_text": "na", "work": "nW", "plan_text": "nr", "finalize": "n",
     "column_form": "nnC", "reference": "nnrS", "column_origin": "nnO", "query": "nQ", "conjunct": "nnJ", "operands": "nA",
 }
 # Calls that a library may lack: without them a query is prepared anew for other values.
@@ -165,6 +168,33 @@ class Room:
         if status != NONE:
             need_ok(status)
         return None
+
+
+class Page:
+    """Room for records of rows, one behind the other, which grows where one has no room left."""
+
+    __slots__ = ("room", "address", "size", "used", "rows", "length", "written")
+
+    def __init__(self) -> None:
+        self.length = ctypes.c_size_t()
+        self.written = ctypes.byref(self.length)
+        self.size = self.used = self.rows = 0
+        self.room = self._new(2 * PAGE)
+
+    def _new(self, size: int) -> ctypes.Array[ctypes.c_char]:
+        found = ctypes.create_string_buffer(size)
+        self.address, self.size = ctypes.addressof(found), size
+        return found
+
+    def grow(self, size: int) -> None:
+        """Makes room for so many further bytes."""
+        before = self.room
+        self.room = self._new(max(2 * self.size, self.used + size))
+        ctypes.memmove(self.address, ctypes.addressof(before), self.used)
+
+    def bytes(self) -> bytes:
+        """Returns what is written."""
+        return ctypes.string_at(self.address, self.used)
 
 
 class Lock(Held):
@@ -385,7 +415,7 @@ class Statement:
         self.generation, self.number = -1, -1
         self.room, self.given, self.candidates, self.is_over = Room(), 0, FIRST_CANDIDATES, False
         self.bound: list[Bound] = []
-        self.gives_records = False
+        self.page: Optional[Page] = None
         # Under what it is found again when the same query is executed.
         self.key: Any = None
         # The types of the constants, from the left.
@@ -414,12 +444,7 @@ class Statement:
         self.generation = self.database.generation
         self.columns = self._columns()
         readers = {"INTEGER": self._integer, "TEXT": self._text, "GEOMETRY": self._geometry}
-        self.readers = [self._record()] if self.gives_records else [readers[kind](column) for column, (_, kind) in enumerate(self.columns)]
-
-    @held_by(OF_STATEMENT)
-    def as_records(self) -> None:
-        """Has each row be one text from now on: a record of CSV with its line end, as `run` writes it."""
-        self.gives_records, self.readers = True, [self._record()]
+        self.readers = [readers[kind](column) for column, (_, kind) in enumerate(self.columns)]
 
     def _columns(self) -> list[tuple[str, str]]:
         """Returns the name, as in the header of `run`, and the type of each column."""
@@ -502,18 +527,22 @@ class Statement:
             raise
 
     def take(self, most: int) -> list[tuple[Any, ...]]:
-        """Returns the next rows: so many, or fewer where these are the last. Where a step finds none signals are seen, and other
-        threads can ask the database."""
+        """Returns the next rows: so many, or fewer where these are the last."""
         found: list[tuple[Any, ...]] = []
-        while len(found) < most and not self.is_over:
-            status, seconds = self._step(found, most)
+        self._until(lambda: len(found) >= most, lambda: self._step(found, most))
+        return found
+
+    def _until(self, are_enough: Callable[[], bool], step: Callable[[], tuple[int, float]]) -> None:
+        """Steps until rows are enough, or there are no more. Where a step finds none signals are seen, and other threads can ask the
+        database."""
+        while not are_enough() and not self.is_over:
+            status, seconds = step()
             if status == BUSY:
                 self._pace(seconds)
             elif status == NONE:
                 self.is_over = True
             else:
                 need_ok(status)
-        return found
 
     @held_by(OF_STATEMENT)
     def _step(self, found: list[tuple[Any, ...]], most: int) -> tuple[int, float]:
@@ -528,6 +557,35 @@ class Statement:
             found.append(tuple([read() for read in self.readers]))
             self.given += 1
             if len(found) == most:
+                return OK, 0.0
+
+    def records(self, most: int) -> tuple[int, bytes]:
+        """Returns how many of the next rows there are, and these as `run` writes them, each a record of CSV with its line end: so many, or
+        fewer where these are the last, or fill a page."""
+        self.page = page = self.page or Page()
+        page.rows = page.used = 0
+        self._until(lambda: page.rows >= most or page.used >= PAGE, lambda: self._fill(page, most))
+        return page.rows, page.bytes()
+
+    @held_by(OF_STATEMENT)
+    def _fill(self, page: Page, most: int) -> tuple[int, float]:
+        """Writes the next rows behind those of a page. Returns the status of the last step, and how many seconds it took."""
+        self._need()
+        step, writes, it, number = self.database.calls.sfq_step, self.database.calls.sfq_row_text, self.database.it, self.number
+        candidates, length, written, clock = self.candidates, page.length, page.written, time.monotonic
+        while True:
+            begun = clock()
+            status = step(it, number, candidates)
+            if status != OK:
+                return status, clock() - begun
+            while (status := writes(it, number, page.address + page.used, page.size - page.used, written)) == TOO_SMALL:
+                page.grow(length.value)
+            if status != OK:
+                need_ok(status)
+            page.used += length.value
+            page.rows += 1
+            self.given += 1
+            if page.rows == most or page.used >= PAGE:
                 return OK, 0.0
 
     def _pace(self, seconds: float) -> None:
@@ -556,11 +614,6 @@ class Statement:
         """Returns what reads a text of the row, or None where it is NULL."""
         text, call, it, number = self.room.text, self.database.calls.sfq_column_text, self.database.it, self.number
         return lambda: text(call, it, number, column)
-
-    def _record(self) -> Callable[[], Any]:
-        """Returns what reads the row as a record of CSV."""
-        text, call, it, number = self.room.text, self.database.calls.sfq_row_text, self.database.it, self.number
-        return lambda: text(call, it, number)
 
     def _geometry(self, column: int) -> Callable[[], Any]:
         """Returns what makes a geometry of the row, or None where it is NULL."""

@@ -93,6 +93,7 @@ class Query:
     """A query as the user wrote it: the texts between its parameters, and the parameters."""
 
     def __init__(self, text: str) -> None:
+        self.text = text
         # The texts before, between and behind the parameters, and those of the parameters themselves.
         self.parts: list[str] = []
         self.marks: list[str] = []
