@@ -67,8 +67,8 @@ def rows_by_calls(kept, number):
     """Returns the texts of the header and of each row of a statement, which is before its first row."""
     calls, it = kept.database.calls, kept.database.it
     room, lines = databases.Room(), []
-    for name in ("sfq_header_text", "sfq_row_text"):
-        getattr(calls, name).argtypes = [ctypes.POINTER(databases.CDatabase), ctypes.c_size_t, *databases.KINDS["r"]]
+    # The module declares its own calls. One set of argument types serves every thread and test: this call is none of the module's.
+    calls.sfq_header_text.argtypes = [ctypes.POINTER(databases.CDatabase), ctypes.c_size_t, *databases.KINDS["r"]]
     lines.append(room.text(calls.sfq_header_text, it, number))
     status = calls.sfq_step(it, number, 1)
     while status in (databases.OK, databases.BUSY):
