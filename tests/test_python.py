@@ -2,6 +2,7 @@
 import contextlib
 import csv
 import io
+import itertools
 import os
 import pickle
 import random
@@ -25,12 +26,26 @@ import repository
 import sfq
 import wheels
 from sfq.commands import progress
-from sfq.geometry import faults, library as border, texts
+from sfq.geometry import faults, library as border, matrices, texts
 
 SQUARE = "POLYGON((0 0,4 0,4 4,0 4,0 0))"
 # The methods of a Geometry, by the names that SQL has for them.
 METHODS = {it: it.removeprefix("ST_").lower() for it in language.PREDICATES}
 PYTHON = python_with("shapely")
+# The relations that a point's place decides, with their patterns (06-103r4, 6.1.15.3; covers and contains properly: this project's choice).
+BY_PLACE = {
+    "intersects": ("T********", "*T*******", "***T*****", "****T****"), "touches": ("FT*******", "F**T*****", "F***T****"),
+    "contains": ("T*****FF*",), "covers": ("T*****FF*", "*T****FF*", "***T**FF*", "****T*FF*"), "contains_properly": ("T**FF*FF*",),
+}
+# Geometries with points of each of their parts among POINTS: an area with a hole, lines whose ends meet, points, and empty ones.
+BESIDE_POINTS = (
+    "POLYGON((0 0,9 0,9 9,0 9,0 0),(3 3,6 3,6 6,3 6,3 3))", "MULTILINESTRING((0 0,4 4),(4 4,9 0),(4 4,4 9))", "LINESTRING(0 0,9 0,9 9,0 0)",
+    "MULTIPOINT((0 0),(4 4))", "POINT(4 4)", "POINT EMPTY", "POLYGON EMPTY",
+)
+POINTS = (
+    "POINT(0 0)", "POINT(4 4)", "POINT(1 2)", "POINT(3 4)", "POINT(9 9)", "POINT(20 20)", "POINT EMPTY", "MULTIPOINT((1 2))",
+    "MULTIPOINT((0 0),(20 20))",
+)
 # What is asked with arrays of numpy.
 ARRAYS = """
 import numpy, sfq
@@ -118,6 +133,16 @@ class Package(engine_rows.WithLibrary):
         square, side = sfq.Geometry(SQUARE), "LINESTRING(0 0,4 0)"
         found = [square.covers(side), square.contains(side), sfq.Geometry(side).covered_by(square), square.contains_properly("POINT(1 1)")]
         self.assertEqual([*found, square.contains_properly("LINESTRING(0 0,2 2)")], [True, False, True, True, False])
+
+    def test_relations_of_a_point_are_by_its_matrix(self):
+        held = 0
+        for one, point in itertools.product(BESIDE_POINTS, POINTS):
+            first, second = sfq.Geometry(one), sfq.Geometry(point)
+            for name, patterns in BY_PLACE.items():
+                wanted = any(matrices.matches(first.relate(second), it) for it in patterns)
+                self.assertIs(getattr(first, name)(second), wanted, f"{one} {name} {point}")
+                held += wanted
+        self.assertGreater(held, 30)
 
     def test_patterns(self):
         line = sfq.Geometry("LINESTRING(-2 2,2 -2)")

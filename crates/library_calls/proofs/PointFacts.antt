@@ -39,6 +39,11 @@ point_is_valid o (faults.HolesNested i j) h = absurd (omega (arith, h.5.1))
 point_is_valid o (faults.ElementsMeet i j) h = absurd (let no : None ≡ Some h.0 = h.3 in cc)
 point_is_valid o (faults.ElementInside i j) h = absurd (let no : None ≡ Some h.0 = h.3 in cc)
 
+-- a geometry with the content of a POINT is that point, if there is one
+pub is_one_point : (g : Geometry) (o : Option Position) → g ≡ Geometry.Point o → IfSome o (λ p. g ≡ one_point p)
+is_one_point g None e = tt
+is_one_point g (Some p) e = e
+
 -- ---- cells
 -- the cell of two parts that share no point is F
 without_point : (S : Point → Type 0) (d : Dimension) → HasDimension S d → (HasPoint S → ⊥) → d ≡ Empty
@@ -222,18 +227,23 @@ one_number Exterior Boundary e = absurd cc
 one_number Exterior Exterior e = refl
 
 -- two valid geometries have a matrix, so the relation holds of them as of this one
+pub held_of_point : (number : ℕ) (r : Relation) (g : Geometry) (p : Position) (part : Location) (answer : Option Bool)
+    → relation_of number ≡ Some r → IsValid g → locate g (point_at p) ≡ part → IfSome answer (IsHeldAt r part)
+    → IfSome answer (HasRelation number g (one_point p))
+held_of_point number r g p part None known valid lies h = tt
+held_of_point number r g p part (Some b) known valid lies h =
+    let is = labels_give_matrix g (one_point p) valid (point_is_valid (Some p)) in
+    record {
+      relation = r;
+      matrix = labelled_matrix g (one_point p);
+      is_relation = known;
+      is_matrix = is;
+      exact = h g p (labelled_matrix g (one_point p)) lies is;
+    }
+
 pub held_by_numbers : (number place : ℕ) (r : Relation) (part : Location) (answer : Option Bool) → relation_of number ≡ Some r
     → location_number part ≡ place → IfSome answer (IsHeldAt r part) → IfSome answer (HoldsAt number place)
 held_by_numbers number place r part None known there h = tt
-held_by_numbers number place r part (Some b) known there h =
-    λ g valid x y lies. go g valid (position x y) (one_number (locate g (point_at (position x y))) part (sym lies ∙ sym there))
-  where
-    go : (g : Geometry) → IsValid g → (p : Position) → locate g (point_at p) ≡ part → HasRelation number g (one_point p) b
-    go g valid p lies = let is = labels_give_matrix g (one_point p) valid (point_is_valid (Some p)) in
-        record {
-          relation = r;
-          matrix = labelled_matrix g (one_point p);
-          is_relation = known;
-          is_matrix = is;
-          exact = h g p (labelled_matrix g (one_point p)) lies is;
-        }
+held_by_numbers number place r part (Some b) known there h = λ g valid x y lies.
+    held_of_point number r g (position x y) part (Some b) known valid
+    (one_number (locate g (point_at (position x y))) part (sym lies ∙ sym there)) h

@@ -11,6 +11,7 @@ ghost use Rattle.library_calls.specs.Refusals.{none_there, ok, out_of_memory};
 ghost use Rattle.library_calls.specs.Relations.{relation_of};
 ghost use Rattle.streams.specs.MemorySinks.{memory_bytes};
 
+use crate::point_relations::holds_of_point;
 use crate::relations::{Relation, holds, is_refuted, predicate_of, relation_of};
 use crate::texts::matrix_of;
 use de9im::{MatrixPattern, Work, decide, pattern_in};
@@ -72,6 +73,9 @@ fn find_relation(
     requires { relation_of number ≡ Some relation }
     ensures { IfOk result (HasRelation number first.now second.now) }
 {
+    if let Some(known) = holds_of_point(number, relation, first, second) {
+        return Ok(known);
+    }
     if let Some(predicate) = predicate_of(relation) {
         return decide(alloc, predicate, first, second, &mut Work::new());
     }

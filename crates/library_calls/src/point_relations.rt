@@ -1,15 +1,20 @@
 //! The relations of a geometry and a point that the place of the point decides. A point has no boundary, so all of it is its
 //! interior (06-103r4, 6.1.4).
 
-ghost use Rattle.std.specs.Prelude.{◌≡◌, ◌≢◌, ◌&&◌, IfSome, is_some, false, nat_lt};
+ghost use Rattle.std.specs.Prelude.{◌≡◌, ◌≢◌, ◌&&◌, IfSome, Some, is_some, false, nat_lt};
 ghost use Rattle.std.specs.Option.{option_map_or};
+ghost use Rattle.library_calls.specs.Kept.{HasRelation};
 ghost use Rattle.library_calls.specs.Numbers.{location_number};
-ghost use Rattle.library_calls.specs.PointRelations.{HoldsAt, IsHeldAt, is_by_place, status_of_place};
+ghost use Rattle.library_calls.specs.PointRelations.{HoldsAt, IsHeldAt, is_by_place, one_point, status_of_place};
 ghost use Rattle.library_calls.specs.Refusals.{ok};
 ghost use Rattle.library_calls.specs.Relations.{relation_of};
 
 use crate::relations::{Relation, relation_of};
+use fraction::{GridPoint, RatPoint};
 use geometry_model::Location;
+use side_labels::locate;
+use validity::Valid;
+use wkt::Shape;
 
 /// Whether a relation holds of a geometry and a point in this part of it. None for the others: equals, within and covered by depend
 /// on more, crosses and overlaps hold of no point, and disjoint needs no common point.
@@ -28,6 +33,54 @@ fn holds_in(relation: Relation, part: Location) -> Option<bool>
         | Relation::Overlaps
         | Relation::CoveredBy => None,
     }
+}
+
+/// Whether the place of a point decides a relation of a geometry and the point.
+fn is_by_place(relation: Relation) -> bool
+    ensures { result ≡ is_by_place relation }
+{
+    match relation {
+        Relation::Intersects
+        | Relation::Touches
+        | Relation::Contains
+        | Relation::Covers
+        | Relation::ContainsProperly => true,
+        Relation::Equals
+        | Relation::Disjoint
+        | Relation::Crosses
+        | Relation::Within
+        | Relation::Overlaps
+        | Relation::CoveredBy => false,
+    }
+}
+
+/// The position of a POINT. None for other geometries, and for POINT EMPTY.
+fn position_of(geometry: &Valid) -> Option<GridPoint>
+    ensures { IfSome result (λ position. geometry.now ≡ one_point position) }
+{
+    match geometry.geometry().shape() {
+        Shape::Point(position) => *position,
+        Shape::Larger(_) => None,
+    }
+}
+
+/// Whether a relation holds of a geometry and one point, by the point's place; the number is that of the relation. None for the
+/// other relations, and if the second geometry isn't a point. It takes no memory.
+pub(crate) fn holds_of_point(
+    number: u32,
+    relation: Relation,
+    first: &Valid,
+    second: &Valid,
+) -> Option<bool>
+    requires { relation_of number ≡ Some relation }
+    ensures { IfSome result (HasRelation number first.now second.now) }
+{
+    let _first = first.geometry();
+    if !is_by_place(relation) {
+        return None;
+    }
+    let position = position_of(second)?;
+    holds_in(relation, locate(first, &RatPoint::of_grid(position)))
 }
 
 /// The location with this number, in the order of the matrix; None from 3 on.
