@@ -7,8 +7,12 @@
  *   locate          sfq_locate, with the coordinates
  *   holds           sfq_holds of intersects, with points that are kept
  *   contains        the same of contains
+ *   covers          the same of covers
+ *   properly        the same of contains properly
  *   geos            GEOSPreparedIntersects_r, with points that are kept
  *   geos_contains   GEOSPreparedContains_r, with points that are kept
+ *   geos_covers     GEOSPreparedCovers_r, with points that are kept
+ *   geos_properly   GEOSPreparedContainsProperly_r, with points that are kept
  *
  * or one of these, and the second line is another polygon:
  *
@@ -33,6 +37,26 @@ static int32_t xs[MOST], ys[MOST];
 static int count;
 static char *line;
 static size_t room;
+
+/* What is asked of kept points, of the library and of GEOS. */
+static const struct asked {
+    const char *ours, *theirs;
+    uint32_t relation;
+    char (*call)(GEOSContextHandle_t, const GEOSPreparedGeometry *, const GEOSGeometry *);
+} relations[] = {
+    {"holds", "geos", SFQ_INTERSECTS, GEOSPreparedIntersects_r},
+    {"contains", "geos_contains", SFQ_CONTAINS, GEOSPreparedContains_r},
+    {"covers", "geos_covers", SFQ_COVERS, GEOSPreparedCovers_r},
+    {"properly", "geos_properly", SFQ_CONTAINS_PROPERLY, GEOSPreparedContainsProperly_r},
+};
+
+/* What these words ask for: of positions, whether they intersect. */
+static const struct asked *asked_by(const char *how) {
+    for (size_t i = 0; i < sizeof relations / sizeof *relations; i++) {
+        if (strcmp(how, relations[i].ours) == 0 || strcmp(how, relations[i].theirs) == 0) return &relations[i];
+    }
+    return &relations[0];
+}
 
 static void quiet(const char *message, void *data) { (void)message; (void)data; }
 
@@ -77,7 +101,7 @@ static int two_by_geos(const char *how, long times, const char *one, const char 
 
 static int by_library(const char *how, long times, size_t length) {
     sfq_geometry polygon = SFQ_EMPTY, *points = calloc((size_t)count, sizeof *points);
-    uint32_t relation = strcmp(how, "contains") == 0 ? SFQ_CONTAINS : SFQ_INTERSECTS;
+    uint32_t relation = asked_by(how)->relation;
     int is_by_position = strcmp(how, "locate") == 0;
     long found = 0;
     if (sfq_read(line, length, &polygon, NULL) != SFQ_OK) return 5;
@@ -114,17 +138,14 @@ static int by_geos(const char *how, long times) {
     GEOSWKTReader *reader = GEOSWKTReader_create_r(geos);
     GEOSGeometry *polygon = GEOSWKTReader_read_r(geos, reader, line);
     GEOSGeometry **points = calloc((size_t)count, sizeof *points);
-    int is_contains = strcmp(how, "geos_contains") == 0;
+    const struct asked *asked = asked_by(how);
     long found = 0;
     if (polygon == NULL || GEOSisValid_r(geos, polygon) != 1) return 5;
     const GEOSPreparedGeometry *kept = GEOSPrepare_r(geos, polygon);
     for (int i = 0; i < count; i++) points[i] = GEOSGeom_createPointFromXY_r(geos, xs[i], ys[i]);
     for (long k = 0; k < times; k++) {
         found = 0;
-        for (int i = 0; i < count; i++) {
-            if (is_contains) found += GEOSPreparedContains_r(geos, kept, points[i]) == 1;
-            else found += GEOSPreparedIntersects_r(geos, kept, points[i]) == 1;
-        }
+        for (int i = 0; i < count; i++) found += asked->call(geos, kept, points[i]) == 1;
     }
     printf("%ld\n", found);
     return 0;

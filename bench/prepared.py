@@ -2,7 +2,7 @@
 """Measures points in a kept polygon, and two kept polygons, by the C library beside GEOS's prepared geometries, by `prepared.c`.
 
 A polygon of 5, 100, 1,000 and 9,999 positions is read, tested and kept once. Then 1,000 positions around it are asked for:
-whether each intersects it, and whether it contains each. Per position it prints the instructions that valgrind counts, or with
+whether each intersects it, and whether it contains, covers or contains properly each. Per position it prints the instructions that valgrind counts, or with
 `--time` the nanoseconds of processor; reading, testing and keeping are left out, being what a run with no turns takes. Then
 two stars that cross, and two that are apart while their envelopes meet, are asked for whether they intersect and for their matrix.
 
@@ -26,7 +26,10 @@ SIZES = (5, 100, 1_000, 9_999)
 MOVED = [("cross", SPAN // 3), ("are apart", SPAN * 29 // 20)]
 POINTS = 1_000
 # What is asked, by the library and by GEOS.
-ASKED = [("position, intersects", "locate", "geos"), ("point, intersects", "holds", "geos"), ("point, contains", "contains", "geos_contains")]
+ASKED = [
+    ("position, intersects", "locate", "geos"), ("point, intersects", "holds", "geos"), ("point, contains", "contains", "geos_contains"),
+    ("point, covers", "covers", "geos_covers"), ("point, contains properly", "properly", "geos_properly"),
+]
 
 
 def write_input(path: pathlib.Path, size: int) -> None:
