@@ -1,4 +1,5 @@
 """./test and .ci/run, with a stand-in for `rt`: what is run, in which order, what is said meanwhile, and the closing line."""
+import glob
 import os
 import re
 import shutil
@@ -357,6 +358,22 @@ class Edits(RunsTests):
         folder = next(folder for folder, words in self.checkout.calls() if words[0] == "must-fail")
         self.assertFalse(folder.startswith(root))
         self.assertFalse(os.path.exists(f"{root}/crates/middle/must-fail"))
+
+
+class Packages(unittest.TestCase):
+    # What every machine with a clone has, and the name in a test that is made here.
+    OTHERS = {"bash", "git", "nothing"}
+
+    def test_the_gate_installs_those_that_tests_want(self):
+        listed = {it for it in read(f"{ROOT}/tests/packages.txt").split() if re.fullmatch(r"[a-z0-9.+-]+", it)}
+        wanted = set()
+        for path in glob.glob(f"{ROOT}/tests/*.py"):
+            text = read(path)
+            wanted |= set(re.findall(r'needs\("([a-z0-9.+-]+)", "', text))
+            for names in re.findall(r'needs the packages? ([a-z0-9.+, -]+)"', text):
+                wanted |= set(re.split(", | and | or ", names))
+        self.assertGreater(len(wanted), 30)
+        self.assertEqual(sorted(wanted - listed - self.OTHERS), [])
 
 
 if __name__ == "__main__":
