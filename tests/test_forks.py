@@ -206,7 +206,7 @@ class OverLibrary(engine_rows.WithLibrary):
             columns = {"id": range(3_000), "geom": [f"POINT({at} {at * at % 977})" for at in range(3_000)]}
             schema = "CREATE TABLE t (id INTEGER PRIMARY KEY, geom POINT)"
             one, other = (sfq.connect(schema, {"t": columns}, load_all=True) for _ in range(2))
-            query = "SELECT COUNT(*) FROM t a, t b WHERE a.id < b.id"
+            query = "SELECT COUNT(*) FROM t a, t b WHERE a.id < b.id AND ST_Relate(a.geom, b.geom, 'FFFFFFFFF')"
             stops = [False]
             def ask(begun):
                 while not stops[0]:

@@ -242,9 +242,10 @@ class Processes(Node):
 
     @needs_package
     def test_an_interrupt_ends_it(self):
+        """Each pair has to be related, and none is counted."""
         rows = "".join(f"{it},POINT({it} {it})\n" for it in range(30_000))
         self.make({"s": b"CREATE TABLE t (id INTEGER PRIMARY KEY, g POINT)", "d/t.csv": f"id,g\n{rows}".encode()})
-        with self.start(["run", "s", "d", "SELECT COUNT(*) FROM t a, t b WHERE a.id > b.id"]) as child:
+        with self.start(["run", "s", "d", "SELECT COUNT(*) FROM t a, t b WHERE ST_Relate(a.g, b.g, 'FFFFFFFFF')"]) as child:
             time.sleep(1.5)
             child.send_signal(signal.SIGINT)
             out, err = child.communicate(timeout=PATIENCE)

@@ -283,7 +283,7 @@ class Refusals(WithCluster):
     @needs_program
     def test_too_many_pairs(self):
         text = "SELECT COUNT(*) FROM parcel, road"
-        self.refused(text, 5, f"looks at {63 * 17} pairs", "--most-pairs", 63 * 17 - 1)
+        self.refused(text, 5, f"looks at {63 * 17:,} pairs", "--most-pairs", 63 * 17 - 1)
         self.compare([text], "--most-pairs", 63 * 17)
 
     @needs_program
